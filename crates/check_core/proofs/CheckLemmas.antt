@@ -10,7 +10,6 @@ use Rattle.words_core.specs.declared.reply.Body.TheVariants as Say
 use Rattle.words_core.specs.declared.reply.Reply.{Reply}
 use Rattle.words_core.specs.Requests.{body_of_answer, is_table}
 use Rattle.words_core.specs.declared.answer.Answer.{Answer}
-use Rattle.words_core.specs.declared.answer.Answer.TheVariants as Told
 use Rattle.words_core.specs.declared.reply.Refusal.{Refusal}
 use Rattle.promise_core.specs.declared.promise.Promise.{Promise}
 use Rattle.promise_core.specs.State.{Known}
@@ -93,8 +92,8 @@ pub as_table : (bytes : List ℕ) → answer_of bytes ≡ None → reply_of_text
 unfolding reply_of_text
 as_table bytes is = ap (λ found. found or_else table_of bytes) is
 
-pub no_refusal_told : (answer : Answer) → ((refusal : Refusal) → answer ≡ Told.Refused refusal → ⊥) → is_refusal (body_of_answer answer) ≡ false
-no_refusal_told (Told.Refused refusal) other = absurd (other refusal refl)
+pub no_refusal_told : (answer : Answer) → ((refusal : Refusal) → answer ≡ Answer.Refused refusal → ⊥) → is_refusal (body_of_answer answer) ≡ false
+no_refusal_told (Answer.Refused refusal) other = absurd (other refusal refl)
 no_refusal_told _ other = refl
 
 -- a table is no refusal

@@ -13,7 +13,7 @@ use Rattle.words_core.specs.Texts.{addressee_text, owner_texts, body_texts}
 use Rattle.words_core.specs.declared.event.Event.{Event}
 use Rattle.words_core.specs.declared.event.Event.TheVariants as On
 use Rattle.words_core.specs.declared.event.AdminCommand.TheVariants as Do
-use Rattle.words_core.specs.declared.event.Command.TheVariants as Asked
+use Rattle.words_core.specs.declared.event.Command.TheVariants as Command
 use Rattle.words_core.specs.declared.reply.Body.{Body}
 use Rattle.words_core.specs.declared.reply.Body.TheVariants as Say
 use Rattle.words_core.specs.declared.reply.Refusal.{Refusal}
@@ -41,7 +41,7 @@ report_lines w t exists found = if exists then 1 + w.order + option_map_or (λ s
 
 none_more : (event : Event) (w : Known) → state_for event w ≡ None → more_lines event w ≡ 0
 none_more (On.Admin Do.Pool) w none = absurd cc
-none_more (On.Tenant t Asked.Report) w none =
+none_more (On.Tenant t Command.Report) w none =
     ap (λ exists. report_lines w t exists (slice_get w.states t)) (no_state w.states t none)
 none_more _ w none = refl
 
@@ -70,18 +70,18 @@ kept_lines (On.Admin Do.Pool) front (Say.Refused Refusal.NoFrames) w s after her
 kept_lines (On.Admin Do.Pool) front (Say.Refused Refusal.SlotBusy) w s after here next refused roomy idle owned reported = absurd cc
 kept_lines (On.Admin Do.Pool) front (Say.Refused refusal) w s after here next refused roomy idle owned reported = absurd cc
 kept_lines (On.Admin Do.Pool) front body w s after here next refused roomy idle owned reported = absurd cc
-kept_lines (On.Tenant t Asked.Report) front (Say.Report r) w s after here next refused roomy idle owned reported =
+kept_lines (On.Tenant t Command.Report) front (Say.Report r) w s after here next refused roomy idle owned reported =
     let figures = and_parts _ _ reported in
     let orders : length r.orders.items ≡ w.order + 1 = sym (length-map r.orders.items (λ row. row.free)) ∙ eqb-true _ _ figures.0 in
     let caches : length r.caches.items ≡ length s.has.caches = eqb-true _ _ (and_parts _ _ figures.1).0 in
-    let more : more_lines (On.Tenant t Asked.Report) w ≡ 1 + w.order + length s.has.caches =
+    let more : more_lines (On.Tenant t Command.Report) w ≡ 1 + w.order + length s.has.caches =
     ap (λ exists. report_lines w t exists (slice_get w.states t)) (lt-ltb t (length w.states) (slice_get_within w.states t s here))
     ∙ ap (report_lines w t true) here in
     omega (arith, count_report front r, orders, caches, more)
-kept_lines (On.Tenant t Asked.Report) front (Say.Refused Refusal.NoFrames) w s after here next refused roomy idle owned reported = absurd cc
-kept_lines (On.Tenant t Asked.Report) front (Say.Refused Refusal.SlotBusy) w s after here next refused roomy idle owned reported = absurd cc
-kept_lines (On.Tenant t Asked.Report) front (Say.Refused refusal) w s after here next refused roomy idle owned reported = absurd cc
-kept_lines (On.Tenant t Asked.Report) front body w s after here next refused roomy idle owned reported = absurd cc
+kept_lines (On.Tenant t Command.Report) front (Say.Refused Refusal.NoFrames) w s after here next refused roomy idle owned reported = absurd cc
+kept_lines (On.Tenant t Command.Report) front (Say.Refused Refusal.SlotBusy) w s after here next refused roomy idle owned reported = absurd cc
+kept_lines (On.Tenant t Command.Report) front (Say.Refused refusal) w s after here next refused roomy idle owned reported = absurd cc
+kept_lines (On.Tenant t Command.Report) front body w s after here next refused roomy idle owned reported = absurd cc
 kept_lines event front (Say.Owners told) w s after here next refused roomy idle owned reported = absurd cc
 kept_lines event front (Say.Report r) w s after here next refused roomy idle owned reported = absurd cc
 kept_lines event front body w s after here next refused roomy idle owned reported = refl

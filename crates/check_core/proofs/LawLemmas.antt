@@ -16,13 +16,13 @@ use Rattle.world_core.specs.Output.{event_in, events_of}
 use Rattle.promise_core.specs.declared.promise.Promise.{Promise}
 use Rattle.promise_core.specs.State.{Known, opening}
 use Rattle.promise_core.specs.Promises.{allowed, all_allowed}
-use Rattle.promise_kept.specs.Written.{told_text}
+use Rattle.promise_kept.specs.Written.{text_of_replies}
 use Rattle.check_core.specs.declared.finding.Breach.{Breach}
 use Rattle.check_core.specs.declared.finding.Finding.{Finding}
 use Rattle.check_core.specs.declared.finding.Finding.TheVariants.{Kept, Broken}
 use Rattle.check_core.specs.declared.shown.TheConstants.{MOST_TEXT_BYTES}
 use Rattle.check_core.specs.Forms.{◌>>=◌}
-use Rattle.check_core.specs.Finding.{first_line, after_line, has_end, first_lines, after_lines, are_ended, text_read, reply_in, more_lines, lines_to, verdict_of, verdict_at, fault_reply, tells_fault, finding}
+use Rattle.check_core.specs.Finding.{first_line, after_line, has_end, first_lines, after_lines, are_ended, text_read, reply_in, more_lines, lines_to, verdict_of, verdict_at, fault_reply, reports_fault, finding}
 use Rattle.check_core.specs.Laws.{KeptIsAllowed, HasNoReply, IsWrong, BrokenIsNotAllowed}
 use Rattle.check_core.specs.Ranges.{Fits}
 use Rattle.check_core.specs.Tables.{reply_of_text}
@@ -75,7 +75,7 @@ record IsStep (reading : Line) (bytes : List ℕ) (w after : Known) : Type 0 whe
   exchanges : List Exchange
   asked : map (λ e. e.event) exchanges ≡ event_in reading
   told : (readings : List Line) (later : List Exchange)
-      → told_text None (reading ∷ readings) (exchanges ++ later) ≡ first_lines (lines_to reading w) bytes ++ told_text None readings later
+      → text_of_replies None (reading ∷ readings) (exchanges ++ later) ≡ first_lines (lines_to reading w) bytes ++ text_of_replies None readings later
   count : feeds (first_lines (lines_to reading w) bytes) ≡ lines_to reading w
   are_allowed : (later : List Exchange) → all_allowed (exchanges ++ later) (Ok w) ≡ all_allowed later (Ok after)
 
@@ -105,12 +105,12 @@ event_step event bytes w after (Some reply) first is verdict =
     record {
       exchanges = record { event = event; reply = reply } ∷ [];
       asked = refl;
-      told = λ readings later. ap (λ front. front ++ told_text None readings later) text.0;
+      told = λ readings later. ap (λ front. front ++ text_of_replies None readings later) text.0;
       count = lines_feeds (suc (more_lines event w)) bytes text.1;
       are_allowed = λ later. ap (all_allowed later) verdict;
     }
 
-fault_step : (fault : LineFault) (bytes : List ℕ) (w after : Known) (told : Bool) → tells_fault fault bytes ≡ told
+fault_step : (fault : LineFault) (bytes : List ℕ) (w after : Known) (told : Bool) → reports_fault fault bytes ≡ told
     → (if told then Ok w else Err Promise.Form) ≡ Ok after → IsStep (Err fault) bytes w after
 fault_step fault bytes w after false is verdict = absurd cc
 fault_step fault bytes w after true is verdict =
@@ -118,7 +118,7 @@ fault_step fault bytes w after true is verdict =
     record {
       exchanges = [];
       asked = refl;
-      told = λ readings later. ap (λ front. front ++ told_text None readings later) (sym ((bytes_eq-Decides (first_lines 1 bytes) (text_of (fault_reply fault))).0 parts.1));
+      told = λ readings later. ap (λ front. front ++ text_of_replies None readings later) (sym ((bytes_eq-Decides (first_lines 1 bytes) (text_of (fault_reply fault))).0 parts.1));
       count = lines_feeds 1 bytes parts.0;
       are_allowed = λ later. ap (all_allowed later) verdict;
     }
@@ -131,7 +131,7 @@ line_step (Ok None) bytes w after verdict = record {
   count = refl;
   are_allowed = λ later. ap (all_allowed later) verdict;
 }
-line_step (Err fault) bytes w after verdict = fault_step fault bytes w after (tells_fault fault bytes) refl verdict
+line_step (Err fault) bytes w after verdict = fault_step fault bytes w after (reports_fault fault bytes) refl verdict
 line_step (Ok (Some event)) bytes w after verdict =
     event_step event bytes w after (reply_in (suc (more_lines event w)) bytes) (reply_in 1 bytes) refl verdict
 
@@ -150,12 +150,12 @@ record IsWalk (lines : List (List ℕ)) (bytes : List ℕ) (w : Known) : Type 0 
   exchanges : List Exchange
   asked : map (λ e. e.event) exchanges ≡ events_of before
   rest : List ℕ
-  bytes_are : bytes ≡ told_text None (map reading_of before) exchanges ++ rest
+  bytes_are : bytes ≡ text_of_replies None (map reading_of before) exchanges ++ rest
   after : Known
   are_allowed : all_allowed exchanges (Ok w) ≡ Ok after
   stops : Stops left rest after
   finds : (line at : ℕ) → finding line at (map reading_of lines) bytes w
-      ≡ finding (line + length before) (at + feeds (told_text None (map reading_of before) exchanges)) (map reading_of left) rest after
+      ≡ finding (line + length before) (at + feeds (text_of_replies None (map reading_of before) exchanges)) (map reading_of left) rest after
 
 map-append : (es later : List Exchange) → map (λ e. e.event) (es ++ later) ≡ map (λ e. e.event) es ++ map (λ e. e.event) later
 map-append [] later = refl
@@ -182,8 +182,8 @@ goes_further l lines bytes w after verdict more =
     let reading = reading_of l in
     let k = lines_to reading w in
     let step = line_step reading bytes w after verdict in
-    let later = told_text None (map reading_of more.before) more.exchanges in
-    let told : told_text None (map reading_of (l ∷ more.before)) (step.exchanges ++ more.exchanges) ≡ first_lines k bytes ++ later =
+    let later = text_of_replies None (map reading_of more.before) more.exchanges in
+    let told : text_of_replies None (map reading_of (l ∷ more.before)) (step.exchanges ++ more.exchanges) ≡ first_lines k bytes ++ later =
     step.told (map reading_of more.before) more.exchanges in
     record {
       before = l ∷ more.before;
@@ -199,7 +199,7 @@ goes_further l lines bytes w after verdict more =
       stops = more.stops;
       finds = λ line at.
           let lines_so : (line + 1) + length more.before ≡ line + length (l ∷ more.before) = omega arith in
-          let replies_so : (at + k) + feeds later ≡ at + feeds (told_text None (map reading_of (l ∷ more.before)) (step.exchanges ++ more.exchanges)) =
+          let replies_so : (at + k) + feeds later ≡ at + feeds (text_of_replies None (map reading_of (l ∷ more.before)) (step.exchanges ++ more.exchanges)) =
           omega (arith, ap feeds told, feeds-append (first_lines k bytes) later, step.count) in
           goes_on line at k reading (map reading_of lines) bytes w after verdict refl ∙ more.finds (line + 1) (at + k)
           ∙ (λ i. finding (lines_so i) (replies_so i) (map reading_of more.left) more.rest more.after);
@@ -227,11 +227,11 @@ kept_is_allowed limit order superblocks tenants n trace replies kept =
     let all = walk lines replies (opening limit order superblocks tenants) in
     let (none, ended) = kept_end all.left all.rest all.after _ _ n all.stops (sym (all.finds 0 0) ∙ kept) in
     let whole : all.before ≡ lines = sym (all.lines_are ∙ ap (λ left. all.before ++ left) none ∙ append-nil all.before) in
-    let told = told_text None (map reading_of all.before) all.exchanges in
+    let told = text_of_replies None (map reading_of all.before) all.exchanges in
     record {
       exchanges = all.exchanges;
       asked = all.asked ∙ ap events_of whole;
-      told = all.bytes_are ∙ ap (λ rest. told ++ rest) ended ∙ append-nil told ∙ ap (λ before. told_text None (map reading_of before) all.exchanges) whole;
+      told = all.bytes_are ∙ ap (λ rest. told ++ rest) ended ∙ append-nil told ∙ ap (λ before. text_of_replies None (map reading_of before) all.exchanges) whole;
       after = all.after;
       are_allowed = all.are_allowed;
     }
@@ -291,7 +291,7 @@ broken_is_not_allowed limit order superblocks tenants trace replies breach broke
       before = all.before;
       left = all.left;
       lines_are = all.lines_are;
-      front = told_text None (map reading_of all.before) all.exchanges;
+      front = text_of_replies None (map reading_of all.before) all.exchanges;
       rest = all.rest;
       replies_are = all.bytes_are;
       kept = record { exchanges = all.exchanges; asked = all.asked; told = refl; after = all.after; are_allowed = all.are_allowed };

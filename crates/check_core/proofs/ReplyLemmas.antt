@@ -5,7 +5,6 @@ use Rattle.std.proofs.lemmas.Option.{same_Some}
 use Rattle.words_core.specs.Texts.{addressee_text, text_of}
 use Rattle.words_core.specs.Requests.{body_of_answer, is_table, reply_to, HasFewBytes}
 use Rattle.words_core.specs.declared.answer.Answer.{Answer}
-use Rattle.words_core.specs.declared.answer.Answer.TheVariants as Told
 use Rattle.words_core.specs.declared.reply.Addressee.{Addressee}
 use Rattle.words_core.specs.declared.reply.Reply.{Reply}
 use Rattle.words_core.specs.declared.reply.Body.{Body}
@@ -27,7 +26,7 @@ reply_takes text reply e = either (answer_of text) (table_of text) reply e (λ e
 -- ---- answers
 
 pub few_bytes : (answer : Answer) → IsAnswer (body_of_answer answer) → HasFewBytes answer
-few_bytes (Told.Bytes bytes) few = few
+few_bytes (Answer.Bytes bytes) few = few
 few_bytes _ _ = tt
 
 no_answer : (text : List ℕ) (who : Addressee) (lines : List ℕ) → AddresseeFits who → text ≡ addressee_text who ++ lines

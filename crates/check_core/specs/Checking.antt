@@ -10,7 +10,7 @@ use Rattle.words_core.specs.declared.reply.Reply.{Reply}
 use Rattle.promise_core.specs.Promises.{allowed}
 use Rattle.promise_core.specs.State.{Known}
 use Rattle.judge.specs.Machine.{SeenMachine, ShowsKnown, IsVerdict}
-use Rattle.check_core.specs.Finding.{after_lines, is_refusal, lines_to, tells_fault, verdict_at}
+use Rattle.check_core.specs.Finding.{after_lines, is_refusal, lines_to, reports_fault, verdict_at}
 
 -- The verdict on the reply to a line that reads so: how many lines it has, which are not left after it, where it is allowed, and
 -- then what is known after it is shown; or the first promise that it breaks.
@@ -22,8 +22,8 @@ IsLineVerdict (Err promise) reading bytes w new left = verdict_at reading bytes 
 
 -- the same where the line is faulty
 abbrev pub IsFaultVerdict : Result ℕ Promise → LineFault → List ℕ → Option (List ℕ) → Type 0
-IsFaultVerdict (Ok lines) fault bytes left = (lines ≡ 1) × (tells_fault fault bytes ≡ true) × (left ≡ Some (after_lines 1 bytes))
-IsFaultVerdict (Err promise) fault bytes left = (promise ≡ Promise.Form) × (tells_fault fault bytes ≡ false)
+IsFaultVerdict (Ok lines) fault bytes left = (lines ≡ 1) × (reports_fault fault bytes ≡ true) × (left ≡ Some (after_lines 1 bytes))
+IsFaultVerdict (Err promise) fault bytes left = (promise ≡ Promise.Form) × (reports_fault fault bytes ≡ false)
 
 -- and where this was gathered as its reply, of which nothing is known that was not before if it is none
 abbrev pub IsTextVerdict : Option (Result (Unit {0}) Promise) → Event → Option Reply → Known → SeenMachine → Type 0

@@ -5,7 +5,7 @@ use Rattle.std.specs.Str.{bytes_eq}
 use Rattle.words_core.specs.declared.event.Event.{Event}
 use Rattle.words_core.specs.declared.event.Event.TheVariants as On
 use Rattle.words_core.specs.declared.event.AdminCommand.TheVariants as Do
-use Rattle.words_core.specs.declared.event.Command.TheVariants as Asked
+use Rattle.words_core.specs.declared.event.Command.TheVariants as Command
 use Rattle.words_core.specs.declared.event.LineFault.{LineFault}
 use Rattle.words_core.specs.declared.reply.Addressee.TheVariants as To
 use Rattle.words_core.specs.declared.reply.Body.{Body}
@@ -63,7 +63,7 @@ reply_in k bytes = if are_ended k bytes then text_read (first_lines k bytes) els
 -- order and for each cache of the tenant.
 abbrev pub more_lines : Event → Known → ℕ
 more_lines (On.Admin Do.Pool) w = length w.owners
-more_lines (On.Tenant t Asked.Report) w =
+more_lines (On.Tenant t Command.Report) w =
     if nat_lt t (length w.states) then 1 + w.order + option_map_or (λ s. length s.has.caches) (slice_get w.states t) 0 else 0
 more_lines event w = 0
 
@@ -90,13 +90,13 @@ abbrev pub fault_reply : LineFault → Reply
 fault_reply fault = record { addressee = To.Nobody; body = Say.Fault fault }
 
 -- that stands in the first line
-abbrev pub tells_fault : LineFault → List ℕ → Bool
-tells_fault fault bytes = are_ended 1 bytes && bytes_eq (first_lines 1 bytes) (text_of (fault_reply fault))
+abbrev pub reports_fault : LineFault → List ℕ → Bool
+reports_fault fault bytes = are_ended 1 bytes && bytes_eq (first_lines 1 bytes) (text_of (fault_reply fault))
 
 -- What is known after a line that reads so, and the reply that stands first in these bytes; else the first promise that it breaks.
 abbrev pub verdict_at : Result (Option Event) LineFault → List ℕ → Known → Result Known Promise
 verdict_at (Ok None) bytes w = Ok w
-verdict_at (Err fault) bytes w = if tells_fault fault bytes then Ok w else Err Promise.Form
+verdict_at (Err fault) bytes w = if reports_fault fault bytes then Ok w else Err Promise.Form
 verdict_at (Ok (Some event)) bytes w = verdict_of event (reply_in (suc (more_lines event w)) bytes) (reply_in 1 bytes) w
 
 -- how many lines the reply to such a line has

@@ -3,7 +3,7 @@
 ghost use Rattle.std.specs.Prelude.{◌≡◌, ℕ, ◌+◌, ◌≤◌, List, [], ◌++◌, Some, Ok, IfOk, length, true, false};
 ghost use Rattle.std.specs.Str.{bytes_eq};
 ghost use Rattle.check_core.specs.Ending.{IsEndedBy};
-ghost use Rattle.check_core.specs.Finding.{after_lines, are_ended, first_lines, tells_fault};
+ghost use Rattle.check_core.specs.Finding.{after_lines, are_ended, first_lines, reports_fault};
 ghost use Rattle.check_core.specs.Gathered.{Gathers};
 
 use crate::finding::Unchecked;
@@ -21,7 +21,7 @@ pub fn reads_fault<F: Feed>(
 ) -> Result<bool, Unchecked>
     requires fine { replies.old.failed ≡ false }
     requires empty { Gathers MOST_TEXT_BYTES [] text.old }
-    ensures told { (bytes : List ℕ) → replies.old.left ≡ Some bytes → IfOk result (λ told. told ≡ tells_fault fault bytes) }
+    ensures told { (bytes : List ℕ) → replies.old.left ≡ Some bytes → IfOk result (λ told. told ≡ reports_fault fault bytes) }
     ensures left { (bytes : List ℕ) → replies.old.left ≡ Some bytes → result ≡ Ok true → replies.new.left ≡ Some (after_lines 1 bytes) }
     ensures room { result ≡ Ok true → replies.new.room + 1 ≤ replies.old.room }
     ensures end { IsEndedBy result false replies.new.failed ⊥ }

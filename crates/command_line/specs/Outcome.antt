@@ -60,12 +60,12 @@ after_flush BadOnly unsent flushed = BadOnly
 after_flush NoMemory unsent flushed = NoMemory
 
 -- how a refusal of the parser of this kind may end
-abbrev pub IsToldAs : ErrorKind → Outcome → Type 0
-IsToldAs kind (Help text) = kind ≡ DisplayHelp
-IsToldAs kind (Version text) = kind ≡ DisplayVersion
-IsToldAs kind (BadLine text) = (kind ≢ DisplayHelp) × (kind ≢ DisplayVersion) × (kind ≢ OutOfMemory)
-IsToldAs kind NoMemory = Unit {0}
-IsToldAs kind _ = ⊥
+abbrev pub IsReportedAs : ErrorKind → Outcome → Type 0
+IsReportedAs kind (Help text) = kind ≡ DisplayHelp
+IsReportedAs kind (Version text) = kind ≡ DisplayVersion
+IsReportedAs kind (BadLine text) = (kind ≢ DisplayHelp) × (kind ≢ DisplayVersion) × (kind ≢ OutOfMemory)
+IsReportedAs kind NoMemory = Unit {0}
+IsReportedAs kind _ = ⊥
 
 -- the command line is faulty, or there was no memory for saying so
 abbrev pub IsBadLine : Outcome → Type 0

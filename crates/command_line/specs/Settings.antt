@@ -43,8 +43,8 @@ abbrev pub command_line : App
 command_line = with_rule (with_rule (with_rule (machine_command (codes "partmem")) own_rule) tally_rule) (positional_rule (codes "FILE"))
 
 -- the settings are what clap finds in these words
-abbrev pub IsAskedBy : List Text → Settings → Type 0
-IsAskedBy words settings = Asks (λ name. one_of name (matches_of command_line words)) (λ name. first_of name (matches_of command_line words)) settings
+abbrev pub IsRequestedBy : List Text → Settings → Type 0
+IsRequestedBy words settings = Asks (λ name. one_of name (matches_of command_line words)) (λ name. first_of name (matches_of command_line words)) settings
 
 -- clap's model takes these words
 unfoldable pub IsInOrder : List Text → Type 0
@@ -52,5 +52,5 @@ IsInOrder words = takes command_line words ≡ true
 
 -- these words ask for the settings, and nothing is wrong with them
 pub record CanBeHad (words : List Text) (settings : Settings) : Type 0 where
-  pub asked : IsAskedBy words settings
+  pub asked : IsRequestedBy words settings
   pub own_alone : (flag : Bool) → IsFlag (one_of (codes "tally") (matches_of command_line words)) flag → IsAlone settings.own settings.only flag

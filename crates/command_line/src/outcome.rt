@@ -2,7 +2,7 @@
 
 ghost use Rattle.std.specs.Prelude.{◌≡◌, Some, option_map};
 ghost use Rattle.clap.specs.Words.{kind_of};
-ghost use Rattle.command_line.specs.Outcome.{IsBadLine, IsToldAs, after_flush, line_of, outcome_of, outcome_text, status_of};
+ghost use Rattle.command_line.specs.Outcome.{IsBadLine, IsReportedAs, after_flush, line_of, outcome_of, outcome_text, status_of};
 ghost use Rattle.command_line.specs.declared.outcome.Outcome.TheVariants.{NoMemory};
 
 use crate::arguments::Program;
@@ -132,7 +132,7 @@ pub(crate) fn not_words(alloc: Global, kind: io::ErrorKind) -> Outcome
 
 /// The outcome when the parser has refused the words.
 pub(crate) fn not_parsed(alloc: Global, error: &Error) -> Outcome
-    ensures { IsToldAs (kind_of error.now) result }
+    ensures { IsReportedAs (kind_of error.now) result }
 {
     let Ok(text) = format!(in alloc; "{error}") else {
         return Outcome::NoMemory;

@@ -6,7 +6,7 @@ ghost use Rattle.clap.specs.Words.{app_of, found_of, matches_of, one_of, one_tex
 ghost use Rattle.model_core.specs.Booting.{is_bootable};
 ghost use Rattle.command_line.specs.Machine.{AsksNoTenant, MayWrite};
 ghost use Rattle.command_line.specs.Outcome.{IsBadLine, IsRefusal};
-ghost use Rattle.command_line.specs.Settings.{CanBeHad, IsAlone, IsAskedBy, IsInOrder, command_line};
+ghost use Rattle.command_line.specs.Settings.{CanBeHad, IsAlone, IsRequestedBy, IsInOrder, command_line};
 ghost use Rattle.command_line.specs.declared.settings.Settings.{Settings};
 
 use crate::arguments::{self, number, number_written, parse, path_of, positional};
@@ -28,7 +28,7 @@ pub fn read_words<'a>(alloc: Global, words: &'a [&'a str]) -> Result<Settings, O
     ensures only { IfOk result (λ settings. ForSome settings.only (λ tenant. tenant < settings.config.tenants)) }
     ensures own { IfOk result (λ settings. ForSome settings.own (λ tenant. tenant < settings.config.tenants)) }
     // Which word is under which name is as clap's model says.
-    ensures asked { IfOk result (IsAskedBy (map (λ word. word.now) words.entry.now)) }
+    ensures asked { IfOk result (IsRequestedBy (map (λ word. word.now) words.entry.now)) }
     ensures refused { IfErr result IsRefusal }
     ensures bad_only { result ≡ Err Outcome.BadOnly
         → AsksNoTenant (λ name. one_of name (matches_of command_line (map (λ word. word.now) words.entry.now))) }

@@ -10,7 +10,7 @@ use Rattle.model_core.specs.Blocks.{Block, block}
 use Rattle.model_core.specs.Machine.{in_block, put_rising}
 use Rattle.model_core.specs.declared.limits.TheConstants.{MOST_CACHES}
 use Rattle.words_core.specs.declared.event.Event.TheVariants as On
-use Rattle.words_core.specs.declared.event.Command.TheVariants as Asked
+use Rattle.words_core.specs.declared.event.Command.TheVariants as Command
 use Rattle.words_core.specs.declared.report.Report.{Report}
 use Rattle.words_core.specs.declared.reply.Body.TheVariants as Say
 use Rattle.promise_core.specs.Bytes.{Holder, is_same, is_object, with_bytes, doubted, without, holder_of}
@@ -29,10 +29,10 @@ abbrev pub changed : Seen → Holdings → Left → Seen
 changed old h l = record old { has = h; left = l; told = None }
 
 pub allocated : (t k f : ℕ) (w : Known) (b : Block) (old : Seen) (h : Holdings) (l : Left) → b ≡ block f k
-    → tenant_verdict (On.Tenant t (Asked.Alloc k)) (Say.Frame f) w old ≡ Ok tt
+    → tenant_verdict (On.Tenant t (Command.Alloc k)) (Say.Frame f) w old ≡ Ok tt
     → h ≡ record old.has { pages = put_rising (λ x. x.first) b old.has.pages }
     → Becomes old.left (left_slots old.left) (without (λ place holder. in_block place b && not (is_same Holder.Page holder))) l
-    → IsFollowed (On.Tenant t (Asked.Alloc k)) (Say.Frame f) w old (changed old h l)
+    → IsFollowed (On.Tenant t (Command.Alloc k)) (Say.Frame f) w old (changed old h l)
 unfolding state_after
 allocated t k f w b old h l is kept has left = record {
   kept = kept;
@@ -46,10 +46,10 @@ allocated t k f w b old h l is kept has left = record {
 }
 
 pub freed : (t f k : ℕ) (w : Known) (b : Block) (old : Seen) (h : Holdings) (l : Left) → b ≡ block f k
-    → tenant_verdict (On.Tenant t (Asked.Free f)) (Say.Freed k) w old ≡ Ok tt
+    → tenant_verdict (On.Tenant t (Command.Free f)) (Say.Freed k) w old ≡ Ok tt
     → h ≡ record old.has { pages = filter (λ x. not (x.first == f)) old.has.pages }
     → Becomes old.left (left_slots old.left) (doubted (λ place holder. in_block place b && is_same Holder.Page holder)) l
-    → IsFollowed (On.Tenant t (Asked.Free f)) (Say.Freed k) w old (changed old h l)
+    → IsFollowed (On.Tenant t (Command.Free f)) (Say.Freed k) w old (changed old h l)
 unfolding state_after
 freed t f k w b old h l is kept has left = record {
   kept = kept;
@@ -64,8 +64,8 @@ freed t f k w b old h l is kept has left = record {
 
 module _ (t place len : ℕ) (bytes : ArrayVec ℕ) (w : Known) (old : Seen) (l : Left) (holder : Holder) (is : holder_of old.has place len ≡ Some holder)
     (left : Becomes old.left (left_slots old.left) (with_bytes holder place bytes.items) l) where
-  pub read : tenant_verdict (On.Tenant t (Asked.Read place len)) (Say.Bytes bytes) w old ≡ Ok tt
-      → IsFollowed (On.Tenant t (Asked.Read place len)) (Say.Bytes bytes) w old (record old { left = l })
+  pub read : tenant_verdict (On.Tenant t (Command.Read place len)) (Say.Bytes bytes) w old ≡ Ok tt
+      → IsFollowed (On.Tenant t (Command.Read place len)) (Say.Bytes bytes) w old (record old { left = l })
   unfolding state_after
   read kept = record {
     kept = kept;
@@ -73,8 +73,8 @@ module _ (t place len : ℕ) (bytes : ArrayVec ℕ) (w : Known) (old : Seen) (l 
     state = (λ i. Some (with_range place bytes.items (state_of old) (is i))) ∙ (λ i. Some (record (state_of old) { cells = sym left.cells i }));
   }
 
-  pub written : tenant_verdict (On.Tenant t (Asked.Write place bytes)) (Say.Written len) w old ≡ Ok tt
-      → IsFollowed (On.Tenant t (Asked.Write place bytes)) (Say.Written len) w old (record old { left = l })
+  pub written : tenant_verdict (On.Tenant t (Command.Write place bytes)) (Say.Written len) w old ≡ Ok tt
+      → IsFollowed (On.Tenant t (Command.Write place bytes)) (Say.Written len) w old (record old { left = l })
   unfolding state_after
   written kept = record {
     kept = kept;
@@ -84,9 +84,9 @@ module _ (t place len : ℕ) (bytes : ArrayVec ℕ) (w : Known) (old : Seen) (l 
 
 pub made : (t size align : ℕ) (pattern : ArrayVec ℕ) (number chunk q n colours : ℕ) (w : Known) (c : KnownCache) (old : Seen) (h : Holdings)
     → c ≡ record { number = number; size = size; align = align; pattern = pattern.items; chunk = chunk; order = q; count = n; live = [] }
-    → tenant_verdict (On.Tenant t (Asked.Cache size align pattern)) (Say.Cache number chunk q n colours) w old ≡ Ok tt
+    → tenant_verdict (On.Tenant t (Command.Cache size align pattern)) (Say.Cache number chunk q n colours) w old ≡ Ok tt
     → h ≡ record old.has { caches = put_rising (λ x. x.number) c old.has.caches }
-    → IsFollowed (On.Tenant t (Asked.Cache size align pattern)) (Say.Cache number chunk q n colours) w old (changed old h old.left)
+    → IsFollowed (On.Tenant t (Command.Cache size align pattern)) (Say.Cache number chunk q n colours) w old (changed old h old.left)
 unfolding state_after
 made t size align pattern number chunk q n colours w c old h is kept has = record {
   kept = kept;
@@ -100,11 +100,11 @@ made t size align pattern number chunk q n colours w c old h is kept has = recor
 }
 
 pub destroyed : (t number frames : ℕ) (w : Known) (old : Seen) (h : Holdings) (l : Left) (marks : List Bool)
-    → tenant_verdict (On.Tenant t (Asked.Destroy number)) (Say.Destroyed frames) w old ≡ Ok tt
+    → tenant_verdict (On.Tenant t (Command.Destroy number)) (Say.Destroyed frames) w old ≡ Ok tt
     → h ≡ record old.has { caches = filter (λ c. not (c.number == number)) old.has.caches }
     → Becomes old.left (left_slots old.left) (without (λ place. is_object (λ n p. n == number))) l
     → ((n : ℕ) → slice_index_or marks n false ≡ (not (n == number) && slice_index_or old.may_have_empty n false))
-    → IsFollowed (On.Tenant t (Asked.Destroy number)) (Say.Destroyed frames) w old (record { has = h; left = l; may_have_empty = marks; told = None })
+    → IsFollowed (On.Tenant t (Command.Destroy number)) (Say.Destroyed frames) w old (record { has = h; left = l; may_have_empty = marks; told = None })
 unfolding state_after
 destroyed t number frames w old h l marks kept has left may_have_empty = record {
   kept = kept;
@@ -113,11 +113,11 @@ destroyed t number frames w old h l marks kept has left may_have_empty = record 
 }
 
 pub taken : (t number place : ℕ) (w : Known) (c : KnownCache) (old : Seen) (h : Holdings) (l : Left) (marks : List Bool) → known_cache old.has number ≡ Some c
-    → tenant_verdict (On.Tenant t (Asked.Take number)) (Say.Object place) w old ≡ Ok tt
+    → tenant_verdict (On.Tenant t (Command.Take number)) (Say.Object place) w old ≡ Ok tt
     → h ≡ with_live_places number (put_rising (λ p. p) place) old.has
     → Becomes old.left (left_slots old.left) (with_object place (Some c)) l
     → ((n : ℕ) → slice_index_or marks n false ≡ (n == number || slice_index_or old.may_have_empty n false))
-    → IsFollowed (On.Tenant t (Asked.Take number)) (Say.Object place) w old (record { has = h; left = l; may_have_empty = marks; told = None })
+    → IsFollowed (On.Tenant t (Command.Take number)) (Say.Object place) w old (record { has = h; left = l; may_have_empty = marks; told = None })
 unfolding state_after
 taken t number place w c old h l marks is kept has left may_have_empty = record {
   kept = kept;
@@ -131,10 +131,10 @@ taken t number place w c old h l marks is kept has left may_have_empty = record 
 }
 
 pub given : (t number place : ℕ) (w : Known) (old : Seen) (h : Holdings) (l : Left)
-    → tenant_verdict (On.Tenant t (Asked.Give number place)) Say.Given w old ≡ Ok tt
+    → tenant_verdict (On.Tenant t (Command.Give number place)) Say.Given w old ≡ Ok tt
     → h ≡ with_live_places number (filter (λ p. not (p == place))) old.has
     → Becomes old.left (left_slots old.left) (doubted (λ p. is_same (Holder.Object number place))) l
-    → IsFollowed (On.Tenant t (Asked.Give number place)) Say.Given w old (changed old h l)
+    → IsFollowed (On.Tenant t (Command.Give number place)) Say.Given w old (changed old h l)
 unfolding state_after
 given t number place w old h l kept has left = record {
   kept = kept;
@@ -157,10 +157,10 @@ in_use_below h n low = go (nat_lt n MOST_CACHES) refl (known_cache h n) refl
         absurd (omega (arith, is, lt, beyond))
 
 pub reaped : (t frames : ℕ) (w : Known) (old : Seen) (l : Left) (marks : List Bool) → AreNumbered old.has
-    → tenant_verdict (On.Tenant t Asked.Reap) (Say.Reaped frames) w old ≡ Ok tt
+    → tenant_verdict (On.Tenant t Command.Reap) (Say.Reaped frames) w old ≡ Ok tt
     → Becomes old.left (left_slots old.left) (without (λ place. is_object (is_in_no_slab old.has))) l
     → ((n : ℕ) → slice_index_or marks n false ≡ (nat_lt n MOST_CACHES && is_in_use (known_cache old.has n)))
-    → IsFollowed (On.Tenant t Asked.Reap) (Say.Reaped frames) w old (record { has = old.has; left = l; may_have_empty = marks; told = None })
+    → IsFollowed (On.Tenant t Command.Reap) (Say.Reaped frames) w old (record { has = old.has; left = l; may_have_empty = marks; told = None })
 unfolding state_after
 reaped t frames w old l marks low kept left may_have_empty = record {
   kept = kept;
@@ -173,8 +173,8 @@ reaped t frames w old l marks low kept left may_have_empty = record {
   });
 }
 
-pub reported : (t : ℕ) (r : Report) (w : Known) (old : Seen) → tenant_verdict (On.Tenant t Asked.Report) (Say.Report r) w old ≡ Ok tt
-    → IsFollowed (On.Tenant t Asked.Report) (Say.Report r) w old (record old { told = Some r })
+pub reported : (t : ℕ) (r : Report) (w : Known) (old : Seen) → tenant_verdict (On.Tenant t Command.Report) (Say.Report r) w old ≡ Ok tt
+    → IsFollowed (On.Tenant t Command.Report) (Say.Report r) w old (record old { told = Some r })
 unfolding state_after
 reported t r w old kept = record { kept = kept; order = refl; state = refl }
 

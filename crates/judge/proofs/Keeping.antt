@@ -10,7 +10,7 @@ use Rattle.model_core.specs.declared.limits.TheConstants.{MOST_CACHES, MOST_ORDE
 use Rattle.words_core.specs.declared.event.Event.{Event}
 use Rattle.words_core.specs.declared.event.Event.TheVariants as On
 use Rattle.words_core.specs.declared.event.AdminCommand.TheVariants as Do
-use Rattle.words_core.specs.declared.event.Command.TheVariants as Asked
+use Rattle.words_core.specs.declared.event.Command.TheVariants as Command
 use Rattle.words_core.specs.declared.reply.Body.{Body}
 use Rattle.words_core.specs.declared.reply.Body.TheVariants as Say
 use Rattle.promise_core.specs.declared.promise.Promise.{Promise}
@@ -70,11 +70,11 @@ number_step : (w : Known) (event : Event) (body : Body) (s s' : State) → state
     → new_layout event body w s ≡ true → AreNumbered s.has → AreNumbered s'.has
 unfolding state_after opening_state
 number_step w event (Say.Refused r) s s' e limit l g = subst (λ y. AreNumbered y.has) (some_state e) g
-number_step w (On.Tenant i (Asked.Alloc k)) (Say.Frame first) s s' e limit l g = subst (λ y. AreNumbered y.has) (some_state e) g
-number_step w (On.Tenant i (Asked.Free first)) (Say.Freed k) s s' e limit l g = subst (λ y. AreNumbered y.has) (some_state e) g
-number_step w (On.Tenant i (Asked.Read begin len)) (Say.Bytes told) s s' e limit l g = subst (λ y. AreNumbered y.has) (some_state e) g
-number_step w (On.Tenant i (Asked.Write begin new)) (Say.Written count) s s' e limit l g = subst (λ y. AreNumbered y.has) (some_state e) g
-number_step w (On.Tenant i (Asked.Cache size align pattern)) (Say.Cache number chunk q n colours) s s' e limit l g = subst (λ y. AreNumbered y.has) (some_state e)
+number_step w (On.Tenant i (Command.Alloc k)) (Say.Frame first) s s' e limit l g = subst (λ y. AreNumbered y.has) (some_state e) g
+number_step w (On.Tenant i (Command.Free first)) (Say.Freed k) s s' e limit l g = subst (λ y. AreNumbered y.has) (some_state e) g
+number_step w (On.Tenant i (Command.Read begin len)) (Say.Bytes told) s s' e limit l g = subst (λ y. AreNumbered y.has) (some_state e) g
+number_step w (On.Tenant i (Command.Write begin new)) (Say.Written count) s s' e limit l g = subst (λ y. AreNumbered y.has) (some_state e) g
+number_step w (On.Tenant i (Command.Cache size align pattern)) (Say.Cache number chunk q n colours) s s' e limit l g = subst (λ y. AreNumbered y.has) (some_state e)
     (λ d m. elim (in_put (λ x. x.number) new d s.has.caches m) [
       | inl same ↦ subst (λ y. y.number < MOST_CACHES) same (subst (λ n. number < n) limit (ltb-true number w.limit (and_parts _ _ (and_parts _ _ l).0).0))
       | inr old ↦ g d old
@@ -82,14 +82,14 @@ number_step w (On.Tenant i (Asked.Cache size align pattern)) (Say.Cache number c
   where
     new : KnownCache
     new = record { number = number; size = size; align = align; pattern = pattern.items; chunk = chunk; order = q; count = n; live = [] }
-number_step w (On.Tenant i (Asked.Destroy number)) (Say.Destroyed frames) s s' e limit l g = subst (λ y. AreNumbered y.has) (some_state e)
+number_step w (On.Tenant i (Command.Destroy number)) (Say.Destroyed frames) s s' e limit l g = subst (λ y. AreNumbered y.has) (some_state e)
     (λ d m. g d (filter_in _ d s.has.caches m).0)
-number_step w (On.Tenant i (Asked.Take number)) (Say.Object place) s s' e limit l g = subst (λ y. AreNumbered y.has) (some_state e)
+number_step w (On.Tenant i (Command.Take number)) (Say.Object place) s s' e limit l g = subst (λ y. AreNumbered y.has) (some_state e)
     (live_numbered s.has number _ g)
-number_step w (On.Tenant i (Asked.Give number place)) Say.Given s s' e limit l g = subst (λ y. AreNumbered y.has) (some_state e)
+number_step w (On.Tenant i (Command.Give number place)) Say.Given s s' e limit l g = subst (λ y. AreNumbered y.has) (some_state e)
     (live_numbered s.has number _ g)
-number_step w (On.Tenant i Asked.Reap) (Say.Reaped frames) s s' e limit l g = subst (λ y. AreNumbered y.has) (some_state e) g
-number_step w (On.Tenant i Asked.Report) (Say.Report r) s s' e limit l g = subst (λ y. AreNumbered y.has) (some_state e) g
+number_step w (On.Tenant i Command.Reap) (Say.Reaped frames) s s' e limit l g = subst (λ y. AreNumbered y.has) (some_state e) g
+number_step w (On.Tenant i Command.Report) (Say.Report r) s s' e limit l g = subst (λ y. AreNumbered y.has) (some_state e) g
 number_step w (On.Admin (Do.Grant i)) (Say.Granted told u superblock) s s' e limit l g = subst (λ y. AreNumbered y.has) (some_state e) g
 number_step w (On.Admin (Do.TakeBack i u)) (Say.TakenBack superblock) s s' e limit l g = subst (λ y. AreNumbered y.has) (some_state e) g
 number_step w (On.Admin (Do.Reset i)) (Say.WasReset told superblocks) s s' e limit l g = subst (λ y. AreNumbered y.has) (some_state e) (λ c i. elim i [ ])

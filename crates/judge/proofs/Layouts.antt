@@ -6,7 +6,7 @@ use Rattle.arrayvec.specs.ArrayVec.{ArrayVec}
 use Rattle.model_core.specs.declared.limits.TheConstants.{FRAME_BYTES, MOST_ORDER, MOST_SIZE}
 use Rattle.model_core.specs.Layouts.{is_size, is_alignment}
 use Rattle.words_core.specs.declared.event.Event.TheVariants as On
-use Rattle.words_core.specs.declared.event.Command.TheVariants as Asked
+use Rattle.words_core.specs.declared.event.Command.TheVariants as Command
 use Rattle.words_core.specs.declared.reply.Body.TheVariants as Say
 use Rattle.words_core.specs.declared.reply.Refusal.{Refusal}
 use Rattle.promise_core.specs.Holdings.{known_cache}
@@ -28,10 +28,10 @@ passed true r rest e = (refl, e)
 passed false r rest e = absurd (cc)
 
 module _ (size align t number chunk q n colours : ℕ) (p : ArrayVec ℕ) (w : Known) (x : Seen) where
-  kept : tenant_verdict (On.Tenant t (Asked.Cache size align p)) (Say.Cache number chunk q n colours) w x ≡ Ok tt
-      → (is_none (due (On.Tenant t (Asked.Cache size align p)) (known_at x w) (state_of x)) ≡ true)
-      × (new_layout (On.Tenant t (Asked.Cache size align p)) (Say.Cache number chunk q n colours) (known_at x w) (state_of x) ≡ true)
-  kept ok = let all = all_kept (kept_by (On.Tenant t (Asked.Cache size align p)) (Say.Cache number chunk q n colours) (known_at x w) (state_of x)) ok in
+  kept : tenant_verdict (On.Tenant t (Command.Cache size align p)) (Say.Cache number chunk q n colours) w x ≡ Ok tt
+      → (is_none (due (On.Tenant t (Command.Cache size align p)) (known_at x w) (state_of x)) ≡ true)
+      × (new_layout (On.Tenant t (Command.Cache size align p)) (Say.Cache number chunk q n colours) (known_at x w) (state_of x) ≡ true)
+  kept ok = let all = all_kept (kept_by (On.Tenant t (Command.Cache size align p)) (Say.Cache number chunk q n colours) (known_at x w) (state_of x)) ok in
       (all.1.0, all.1.1.1.1.1.1.0)
 
   abbrev new : Bool
@@ -47,13 +47,13 @@ module _ (size align t number chunk q n colours : ℕ) (p : ArrayVec ℕ) (w : K
   inside = nat_le (align * (colours - 1) + n * chunk) (FRAME_BYTES * 2 ^ q)
 
   -- the number of a new cache is new
-  pub new_where_allowed : tenant_verdict (On.Tenant t (Asked.Cache size align p)) (Say.Cache number chunk q n colours) w x ≡ Ok tt
+  pub new_where_allowed : tenant_verdict (On.Tenant t (Command.Cache size align p)) (Say.Cache number chunk q n colours) w x ≡ Ok tt
       → known_cache x.has number ≡ None
   new_where_allowed ok = none_is (known_cache x.has number)
       (and_parts (nat_lt number MOST_CACHES) (is_none (known_cache x.has number))
       (and_parts new (told && (counts && inside)) (kept ok).1).0).1
 
-  sized : is_none (due (On.Tenant t (Asked.Cache size align p)) (known_at x w) (state_of x)) ≡ true → (is_size size ≡ true) × (is_alignment align ≡ true)
+  sized : is_none (due (On.Tenant t (Command.Cache size align p)) (known_at x w) (state_of x)) ≡ true → (is_size size ≡ true) × (is_alignment align ≡ true)
   unfolding due
   sized none =
       let a = passed (is_size size) Refusal.BadSize (first_due ((not (is_alignment align), Refusal.BadAlign)
@@ -65,7 +65,7 @@ module _ (size align t number chunk q n colours : ℕ) (p : ArrayVec ℕ) (w : K
 
   -- .. and its objects fit into a slab
   pub cut_where_allowed : x.left.order ≤ MOST_ORDER
-      → tenant_verdict (On.Tenant t (Asked.Cache size align p)) (Say.Cache number chunk q n colours) w x ≡ Ok tt
+      → tenant_verdict (On.Tenant t (Command.Cache size align p)) (Say.Cache number chunk q n colours) w x ≡ Ok tt
       → IsKnownLayout size align chunk q n
   cut_where_allowed order ok =
       let sizes = sized (kept ok).0 in

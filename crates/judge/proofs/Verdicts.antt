@@ -14,7 +14,6 @@ use Rattle.words_core.specs.declared.event.Event.TheVariants as On
 use Rattle.words_core.specs.declared.event.AdminCommand.{AdminCommand}
 use Rattle.words_core.specs.declared.event.AdminCommand.TheVariants as Do
 use Rattle.words_core.specs.declared.event.Command.{Command}
-use Rattle.words_core.specs.declared.event.Command.TheVariants as Asked
 use Rattle.words_core.specs.declared.reply.Addressee.TheVariants as To
 use Rattle.words_core.specs.declared.reply.Body.{Body}
 use Rattle.words_core.specs.declared.reply.Body.TheVariants as Say
@@ -59,8 +58,8 @@ broken_off event body w x promise result is broken = failed_by event body w x x 
 refusal_is : (event : Event) (r : Refusal) (w : Known) (s : State) → verdict_on event (Say.Refused r) w s
     ≡ on_refusal r (due event w s) (room event (Say.Refused Refusal.NoFrames) w s) (busy event (Say.Refused Refusal.SlotBusy) w s)
 unfolding state_after
-refusal_is (On.Tenant t (Asked.Alloc k)) Refusal.NoFrames w s = refl
-refusal_is (On.Tenant t (Asked.Take number)) Refusal.NoFrames w s = refl
+refusal_is (On.Tenant t (Command.Alloc k)) Refusal.NoFrames w s = refl
+refusal_is (On.Tenant t (Command.Take number)) Refusal.NoFrames w s = refl
 refusal_is (On.Admin (Do.TakeBack t u)) Refusal.SlotBusy w s = refl
 refusal_is event Refusal.NoFrames w s = refl
 refusal_is event Refusal.SlotBusy w s = refl
@@ -96,20 +95,20 @@ first_plain ((false, r) ∷ tests) plain = first_plain tests plain.1
 
 pub plain_due : (t : ℕ) (m : Command) (w : Known) (s : State) → IfSome (due (On.Tenant t m) w s) IsPlain
 unfolding due
-plain_due t (Asked.Alloc k) w s = first_plain ((nat_lt w.order k, Refusal.BadOrder) ∷ []) (refl, tt)
-plain_due t (Asked.Free f) w s = first_plain ((is_none (order_in s.has.pages f), Refusal.NotABlock) ∷ []) (refl, tt)
-plain_due t (Asked.Read place len) w s = first_plain ((not (nat_le 1 len && nat_le len MOST_BYTES), Refusal.BadLength)
+plain_due t (Command.Alloc k) w s = first_plain ((nat_lt w.order k, Refusal.BadOrder) ∷ []) (refl, tt)
+plain_due t (Command.Free f) w s = first_plain ((is_none (order_in s.has.pages f), Refusal.NotABlock) ∷ []) (refl, tt)
+plain_due t (Command.Read place len) w s = first_plain ((not (nat_le 1 len && nat_le len MOST_BYTES), Refusal.BadLength)
     ∷ (is_none (holder_of s.has place len), Refusal.OutOfReach) ∷ []) (refl, (refl, tt))
-plain_due t (Asked.Write place bytes) w s = first_plain ((is_none (holder_of s.has place (length bytes.items)), Refusal.OutOfReach) ∷ []) (refl, tt)
-plain_due t (Asked.Cache size align pattern) w s = first_plain ((not (is_size size), Refusal.BadSize) ∷ (not (is_alignment align), Refusal.BadAlign)
+plain_due t (Command.Write place bytes) w s = first_plain ((is_none (holder_of s.has place (length bytes.items)), Refusal.OutOfReach) ∷ []) (refl, tt)
+plain_due t (Command.Cache size align pattern) w s = first_plain ((not (is_size size), Refusal.BadSize) ∷ (not (is_alignment align), Refusal.BadAlign)
     ∷ (nat_le w.limit (length s.has.caches), Refusal.NoCacheSlot) ∷ []) (refl, (refl, (refl, tt)))
-plain_due t (Asked.Destroy number) w s = let cache = known_cache s.has number in
+plain_due t (Command.Destroy number) w s = let cache = known_cache s.has number in
     first_plain ((is_none cache, Refusal.NoCache) ∷ (is_in_use cache, Refusal.CacheInUse) ∷ []) (refl, (refl, tt))
-plain_due t (Asked.Take number) w s = first_plain ((is_none (known_cache s.has number), Refusal.NoCache) ∷ []) (refl, tt)
-plain_due t (Asked.Give number place) w s = let cache = known_cache s.has number in first_plain ((is_none cache, Refusal.NoCache)
+plain_due t (Command.Take number) w s = first_plain ((is_none (known_cache s.has number), Refusal.NoCache) ∷ []) (refl, tt)
+plain_due t (Command.Give number place) w s = let cache = known_cache s.has number in first_plain ((is_none cache, Refusal.NoCache)
     ∷ (not (option_map_or (λ c. list_any (λ p. p == place) c.live) cache false), Refusal.NotAnObject) ∷ []) (refl, (refl, tt))
-plain_due t Asked.Reap w s = tt
-plain_due t Asked.Report w s = tt
+plain_due t Command.Reap w s = tt
+plain_due t Command.Report w s = tt
 
 -- .. so whether there is room matters only where no refusal is due
 pub full_or_due : (r : Refusal) (asked : Option Refusal) (full room busy : Bool) → IfSome asked IsPlain → (asked ≡ None → full ≡ room)

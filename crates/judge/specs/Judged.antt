@@ -5,7 +5,6 @@ use Rattle.model_core.specs.declared.limits.TheConstants.{MOST_CACHES}
 use Rattle.model_core.specs.declared.owner.Owner.{Owner}
 use Rattle.words_core.specs.Requests.{body_of_answer}
 use Rattle.words_core.specs.declared.answer.Answer.{Answer}
-use Rattle.words_core.specs.declared.answer.Answer.TheVariants as Told
 use Rattle.words_core.specs.declared.event.Event.{Event}
 use Rattle.words_core.specs.declared.reply.Addressee.TheVariants as To
 use Rattle.words_core.specs.declared.reply.Body.{Body}
@@ -75,7 +74,7 @@ IsVerdictFor event body w old new (Err (Of.Memory error)) =
 
 -- this is no answer to the event, but where it is a refusal
 abbrev pub IsUnfit : Event → Answer → Type 0
-IsUnfit event answer = (order : ℕ) (s : State) → ((r : Refusal) → answer ≡ Told.Refused r → ⊥) → state_after order event (body_of_answer answer) s ≡ None
+IsUnfit event answer = (order : ℕ) (s : State) → ((r : Refusal) → answer ≡ Answer.Refused r → ⊥) → state_after order event (body_of_answer answer) s ≡ None
 
 -- who owns each superblock is as it is after a reply that keeps every promise, and else as before
 abbrev pub AreOwnersAfter : Event → Body → List (Option Owner) → List (Option Owner) → Result (Unit {0}) Failure → Type 0

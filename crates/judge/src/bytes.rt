@@ -2,7 +2,7 @@
 
 ghost use Rattle.std.specs.Prelude.{◌≡◌, ◌≤◌, ◌<◌, ◌&&◌, nat_le, ℕ, Some, IfOk, length};
 ghost use Rattle.words_core.specs.declared.event.Event.TheVariants as On;
-ghost use Rattle.words_core.specs.declared.event.Command.TheVariants as Asked;
+ghost use Rattle.words_core.specs.declared.event.Command.TheVariants as Command;
 ghost use Rattle.words_core.specs.declared.reply.Body.TheVariants as Say;
 ghost use Rattle.promise_core.specs.Bytes.{holder_of};
 ghost use Rattle.promise_core.specs.State.{Known};
@@ -19,7 +19,7 @@ use promise_core::promise::Promise;
 impl Tenant {
     /// Judges and follows an answer of these bytes to a read of `len` bytes from a place on.
     pub(crate) fn read_bytes(&mut self, place: u32, len: u32, bytes: &[u8]) -> Result<(), Failure>
-        ensures { (t : ℕ) (w : Known) → IsVerdictFor (On.Tenant t (Asked.Read place len))
+        ensures { (t : ℕ) (w : Known) → IsVerdictFor (On.Tenant t (Command.Read place len))
             (Say.Bytes (record { items = bytes.now })) w self.old self.new result }
     {
         let holder = self.holder_read(place, len, bytes)?;
@@ -30,7 +30,7 @@ impl Tenant {
     /// Returns what has the bytes, if they may be read; else the promise that the answer breaks.
     fn holder_read(&self, place: u32, len: u32, bytes: &[u8]) -> Result<RangeHolder, Promise>
         ensures judged { (t : ℕ) (w : Known) → only_verdict result
-            ≡ tenant_verdict (On.Tenant t (Asked.Read place len)) (Say.Bytes (record { items = bytes.now })) w self.now }
+            ≡ tenant_verdict (On.Tenant t (Command.Read place len)) (Say.Bytes (record { items = bytes.now })) w self.now }
         ensures is { IfOk result (λ holder. (holder_of self.now.has place len ≡ Some (shown_holder holder))
             × (length bytes.now ≡ len)) }
     {
@@ -57,7 +57,7 @@ impl Tenant {
         count: u32,
     ) -> Result<(), Failure>
         ensures { (t : ℕ) (w : Known)
-            → IsVerdictFor (On.Tenant t (Asked.Write place bytes.now)) (Say.Written count) w self.old self.new result }
+            → IsVerdictFor (On.Tenant t (Command.Write place bytes.now)) (Say.Written count) w self.old self.new result }
     {
         let holder = self.holder_written(place, bytes, count)?;
         self.left.put(holder, place, bytes.as_slice());
@@ -72,7 +72,7 @@ impl Tenant {
         count: u32,
     ) -> Result<RangeHolder, Promise>
         ensures judged { (t : ℕ) (w : Known)
-            → only_verdict result ≡ tenant_verdict (On.Tenant t (Asked.Write place bytes.now)) (Say.Written count) w self.now }
+            → only_verdict result ≡ tenant_verdict (On.Tenant t (Command.Write place bytes.now)) (Say.Written count) w self.now }
         ensures is { IfOk result (λ holder. (holder_of self.now.has place count ≡ Some (shown_holder holder))
             × (length bytes.now.items ≡ count)) }
     {

@@ -7,7 +7,7 @@ ghost use Rattle.model_core.specs.declared.limits.TheConstants.{MOST_CACHES};
 ghost use Rattle.model_core.specs.Layouts.{is_size, is_alignment};
 ghost use Rattle.arrayvec.specs.ArrayVec.{ArrayVec as Pattern};
 ghost use Rattle.words_core.specs.declared.event.Event.TheVariants as On;
-ghost use Rattle.words_core.specs.declared.event.Command.TheVariants as Asked;
+ghost use Rattle.words_core.specs.declared.event.Command.TheVariants as Command;
 ghost use Rattle.words_core.specs.declared.reply.Body.TheVariants as Say;
 ghost use Rattle.promise_core.specs.Holdings.{known_cache};
 ghost use Rattle.promise_core.specs.State.{Known};
@@ -33,7 +33,7 @@ impl Tenant {
         layout: KnownLayout,
         pattern: &ArrayVec<u8, MOST_PATTERN>,
     ) -> Result<(), Failure>
-        ensures { (t : ℕ) (w : Known) → let l = layout in IsVerdictFor (On.Tenant t (Asked.Cache l.size l.align pattern.now))
+        ensures { (t : ℕ) (w : Known) → let l = layout in IsVerdictFor (On.Tenant t (Command.Cache l.size l.align pattern.now))
             (Say.Cache number l.chunk l.order l.count l.colours) w self.old self.new result }
     {
         self.judge_layout(number, &layout)?;
@@ -46,7 +46,7 @@ impl Tenant {
     /// Returns the verdict on that.
     fn judge_layout(&self, number: u8, layout: &KnownLayout) -> Verdict
         ensures { (t : ℕ) (p : Pattern ℕ) (w : Known) → let l = layout.now in result
-            ≡ tenant_verdict (On.Tenant t (Asked.Cache l.size l.align p)) (Say.Cache number l.chunk l.order l.count l.colours) w
+            ≡ tenant_verdict (On.Tenant t (Command.Cache l.size l.align p)) (Say.Cache number l.chunk l.order l.count l.colours) w
             self.now }
     {
         match self.due_of_cache(layout.size, layout.align) {
@@ -69,7 +69,7 @@ impl Tenant {
     #[tactic(auto, unfolding(promise_core::specs::Promises::due))]
     pub(crate) fn due_of_cache(&self, size: u32, align: u32) -> Option<Refusal>
         ensures value { (t : ℕ) (p : Pattern ℕ) (w : Known)
-            → result ≡ due (On.Tenant t (Asked.Cache size align p)) (known_at self.now w) (state_of self.now) }
+            → result ≡ due (On.Tenant t (Command.Cache size align p)) (known_at self.now w) (state_of self.now) }
         ensures aligned { result ≡ None → is_alignment align ≡ true }
     {
         if !is_size(size) {
@@ -86,7 +86,7 @@ impl Tenant {
     /// Judges and follows an answer that the cache of this number is destroyed, which gives back this many frames.
     pub(crate) fn drop_cache(&mut self, number: u32, frames: u32) -> Result<(), Failure>
         ensures { (t : ℕ) (w : Known)
-            → IsVerdictFor (On.Tenant t (Asked.Destroy number)) (Say.Destroyed frames) w self.old self.new result }
+            → IsVerdictFor (On.Tenant t (Command.Destroy number)) (Say.Destroyed frames) w self.old self.new result }
     {
         let due = self.due_of_destroy(number);
         let can_come = self.can_come_back(Some(number), frames);
@@ -103,7 +103,7 @@ impl Tenant {
     #[tactic(auto, unfolding(promise_core::specs::Promises::due))]
     pub(crate) fn due_of_destroy(&self, number: u32) -> Option<Refusal>
         ensures { (t : ℕ) (w : Known)
-            → result ≡ due (On.Tenant t (Asked.Destroy number)) (known_at self.now w) (state_of self.now) }
+            → result ≡ due (On.Tenant t (Command.Destroy number)) (known_at self.now w) (state_of self.now) }
     {
         match self.held.cache(number) {
             Some(cache) if cache.is_in_use() => Some(Refusal::CacheInUse),
@@ -114,7 +114,7 @@ impl Tenant {
 
     /// Judges and follows an answer that the empty slabs are given back, which have this many frames.
     pub(crate) fn drop_empty_slabs(&mut self, frames: u32) -> Result<(), Failure>
-        ensures { (t : ℕ) (w : Known) → IsVerdictFor (On.Tenant t Asked.Reap) (Say.Reaped frames) w self.old self.new result }
+        ensures { (t : ℕ) (w : Known) → IsVerdictFor (On.Tenant t Command.Reap) (Say.Reaped frames) w self.old self.new result }
     {
         let can_come = self.can_come_back(None, frames);
         let is_still = self.are_frames_told(None, frames);

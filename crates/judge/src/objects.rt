@@ -2,7 +2,7 @@
 
 ghost use Rattle.std.specs.Prelude.{◌≡◌, ◌≤◌, ◌<◌, ℕ, Some, IfOk};
 ghost use Rattle.words_core.specs.declared.event.Event.TheVariants as On;
-ghost use Rattle.words_core.specs.declared.event.Command.TheVariants as Asked;
+ghost use Rattle.words_core.specs.declared.event.Command.TheVariants as Command;
 ghost use Rattle.words_core.specs.declared.reply.Body.TheVariants as Say;
 ghost use Rattle.promise_core.specs.Holdings.{known_cache};
 ghost use Rattle.promise_core.specs.State.{Known};
@@ -21,7 +21,7 @@ impl Tenant {
     /// Judges and follows an answer that hands out the object of the cache that begins at the place.
     pub(crate) fn add_object(&mut self, number: u32, place: u32) -> Result<(), Failure>
         ensures { (t : ℕ) (w : Known)
-            → IsVerdictFor (On.Tenant t (Asked.Take number)) (Say.Object place) w self.old self.new result }
+            → IsVerdictFor (On.Tenant t (Command.Take number)) (Say.Object place) w self.old self.new result }
     {
         let cache = self.cache_with(number, place)?;
         let slab = cache.slab_around(place);
@@ -37,7 +37,7 @@ impl Tenant {
     /// Returns the cache of this number, if an object of it may be handed out at the place; else the promise that is broken.
     fn cache_with(&self, number: u32, place: u32) -> Result<&HeldCache, Promise>
         ensures judged { (t : ℕ) (w : Known)
-            → only_verdict result ≡ tenant_verdict (On.Tenant t (Asked.Take number)) (Say.Object place) w self.now }
+            → only_verdict result ≡ tenant_verdict (On.Tenant t (Command.Take number)) (Say.Object place) w self.now }
         ensures is { IfOk result (λ cache. known_cache self.now.has number ≡ Some cache.now) }
     {
         let Some(cache) = self.held.cache(number) else {
@@ -52,7 +52,7 @@ impl Tenant {
     /// Judges and follows an answer that the object of the cache at the place is given back.
     pub(crate) fn drop_object(&mut self, number: u32, place: u32) -> Result<(), Failure>
         ensures { (t : ℕ) (w : Known)
-            → IsVerdictFor (On.Tenant t (Asked.Give number place)) Say.Given w self.old self.new result }
+            → IsVerdictFor (On.Tenant t (Command.Give number place)) Say.Given w self.old self.new result }
     {
         on_answer(self.due_of_give(number, place), Promise::Gives, true)?;
         self.held.give(number, place);
@@ -65,7 +65,7 @@ impl Tenant {
     #[tactic(auto, unfolding(promise_core::specs::Promises::due))]
     pub(crate) fn due_of_give(&self, number: u32, place: u32) -> Option<Refusal>
         ensures { (t : ℕ) (w : Known)
-            → result ≡ due (On.Tenant t (Asked.Give number place)) (known_at self.now w) (state_of self.now) }
+            → result ≡ due (On.Tenant t (Command.Give number place)) (known_at self.now w) (state_of self.now) }
     {
         match self.held.cache(number) {
             Some(cache) if cache.has_live(place) => None,

@@ -3,7 +3,7 @@
 ghost use Rattle.std.specs.Prelude.{◌≡◌, ◌≤◌, ◌<◌, ℕ, IfOk};
 ghost use Rattle.model_core.specs.Blocks.{block};
 ghost use Rattle.words_core.specs.declared.event.Event.TheVariants as On;
-ghost use Rattle.words_core.specs.declared.event.Command.TheVariants as Asked;
+ghost use Rattle.words_core.specs.declared.event.Command.TheVariants as Command;
 ghost use Rattle.words_core.specs.declared.reply.Body.TheVariants as Say;
 ghost use Rattle.promise_core.specs.State.{Known};
 ghost use Rattle.judge.specs.Judged.{IsVerdictFor, tenant_verdict, only_verdict};
@@ -16,7 +16,7 @@ use promise_core::promise::Promise;
 impl Tenant {
     /// Judges and follows an answer that hands out the page block of `2^k` frames at the frame.
     pub(crate) fn add_block(&mut self, k: u32, frame: u32) -> Result<(), Failure>
-        ensures { (t : ℕ) (w : Known) → IsVerdictFor (On.Tenant t (Asked.Alloc k)) (Say.Frame frame) w self.old self.new result }
+        ensures { (t : ℕ) (w : Known) → IsVerdictFor (On.Tenant t (Command.Alloc k)) (Say.Frame frame) w self.old self.new result }
     {
         let block = self.new_block(k, frame)?;
         self.held.alloc(block)?;
@@ -28,7 +28,7 @@ impl Tenant {
     /// Returns the block of `2^k` frames at the frame, if it may be handed out; else the promise that is broken.
     fn new_block(&self, k: u32, frame: u32) -> Result<FrameBlock, Promise>
         ensures judged { (t : ℕ) (w : Known)
-            → only_verdict result ≡ tenant_verdict (On.Tenant t (Asked.Alloc k)) (Say.Frame frame) w self.now }
+            → only_verdict result ≡ tenant_verdict (On.Tenant t (Command.Alloc k)) (Say.Frame frame) w self.now }
         ensures is { IfOk result (λ b. b ≡ block frame k) }
     {
         let order = self.left.order();
@@ -44,7 +44,7 @@ impl Tenant {
 
     /// Judges and follows an answer that a block of `2^k` frames at the frame is freed.
     pub(crate) fn drop_block(&mut self, frame: u32, k: u8) -> Result<(), Failure>
-        ensures { (t : ℕ) (w : Known) → IsVerdictFor (On.Tenant t (Asked.Free frame)) (Say.Freed k) w self.old self.new result }
+        ensures { (t : ℕ) (w : Known) → IsVerdictFor (On.Tenant t (Command.Free frame)) (Say.Freed k) w self.old self.new result }
     {
         let block = self.live_block(frame, k)?;
         self.held.free(frame);
@@ -56,7 +56,7 @@ impl Tenant {
     /// Returns the page block at the frame, if it has `2^k` frames; else the promise that is broken.
     fn live_block(&self, frame: u32, k: u8) -> Result<FrameBlock, Promise>
         ensures judged { (t : ℕ) (w : Known)
-            → only_verdict result ≡ tenant_verdict (On.Tenant t (Asked.Free frame)) (Say.Freed k) w self.now }
+            → only_verdict result ≡ tenant_verdict (On.Tenant t (Command.Free frame)) (Say.Freed k) w self.now }
         ensures is { IfOk result (λ b. b ≡ block frame k) }
     {
         let Some(block) = self.held.page_at(frame) else {

@@ -11,8 +11,8 @@ use Rattle.model_core.specs.declared.refusals.TakeRefusal.{TakeRefusal}
 use Rattle.layout_core.specs.Cut.{Cut, cut, layout_or_refusal}
 use Rattle.layout_core.specs.declared.layout.LayoutRefusal.{LayoutRefusal}
 use Rattle.layout_core.specs.declared.layout.LayoutRefusal.TheVariants as cutting
-use Rattle.words_core.specs.declared.event.Command.TheVariants as Asked
-use Rattle.world_core.specs.PrivateStep.{command_step, told_by, cache_body, take_body}
+use Rattle.words_core.specs.declared.event.Command.TheVariants as Command
+use Rattle.world_core.specs.PrivateStep.{command_step, with_body, cache_body, take_body}
 use Rattle.space_core.specs.Content as spaces
 use Rattle.buddy_core.specs.Content as buddies
 use Rattle.slab_tables.specs.Content as tables
@@ -30,11 +30,11 @@ pub taken : (r r' : spaces.Content) (b b' : buddies.Content) (s s' : tables.Cont
     → ((m : Machine) → ShowsMachine (content_of r b s) t m → told ≡ (take_step s.top number m).answer)
     → ((m : Machine) → ShowsMachine (content_of r b s) t m → ShowsMachine (content_of r' b' s') t (take_step s.top number m).machine)
     → OnErr told ((r' ≡ r) × ((b' ≡ b) × (s' ≡ s)))
-    → StepsMachine (content_of r b s) t (Asked.Take number) (content_of r' b' s') (take_body told)
+    → StepsMachine (content_of r b s) t (Command.Take number) (content_of r' b' s') (take_body told)
 unfolding command_step
 taken r r' b b' s s' t agree spares number told answer shows refused =
     let order : s.top ≡ b.top = sym agree.order in
-    called r r' b b' s s' t spares (Asked.Take number) take_body (take_step b.top number) told (λ m. refl)
+    called r r' b b' s s' t spares (Command.Take number) take_body (take_step b.top number) told (λ m. refl)
     (λ m shown. answer m shown ∙ ap (λ top. (take_step top number m).answer) order)
     (λ m shown. subst (λ top. ShowsMachine (content_of r' b' s') t (take_step top number m).machine) order (shows m shown))
     (by_err take_body told (λ place. refl) refused)
@@ -71,11 +71,11 @@ cut_is size align l = go (is_size size) (is_alignment align)
 -- there is no layout
 pub cache_refused : (k : KernelContent) (t size align : ℕ) (pattern : List ℕ) (limit : LayoutRefusal) (refusal : CacheRefusal) → Err limit ≡ layout_or_refusal size align
     → ((m : Machine) → by_layout pattern m (Err limit) ≡ record { answer = Err refusal; machine = m })
-    → StepsMachine k t (Asked.Cache size align (record { items = pattern })) k (cache_body size align (Err refusal))
+    → StepsMachine k t (Command.Cache size align (record { items = pattern })) k (cache_body size align (Err refusal))
 unfolding command_step
 cache_refused k t size align pattern limit refusal is same =
-    answered k t (Asked.Cache size align (record { items = pattern })) (cache_body size align (Err refusal))
-    (λ m shown. ap (told_by (cache_body size align)) (step_is size align pattern m ∙ ap (by_layout pattern m) (sym is) ∙ same m))
+    answered k t (Command.Cache size align (record { items = pattern })) (cache_body size align (Err refusal))
+    (λ m shown. ap (with_body (cache_body size align)) (step_is size align pattern m ∙ ap (by_layout pattern m) (sym is) ∙ same m))
 
 -- with a layout, the cache is made or no number is left for it
 pub created : (r : spaces.Content) (b : buddies.Content) (s s' : tables.Content) (t : ℕ) → ((u : ℕ) → u ≢ t → Keeps r r b b s s' u)
@@ -84,13 +84,13 @@ pub created : (r : spaces.Content) (b : buddies.Content) (s s' : tables.Content)
     → ((m : Machine) → ShowsMachine (content_of r b s) t m
     → ShowsMachine (content_of r b s') t (create_step MOST_CACHES l.size l.align pattern m).machine)
     → IfNone result (s' ≡ s)
-    → StepsMachine (content_of r b s) t (Asked.Cache size align (record { items = pattern })) (content_of r b s')
+    → StepsMachine (content_of r b s) t (Command.Cache size align (record { items = pattern })) (content_of r b s')
     (cache_body size align (ok_or result CacheRefusal.NoCacheSlot))
 unfolding command_step
 created r b s s' t others size align pattern l result is answer shows refused =
     let step : (m : Machine) → cache_step MOST_CACHES size align pattern m ≡ cache_answer (create_step MOST_CACHES l.size l.align pattern m) = λ m.
     step_is size align pattern m ∙ ap (by_layout pattern m) (sym is) in
-    commanded (content_of r b s) (content_of r b s') t (Asked.Cache size align (record { items = pattern })) (cache_body size align)
+    commanded (content_of r b s) (content_of r b s') t (Command.Cache size align (record { items = pattern })) (cache_body size align)
     (cache_step MOST_CACHES size align pattern) (ok_or result CacheRefusal.NoCacheSlot) (λ m. refl) (record {
       sizes = record { order = refl; superblocks = refl; tenants = refl };
       shows = λ m shown. subst (λ (x : Step (Result ℕ CacheRefusal)). ShowsMachine (content_of r b s') t x.machine) (sym (step m)) (shows m shown);

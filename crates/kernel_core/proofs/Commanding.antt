@@ -11,15 +11,14 @@ use Rattle.slab_tables.specs.Content as tables
 use Rattle.machine_changes.specs.Keeps.{Spares}
 use Rattle.layout_core.specs.Cut.{Cut, cut, numbers_of}
 use Rattle.words_core.specs.declared.event.Command.{Command}
-use Rattle.words_core.specs.declared.event.Command.TheVariants as Asked
 use Rattle.words_core.specs.declared.reply.Body.{Body}
 use Rattle.words_core.specs.declared.reply.Body.TheVariants.{Refused}
-use Rattle.words_core.specs.declared.reply.Body.TheVariants as Told
+use Rattle.words_core.specs.declared.reply.Body.TheVariants as Say
 use Rattle.words_core.specs.declared.reply.Refusal.{Refusal}
 use Rattle.words_core.specs.declared.report.Report as figures
 use Rattle.world_core.specs.Limits.{cache_limit}
 use Rattle.world_core.specs.OwnList.{is_refused}
-use Rattle.world_core.specs.PrivateStep.{command_step, told_by, cache_body, figures_of, report_step}
+use Rattle.world_core.specs.PrivateStep.{command_step, with_body, cache_body, figures_of, report_step}
 use Rattle.kernel_core.specs.Content.{KernelContent, content_of}
 use Rattle.kernel_core.specs.Shows.{ShowsMachine}
 use Rattle.kernel_core.specs.Does.{Does}
@@ -28,7 +27,7 @@ use Rattle.kernel_core.specs.Steps.{StepsMachine, body_of}
 
 -- the call does the step that the command is, and the tenant is told its answer
 pub commanded : {A : Type 0} (k k' : KernelContent) (t : ℕ) (command : Command) (body : A → Body) (step : Machine → Step A) (told : A)
-    → ((m : Machine) → command_step cache_limit k.order command m ≡ told_by body (step m))
+    → ((m : Machine) → command_step cache_limit k.order command m ≡ with_body body (step m))
     → Does k t step k.space.owners k' told → (is_refused (body told) ≡ true → k' ≡ k) → StepsMachine k t command k' (body told)
 commanded k k' t command body step told same does refused = record {
   does = record {
@@ -46,7 +45,7 @@ commanded k k' t command body step told same does refused = record {
 -- a call that spares all other tenants
 pub called : {A : Type 0} (r r' : spaces.Content) (b b' : buddies.Content) (s s' : tables.Content) (t : ℕ) → Spares t r r' b b' s s'
     → (command : Command) (body : A → Body) (step : Machine → Step A) (told : A)
-    → ((m : Machine) → command_step cache_limit b.top command m ≡ told_by body (step m))
+    → ((m : Machine) → command_step cache_limit b.top command m ≡ with_body body (step m))
     → ((m : Machine) → ShowsMachine (content_of r b s) t m → told ≡ (step m).answer)
     → ((m : Machine) → ShowsMachine (content_of r b s) t m → ShowsMachine (content_of r' b' s') t (step m).machine)
     → (is_refused (body told) ≡ true → (r' ≡ r) × ((b' ≡ b) × (s' ≡ s)))
@@ -76,14 +75,14 @@ answered k t command body same = record { does = does_nothing k t (command_step 
 
 -- a report
 pub reported : (k : KernelContent) (t : ℕ) (told : figures.Report) → ((m : Machine) → ShowsMachine k t m → told ≡ figures_of k.order m)
-    → StepsMachine k t Asked.Report k (Told.Report told)
+    → StepsMachine k t Command.Report k (Say.Report told)
 unfolding command_step report_step
 reported k t told are =
-    answered k t Asked.Report (Told.Report told) (λ m shown. ap (λ r. record { answer = Told.Report r; machine = m }) (sym (are m shown)))
+    answered k t Command.Report (Say.Report told) (λ m shown. ap (λ r. record { answer = Say.Report r; machine = m }) (sym (are m shown)))
 
 -- a cache made
 pub made : (size align number chunk order count colours : ℕ) (l : Cut) → l ≡ cut size align
     → chunk ≡ (numbers_of l).chunk → order ≡ (numbers_of l).order → count ≡ (numbers_of l).count → colours ≡ (numbers_of l).colours
-    → cache_body size align (Ok number) ≡ Told.Cache number chunk order count colours
+    → cache_body size align (Ok number) ≡ Say.Cache number chunk order count colours
 made size align number chunk order count colours l is chunk_is order_is count_is colours_is =
     rw (chunk_is, order_is, count_is, colours_is, is) refl

@@ -19,7 +19,7 @@ use Rattle.kernel_core.specs.Shows.{ShowsMachine}
 use Rattle.kernel_core.specs.Lending.{fit, bytes_in, with_left, IsLent}
 use Rattle.kernel_core.proofs.Changing.{steady}
 use Rattle.kernel_core.proofs.Fitting.{fit-same}
-use Rattle.kernel_core.proofs.PageCalls.{IsAsked, write_agrees, out_of_reach, within_reach}
+use Rattle.kernel_core.proofs.PageCalls.{IsRequested, write_agrees, out_of_reach, within_reach}
 
 -- bytes written over themselves
 put_same : (ys ws : List ℕ) (i n : ℕ) → slice_range ys i (i + n) ≡ ws → length ws ≡ n → put_within ys i ws ≡ ys
@@ -45,7 +45,7 @@ length-fit xs ws =
 pub window_fitted : (r : spaces.Content) (t place len : ℕ) (xs ws : List ℕ) → length xs ≡ len → with_window r t place len (fit xs ws) ≡ stored t place (fit xs ws) r
 window_fitted r t place len xs ws long = ap (λ n. with_window r t place n (fit xs ws)) (sym (length-fit xs ws ∙ long))
 
-module _ (r : spaces.Content) (b : buddies.Content) (s : tables.Content) (t place len : ℕ) (xs : List ℕ) (asked : IsAsked r b s t)
+module _ (r : spaces.Content) (b : buddies.Content) (s : tables.Content) (t place len : ℕ) (xs : List ℕ) (asked : IsRequested r b s t)
     (reach : IsInReach r b s t place len) (is : window_of r t place len ≡ Some xs) where
   long : length xs ≡ len
   long = (asked.together.space.own_bytes.read t place len xs is).count
@@ -83,6 +83,6 @@ module _ (r : spaces.Content) (b : buddies.Content) (s : tables.Content) (t plac
   }
 
 -- what is not in reach of the parts is not in reach of the machine
-pub lend_beyond : (k : KernelContent) (t place len : ℕ) → IsAsked k.space k.buddy k.slabs t → (IsInReach k.space k.buddy k.slabs t place len → ⊥)
+pub lend_beyond : (k : KernelContent) (t place len : ℕ) → IsRequested k.space k.buddy k.slabs t → (IsInReach k.space k.buddy k.slabs t place len → ⊥)
     → (m : Machine) → ShowsMachine k t m → in_reach m place len ≡ false
 lend_beyond k t place len asked beyond m shown = out_of_reach k.space k.buddy k.slabs t place len asked m shown beyond

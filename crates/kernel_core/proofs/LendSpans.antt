@@ -14,7 +14,7 @@ use Rattle.machine_changes.specs.Objects.{HasRange}
 use Rattle.machine_changes.specs.Pages.{IsInPage, IsInReach}
 use Rattle.machine_changes.specs.Steady.{IsSteady}
 use Rattle.machine_changes.proofs.Lookups.{some_none}
-use Rattle.machine_changes.proofs.PageBlocks.{block_tells, no_block_tells}
+use Rattle.machine_changes.proofs.PageBlocks.{block_decides, no_block_decides}
 use Rattle.slab_core.specs.Lending.{IsPageAt}
 use Rattle.words_core.specs.declared.event.Event.TheVariants as On
 use Rattle.words_core.specs.declared.event.Command.{Command}
@@ -29,7 +29,7 @@ use Rattle.kernel_core.specs.Shows.{ShowsMachine}
 use Rattle.kernel_core.specs.Lending.{IsLive, HasBlock, IsBlockSpan, reply_for}
 use Rattle.kernel_core.proofs.Worlds.{unknown_tenant, steps_asked}
 use Rattle.kernel_core.proofs.Changing.{steady}
-use Rattle.kernel_core.proofs.PageCalls.{block_slot, IsAsked, not_held, home_is}
+use Rattle.kernel_core.proofs.PageCalls.{block_slot, IsRequested, not_held, home_is}
 
 -- a block of no slab
 record IsPage (v : Bool) (o : Option ℕ) (k : ℕ) : Type 0 where
@@ -47,7 +47,7 @@ size_is order few =
     let frames : 2 ^ order ≤ 256 = pow-le-pow_right two few in
     mod-eq_of_lt (omega (arith, frames))
 
-module _ (r : spaces.Content) (b : buddies.Content) (s : tables.Content) (t place : ℕ) (asked : IsAsked r b s t) where
+module _ (r : spaces.Content) (b : buddies.Content) (s : tables.Content) (t place : ℕ) (asked : IsRequested r b s t) where
   st : IsSteady r b s t
   st = steady r b s t asked.together asked.tenant
 
@@ -74,14 +74,14 @@ module _ (r : spaces.Content) (b : buddies.Content) (s : tables.Content) (t plac
   -- .. where no block is taken, ..
   pub free_no_page : (IsTaken (buddies.taken_of (buddies.holding_of t b)) (place / 4096) → ⊥) → (m : Machine) → ShowsMachine (content_of r b s) t m
       → IsTaken (order_in m.blocks) (place / 4096) → ⊥
-  free_no_page none m shown taken = no_block_tells r b s t place 1 (omega arith) none (page_of m shown taken)
+  free_no_page none m shown taken = no_block_decides r b s t place 1 (omega arith) none (page_of m shown taken)
 
   module _ (first order : ℕ) (taken : buddies.taken_of (buddies.holding_of t b) first ≡ Some order) (here : HasFrame (block first order) (place / 4096)) where
     -- .. and where a slab is
     pub slab_no_page : has_slab s (node_of s.top r.slots t first) ≡ true → (m : Machine) → ShowsMachine (content_of r b s) t m
         → IsTaken (order_in m.blocks) (place / 4096) → ⊥
     slab_no_page slab m shown there =
-        false≢true (sym ((block_tells r b s t place 1 first order st (omega arith) taken here).0 (page_of m shown there)).0 ∙ slab)
+        false≢true (sym ((block_decides r b s t place 1 first order st (omega arith) taken here).0 (page_of m shown there)).0 ∙ slab)
 
     pub few : order ≤ 8
     few =
@@ -135,7 +135,7 @@ module _ (r : spaces.Content) (b : buddies.Content) (s : tables.Content) (t plac
     object_held (Some m) under = (m, refl)
 
 -- a page block that begins at a frame
-module _ (r : spaces.Content) (b : buddies.Content) (s : tables.Content) (t first order : ℕ) (asked : IsAsked r b s t) (page : IsPageAt r b s t first order) where
+module _ (r : spaces.Content) (b : buddies.Content) (s : tables.Content) (t first order : ℕ) (asked : IsRequested r b s t) (page : IsPageAt r b s t first order) where
   same_frame : 4096 * first / 4096 ≡ first
   same_frame = omega arith
 

@@ -33,7 +33,7 @@ use Rattle.slab_core.proofs.ReserveOne.{IsServed, is_served}
 use Rattle.kernel_core.specs.Content.{KernelContent, content_of, opening_content}
 use Rattle.kernel_core.proofs.Changing.{has_row, parts_agree, steady}
 use Rattle.kernel_core.proofs.Granting.{IsGrantable, buddy_after, changes, does_granted, granted_reply, steps_granted}
-use Rattle.kernel_core.proofs.PageCalls.{alloc_done, IsAsked, held, read_done}
+use Rattle.kernel_core.proofs.PageCalls.{alloc_done, IsRequested, held, read_done}
 use Rattle.kernel_core.specs.Shows.{Shows}
 use Rattle.kernel_core.specs.Stores.{IsKernel, Loads}
 use Rattle.kernel_core.specs.Actions.{Runs, Acts, IsBooted}
@@ -118,7 +118,7 @@ pub read_acts : (k : KernelContent) (t place byte : ℕ) → IsKernel k → Load
     → Acts k (Runs (On.Tenant t (Read place 1)) (to_tenant t (Bytes (record { items = byte ∷ [] })))) k
 unfolding command_step
 read_acts k t place byte is loads =
-    let asked : IsAsked k.space k.buddy k.slabs t = record { together = is.together; tenant = omega (arith, is.agree.holdings, loads.tenant) } in (
+    let asked : IsRequested k.space k.buddy k.slabs t = record { together = is.together; tenant = omega (arith, is.agree.holdings, loads.tenant) } in (
       steps_asked k k t t (Read place 1) (Bytes (record { items = byte ∷ [] })) refl loads.tenant (λ w shown. is.agree)
           (read_done k t place 1 (byte ∷ []) asked (omega arith) (omega arith) loads.reach (read_window k t place byte is loads)),
       is,

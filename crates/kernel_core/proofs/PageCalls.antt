@@ -6,11 +6,11 @@ use Rattle.model_core.specs.Machine.{Machine, order_in}
 use Rattle.model_core.specs.Slabs.{by_need, choice_by_need}
 use Rattle.model_core.specs.Operations.{Step, alloc_at, alloc_step, free_step, without_block, read_step, write_step, written}
 use Rattle.model_core.specs.declared.refusals.AllocRefusal.{AllocRefusal}
-use Rattle.words_core.specs.declared.event.Command.TheVariants as Asked
+use Rattle.words_core.specs.declared.event.Command.TheVariants as Command
 use Rattle.words_core.specs.declared.reply.Body.TheVariants.{Frame, Freed, Refused, Bytes, Written}
 use Rattle.words_core.specs.declared.reply.Refusal.{Refusal}
 use Rattle.words_core.specs.declared.reply.Refusal.TheVariants.{BadOrder, NotABlock, BadLength, OutOfReach}
-use Rattle.world_core.specs.PrivateStep.{command_step, told_by, alloc_body, free_body, read_body, write_body}
+use Rattle.world_core.specs.PrivateStep.{command_step, with_body, alloc_body, free_body, read_body, write_body}
 use Rattle.space_core.specs.Content as spaces
 use Rattle.buddy_core.specs.Content as buddies
 use Rattle.slab_tables.specs.Content as tables
@@ -42,9 +42,9 @@ unfolding alloc_step
 large_is order o m large = rw large refl
 
 -- an order that is too large
-pub alloc_large : (k : KernelContent) (t o : ℕ) → nat_lt k.order o ≡ true → StepsMachine k t (Asked.Alloc o) k (Refused BadOrder)
+pub alloc_large : (k : KernelContent) (t o : ℕ) → nat_lt k.order o ≡ true → StepsMachine k t (Command.Alloc o) k (Refused BadOrder)
 unfolding command_step
-alloc_large k t o large = answered k t (Asked.Alloc o) (Refused BadOrder) (λ m shown. ap (told_by alloc_body) (large_is k.order o m large))
+alloc_large k t o large = answered k t (Command.Alloc o) (Refused BadOrder) (λ m shown. ap (with_body alloc_body) (large_is k.order o m large))
 
 told_at : (o : ℕ) (m : Machine) (x : Option ℕ) → ok_or x AllocRefusal.NoFrames ≡ (alloc_at o m x).answer
 told_at o m None = refl
@@ -68,11 +68,11 @@ pub record TakesBlock (r r' : spaces.Content) (b b' : buddies.Content) (s s' : t
 
 -- a block is taken, or none is found
 pub alloc_done : (r r' : spaces.Content) (b b' : buddies.Content) (s s' : tables.Content) (t o : ℕ) (x : Option ℕ) → TakesBlock r r' b b' s s' t o x
-    → StepsMachine (content_of r b s) t (Asked.Alloc o) (content_of r' b' s') (alloc_body (ok_or x AllocRefusal.NoFrames))
+    → StepsMachine (content_of r b s) t (Command.Alloc o) (content_of r' b' s') (alloc_body (ok_or x AllocRefusal.NoFrames))
 unfolding command_step
 alloc_done r r' b b' s s' t o x takes =
     let top : s.top ≡ b.top = sym takes.agree.order in
-    called r r' b b' s s' t takes.spares (Asked.Alloc o) alloc_body (alloc_step b.top o) (ok_or x AllocRefusal.NoFrames) (λ m. refl)
+    called r r' b b' s s' t takes.spares (Command.Alloc o) alloc_body (alloc_step b.top o) (ok_or x AllocRefusal.NoFrames) (λ m. refl)
     (λ m shown. alloc_told b.top o m x (subst (λ n. o ≤ n) top takes.order) (subst (λ n. x ≡ choice_by_need n o m) top (takes.answer m shown)))
     (λ m shown. subst (λ n. ShowsMachine (content_of r' b' s') t (alloc_step n o m).machine) top (takes.shows m shown))
     (by_none (λ o. alloc_body (ok_or o AllocRefusal.NoFrames)) x (λ first. refl) takes.refused)
@@ -106,10 +106,10 @@ block_slot r b s t first order x st taken here =
 
 -- the slot is not held
 pub free_unheld : (r : spaces.Content) (b : buddies.Content) (s : tables.Content) (t f : ℕ) → IsSteady r b s t
-    → spaces.superblock_at r.slots t (f / 2 ^ s.top) ≡ None → StepsMachine (content_of r b s) t (Asked.Free f) (content_of r b s) (Refused NotABlock)
+    → spaces.superblock_at r.slots t (f / 2 ^ s.top) ≡ None → StepsMachine (content_of r b s) t (Command.Free f) (content_of r b s) (Refused NotABlock)
 unfolding command_step
-free_unheld r b s t f st none = answered (content_of r b s) t (Asked.Free f) (Refused NotABlock)
-    (λ m shown. ap (told_by free_body) (not_freed f m
+free_unheld r b s t f st none = answered (content_of r b s) t (Command.Free f) (Refused NotABlock)
+    (λ m shown. ap (with_body free_body) (not_freed f m
     (shown.blocks f ∙ ap (λ o. if has_slab s (frame_under s.top f o) then None else buddies.taken_of (buddies.holding_of t b) f) none ∙ go (buddies.taken_of (buddies.holding_of t b) f) refl)))
   where
     go : (o : Option ℕ) → buddies.taken_of (buddies.holding_of t b) f ≡ o → buddies.taken_of (buddies.holding_of t b) f ≡ None
@@ -118,10 +118,10 @@ free_unheld r b s t f st none = answered (content_of r b s) t (Asked.Free f) (Re
 
 -- at the frame begins a slab
 pub free_slab : (k : KernelContent) (t f : ℕ) → has_slab k.slabs (node_of k.slabs.top k.space.slots t f) ≡ true
-    → StepsMachine k t (Asked.Free f) k (Refused NotABlock)
+    → StepsMachine k t (Command.Free f) k (Refused NotABlock)
 unfolding command_step
-free_slab k t f slab = answered k t (Asked.Free f) (Refused NotABlock)
-    (λ m shown. ap (told_by free_body) (not_freed f m (shown.blocks f ∙ ap (λ v. if v then None else buddies.taken_of (buddies.holding_of t k.buddy) f) slab)))
+free_slab k t f slab = answered k t (Command.Free f) (Refused NotABlock)
+    (λ m shown. ap (with_body free_body) (not_freed f m (shown.blocks f ∙ ap (λ v. if v then None else buddies.taken_of (buddies.holding_of t k.buddy) f) slab)))
 
 -- .. or none: then the parts agree ..
 pub free_agrees : (r : spaces.Content) (b b' : buddies.Content) (s : tables.Content) (t f : ℕ) (x : Option ℕ) → Agree r b s
@@ -133,19 +133,19 @@ free_agrees r b b' s t f (Some o) agree page _ done = subst (λ y. Agree r y s) 
 pub free_done : (r : spaces.Content) (b b' : buddies.Content) (s : tables.Content) (t f : ℕ) (x : Option ℕ) → Agree r b s
     → has_slab s (node_of s.top r.slots t f) ≡ false → x ≡ buddies.taken_of (buddies.holding_of t b) f
     → IfNone x (b' ≡ b) → OnSome x (b' ≡ released t f b)
-    → StepsMachine (content_of r b s) t (Asked.Free f) (content_of r b' s) (body_of Freed (ok_or x Refusal.NotABlock))
+    → StepsMachine (content_of r b s) t (Command.Free f) (content_of r b' s) (body_of Freed (ok_or x Refusal.NotABlock))
 unfolding command_step
 free_done r b b' s t f None agree page is same _ =
-    subst (λ y. StepsMachine (content_of r b s) t (Asked.Free f) (content_of r y s) (Refused NotABlock)) (sym same)
-    (answered (content_of r b s) t (Asked.Free f) (Refused NotABlock)
-    (λ m shown. ap (told_by free_body) (not_freed f m
+    subst (λ y. StepsMachine (content_of r b s) t (Command.Free f) (content_of r y s) (Refused NotABlock)) (sym same)
+    (answered (content_of r b s) t (Command.Free f) (Refused NotABlock)
+    (λ m shown. ap (with_body free_body) (not_freed f m
     (shown.blocks f ∙ ap (λ v. if v then None else buddies.taken_of (buddies.holding_of t b) f) page ∙ sym is))))
 free_done r b b' s t f (Some o) agree page is _ done =
     let law = released_agrees r b s t f agree page in
     let step : (m : Machine) → ShowsMachine (content_of r b s) t m → free_step f m ≡ record { answer = Some o; machine = without_block f m } = λ m shown.
     freed_is f o m (shown.blocks f ∙ ap (λ v. if v then None else buddies.taken_of (buddies.holding_of t b) f) page ∙ sym is) in
-    subst (λ y. StepsMachine (content_of r b s) t (Asked.Free f) (content_of r y s) (Freed o)) (sym done)
-    (called r r b (released t f b) s s t law.1 (Asked.Free f) free_body (free_step f) (Some o) (λ m. refl)
+    subst (λ y. StepsMachine (content_of r b s) t (Command.Free f) (content_of r y s) (Freed o)) (sym done)
+    (called r r b (released t f b) s s t law.1 (Command.Free f) free_body (free_step f) (Some o) (λ m. refl)
     (λ m shown. sym (ap (λ (x : Step (Option ℕ)). x.answer) (step m shown)))
     (λ m shown. subst (λ (x : Step (Option ℕ)). ShowsMachine (content_of r (released t f b) s) t x.machine) (sym (step m shown)) (released_shows r b s t f m shown))
     (λ refused. absurd (false≢true refused)))
@@ -153,7 +153,7 @@ free_done r b b' s t f (Some o) agree page is _ done =
 -- Bytes
 
 -- parts that hold together, where this tenant is there
-pub record IsAsked (r : spaces.Content) (b : buddies.Content) (s : tables.Content) (t : ℕ) : Type 0 where
+pub record IsRequested (r : spaces.Content) (b : buddies.Content) (s : tables.Content) (t : ℕ) : Type 0 where
   pub together : HoldTogether r b s
   pub tenant : t < length b.tenants
 
@@ -168,7 +168,7 @@ under_home r t place len m = go (is_in_slot r.unit place len)
     go true is = is
     go false is = absurd (some_none (sym is))
 
-module _ (r : spaces.Content) (b : buddies.Content) (s : tables.Content) (t place len : ℕ) (asked : IsAsked r b s t) where
+module _ (r : spaces.Content) (b : buddies.Content) (s : tables.Content) (t place len : ℕ) (asked : IsRequested r b s t) where
   lent : IsSteady r b s t
   lent = steady r b s t asked.together asked.tenant
 
@@ -205,9 +205,9 @@ module _ (r : spaces.Content) (b : buddies.Content) (s : tables.Content) (t plac
       go false is = absurd (false≢true is)
 
 -- .. which is so of the fields of parts where it is so of the parts
-pub asked_opened : (r : spaces.Content) (b : buddies.Content) (s : tables.Content) (k : KernelContent) (t : ℕ) → content_of r b s ≡ k → IsAsked k.space k.buddy k.slabs t
-    → IsAsked r b s t
-asked_opened r b s k t is asked = subst (λ (x : KernelContent). IsAsked x.space x.buddy x.slabs t) (sym is) asked
+pub asked_opened : (r : spaces.Content) (b : buddies.Content) (s : tables.Content) (k : KernelContent) (t : ℕ) → content_of r b s ≡ k → IsRequested k.space k.buddy k.slabs t
+    → IsRequested r b s t
+asked_opened r b s k t is asked = subst (λ (x : KernelContent). IsRequested x.space x.buddy x.slabs t) (sym is) asked
 
 pub reach_opened : (r : spaces.Content) (b : buddies.Content) (s : tables.Content) (k : KernelContent) (t place len : ℕ) → content_of r b s ≡ k
     → IsInReach k.space k.buddy k.slabs t place len → IsInReach r b s t place len
@@ -233,25 +233,25 @@ good_length : (len : ℕ) → 1 ≤ len → len ≤ 64 → (nat_le 1 len && nat_
 good_length len low high = and_from (nat_le 1 len) (nat_le len 64) (le-leb 1 len low) (le-leb len 64 high)
 
 -- no byte is asked for, or more than 64
-pub read_bad : (k : KernelContent) (t place len : ℕ) → (1 ≤ len → len ≤ 64 → ⊥) → StepsMachine k t (Asked.Read place len) k (Refused BadLength)
+pub read_bad : (k : KernelContent) (t place len : ℕ) → (1 ≤ len → len ≤ 64 → ⊥) → StepsMachine k t (Command.Read place len) k (Refused BadLength)
 unfolding command_step
-read_bad k t place len bad = answered k t (Asked.Read place len) (Refused BadLength)
-    (λ m shown. ap (told_by read_body) (bad_is place len m (false_from_ne_true (nat_le 1 len && nat_le len 64) (λ good.
+read_bad k t place len bad = answered k t (Command.Read place len) (Refused BadLength)
+    (λ m shown. ap (with_body read_body) (bad_is place len m (false_from_ne_true (nat_le 1 len && nat_le len 64) (λ good.
     let parts = and_parts (nat_le 1 len) (nat_le len 64) good in
     bad (leb-true 1 len parts.0) (leb-true len 64 parts.1)))))
 
-pub read_beyond : (k : KernelContent) (t place len : ℕ) → IsAsked k.space k.buddy k.slabs t → 1 ≤ len → len ≤ 64
-    → (IsInReach k.space k.buddy k.slabs t place len → ⊥) → StepsMachine k t (Asked.Read place len) k (Refused OutOfReach)
+pub read_beyond : (k : KernelContent) (t place len : ℕ) → IsRequested k.space k.buddy k.slabs t → 1 ≤ len → len ≤ 64
+    → (IsInReach k.space k.buddy k.slabs t place len → ⊥) → StepsMachine k t (Command.Read place len) k (Refused OutOfReach)
 unfolding command_step
-read_beyond k t place len asked low high beyond = answered k t (Asked.Read place len) (Refused OutOfReach)
-    (λ m shown. ap (told_by read_body) (beyond_is place len m (good_length len low high) (out_of_reach k.space k.buddy k.slabs t place len asked m shown beyond)))
+read_beyond k t place len asked low high beyond = answered k t (Command.Read place len) (Refused OutOfReach)
+    (λ m shown. ap (with_body read_body) (beyond_is place len m (good_length len low high) (out_of_reach k.space k.buddy k.slabs t place len asked m shown beyond)))
 
-pub read_done : (k : KernelContent) (t place len : ℕ) (xs : List ℕ) → IsAsked k.space k.buddy k.slabs t → 1 ≤ len → len ≤ 64
+pub read_done : (k : KernelContent) (t place len : ℕ) (xs : List ℕ) → IsRequested k.space k.buddy k.slabs t → 1 ≤ len → len ≤ 64
     → IsInReach k.space k.buddy k.slabs t place len → window_of k.space t place len ≡ Some xs
-    → StepsMachine k t (Asked.Read place len) k (Bytes (record { items = xs }))
+    → StepsMachine k t (Command.Read place len) k (Bytes (record { items = xs }))
 unfolding command_step
-read_done k t place len xs asked low high reach is = answered k t (Asked.Read place len) (Bytes (record { items = xs }))
-    (λ m shown. ap (told_by read_body) (read_is place len xs m (good_length len low high) (within_reach k.space k.buddy k.slabs t place len asked m shown reach)
+read_done k t place len xs asked low high reach is = answered k t (Command.Read place len) (Bytes (record { items = xs }))
+    (λ m shown. ap (with_body read_body) (read_is place len xs m (good_length len low high) (within_reach k.space k.buddy k.slabs t place len asked m shown reach)
     (reach_reads k.space k.buddy k.slabs t place len xs m (steady k.space k.buddy k.slabs t asked.together asked.tenant) shown reach
     (asked.together.space.own_bytes.read t place len xs is))))
 
@@ -270,27 +270,27 @@ not_written : (place : ℕ) (xs : List ℕ) (m : Machine) → in_reach m place (
 unfolding write_step
 not_written place xs m beyond = rw beyond refl
 
-pub write_beyond : (k : KernelContent) (t place : ℕ) (xs : List ℕ) → IsAsked k.space k.buddy k.slabs t
-    → (IsInReach k.space k.buddy k.slabs t place (length xs) → ⊥) → StepsMachine k t (Asked.Write place (record { items = xs })) k (Refused OutOfReach)
+pub write_beyond : (k : KernelContent) (t place : ℕ) (xs : List ℕ) → IsRequested k.space k.buddy k.slabs t
+    → (IsInReach k.space k.buddy k.slabs t place (length xs) → ⊥) → StepsMachine k t (Command.Write place (record { items = xs })) k (Refused OutOfReach)
 unfolding command_step
-write_beyond k t place xs asked beyond = answered k t (Asked.Write place (record { items = xs })) (Refused OutOfReach)
-    (λ m shown. ap (told_by write_body) (not_written place xs m (out_of_reach k.space k.buddy k.slabs t place (length xs) asked m shown beyond)))
+write_beyond k t place xs asked beyond = answered k t (Command.Write place (record { items = xs })) (Refused OutOfReach)
+    (λ m shown. ap (with_body write_body) (not_written place xs m (out_of_reach k.space k.buddy k.slabs t place (length xs) asked m shown beyond)))
 
 -- the parts agree after a write
-pub write_agrees : (r : spaces.Content) (b : buddies.Content) (s : tables.Content) (t place : ℕ) (xs : List ℕ) → IsAsked r b s t
+pub write_agrees : (r : spaces.Content) (b : buddies.Content) (s : tables.Content) (t place : ℕ) (xs : List ℕ) → IsRequested r b s t
     → IsInReach r b s t place (length xs) → IsWritten r (stored t place xs r) b s t
 write_agrees r b s t place xs asked reach =
     written_agrees r b s t place xs asked.together.slabs asked.together.space asked.together.agree (steady r b s t asked.together asked.tenant) reach
 
-pub write_done : (r : spaces.Content) (b : buddies.Content) (s : tables.Content) (t place : ℕ) (xs : List ℕ) → IsAsked r b s t
+pub write_done : (r : spaces.Content) (b : buddies.Content) (s : tables.Content) (t place : ℕ) (xs : List ℕ) → IsRequested r b s t
     → IsInReach r b s t place (length xs)
-    → StepsMachine (content_of r b s) t (Asked.Write place (record { items = xs })) (content_of (stored t place xs r) b s) (Written (length xs))
+    → StepsMachine (content_of r b s) t (Command.Write place (record { items = xs })) (content_of (stored t place xs r) b s) (Written (length xs))
 unfolding command_step
 write_done r b s t place xs asked reach =
     let step : (m : Machine) → ShowsMachine (content_of r b s) t m → write_step place xs m ≡ record { answer = Some (length xs); machine = with_bytes place xs m } = λ m shown.
     written_is place xs m (within_reach r b s t place (length xs) asked m shown reach) in
     called r (stored t place xs r) b b s s t (write_agrees r b s t place xs asked reach).spares
-    (Asked.Write place (record { items = xs })) write_body (write_step place xs) (Some (length xs)) (λ m. refl)
+    (Command.Write place (record { items = xs })) write_body (write_step place xs) (Some (length xs)) (λ m. refl)
     (λ m shown. sym (ap (λ (x : Step (Option ℕ)). x.answer) (step m shown)))
     (λ m shown. subst (λ (x : Step (Option ℕ)). ShowsMachine (content_of (stored t place xs r) b s) t x.machine) (sym (step m shown))
     (written_shows r b s t place xs m asked.together.space asked.together.agree (steady r b s t asked.together asked.tenant) reach shown))

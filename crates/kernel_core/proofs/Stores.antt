@@ -16,7 +16,7 @@ use Rattle.machine_changes.specs.Slots.{HoldTogether}
 use Rattle.machine_changes.proofs.PageHolds.{reach_bytes}
 use Rattle.kernel_core.specs.Content.{KernelContent, content_of}
 use Rattle.kernel_core.proofs.Changing.{parts_agree, steady, with_space}
-use Rattle.kernel_core.proofs.PageCalls.{IsAsked, held, write_agrees, write_done}
+use Rattle.kernel_core.proofs.PageCalls.{IsRequested, held, write_agrees, write_done}
 use Rattle.kernel_core.specs.Steps.{Steps}
 use Rattle.kernel_core.specs.Stores.{IsKernel, StoresAreWrites, LoadsAreOwn}
 use Rattle.kernel_core.proofs.Worlds.{steps_asked}
@@ -27,7 +27,7 @@ write_of place bytes = Write place (record { items = bytes })
 abbrev written_reply : ℕ → List ℕ → Reply
 written_reply t bytes = record { addressee = To.Tenant t; body = Written (length bytes) }
 
-module _ (r : spaces.Content) (b : buddies.Content) (s : tables.Content) (t place : ℕ) (bytes : List ℕ) (asked : IsAsked r b s t)
+module _ (r : spaces.Content) (b : buddies.Content) (s : tables.Content) (t place : ℕ) (bytes : List ℕ) (asked : IsRequested r b s t)
     (reach : IsInReach r b s t place (length bytes)) where
   stored_together : HoldTogether (stored t place bytes r) b s
   stored_together = record {
@@ -52,7 +52,7 @@ known k t is here = omega (arith, is.agree.holdings)
 
 pub stores_are_writes : StoresAreWrites
 stores_are_writes k k' t place bytes is did =
-    let asked : IsAsked k.space k.buddy k.slabs t = record { together = is.together; tenant = known k t is did.tenant } in
+    let asked : IsRequested k.space k.buddy k.slabs t = record { together = is.together; tenant = known k t is did.tenant } in
     let event : Event = Tenant t (write_of place bytes) in
     let new : KernelContent = content_of (stored t place bytes k.space) k.buddy k.slabs in
     let after : new ≡ k' = with_space k (stored t place bytes k.space) is.agree ∙ sym did.is in

@@ -6,7 +6,7 @@ use Rattle.std.specs.Prelude.{replicate}
 use Rattle.model_core.specs.Machine.{empty_machine}
 use Rattle.words_core.specs.declared.event.Event.TheVariants as On
 use Rattle.words_core.specs.declared.event.AdminCommand.TheVariants as Do
-use Rattle.words_core.specs.declared.event.Command.TheVariants as Asked
+use Rattle.words_core.specs.declared.event.Command.TheVariants as Command
 use Rattle.words_core.specs.declared.reply.Addressee.TheVariants as To
 use Rattle.words_core.specs.declared.reply.Body.TheVariants.{Frame, Bytes, Written}
 use Rattle.world_core.specs.Limits.{cache_limit}
@@ -60,7 +60,7 @@ alone_granted =
     (first_slot opened_space (holders None None None None) 0 0 is_opened.kernel.together (omega arith) refl refl (omega arith))
     (holders_laws (Some 0) None None None (λ k is. absurd (cc)) (λ k is. absurd (cc)) (λ m is is'. cc))
 
-pub alone_taken : Acts alone_1 (Runs (On.Tenant 0 (Asked.Alloc 0)) (to_tenant 0 (Frame 0))) alone_2
+pub alone_taken : Acts alone_1 (Runs (On.Tenant 0 (Command.Alloc 0)) (to_tenant 0 (Frame 0))) alone_2
 alone_taken =
     alloc_acts space_1 (holders (Some 0) None None None) no_slabs 0 0 0 3 alone_granted.1.together (omega arith) (omega arith) (chosen 0)
     (holders_laws (Some 0) (Some 0) None None (λ k is. (cc, refl)) (λ k is. absurd (cc)) (λ m is is'. cc))
@@ -79,8 +79,8 @@ alone_loaded = record {
 }
 
 abbrev alone : List Action
-alone = Runs (On.Admin (Do.Grant 0)) (granted_reply 0 0 0) ∷ Runs (On.Tenant 0 (Asked.Alloc 0)) (to_tenant 0 (Frame 0)) ∷ StoresAt 0 5 bytes
-    ∷ LoadsAt 0 104 7 ∷ Runs (On.Tenant 0 (Asked.Read 104 1)) (to_tenant 0 (Bytes (record { items = 7 ∷ [] }))) ∷ []
+alone = Runs (On.Admin (Do.Grant 0)) (granted_reply 0 0 0) ∷ Runs (On.Tenant 0 (Command.Alloc 0)) (to_tenant 0 (Frame 0)) ∷ StoresAt 0 5 bytes
+    ∷ LoadsAt 0 104 7 ∷ Runs (On.Tenant 0 (Command.Read 104 1)) (to_tenant 0 (Bytes (record { items = 7 ∷ [] }))) ∷ []
 
 alone_acts : AllAct opened alone alone_3
 alone_acts =
@@ -122,7 +122,7 @@ granted_1 =
     (first_slot opened_space (holders None None None None) 1 0 is_opened.kernel.together (omega arith) refl refl (omega arith))
     (holders_laws None None (Some 0) None (λ k is. absurd (cc)) (λ k is. absurd (cc)) (λ m is is'. cc))
 
-taken_1 : Acts beside_1 (Runs (On.Tenant 1 (Asked.Alloc 0)) (to_tenant 1 (Frame 0))) beside_2
+taken_1 : Acts beside_1 (Runs (On.Tenant 1 (Command.Alloc 0)) (to_tenant 1 (Frame 0))) beside_2
 taken_1 =
     alloc_acts space_of_1 (holders None None (Some 0) None) no_slabs 1 0 0 3 granted_1.1.together (omega arith) (omega arith) (chosen 0)
     (holders_laws None None (Some 0) (Some 0) (λ k is. absurd (cc)) (λ k is. (cc, refl)) (λ m is is'. cc))
@@ -139,7 +139,7 @@ granted_0 =
     (first_slot beside_3.space (holders None None (Some 0) (Some 0)) 0 1 kernel_3.together (omega arith) refl refl (omega arith))
     (holders_laws (Some 1) None (Some 0) (Some 0) (λ k is. absurd (cc)) (λ k is. (cc, refl)) (λ m is is'. cc))
 
-taken_0 : Acts beside_4 (Runs (On.Tenant 0 (Asked.Alloc 0)) (to_tenant 0 (Frame 0))) beside_5
+taken_0 : Acts beside_4 (Runs (On.Tenant 0 (Command.Alloc 0)) (to_tenant 0 (Frame 0))) beside_5
 taken_0 =
     alloc_acts space_of_both (holders (Some 1) None (Some 0) (Some 0)) no_slabs 0 0 0 3 granted_0.1.together (omega arith) (omega arith) (chosen 1)
     (holders_laws (Some 1) (Some 0) (Some 0) (Some 0) (λ k is. (cc, refl)) (λ k is. (cc, refl)) (λ m is is'. cc))
@@ -169,10 +169,10 @@ loaded_0 = record {
 }
 
 abbrev beside : List Action
-beside = Runs (On.Admin (Do.Grant 1)) (granted_reply 1 0 0) ∷ Runs (On.Tenant 1 (Asked.Alloc 0)) (to_tenant 1 (Frame 0)) ∷ StoresAt 1 5 (replicate 100 9)
-    ∷ Runs (On.Admin (Do.Grant 0)) (granted_reply 0 0 1) ∷ Runs (On.Tenant 0 (Asked.Alloc 0)) (to_tenant 0 (Frame 0)) ∷ StoresAt 0 5 bytes
+beside = Runs (On.Admin (Do.Grant 1)) (granted_reply 1 0 0) ∷ Runs (On.Tenant 1 (Command.Alloc 0)) (to_tenant 1 (Frame 0)) ∷ StoresAt 1 5 (replicate 100 9)
+    ∷ Runs (On.Admin (Do.Grant 0)) (granted_reply 0 0 1) ∷ Runs (On.Tenant 0 (Command.Alloc 0)) (to_tenant 0 (Frame 0)) ∷ StoresAt 0 5 bytes
     ∷ StoresAt 1 104 (9 ∷ []) ∷ LoadsAt 0 104 7
-    ∷ Runs (On.Tenant 0 (Asked.Read 104 1)) (to_tenant 0 (Bytes (record { items = 7 ∷ [] }))) ∷ []
+    ∷ Runs (On.Tenant 0 (Command.Read 104 1)) (to_tenant 0 (Bytes (record { items = 7 ∷ [] }))) ∷ []
 
 beside_acts : AllAct opened beside beside_7
 beside_acts = (
@@ -208,14 +208,14 @@ beside_acts = (
 -- The laws
 
 StoresAreWrites-met : StoresAreWrites →
-    Steps alone_2 (On.Tenant 0 (Asked.Write 5 (record { items = bytes }))) alone_3 (record { addressee = To.Tenant 0; body = Written 100 })
+    Steps alone_2 (On.Tenant 0 (Command.Write 5 (record { items = bytes }))) alone_3 (record { addressee = To.Tenant 0; body = Written 100 })
 StoresAreWrites-met law = (law alone_2 alone_3 0 5 bytes alone_taken.1 alone_stored).1
 
 LoadsAreOwn-met : LoadsAreOwn →
-    (own_seen cache_limit 3 (Enters Grant ∷ Enters (Ask (Asked.Alloc 0)) ∷ Stored 5 bytes ∷ []) empty_machine).machine.bytes 104 ≡ Some 7
+    (own_seen cache_limit 3 (Enters Grant ∷ Enters (Ask (Command.Alloc 0)) ∷ Stored 5 bytes ∷ []) empty_machine).machine.bytes 104 ≡ Some 7
 LoadsAreOwn-met law =
     let first : List Action =
-    Runs (On.Admin (Do.Grant 0)) (granted_reply 0 0 0) ∷ Runs (On.Tenant 0 (Asked.Alloc 0)) (to_tenant 0 (Frame 0)) ∷ StoresAt 0 5 bytes ∷ [] in
+    Runs (On.Admin (Do.Grant 0)) (granted_reply 0 0 0) ∷ Runs (On.Tenant 0 (Command.Alloc 0)) (to_tenant 0 (Frame 0)) ∷ StoresAt 0 5 bytes ∷ [] in
     let has =
     (all_follow opened alone_3 first 0 empty_machine (booted_has opened 2 2 0 is_opened (omega arith))
     (alone_1, alone_granted, (alone_2, alone_taken, (alone_3, alone_stored, refl)))).has in
@@ -226,7 +226,7 @@ abbrev seen : List Sight
 seen = Told (Frame 0) ∷ Loaded (Some 7) ∷ Told (Bytes (record { items = 7 ∷ [] })) ∷ []
 
 abbrev own_list : List Own
-own_list = Enters Grant ∷ Enters (Ask (Asked.Alloc 0)) ∷ Stored 5 bytes ∷ LoadedAt 104 ∷ Enters (Ask (Asked.Read 104 1)) ∷ []
+own_list = Enters Grant ∷ Enters (Ask (Command.Alloc 0)) ∷ Stored 5 bytes ∷ LoadedAt 104 ∷ Enters (Ask (Command.Read 104 1)) ∷ []
 
 OwnSights-met : OwnSights → seen ≡ (own_seen cache_limit 3 own_list empty_machine).sights
 OwnSights-met law = (law opened beside_7 2 2 0 beside is_opened (omega arith) beside_acts).0

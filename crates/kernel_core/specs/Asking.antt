@@ -22,8 +22,8 @@ abbrev pub RestsStepped : MutBor KernelContent → ℕ → Request → Answer �
 RestsStepped kernel t request answer = Rests the_row kernel (HasStepped kernel.now t request answer)
 
 -- the request of a tenant that there is was a step of the world, with the answer to that tenant
-abbrev pub RestsAskedKnown : MutBor KernelContent → ℕ → Request → Answer → Fml
-RestsAskedKnown kernel t request answer =
+abbrev pub RestsRequestedKnown : MutBor KernelContent → ℕ → Request → Answer → Fml
+RestsRequestedKnown kernel t request answer =
     Rests the_row kernel (λ after. Steps kernel.now (Tenant t (command_of request)) after (reply_of_answer t answer))
 
 -- the request of a tenant was a step of the world, with the answer to that tenant; nobody is told where there is no such tenant
@@ -32,5 +32,5 @@ HasAsked before tenant request result after = MatchOption result
     (Steps before (Tenant tenant (command_of request)) after (record { addressee = Nobody; body = Refused NoTenant }))
     (λ answer. (answer.0 ≡ tenant) × Steps before (Tenant tenant (command_of request)) after (reply_of_answer tenant answer.1))
 
-abbrev pub RestsAsked : MutBor KernelContent → ℕ → Request → Option (ℕ × Answer) → Fml
-RestsAsked kernel tenant request result = Rests the_row kernel (HasAsked kernel.now tenant request result)
+abbrev pub RestsRequested : MutBor KernelContent → ℕ → Request → Option (ℕ × Answer) → Fml
+RestsRequested kernel tenant request result = Rests the_row kernel (HasAsked kernel.now tenant request result)

@@ -4,7 +4,7 @@ ghost use Rattle.std.specs.Prelude.{◌≡◌, ◌<◌, IfOk, true, false};
 ghost use Rattle.model_core.specs.Layouts.{is_pattern};
 ghost use Rattle.machine_changes.specs.Changes.{Found};
 ghost use Rattle.machine_changes.specs.Objects.{IsLiveObject};
-ghost use Rattle.words_core.specs.Requests.{body_of_answer, HasFewBytes, tells_bytes};
+ghost use Rattle.words_core.specs.Requests.{body_of_answer, HasFewBytes, has_bytes};
 ghost use Rattle.words_core.specs.declared.event.Command.TheVariants as Command;
 ghost use Rattle.words_core.specs.declared.reply.Body.TheVariants.{Destroyed, Object, Given, Reaped};
 ghost use Rattle.kernel_core.specs.Steps.{StepsMachine, body_of};
@@ -27,7 +27,7 @@ impl Kernel {
         ensures steps { StepsMachine self.old t (Command.Cache size align (record { items = pattern.now })) self.new
             (body_of body_of_answer result) }
         ensures few { IfOk result (λ answer. HasFewBytes answer) }
-        ensures bytes { IfOk result (λ answer. tells_bytes answer ≡ false) }
+        ensures bytes { IfOk result (λ answer. has_bytes answer ≡ false) }
     {
         let pattern = Pattern::new(pattern).unwrap();
         let layout = match Layout::of(size, align) {

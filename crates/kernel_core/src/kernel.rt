@@ -57,10 +57,10 @@ impl Kernel {
     ghost use Rattle.kernel_core.specs.Records.{RecordsStand};
     ghost use Rattle.kernel_core.specs.Shows.{Shows};
     ghost use Rattle.kernel_core.specs.Steps.{is_named, HasPattern, Steps};
-    ghost use Rattle.words_core.specs.Requests.{command_of, reply_to, HasFewBytes, IsAskable, asks_bytes, tells_bytes};
+    ghost use Rattle.words_core.specs.Requests.{command_of, reply_to, HasFewBytes, IsAskable, asks_bytes, has_bytes};
     ghost use Rattle.words_core.specs.declared.event.AdminCommand.TheVariants as AdminCommand;
     ghost use Rattle.words_core.specs.declared.reply.Addressee.TheVariants.{Admin};
-    ghost use Rattle.kernel_core.specs.Asking.{RestsAsked, RestsAskedKnown, RestsStepped};
+    ghost use Rattle.kernel_core.specs.Asking.{RestsRequested, RestsRequestedKnown, RestsStepped};
     ghost use Rattle.std.specs.Borrow.{sem};
 
     /// A machine of these sizes: all its memory is zero, and no superblock has an owner.
@@ -184,7 +184,7 @@ impl Kernel {
         ensures steps { MatchOption result ((command.now ≡ AdminCommand.Pool) × (self.new ≡ self.old))
             (λ answer. Steps self.old (Event.Admin command.now) self.new (reply_to Admin answer)) }
         ensures few { IfSome result (λ answer. HasFewBytes answer) }
-        ensures bytes { IfSome result (λ answer. tells_bytes answer ≡ false) }
+        ensures bytes { IfSome result (λ answer. has_bytes answer ≡ false) }
     {
         let result = match command {
             AdminCommand::Grant { tenant } => self.grant(*tenant),
@@ -207,10 +207,10 @@ impl Kernel {
     #[inline(always)]
     pub fn ask(&mut self, tenant: u32, request: Request<'_>) -> Option<(u8, Answer<'_>)>
         requires { IsAskable request }
-        ensures* asked { sem 𝓛 (RestsAsked self.entry tenant request.entry result) }
+        ensures* asked { sem 𝓛 (RestsRequested self.entry tenant request.entry result) }
         ensures few { IfSome result (λ answer. HasFewBytes answer.1) }
         // Bytes are told to a read alone.
-        ensures bytes { IfSome result (λ answer. asks_bytes request.entry ≡ false → tells_bytes answer.1 ≡ false) }
+        ensures bytes { IfSome result (λ answer. asks_bytes request.entry ≡ false → has_bytes answer.1 ≡ false) }
     {
         let Some(t) = self.tenant(tenant) else {
             return None;
@@ -223,9 +223,9 @@ impl Kernel {
     pub fn ask_known(&mut self, t: u8, request: Request<'_>) -> Answer<'_>
         requires tenant { t < self.old.tenants }
         requires askable { IsAskable request }
-        ensures* asked { sem 𝓛 (RestsAskedKnown self.entry t request.entry result) }
+        ensures* asked { sem 𝓛 (RestsRequestedKnown self.entry t request.entry result) }
         ensures few { HasFewBytes result }
-        ensures bytes { asks_bytes request.entry ≡ false → tells_bytes result ≡ false }
+        ensures bytes { asks_bytes request.entry ≡ false → has_bytes result ≡ false }
     {
         self.parts_agree();
         self.run(t, request)
@@ -238,7 +238,7 @@ impl Kernel {
         requires askable { IsAskable request }
         ensures* steps { sem 𝓛 (RestsStepped self.entry t request.entry result) }
         ensures few { HasFewBytes result }
-        ensures bytes { asks_bytes request.entry ≡ false → tells_bytes result ≡ false }
+        ensures bytes { asks_bytes request.entry ≡ false → has_bytes result ≡ false }
     {
         let answer = match request {
             Request::Alloc { order } => match self.alloc(t, order) {

@@ -14,7 +14,7 @@ pub use model_core::laws::{
 pub use words_core::one_case;
 pub use world_core::laws::{
     entries_are_operations, more_caches, nobody_starves, non_interference, own_lines,
-    own_lists_are_asked, own_run, own_shown, reached_machines, reached_objects, shown_stays,
+    own_lists_are_requests, own_run, own_shown, reached_machines, reached_objects, shown_stays,
 };
 
 /// A kernel shows one world at most: what `step` says of each world that the kernel shows, it says

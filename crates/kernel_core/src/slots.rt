@@ -1,7 +1,7 @@
 //! The commands of the administrator: superblocks granted, taken back and moved, and who owns them.
 
 ghost use Rattle.std.specs.Prelude.{◌≡◌, ◌<◌, ◌≤◌, false, length, IfOk};
-ghost use Rattle.words_core.specs.Requests.{body_of_answer, HasFewBytes, tells_bytes};
+ghost use Rattle.words_core.specs.Requests.{body_of_answer, HasFewBytes, has_bytes};
 ghost use Rattle.words_core.specs.declared.event.Event.TheVariants as Event;
 ghost use Rattle.words_core.specs.declared.event.AdminCommand.TheVariants as AdminCommand;
 ghost use Rattle.words_core.specs.declared.reply.Addressee.TheVariants.{Admin};
@@ -25,7 +25,7 @@ impl Kernel {
         ensures steps { PartsAgree self.new
             → Steps self.old (Event.Admin (AdminCommand.Grant tenant)) self.new (to_admin result) }
         ensures few { IfOk result (λ answer. HasFewBytes answer) }
-        ensures bytes { IfOk result (λ answer. tells_bytes answer ≡ false) }
+        ensures bytes { IfOk result (λ answer. has_bytes answer ≡ false) }
     {
         let Some(t) = self.tenant(tenant) else {
             return Err(Refusal::NoTenant);
@@ -50,7 +50,7 @@ impl Kernel {
         ensures steps { PartsAgree self.new
             → Steps self.old (Event.Admin (AdminCommand.TakeBack tenant slot)) self.new (to_admin result) }
         ensures few { IfOk result (λ answer. HasFewBytes answer) }
-        ensures bytes { IfOk result (λ answer. tells_bytes answer ≡ false) }
+        ensures bytes { IfOk result (λ answer. has_bytes answer ≡ false) }
     {
         let Some(t) = self.tenant(tenant) else {
             return Err(Refusal::NoTenant);
@@ -73,7 +73,7 @@ impl Kernel {
         ensures steps { PartsAgree self.new
             → Steps self.old (Event.Admin (AdminCommand.Reset tenant)) self.new (to_admin result) }
         ensures few { IfOk result (λ answer. HasFewBytes answer) }
-        ensures bytes { IfOk result (λ answer. tells_bytes answer ≡ false) }
+        ensures bytes { IfOk result (λ answer. has_bytes answer ≡ false) }
     {
         let Some(t) = self.tenant(tenant) else {
             return Err(Refusal::NoTenant);
@@ -95,7 +95,7 @@ impl Kernel {
         ensures steps { PartsAgree self.new
             → Steps self.old (Event.Admin (AdminCommand.Move tenant slot)) self.new (to_admin result) }
         ensures few { IfOk result (λ answer. HasFewBytes answer) }
-        ensures bytes { IfOk result (λ answer. tells_bytes answer ≡ false) }
+        ensures bytes { IfOk result (λ answer. has_bytes answer ≡ false) }
     {
         let Some(t) = self.tenant(tenant) else {
             return Err(Refusal::NoTenant);

@@ -14,7 +14,7 @@ use Rattle.slab_tables.specs.Content.{Content}
 use Rattle.machine_changes.specs.Shows.{node_of, has_slab, ShowsMachine}
 use Rattle.machine_changes.specs.Steady.{IsSteady}
 use Rattle.machine_changes.proofs.Lookups.{some_none, some_same}
-use Rattle.machine_changes.specs.Pages.{IsInPage, BlockTells, NoBlockTells}
+use Rattle.machine_changes.specs.Pages.{IsInPage, BlockDecides, NoBlockDecides}
 use Rattle.machine_changes.proofs.PageLists.{order_told}
 
 module _ (r : spaces.Content) (b : buddies.Content) (s : Content) (t place len : ℕ) (m : Machine) (h : ShowsMachine r b s t m) where
@@ -73,9 +73,9 @@ module _ (r : spaces.Content) (b : buddies.Content) (s : Content) (t place len :
     told : (has_slab s (node_of s.top r.slots t first) ≡ false) × (place + len ≤ 4096 * (first + 2 ^ order)) → IsInPage r b s t place len
     told is = record { first = first; order = order; taken = taken; page = is.0; begins = begins_at first place has.0; ends = is.1 }
 
-pub block_tells : BlockTells
-block_tells r b s t place len first order st some taken has =
+pub block_decides : BlockDecides
+block_decides r b s t place len first order st some taken has =
     (tells r b s t place len some first order st taken has, told r b s t place len some first order st taken has)
 
-pub no_block_tells : NoBlockTells
-no_block_tells r b s t place len some none p = none (p.first, p.order, p.taken, first_frame r b s t place len some p)
+pub no_block_decides : NoBlockDecides
+no_block_decides r b s t place len some none p = none (p.first, p.order, p.taken, first_frame r b s t place len some p)

@@ -55,15 +55,15 @@ ReachMeets = (r : spaces.Content) (b : buddies.Content) (s : Content) (t place l
     → IsSteady r b s t → ShowsMachine r b s t m → (in_reach m place len ≡ true) ↔ IsInReach r b s t place len
 
 -- the taken block that has the first frame of a range tells whether the range lies inside a page block ..
-abbrev pub BlockTells : Type 0
-BlockTells = (r : spaces.Content) (b : buddies.Content) (s : Content) (t place len first order : ℕ)
+abbrev pub BlockDecides : Type 0
+BlockDecides = (r : spaces.Content) (b : buddies.Content) (s : Content) (t place len first order : ℕ)
     → IsSteady r b s t → 0 < len → buddies.taken_of (buddies.holding_of t b) first ≡ Some order → HasFrame (block first order) (place / FRAME_BYTES)
     → IsInPage r b s t place len
     ↔ ((has_slab s (node_of s.top r.slots t first) ≡ false) × (place + len ≤ FRAME_BYTES * (first + 2 ^ order)))
 
 -- .. and where none has it, the range does not
-abbrev pub NoBlockTells : Type 0
-NoBlockTells = (r : spaces.Content) (b : buddies.Content) (s : Content) (t place len : ℕ)
+abbrev pub NoBlockDecides : Type 0
+NoBlockDecides = (r : spaces.Content) (b : buddies.Content) (s : Content) (t place len : ℕ)
     → 0 < len → (IsTaken (buddies.taken_of (buddies.holding_of t b)) (place / FRAME_BYTES) → ⊥) → IsInPage r b s t place len → ⊥
 
 -- a range in reach lies in one held slot

@@ -63,8 +63,8 @@ then_given = Write 2048 (99 ∷ []) ∷ map (λ i. Give 0 (2048 * i)) sixteen ++
 abbrev eight_slabs : List Operation
 eight_slabs = Grant ∷ Create 2048 8 (11 ∷ []) ∷ map (λ i. Take 0) sixteen ++ then_given
 
-can_be_asked : ArePossible eight_slabs
-can_be_asked = (
+can_be_requested : ArePossible eight_slabs
+can_be_requested = (
   tt,
   (
     refl,
@@ -102,7 +102,7 @@ written_before = refl
 -- once its slab is made it has not been handed out since, and reads as the new pattern
 ConstructedFirst-met : ConstructedFirst → (machine_after (eight_slabs ++ Take 1 ∷ [])).bytes (2048 + 0) ≡ Some 22
 unfolding layout_of cache_step create_step next_number take_step give_step write_step in_reach grown_cache grown slab_to_use fresh_byte by_need reaped choice taken_blocks empty_machine next_slot after_grant
-ConstructedFirst-met law = law MOST_CACHES 3 (eight_slabs ++ Take 1 ∷ []) (object_anew false 1) 0 (each_append IsPossible eight_slabs (Take 1 ∷ []) can_be_asked (tt, tt))
+ConstructedFirst-met law = law MOST_CACHES 3 (eight_slabs ++ Take 1 ∷ []) (object_anew false 1) 0 (each_append IsPossible eight_slabs (Take 1 ∷ []) can_be_requested (tt, tt))
     (record { cache_in = (1, omega arith, refl); slab_in = (0, omega arith, refl); index_in = omega arith }) (omega arith) refl
 
 -- so do the object that the take answers which makes the slab, and the one that the next take answers
@@ -110,9 +110,9 @@ ConstructedWhenTaken-met : ConstructedWhenTaken
     → ((take_step 3 1 anew).machine.bytes (0 + 5) ≡ Some 22) × ((take_step 3 1 (machine_after (eight_slabs ++ Take 1 ∷ []))).machine.bytes (2048 + 0) ≡ Some 22)
 unfolding layout_of cache_step create_step next_number take_step give_step write_step in_reach grown_cache grown slab_to_use fresh_byte by_need reaped choice taken_blocks empty_machine next_slot after_grant
 ConstructedWhenTaken-met law = (
-  law MOST_CACHES 3 1 eight_slabs (object_anew false 0) 5 can_be_asked refl
+  law MOST_CACHES 3 1 eight_slabs (object_anew false 0) 5 can_be_requested refl
       (record { cache_in = (1, omega arith, refl); slab_in = (0, omega arith, refl); index_in = omega arith }) (omega arith) refl,
-  law MOST_CACHES 3 1 (eight_slabs ++ Take 1 ∷ []) (object_anew true 1) 0 (each_append IsPossible eight_slabs (Take 1 ∷ []) can_be_asked (tt, tt)) refl
+  law MOST_CACHES 3 1 (eight_slabs ++ Take 1 ∷ []) (object_anew true 1) 0 (each_append IsPossible eight_slabs (Take 1 ∷ []) can_be_requested (tt, tt)) refl
       (record { cache_in = (1, omega arith, refl); slab_in = (0, omega arith, refl); index_in = omega arith }) (omega arith) refl,
 )
 

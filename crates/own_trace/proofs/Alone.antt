@@ -27,7 +27,7 @@ use Rattle.world_core.proofs.Runs.{is_same, opening-machine, step_leaves}
 use Rattle.world_core.proofs.TenantLines.{same_lines}
 use Rattle.promise_core.specs.State.{Known}
 use Rattle.promise_kept.specs.MeetsWorld.{MeetsWorld}
-use Rattle.promise_kept.specs.WorldLaws.{CanBeAsked}
+use Rattle.promise_kept.specs.WorldLaws.{CanBeRequested}
 use Rattle.promise_kept.proofs.Owning.{pool_first}
 use Rattle.promise_kept.proofs.WorldSteps.{event_kept, read_asked, opening_meets}
 use Rattle.replay_core.specs.Standing.{AreLines}
@@ -255,7 +255,7 @@ own_step limit order t (On.Admin Do.Pool) w v b has = absurd (false≢true has)
 
 -- Both worlds after it
 
-both_after : (limit order t : ℕ) (event : Event) (w v : World) → 3 ≤ order → CanBeAsked event → (b : Beside limit order t w v) → IsOwnStep limit order t event w v
+both_after : (limit order t : ℕ) (event : Event) (w v : World) → 3 ≤ order → CanBeRequested event → (b : Beside limit order t w v) → IsOwnStep limit order t event w v
     → Beside limit order t (world_step limit order event w).world (world_step limit order event v).world
 both_after limit order t event w v le can b step =
     let whole = event_kept limit order event le can b.known w b.meets in
@@ -273,7 +273,7 @@ both_after limit order t event w v le can b step =
     }
 
 -- .. and after one that is none of the own list, and that the tenant alone does not see
-other_after : (limit order t : ℕ) (event : Event) (w v : World) → 3 ≤ order → CanBeAsked event → (b : Beside limit order t w v) → entries_at limit order t event w ≡ []
+other_after : (limit order t : ℕ) (event : Event) (w v : World) → 3 ≤ order → CanBeRequested event → (b : Beside limit order t w v) → entries_at limit order t event w ≡ []
     → Beside limit order t (world_step limit order event w).world v
 other_after limit order t event w v le can b none =
     let whole = event_kept limit order event le can b.known w b.meets in record {

@@ -21,6 +21,6 @@ check_command_line =
     with_rule (with_rule (sizes_command (codes "partcheck")) (file_rule (codes "TRACE"))) (file_rule (codes "REPLIES"))
 
 -- the settings are what clap finds in these words
-abbrev pub IsCheckAskedBy : List Text → Settings → Type 0
-IsCheckAskedBy words settings = let rows = matches_of check_command_line words in
+abbrev pub IsCheckRequestedBy : List Text → Settings → Type 0
+IsCheckRequestedBy words settings = let rows = matches_of check_command_line words in
     AsksCheck (λ name. one_of name rows) (λ name. first_of name rows) settings

@@ -3,7 +3,7 @@
 ghost use Rattle.std.specs.Prelude.{◌≡◌, Some, IfOk, map};
 ghost use Rattle.std.specs.String.{string_bytes};
 ghost use Rattle.clap.specs.Words.{app_of, first_value, found_of};
-ghost use Rattle.partcheck.specs.Settings.{IsCheckAskedBy, check_command_line};
+ghost use Rattle.partcheck.specs.Settings.{IsCheckRequestedBy, check_command_line};
 
 use crate::settings::{PROGRAM, Settings};
 use clap::{ArgMatches, Command};
@@ -13,7 +13,7 @@ use std::alloc::{AllocError, Global};
 /// Reads the words of a command line, without the program's name.
 pub fn read_words<'a>(alloc: Global, words: &'a [&'a str]) -> Result<Settings, Outcome>
     // Which word is under which name is as clap's model says.
-    ensures asked { IfOk result (IsCheckAskedBy (map (λ word. word.now) words.entry.now)) }
+    ensures asked { IfOk result (IsCheckRequestedBy (map (λ word. word.now) words.entry.now)) }
 {
     let matches = parse(alloc, command(alloc)?, words)?;
     Ok(Settings {

@@ -151,8 +151,8 @@ abbrev pub RunsApart : Option KernelContent → Option KernelContent → Request
 RunsApart old new a numbers = (bytes buffer : List ℕ) → RunsEvent old new a bytes numbers buffer buffer
 
 -- nothing was done, and the reply was not written
-abbrev pub TellsNothing : Option KernelContent → Option KernelContent → ReplyNumbers → ReplyNumbers → Type 0
-TellsNothing old new numbers numbers' = (new ≡ old) × (numbers' ≡ numbers)
+abbrev pub IsNothingDone : Option KernelContent → Option KernelContent → ReplyNumbers → ReplyNumbers → Type 0
+IsNothingDone old new numbers numbers' = (new ≡ old) × (numbers' ≡ numbers)
 
 -- the same, and no byte of the buffer was written
 abbrev pub ChangesNothing : Option KernelContent → Option KernelContent → ReplyNumbers → ReplyNumbers → List ℕ → List ℕ → Type 0

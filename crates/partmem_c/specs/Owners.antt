@@ -22,6 +22,6 @@ owner_status held superblock =
     else (if nat_lt superblock (length (owners_held held)) then DONE else NO_SUPERBLOCK)
 
 -- what there is to tell of a superblock of that number
-abbrev pub owner_told : List (Option model.Owner) → ℕ → Option Owner
-owner_told owners superblock =
+abbrev pub owner_reported : List (Option model.Owner) → ℕ → Option Owner
+owner_reported owners superblock =
     if nat_lt superblock (length owners) then Some (owner_numbers (owner_at owners superblock)) else None

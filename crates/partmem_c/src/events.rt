@@ -8,7 +8,7 @@ ghost use Rattle.words_core.specs.declared.event.Command.TheVariants.{Report};
 ghost use Rattle.words_core.specs.declared.event.AdminCommand.TheVariants as AdminCommand;
 ghost use Rattle.kernel_core.specs.Steps.{HasPattern};
 ghost use Rattle.partmem_c.specs.Events.{requested_event, machine_status, status_of_event, event_status, AnswersEvent, RunsEvent};
-ghost use Rattle.partmem_c.specs.Events.{RunsApart, TellsNothing, ChangesNothing};
+ghost use Rattle.partmem_c.specs.Events.{RunsApart, IsNothingDone, ChangesNothing};
 ghost use Rattle.partmem_c.specs.Events.{some_bytes, admin_command_of, requested_command, is_plain};
 
 use crate::kinds::NOTHING;
@@ -238,7 +238,7 @@ fn plain_event<const KIND: u32>(
     requires plain { is_plain KIND ≡ true }
     ensures status { result ≡ machine_status machine.old.slot.held }
     ensures done { result ≡ DONE → RunsApart machine.old.slot.held machine.new.slot.held request.now reply.new }
-    ensures not_done { result ≢ DONE → TellsNothing machine.old.slot.held machine.new.slot.held reply.old reply.new }
+    ensures not_done { result ≢ DONE → IsNothingDone machine.old.slot.held machine.new.slot.held reply.old reply.new }
 {
     let command = plain_request(KIND, request);
     ask(alloc, machine, request.tenant, command, reply)
@@ -282,7 +282,7 @@ fn ask(
     ensures done { result ≡ DONE → (request : RequestNumbers) (bytes buffer : List ℕ)
         → requested_event request bytes ≡ Some (Tenant tenant (command_of command.entry))
         → RunsEvent machine.old.slot.held machine.new.slot.held request bytes reply.new buffer buffer }
-    ensures not_done { result ≢ DONE → TellsNothing machine.old.slot.held machine.new.slot.held reply.old reply.new }
+    ensures not_done { result ≢ DONE → IsNothingDone machine.old.slot.held machine.new.slot.held reply.old reply.new }
 {
     if !machine.is_booted() {
         return NO_MACHINE;
@@ -388,7 +388,7 @@ fn write_event(
     ensures status { result ≡ status_of_event machine.old.slot.held request.now bytes.now DONE }
     ensures done { result ≡ DONE → (buffer : List ℕ)
         → RunsEvent machine.old.slot.held machine.new.slot.held request.now bytes.now reply.new buffer buffer }
-    ensures not_done { result ≢ DONE → TellsNothing machine.old.slot.held machine.new.slot.held reply.old reply.new }
+    ensures not_done { result ≢ DONE → IsNothingDone machine.old.slot.held machine.new.slot.held reply.old reply.new }
 {
     if !(1..=MOST_BYTES).contains(&bytes.len()) {
         return status_of_none(machine);
@@ -416,7 +416,7 @@ fn cache_event(
     ensures status { result ≡ status_of_event machine.old.slot.held request.now bytes.now DONE }
     ensures done { result ≡ DONE → (buffer : List ℕ)
         → RunsEvent machine.old.slot.held machine.new.slot.held request.now bytes.now reply.new buffer buffer }
-    ensures not_done { result ≢ DONE → TellsNothing machine.old.slot.held machine.new.slot.held reply.old reply.new }
+    ensures not_done { result ≢ DONE → IsNothingDone machine.old.slot.held machine.new.slot.held reply.old reply.new }
 {
     if !(1..=MOST_PATTERN).contains(&bytes.len()) {
         return status_of_none(machine);

@@ -2,7 +2,7 @@
 
 ghost use Rattle.std.specs.Prelude.{◌≡◌, ◌≢◌, IfSome, None};
 ghost use Rattle.space_core.specs.Content.{owner_at};
-ghost use Rattle.partmem_c.specs.Owners.{owner_numbers, owner_status, owner_told};
+ghost use Rattle.partmem_c.specs.Owners.{owner_numbers, owner_status, owner_reported};
 
 use crate::machine::Machine;
 use crate::status::{DONE, NO_MACHINE, NO_SUPERBLOCK};
@@ -45,7 +45,7 @@ pub extern "C" fn partmem_find_superblock(
         return NO_MACHINE;
     }
     let kernel = machine.take_out(alloc);
-    let found = owner_told(&kernel, superblock);
+    let found = owner_reported(&kernel, superblock);
     machine.put_in(kernel);
     let Some(found) = found else {
         return NO_SUPERBLOCK;
@@ -54,8 +54,8 @@ pub extern "C" fn partmem_find_superblock(
     DONE
 }
 
-fn owner_told(kernel: &Kernel, superblock: u32) -> Option<Owner>
-    ensures { result ≡ owner_told kernel.now.space.owners superblock }
+fn owner_reported(kernel: &Kernel, superblock: u32) -> Option<Owner>
+    ensures { result ≡ owner_reported kernel.now.space.owners superblock }
 {
     let space = kernel.space();
     if superblock >= u32::from(space.superblocks()) {

@@ -9,7 +9,6 @@ use Rattle.model_core.specs.Machine.{order_in}
 use Rattle.model_core.specs.declared.limits.TheConstants.{MOST_BYTES}
 use Rattle.words_core.specs.declared.event.Command.{Command}
 use Rattle.words_core.specs.declared.event.Event.TheVariants as On
-use Rattle.words_core.specs.declared.event.Command.TheVariants as Asked
 use Rattle.words_core.specs.declared.reply.Addressee.TheVariants as To
 use Rattle.words_core.specs.declared.reply.Body.{Body}
 use Rattle.words_core.specs.declared.reply.Body.TheVariants as Say
@@ -63,55 +62,55 @@ module _ (w : Known) (s : State) (t : ℕ) (is : slice_get w.states t ≡ Some s
   to_it : ((t == t) && true) ≡ true
   to_it = and_from (t == t) true (eq-eqb t t refl) refl
 
-  free_reply : (f : ℕ) → HasReply w t (Asked.Free f)
+  free_reply : (f : ℕ) → HasReply w t (Command.Free f)
   unfolding due state_after
   free_reply f = go (order_in s.has.pages f) refl
     where
-      go : (o : Option ℕ) → order_in s.has.pages f ≡ o → HasReply w t (Asked.Free f)
-      go None e = told (Asked.Free f) (Say.Refused Refusal.NotABlock)
+      go : (o : Option ℕ) → order_in s.has.pages f ≡ o → HasReply w t (Command.Free f)
+      go None e = told (Command.Free f) (Say.Refused Refusal.NotABlock)
           to_it
           (ap (λ o. option_map_or (is_one Refusal.NotABlock) (first_due ((is_none o, Refusal.NotABlock) ∷ [])) false) e)
           refl refl refl refl refl refl refl refl refl refl
-      go (Some k) e = told (Asked.Free f) (Say.Freed k)
+      go (Some k) e = told (Command.Free f) (Say.Freed k)
           to_it
           (ap (λ o. is_none (first_due ((is_none o, Refusal.NotABlock) ∷ []))) e)
           refl refl refl refl refl
           (ap (λ o. option_eq (λ i j. i == j) o (Some k)) e ∙ eq-eqb k k refl)
           refl refl refl refl
 
-  write_reply : (place : ℕ) (new : ArrayVec ℕ) → HasReply w t (Asked.Write place new)
+  write_reply : (place : ℕ) (new : ArrayVec ℕ) → HasReply w t (Command.Write place new)
   unfolding due state_after
   write_reply place new = go (holder_of s.has place (length new.items)) refl
     where
-      go : (o : Option Holder) → holder_of s.has place (length new.items) ≡ o → HasReply w t (Asked.Write place new)
-      go None e = told (Asked.Write place new) (Say.Refused Refusal.OutOfReach)
+      go : (o : Option Holder) → holder_of s.has place (length new.items) ≡ o → HasReply w t (Command.Write place new)
+      go None e = told (Command.Write place new) (Say.Refused Refusal.OutOfReach)
           to_it
           (ap (λ o. option_map_or (is_one Refusal.OutOfReach) (first_due ((is_none o, Refusal.OutOfReach) ∷ [])) false) e)
           refl refl refl refl refl refl refl refl refl refl
-      go (Some holder) e = told (Asked.Write place new) (Say.Written (length new.items))
+      go (Some holder) e = told (Command.Write place new) (Say.Written (length new.items))
           to_it
           (ap (λ o. is_none (first_due ((is_none o, Refusal.OutOfReach) ∷ []))) e)
           refl refl refl refl refl refl refl
           (eq-eqb (length new.items) (length new.items) refl)
           refl refl
 
-  read_reply : (place len : ℕ) → HasReply w t (Asked.Read place len)
+  read_reply : (place len : ℕ) → HasReply w t (Command.Read place len)
   unfolding due state_after
   read_reply place len = go (nat_le 1 len && nat_le len MOST_BYTES) refl (holder_of s.has place len) refl
     where
-      go : (b : Bool) → (nat_le 1 len && nat_le len MOST_BYTES) ≡ b → (o : Option Holder) → holder_of s.has place len ≡ o → HasReply w t (Asked.Read place len)
-      go false bad o e = told (Asked.Read place len) (Say.Refused Refusal.BadLength)
+      go : (b : Bool) → (nat_le 1 len && nat_le len MOST_BYTES) ≡ b → (o : Option Holder) → holder_of s.has place len ≡ o → HasReply w t (Command.Read place len)
+      go false bad o e = told (Command.Read place len) (Say.Refused Refusal.BadLength)
           to_it
           (ap (λ b. option_map_or (is_one Refusal.BadLength) (first_due ((not b, Refusal.BadLength) ∷ (is_none (holder_of s.has place len), Refusal.OutOfReach) ∷ [])) false) bad)
           refl refl refl refl refl refl refl refl refl refl
-      go true fits None e = told (Asked.Read place len) (Say.Refused Refusal.OutOfReach)
+      go true fits None e = told (Command.Read place len) (Say.Refused Refusal.OutOfReach)
           to_it
           (ap (λ b. option_map_or (is_one Refusal.OutOfReach) (first_due ((not b, Refusal.BadLength) ∷ (is_none (holder_of s.has place len), Refusal.OutOfReach) ∷ [])) false) fits
           ∙ ap (λ o. option_map_or (is_one Refusal.OutOfReach) (first_due ((is_none o, Refusal.OutOfReach) ∷ [])) false) e)
           refl refl refl refl refl refl refl refl refl refl
       go true fits (Some holder) e =
           let bs : (bs : List ℕ) × (length bs ≡ len) × (may_all_be s.has s.cells holder place bs ≡ true) = some_bytes s.has s.cells holder place len in
-          told (Asked.Read place len) (Say.Bytes (record { items = bs.0 }))
+          told (Command.Read place len) (Say.Bytes (record { items = bs.0 }))
           to_it
           (ap (λ b. is_none (first_due ((not b, Refusal.BadLength) ∷ (is_none (holder_of s.has place len), Refusal.OutOfReach) ∷ []))) fits
           ∙ ap (λ o. is_none (first_due ((is_none o, Refusal.OutOfReach) ∷ []))) e)
@@ -119,45 +118,45 @@ module _ (w : Known) (s : State) (t : ℕ) (is : slice_get w.states t ≡ Some s
           (and_from (length bs.0 == len) _ (eq-eqb (length bs.0) len bs.1) (ap (λ o. option_map_or (λ holder. may_all_be s.has s.cells holder place bs.0) o false) e ∙ bs.2))
           refl refl
 
-  give_reply : (number place : ℕ) → HasReply w t (Asked.Give number place)
+  give_reply : (number place : ℕ) → HasReply w t (Command.Give number place)
   unfolding due state_after
   give_reply number place = go (known_cache s.has number) refl (option_map_or (λ c. list_any (λ p. p == place) c.live) (known_cache s.has number) false) refl
     where
       go : (o : Option KnownCache) → known_cache s.has number ≡ o → (b : Bool) → option_map_or (λ c. list_any (λ p. p == place) c.live) (known_cache s.has number) false ≡ b
-          → HasReply w t (Asked.Give number place)
-      go None e b live = told (Asked.Give number place) (Say.Refused Refusal.NoCache)
+          → HasReply w t (Command.Give number place)
+      go None e b live = told (Command.Give number place) (Say.Refused Refusal.NoCache)
           to_it
           (ap (λ o. option_map_or (is_one Refusal.NoCache) (first_due ((is_none o, Refusal.NoCache)
           ∷ (not (option_map_or (λ c. list_any (λ p. p == place) c.live) (known_cache s.has number) false), Refusal.NotAnObject) ∷ [])) false) e)
           refl refl refl refl refl refl refl refl refl refl
-      go (Some c) e false live = told (Asked.Give number place) (Say.Refused Refusal.NotAnObject)
+      go (Some c) e false live = told (Command.Give number place) (Say.Refused Refusal.NotAnObject)
           to_it
           (ap (λ o. option_map_or (is_one Refusal.NotAnObject) (first_due ((is_none o, Refusal.NoCache)
           ∷ (not (option_map_or (λ c. list_any (λ p. p == place) c.live) (known_cache s.has number) false), Refusal.NotAnObject) ∷ [])) false) e
           ∙ ap (λ b. option_map_or (is_one Refusal.NotAnObject) (first_due ((not b, Refusal.NotAnObject) ∷ [])) false) live)
           refl refl refl refl refl refl refl refl refl refl
-      go (Some c) e true live = told (Asked.Give number place) Say.Given
+      go (Some c) e true live = told (Command.Give number place) Say.Given
           to_it
           (ap (λ o. is_none (first_due ((is_none o, Refusal.NoCache)
           ∷ (not (option_map_or (λ c. list_any (λ p. p == place) c.live) (known_cache s.has number) false), Refusal.NotAnObject) ∷ []))) e
           ∙ ap (λ b. is_none (first_due ((not b, Refusal.NotAnObject) ∷ []))) live)
           refl refl refl refl refl refl refl refl refl refl
 
-  alloc_reply : (k : ℕ) → HasReply w t (Asked.Alloc k)
+  alloc_reply : (k : ℕ) → HasReply w t (Command.Alloc k)
   unfolding due state_after
-  alloc_reply k = go (nat_lt w.order k) refl (may_tell w t (Asked.Alloc k) (Say.Refused Refusal.NoFrames)) refl
+  alloc_reply k = go (nat_lt w.order k) refl (may_tell w t (Command.Alloc k) (Say.Refused Refusal.NoFrames)) refl
     where
-      go : (b : Bool) → nat_lt w.order k ≡ b → (full : Bool) → may_tell w t (Asked.Alloc k) (Say.Refused Refusal.NoFrames) ≡ full → HasReply w t (Asked.Alloc k)
-      go true e full refused = told (Asked.Alloc k) (Say.Refused Refusal.BadOrder)
+      go : (b : Bool) → nat_lt w.order k ≡ b → (full : Bool) → may_tell w t (Command.Alloc k) (Say.Refused Refusal.NoFrames) ≡ full → HasReply w t (Command.Alloc k)
+      go true e full refused = told (Command.Alloc k) (Say.Refused Refusal.BadOrder)
           to_it
           (ap (λ b. option_map_or (is_one Refusal.BadOrder) (first_due ((b, Refusal.BadOrder) ∷ [])) false) e)
           refl refl refl refl refl refl refl refl refl refl
       go false e true refused = (Say.Refused Refusal.NoFrames, refused)
       go false e false refused = let f = (refused_for_cause w s t k is (ltb-false w.order k e)).answered refused in (Say.Frame f.0, f.1)
 
-  no_cache_reply : (number : ℕ) → known_cache s.has number ≡ None → HasReply w t (Asked.Take number)
+  no_cache_reply : (number : ℕ) → known_cache s.has number ≡ None → HasReply w t (Command.Take number)
   unfolding due state_after
-  no_cache_reply number e = told (Asked.Take number) (Say.Refused Refusal.NoCache)
+  no_cache_reply number e = told (Command.Take number) (Say.Refused Refusal.NoCache)
       to_it
       (ap (λ o. option_map_or (is_one Refusal.NoCache) (first_due ((is_none o, Refusal.NoCache) ∷ [])) false) e)
       refl refl refl refl refl refl refl refl refl refl
@@ -173,19 +172,19 @@ pub use_answerable : UseAnswerable
 use_answerable limit order superblocks tenants t command es w run used = go (slice_get w.states t) refl
   where
     take_reply : (s : State) → slice_get w.states t ≡ Some s → (number : ℕ) → (o : Option KnownCache) → known_cache s.has number ≡ o
-        → (full : Bool) → may_tell w t (Asked.Take number) (Say.Refused Refusal.NoFrames) ≡ full → HasReply w t (Asked.Take number)
+        → (full : Bool) → may_tell w t (Command.Take number) (Say.Refused Refusal.NoFrames) ≡ full → HasReply w t (Command.Take number)
     take_reply s is number None e full refused = no_cache_reply w s t is number e
     take_reply s is number (Some c) e true refused = (Say.Refused Refusal.NoFrames, refused)
     take_reply s is number (Some c) e false refused =
         let p = (take_refused_for_cause limit order superblocks tenants t number es w s c run is e).answered refused in (Say.Object p.0, p.1)
 
     body_of : (s : State) → slice_get w.states t ≡ Some s → (command : Command) → uses_memory command ≡ true → HasReply w t command
-    body_of s is (Asked.Alloc k) used = alloc_reply w s t is k
-    body_of s is (Asked.Free f) used = free_reply w s t is f
-    body_of s is (Asked.Read place len) used = read_reply w s t is place len
-    body_of s is (Asked.Write place new) used = write_reply w s t is place new
-    body_of s is (Asked.Take number) used = take_reply s is number (known_cache s.has number) refl (may_tell w t (Asked.Take number) (Say.Refused Refusal.NoFrames)) refl
-    body_of s is (Asked.Give number place) used = give_reply w s t is number place
+    body_of s is (Command.Alloc k) used = alloc_reply w s t is k
+    body_of s is (Command.Free f) used = free_reply w s t is f
+    body_of s is (Command.Read place len) used = read_reply w s t is place len
+    body_of s is (Command.Write place new) used = write_reply w s t is place new
+    body_of s is (Command.Take number) used = take_reply s is number (known_cache s.has number) refl (may_tell w t (Command.Take number) (Say.Refused Refusal.NoFrames)) refl
+    body_of s is (Command.Give number place) used = give_reply w s t is number place
     body_of s is command used = absurd (false≢true used)
 
     go : (o : Option State) → slice_get w.states t ≡ o → (reply : Reply) × (is_ok (allowed (On.Tenant t command) reply w) ≡ true)

@@ -14,7 +14,6 @@ use Rattle.model_core.proofs.BlocksByNumber.{aligned_first}
 use Rattle.model_core.proofs.Room.{in_range, range_in}
 use Rattle.words_core.specs.declared.event.Command.{Command}
 use Rattle.words_core.specs.declared.event.Event.TheVariants as On
-use Rattle.words_core.specs.declared.event.Command.TheVariants as Asked
 use Rattle.words_core.specs.declared.reply.Addressee.TheVariants as To
 use Rattle.words_core.specs.declared.reply.Body.{Body}
 use Rattle.words_core.specs.declared.reply.Body.TheVariants as Say
@@ -110,16 +109,16 @@ both_ways_off false e on = false≢true on
 -- A page block
 
 module _ (w : Known) (s : State) (t k : ℕ) (is : slice_get w.states t ≡ Some s) (of_slot : k ≤ w.order) where
-  refusal_is : may_tell w t (Asked.Alloc k) (Say.Refused Refusal.NoFrames) ≡ not (has_room w.order s.has k)
+  refusal_is : may_tell w t (Command.Alloc k) (Say.Refused Refusal.NoFrames) ≡ not (has_room w.order s.has k)
   unfolding due state_after
-  refusal_is = tells_as w s t (Asked.Alloc k) (Say.Refused Refusal.NoFrames) is
+  refusal_is = tells_as w s t (Command.Alloc k) (Say.Refused Refusal.NoFrames) is
       ∙ (ap (λ b. (b && true) && (option_map_or (is_one Refusal.NoFrames) (first_due ((ltb w.order k, Refusal.BadOrder) ∷ [])) true && (not (has_room w.order s.has k) && true))) (eq-eqb t t refl)
       ∙ (ap (λ b. option_map_or (is_one Refusal.NoFrames) (first_due ((b, Refusal.BadOrder) ∷ [])) true && (not (has_room w.order s.has k) && true)) (le-ltb w.order k of_slot)
       ∙ and-true (not (has_room w.order s.has k))))
 
-  frame_is : (f : ℕ) → may_tell w t (Asked.Alloc k) (Say.Frame f) ≡ can_stand w.order s.has (block f k)
+  frame_is : (f : ℕ) → may_tell w t (Command.Alloc k) (Say.Frame f) ≡ can_stand w.order s.has (block f k)
   unfolding due state_after
-  frame_is f = tells_as w s t (Asked.Alloc k) (Say.Frame f) is
+  frame_is f = tells_as w s t (Command.Alloc k) (Say.Frame f) is
       ∙ (ap (λ b. (b && true) && (is_none (first_due ((ltb w.order k, Refusal.BadOrder) ∷ [])) && (can_stand w.order s.has (block f k) && true))) (eq-eqb t t refl)
       ∙ (ap (λ b. is_none (first_due ((b, Refusal.BadOrder) ∷ [])) && (can_stand w.order s.has (block f k) && true)) (le-ltb w.order k of_slot)
       ∙ and-true (can_stand w.order s.has (block f k))))
@@ -135,18 +134,18 @@ refused_for_cause w s t k is of_slot = record {
 -- An object
 
 module _ (w : Known) (s : State) (t number : ℕ) (c : KnownCache) (is : slice_get w.states t ≡ Some s) (told : known_cache s.has number ≡ Some c) where
-  take_refusal_is : may_tell w t (Asked.Take number) (Say.Refused Refusal.NoFrames) ≡ is_used_up w.order s.has c
+  take_refusal_is : may_tell w t (Command.Take number) (Say.Refused Refusal.NoFrames) ≡ is_used_up w.order s.has c
   unfolding due state_after
-  take_refusal_is = tells_as w s t (Asked.Take number) (Say.Refused Refusal.NoFrames) is
+  take_refusal_is = tells_as w s t (Command.Take number) (Say.Refused Refusal.NoFrames) is
       ∙ (ap (λ b. (b && true) && (option_map_or (is_one Refusal.NoFrames) (first_due ((is_none (known_cache s.has number), Refusal.NoCache) ∷ [])) true
       && (option_map_or (is_used_up w.order s.has) (known_cache s.has number) false && true))) (eq-eqb t t refl)
       ∙ (ap (λ o. option_map_or (is_one Refusal.NoFrames) (first_due ((is_none o, Refusal.NoCache) ∷ [])) true
       && (option_map_or (is_used_up w.order s.has) o false && true)) told
       ∙ and-true (is_used_up w.order s.has c)))
 
-  place_is : (place : ℕ) → may_tell w t (Asked.Take number) (Say.Object place) ≡ can_be_taken w.order s.has c place
+  place_is : (place : ℕ) → may_tell w t (Command.Take number) (Say.Object place) ≡ can_be_taken w.order s.has c place
   unfolding due state_after
-  place_is place = tells_as w s t (Asked.Take number) (Say.Object place) is
+  place_is place = tells_as w s t (Command.Take number) (Say.Object place) is
       ∙ (ap (λ b. (b && true) && (is_none (first_due ((is_none (known_cache s.has number), Refusal.NoCache) ∷ []))
       && (option_map_or (λ x. can_be_taken w.order s.has x place) (known_cache s.has number) false && true))) (eq-eqb t t refl)
       ∙ (ap (λ o. is_none (first_due ((is_none o, Refusal.NoCache) ∷ [])) && (option_map_or (λ x. can_be_taken w.order s.has x place) o false && true)) told

@@ -12,7 +12,7 @@ use Rattle.model_core.proofs.Lists.{filter_in, map_in}
 use Rattle.words_core.specs.declared.event.Event.{Event}
 use Rattle.words_core.specs.declared.event.Event.TheVariants as On
 use Rattle.words_core.specs.declared.event.AdminCommand.TheVariants as Do
-use Rattle.words_core.specs.declared.event.Command.TheVariants as Asked
+use Rattle.words_core.specs.declared.event.Command.TheVariants as Command
 use Rattle.words_core.specs.declared.reply.Body.{Body}
 use Rattle.words_core.specs.declared.reply.Body.TheVariants as Say
 use Rattle.words_core.specs.declared.reply.Refusal.{Refusal}
@@ -132,12 +132,12 @@ module _ (order t place : ℕ) (given written : ℕ → Bool) where
 
   write_step : (n begin : ℕ) (new : ArrayVec ℕ) (count : ℕ) (s : State) (holder : Option Holder) (cell : Cell) → n ≡ t → IsExplained given written place s
       → option_map_or (λ x. with_bytes x begin new.items s.cells) holder s.cells place ≡ Some cell
-      → own (given_after t given (On.Tenant n (Asked.Write begin new)))
-      (written_after order t place written (On.Tenant n (Asked.Write begin new)) (Say.Written count)) cell.byte ≡ true
+      → own (given_after t given (On.Tenant n (Command.Write begin new)))
+      (written_after order t place written (On.Tenant n (Command.Write begin new)) (Say.Written count)) cell.byte ≡ true
   write_step n begin new count s holder cell is x e = elim (range_cells begin place new.items s holder cell e) [
-    | inl (y, h, low, high, byte) ↦ own_wrote (On.Tenant n (Asked.Write begin new)) (Say.Written count) cell.byte (and_from _ _ (eq-eqb n t is)
+    | inl (y, h, low, high, byte) ↦ own_wrote (On.Tenant n (Command.Write begin new)) (Say.Written count) cell.byte (and_from _ _ (eq-eqb n t is)
         (and_from _ _ (and_from _ _ (le-leb begin place low) (lt-ltb place _ high)) (eq-eqb _ _ (sym byte))))
-    | inr was ↦ own_stays (On.Tenant n (Asked.Write begin new)) (Say.Written count) cell.byte refl (x.cells cell was)
+    | inr was ↦ own_stays (On.Tenant n (Command.Write begin new)) (Say.Written count) cell.byte refl (x.cells cell was)
   ]
 
   opened : (event : Event) (body : Body) → After event body opening_state
@@ -155,45 +155,45 @@ module _ (order t place : ℕ) (given written : ℕ → Bool) where
   unfolding state_after
   step w event (Say.Refused r) s s' e own b l n x =
       carry event (Say.Refused r) s s s' (grants_refused order t place event r) e (record { patterns = same_patterns s; cells = same_cells place s }) x
-  step w (On.Tenant i (Asked.Alloc k)) (Say.Frame f) s s' e own b l n x =
-      carry (On.Tenant i (Asked.Alloc k)) (Say.Frame f) s _ s' refl e
+  step w (On.Tenant i (Command.Alloc k)) (Say.Frame f) s s' e own b l n x =
+      carry (On.Tenant i (Command.Alloc k)) (Say.Frame f) s _ s' refl e
       (record { patterns = same_patterns s; cells = without_cells (λ p holder. in_block p (block f k) && not (is_same Holder.Page holder)) place s }) x
-  step w (On.Tenant i (Asked.Free f)) (Say.Freed k) s s' e own b l n x =
-      carry (On.Tenant i (Asked.Free f)) (Say.Freed k) s _ s' refl e
+  step w (On.Tenant i (Command.Free f)) (Say.Freed k) s s' e own b l n x =
+      carry (On.Tenant i (Command.Free f)) (Say.Freed k) s _ s' refl e
       (record { patterns = same_patterns s; cells = doubted_cells (λ p holder. in_block p (block f k) && is_same Holder.Page holder) place s }) x
-  step w (On.Tenant i (Asked.Read begin len)) (Say.Bytes told) s s' e own b l n x = subst (After (On.Tenant i (Asked.Read begin len)) (Say.Bytes told)) (some_state e)
+  step w (On.Tenant i (Command.Read begin len)) (Say.Bytes told) s s' e own b l n x = subst (After (On.Tenant i (Command.Read begin len)) (Say.Bytes told)) (some_state e)
       (record {
         patterns = λ c m y g. or_left _ _ (x.patterns c m y g);
-        cells = λ cell h. own_stays (On.Tenant i (Asked.Read begin len)) (Say.Bytes told) cell.byte refl
+        cells = λ cell h. own_stays (On.Tenant i (Command.Read begin len)) (Say.Bytes told) cell.byte refl
             (read_step begin len told.items s (holder_of s.has begin len) cell x (and_parts _ _ b).1 h);
       })
-  step w (On.Tenant i (Asked.Write begin new)) (Say.Written count) s s' e own b l n x = subst (After (On.Tenant i (Asked.Write begin new)) (Say.Written count)) (some_state e)
+  step w (On.Tenant i (Command.Write begin new)) (Say.Written count) s s' e own b l n x = subst (After (On.Tenant i (Command.Write begin new)) (Say.Written count)) (some_state e)
       (record {
         patterns = λ c m y g. or_left _ _ (x.patterns c m y g);
         cells = λ cell h. write_step i begin new count s (holder_of s.has begin count) cell (some_number n) x h;
       })
-  step w (On.Tenant i (Asked.Cache size align pattern)) (Say.Cache number chunk q c colours) s s' e own b l n x =
-      subst (After (On.Tenant i (Asked.Cache size align pattern)) (Say.Cache number chunk q c colours)) (some_state e)
+  step w (On.Tenant i (Command.Cache size align pattern)) (Say.Cache number chunk q c colours) s s' e own b l n x =
+      subst (After (On.Tenant i (Command.Cache size align pattern)) (Say.Cache number chunk q c colours)) (some_state e)
       (record {
         patterns = λ d m y g. elim (in_put (λ z. z.number) _ d s.has.caches m) [
           | inl same ↦ or_right (given y) _ (and_from _ _ (eq-eqb i t (some_number n)) (subst (λ z. list_any (λ v. v == y) z.pattern ≡ true) (sym same) g))
           | inr old ↦ or_left _ _ (x.patterns d old y g)
         ];
-        cells = λ cell h. own_stays (On.Tenant i (Asked.Cache size align pattern)) (Say.Cache number chunk q c colours) cell.byte refl (x.cells cell h);
+        cells = λ cell h. own_stays (On.Tenant i (Command.Cache size align pattern)) (Say.Cache number chunk q c colours) cell.byte refl (x.cells cell h);
       })
-  step w (On.Tenant i (Asked.Destroy number)) (Say.Destroyed frames) s s' e own b l n x =
-      carry (On.Tenant i (Asked.Destroy number)) (Say.Destroyed frames) s _ s' refl e
+  step w (On.Tenant i (Command.Destroy number)) (Say.Destroyed frames) s s' e own b l n x =
+      carry (On.Tenant i (Command.Destroy number)) (Say.Destroyed frames) s _ s' refl e
       (record { patterns = λ c m. (c, (filter_in _ c s.has.caches m).0, refl); cells = without_cells (λ p. is_object (λ m q. m == number)) place s }) x
-  step w (On.Tenant i (Asked.Take number)) (Say.Object first) s s' e own b l n x =
-      carry (On.Tenant i (Asked.Take number)) (Say.Object first) s _ s' refl e (record { patterns = live_patterns s number _; cells = object_cells first place s (known_cache s.has number) }) x
-  step w (On.Tenant i (Asked.Give number first)) Say.Given s s' e own b l n x =
-      carry (On.Tenant i (Asked.Give number first)) Say.Given s _ s' refl e
+  step w (On.Tenant i (Command.Take number)) (Say.Object first) s s' e own b l n x =
+      carry (On.Tenant i (Command.Take number)) (Say.Object first) s _ s' refl e (record { patterns = live_patterns s number _; cells = object_cells first place s (known_cache s.has number) }) x
+  step w (On.Tenant i (Command.Give number first)) Say.Given s s' e own b l n x =
+      carry (On.Tenant i (Command.Give number first)) Say.Given s _ s' refl e
       (record { patterns = live_patterns s number _; cells = doubted_cells (λ p. is_same (Holder.Object number first)) place s }) x
-  step w (On.Tenant i Asked.Reap) (Say.Reaped frames) s s' e own b l n x =
-      carry (On.Tenant i Asked.Reap) (Say.Reaped frames) s _ s' refl e
+  step w (On.Tenant i Command.Reap) (Say.Reaped frames) s s' e own b l n x =
+      carry (On.Tenant i Command.Reap) (Say.Reaped frames) s _ s' refl e
       (record { patterns = same_patterns s; cells = without_cells (λ p. is_object (is_in_no_slab s.has)) place s }) x
-  step w (On.Tenant i Asked.Report) (Say.Report r) s s' e own b l n x =
-      carry (On.Tenant i Asked.Report) (Say.Report r) s _ s' refl e (record { patterns = same_patterns s; cells = same_cells place s }) x
+  step w (On.Tenant i Command.Report) (Say.Report r) s s' e own b l n x =
+      carry (On.Tenant i Command.Report) (Say.Report r) s _ s' refl e (record { patterns = same_patterns s; cells = same_cells place s }) x
   step w (On.Admin (Do.Grant i)) (Say.Granted told u superblock) s s' e own b l n x = subst (After (On.Admin (Do.Grant i)) (Say.Granted told u superblock)) (some_state e)
       (record {
         patterns = λ c m y g. or_left _ _ (x.patterns c m y g);
@@ -253,7 +253,7 @@ opening_holds limit order superblocks tenants t place given written s h =
 pub confined : Confined
 unfolding opening
 confined limit order superblocks tenants t begin len j byte es addressee told w v e r at =
-    elim (allowed_is (On.Tenant t (Asked.Read begin len)) (record { addressee = addressee; body = Say.Bytes told }) w v r) [
+    elim (allowed_is (On.Tenant t (Command.Read begin len)) (record { addressee = addressee; body = Say.Bytes told }) w v r) [
       | inl none ↦ absurd (false≢true none.said)
       | inr a ↦ go a.state (reached a.state a.here) (holder_of a.state.has begin len) (and_parts _ _ a.bytes).1
     ]

@@ -5,7 +5,6 @@ use Rattle.words_core.specs.declared.event.Event.TheVariants as On
 use Rattle.words_core.specs.declared.event.AdminCommand.{AdminCommand}
 use Rattle.words_core.specs.declared.event.AdminCommand.TheVariants as Do
 use Rattle.words_core.specs.declared.event.Command.{Command}
-use Rattle.words_core.specs.declared.event.Command.TheVariants as Asked
 use Rattle.words_core.specs.declared.reply.Addressee.TheVariants as To
 use Rattle.words_core.specs.declared.reply.Body.{Body}
 use Rattle.words_core.specs.declared.reply.Body.TheVariants as Say
@@ -33,13 +32,13 @@ verdict_on es = broken_by (all_allowed es (Ok (opening 32 3 3 2)))
 
 -- an object in a slab of frame 0, and a page block
 abbrev pub begun : List Exchange
-begun = ordered (Do.Grant 0) (Say.Granted 0 0 0) ∷ asked 0 (Asked.Cache 2000 8 (record { items = 90 ∷ [] })) (Say.Cache 0 2000 0 2 13)
-    ∷ asked 0 (Asked.Take 0) (Say.Object 0) ∷ asked 0 (Asked.Alloc 1) (Say.Frame 2)
-    ∷ asked 0 (Asked.Write 8192 (record { items = 1 ∷ 2 ∷ [] })) (Say.Written 2) ∷ []
+begun = ordered (Do.Grant 0) (Say.Granted 0 0 0) ∷ asked 0 (Command.Cache 2000 8 (record { items = 90 ∷ [] })) (Say.Cache 0 2000 0 2 13)
+    ∷ asked 0 (Command.Take 0) (Say.Object 0) ∷ asked 0 (Command.Alloc 1) (Say.Frame 2)
+    ∷ asked 0 (Command.Write 8192 (record { items = 1 ∷ 2 ∷ [] })) (Say.Written 2) ∷ []
 
 -- a report after the object is given back, its slab still standing
 abbrev reported : Exchange
-reported = asked 0 Asked.Report (Say.Report (record {
+reported = asked 0 Command.Report (Say.Report (record {
   frames = 8;
   live = 2;
   free = 6;
@@ -52,42 +51,42 @@ reported = asked 0 Asked.Report (Say.Report (record {
 }))
 
 abbrev emptied : List Exchange
-emptied = begun ++ (asked 0 (Asked.Free 2) (Say.Freed 1) ∷ asked 0 (Asked.Alloc 0) (Say.Frame 1) ∷ asked 0 (Asked.Give 0 0) Say.Given ∷ [])
+emptied = begun ++ (asked 0 (Command.Free 2) (Say.Freed 1) ∷ asked 0 (Command.Alloc 0) (Say.Frame 1) ∷ asked 0 (Command.Give 0 0) Say.Given ∷ [])
 
 -- every command, answered as partmem answers
 every_command : verdict_on (begun
-    ++ (asked 0 (Asked.Read 8192 3) (Say.Bytes (record { items = 1 ∷ 2 ∷ 0 ∷ [] })) ∷ asked 0 (Asked.Read 0 2) (Say.Bytes (record { items = 90 ∷ 90 ∷ [] }))
-    ∷ asked 0 (Asked.Free 2) (Say.Freed 1) ∷ asked 0 (Asked.Alloc 0) (Say.Frame 1) ∷ asked 0 (Asked.Give 0 0) Say.Given ∷ reported
-    ∷ asked 0 Asked.Reap (Say.Reaped 1) ∷ asked 0 (Asked.Take 0) (Say.Object 8) ∷ asked 0 (Asked.Give 0 0) (Say.Refused Refusal.NotAnObject)
-    ∷ asked 0 (Asked.Destroy 0) (Say.Refused Refusal.CacheInUse) ∷ asked 0 (Asked.Give 0 8) Say.Given ∷ asked 0 (Asked.Destroy 0) (Say.Destroyed 1)
-    ∷ asked 0 (Asked.Alloc 9) (Say.Refused Refusal.BadOrder) ∷ ordered (Do.Grant 1) (Say.Granted 1 0 1) ∷ ordered (Do.Move 0 0) (Say.Moved 0 0 2)
+    ++ (asked 0 (Command.Read 8192 3) (Say.Bytes (record { items = 1 ∷ 2 ∷ 0 ∷ [] })) ∷ asked 0 (Command.Read 0 2) (Say.Bytes (record { items = 90 ∷ 90 ∷ [] }))
+    ∷ asked 0 (Command.Free 2) (Say.Freed 1) ∷ asked 0 (Command.Alloc 0) (Say.Frame 1) ∷ asked 0 (Command.Give 0 0) Say.Given ∷ reported
+    ∷ asked 0 Command.Reap (Say.Reaped 1) ∷ asked 0 (Command.Take 0) (Say.Object 8) ∷ asked 0 (Command.Give 0 0) (Say.Refused Refusal.NotAnObject)
+    ∷ asked 0 (Command.Destroy 0) (Say.Refused Refusal.CacheInUse) ∷ asked 0 (Command.Give 0 8) Say.Given ∷ asked 0 (Command.Destroy 0) (Say.Destroyed 1)
+    ∷ asked 0 (Command.Alloc 9) (Say.Refused Refusal.BadOrder) ∷ ordered (Do.Grant 1) (Say.Granted 1 0 1) ∷ ordered (Do.Move 0 0) (Say.Moved 0 0 2)
     ∷ ordered Do.Pool (Say.Owners (record { items = None ∷ Some (owned_by 1 0) ∷ Some (owned_by 0 0) ∷ [] }))
     ∷ ordered (Do.TakeBack 1 0) (Say.TakenBack 1) ∷ ordered (Do.Reset 0) (Say.WasReset 0 1)
-    ∷ record { event = On.Tenant 5 (Asked.Alloc 0); reply = record { addressee = To.Nobody; body = Say.Refused Refusal.NoTenant } } ∷ [])) ≡ None
+    ∷ record { event = On.Tenant 5 (Command.Alloc 0); reply = record { addressee = To.Nobody; body = Say.Refused Refusal.NoTenant } } ∷ [])) ≡ None
 unfolding opening opening_state known_blocks can_stand vacant_blocks can_be_taken holder_of state_after owners_after due allowed
 every_command = refl
 
 -- another policy: the last superblock and a slot of its own choice, blocks from the top, no colours, slabs given back at once
 another_policy : verdict_on (ordered (Do.Grant 0) (Say.Granted 0 5 2)
-    ∷ asked 0 (Asked.Cache 2000 8 (record { items = 90 ∷ [] })) (Say.Cache 7 2048 1 4 1) ∷ asked 0 (Asked.Take 7) (Say.Object 192512)
-    ∷ asked 0 (Asked.Alloc 1) (Say.Frame 44) ∷ asked 0 (Asked.Take 7) (Say.Object 188416) ∷ asked 0 (Asked.Give 7 192512) Say.Given
-    ∷ asked 0 (Asked.Give 7 188416) Say.Given ∷ asked 0 Asked.Reap (Say.Reaped 0) ∷ []) ≡ None
+    ∷ asked 0 (Command.Cache 2000 8 (record { items = 90 ∷ [] })) (Say.Cache 7 2048 1 4 1) ∷ asked 0 (Command.Take 7) (Say.Object 192512)
+    ∷ asked 0 (Command.Alloc 1) (Say.Frame 44) ∷ asked 0 (Command.Take 7) (Say.Object 188416) ∷ asked 0 (Command.Give 7 192512) Say.Given
+    ∷ asked 0 (Command.Give 7 188416) Say.Given ∷ asked 0 Command.Reap (Say.Reaped 0) ∷ []) ≡ None
 unfolding opening opening_state known_blocks can_stand vacant_blocks can_be_taken holder_of state_after owners_after due allowed
 another_policy = refl
 
 -- For each promise a reply that breaks it
 
-no_form : verdict_on (begun ++ (asked 0 (Asked.Alloc 0) (Say.Freed 0) ∷ [])) ≡ Some Promise.Form
+no_form : verdict_on (begun ++ (asked 0 (Command.Alloc 0) (Say.Freed 0) ∷ [])) ≡ Some Promise.Form
 unfolding opening opening_state known_blocks can_stand vacant_blocks can_be_taken holder_of state_after owners_after due allowed
 no_form = refl
 
 -- no block begins at frame 3
-no_refusal : verdict_on (begun ++ (asked 0 (Asked.Free 3) (Say.Freed 0) ∷ [])) ≡ Some Promise.Refusals
+no_refusal : verdict_on (begun ++ (asked 0 (Command.Free 3) (Say.Freed 0) ∷ [])) ≡ Some Promise.Refusals
 unfolding opening opening_state known_blocks can_stand vacant_blocks can_be_taken holder_of state_after owners_after due allowed
 no_refusal = refl
 
 -- frames 4 to 7 are free
-no_room : verdict_on (begun ++ (asked 0 (Asked.Alloc 2) (Say.Refused Refusal.NoFrames) ∷ [])) ≡ Some Promise.Room
+no_room : verdict_on (begun ++ (asked 0 (Command.Alloc 2) (Say.Refused Refusal.NoFrames) ∷ [])) ≡ Some Promise.Room
 unfolding opening opening_state known_blocks can_stand vacant_blocks can_be_taken holder_of state_after owners_after due allowed
 no_room = refl
 
@@ -97,22 +96,22 @@ unfolding opening opening_state known_blocks can_stand vacant_blocks can_be_take
 not_busy = refl
 
 -- frame 3 is of the page block
-no_block : verdict_on (begun ++ (asked 0 (Asked.Alloc 0) (Say.Frame 3) ∷ [])) ≡ Some Promise.Blocks
+no_block : verdict_on (begun ++ (asked 0 (Command.Alloc 0) (Say.Frame 3) ∷ [])) ≡ Some Promise.Blocks
 unfolding opening opening_state known_blocks can_stand vacant_blocks can_be_taken holder_of state_after owners_after due allowed
 no_block = refl
 
 -- the last bytes of the first object
-no_object : verdict_on (begun ++ (asked 0 (Asked.Take 0) (Say.Object 1992) ∷ [])) ≡ Some Promise.Objects
+no_object : verdict_on (begun ++ (asked 0 (Command.Take 0) (Say.Object 1992) ∷ [])) ≡ Some Promise.Objects
 unfolding opening opening_state known_blocks can_stand vacant_blocks can_be_taken holder_of state_after owners_after due allowed
 no_object = refl
 
 -- three such objects do not fit into a frame
-no_layout : verdict_on (begun ++ (asked 0 (Asked.Cache 2000 8 (record { items = 1 ∷ [] })) (Say.Cache 1 2000 0 3 1) ∷ [])) ≡ Some Promise.Layout
+no_layout : verdict_on (begun ++ (asked 0 (Command.Cache 2000 8 (record { items = 1 ∷ [] })) (Say.Cache 1 2000 0 3 1) ∷ [])) ≡ Some Promise.Layout
 unfolding opening opening_state known_blocks can_stand vacant_blocks can_be_taken holder_of state_after owners_after due allowed
 no_layout = refl
 
 -- five frames are not taken
-no_gift : verdict_on (begun ++ (asked 0 Asked.Reap (Say.Reaped 6) ∷ [])) ≡ Some Promise.Gives
+no_gift : verdict_on (begun ++ (asked 0 Command.Reap (Say.Reaped 6) ∷ [])) ≡ Some Promise.Gives
 unfolding opening opening_state known_blocks can_stand vacant_blocks can_be_taken holder_of state_after owners_after due allowed
 no_gift = refl
 
@@ -122,7 +121,7 @@ unfolding opening opening_state known_blocks can_stand vacant_blocks can_be_take
 no_owner = refl
 
 -- the byte after the two that were written
-no_byte : verdict_on (begun ++ (asked 0 (Asked.Read 8194 1) (Say.Bytes (record { items = 3 ∷ [] })) ∷ [])) ≡ Some Promise.Bytes
+no_byte : verdict_on (begun ++ (asked 0 (Command.Read 8194 1) (Say.Bytes (record { items = 3 ∷ [] })) ∷ [])) ≡ Some Promise.Bytes
 unfolding opening opening_state known_blocks can_stand vacant_blocks can_be_taken holder_of state_after owners_after due allowed
 no_byte = refl
 
@@ -132,11 +131,11 @@ unfolding opening opening_state known_blocks can_stand vacant_blocks can_be_take
 no_report = refl
 
 -- one empty slab was told
-not_still : verdict_on (emptied ++ (reported ∷ asked 0 Asked.Reap (Say.Reaped 0) ∷ [])) ≡ Some Promise.Still
+not_still : verdict_on (emptied ++ (reported ∷ asked 0 Command.Reap (Say.Reaped 0) ∷ [])) ≡ Some Promise.Still
 unfolding opening opening_state known_blocks can_stand vacant_blocks can_be_taken holder_of state_after owners_after due allowed
 not_still = refl
 
 -- without the report nobody can tell
-still_unknown : verdict_on (emptied ++ (asked 0 Asked.Reap (Say.Reaped 0) ∷ [])) ≡ None
+still_unknown : verdict_on (emptied ++ (asked 0 Command.Reap (Say.Reaped 0) ∷ [])) ≡ None
 unfolding opening opening_state known_blocks can_stand vacant_blocks can_be_taken holder_of state_after owners_after due allowed
 still_unknown = refl

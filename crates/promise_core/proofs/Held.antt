@@ -14,7 +14,7 @@ use Rattle.model_core.specs.Reach.{is_within, within_block}
 use Rattle.words_core.specs.declared.event.Event.{Event}
 use Rattle.words_core.specs.declared.event.Event.TheVariants as On
 use Rattle.words_core.specs.declared.event.AdminCommand.TheVariants as Do
-use Rattle.words_core.specs.declared.event.Command.TheVariants as Asked
+use Rattle.words_core.specs.declared.event.Command.TheVariants as Command
 use Rattle.words_core.specs.declared.reply.Body.{Body}
 use Rattle.words_core.specs.declared.reply.Body.TheVariants as Say
 use Rattle.promise_core.specs.Bytes.{Holder, is_object, is_same, Cell, without, object_with, holder_of}
@@ -122,25 +122,25 @@ pub held_step : (w : Known) (event : Event) (body : Body) (s s' : State) → sta
     → IsLaid w.order s.has → AllGridded w.order s.has → AreOfHeld w.order s.has s.cells → AreOfHeld w.order s'.has s'.cells
 unfolding state_after opening_state
 held_step w event (Say.Refused r) s s' e b l g h = stays_held w.order s s s' e (λ u is. is) (λ place. same_cells place s) h
-held_step w (On.Tenant i (Asked.Alloc k)) (Say.Frame f) s s' e b l g h = stays_held w.order s _ s' e (λ u is. is)
+held_step w (On.Tenant i (Command.Alloc k)) (Say.Frame f) s s' e b l g h = stays_held w.order s _ s' e (λ u is. is)
     (λ place. without_cells (λ p holder. in_block p (block f k) && not (is_same Holder.Page holder)) place s) h
-held_step w (On.Tenant i (Asked.Free f)) (Say.Freed k) s s' e b l g h = stays_held w.order s _ s' e (λ u is. is)
+held_step w (On.Tenant i (Command.Free f)) (Say.Freed k) s s' e b l g h = stays_held w.order s _ s' e (λ u is. is)
     (λ place. doubted_cells (λ p holder. in_block p (block f k) && is_same Holder.Page holder) place s) h
-held_step w (On.Tenant i (Asked.Read begin len)) (Say.Bytes told) s s' e b l g h = subst (λ y. AreOfHeld w.order y.has y.cells) (some_state e)
+held_step w (On.Tenant i (Command.Read begin len)) (Say.Bytes told) s s' e b l g h = subst (λ y. AreOfHeld w.order y.has y.cells) (some_state e)
     (put_held w.order begin len told.items s l g (eqb-true (length told.items) len (and_parts _ _ b).0) h)
-held_step w (On.Tenant i (Asked.Write begin new)) (Say.Written n) s s' e b l g h = subst (λ y. AreOfHeld w.order y.has y.cells) (some_state e)
+held_step w (On.Tenant i (Command.Write begin new)) (Say.Written n) s s' e b l g h = subst (λ y. AreOfHeld w.order y.has y.cells) (some_state e)
     (put_held w.order begin n new.items s l g (eqb-true (length new.items) n b) h)
-held_step w (On.Tenant i (Asked.Cache size align pattern)) (Say.Cache number chunk q n colours) s s' e b l g h =
+held_step w (On.Tenant i (Command.Cache size align pattern)) (Say.Cache number chunk q n colours) s s' e b l g h =
     stays_held w.order s _ s' e (λ u is. is) (λ place. same_cells place s) h
-held_step w (On.Tenant i (Asked.Destroy number)) (Say.Destroyed frames) s s' e b l g h = stays_held w.order s _ s' e (λ u is. is)
+held_step w (On.Tenant i (Command.Destroy number)) (Say.Destroyed frames) s s' e b l g h = stays_held w.order s _ s' e (λ u is. is)
     (λ place. without_cells (λ p. is_object (λ m q. m == number)) place s) h
-held_step w (On.Tenant i (Asked.Take number)) (Say.Object first) s s' e b l g h = stays_held w.order s _ s' e (λ u is. is)
+held_step w (On.Tenant i (Command.Take number)) (Say.Object first) s s' e b l g h = stays_held w.order s _ s' e (λ u is. is)
     (λ place. object_cells first place s (known_cache s.has number)) h
-held_step w (On.Tenant i (Asked.Give number first)) Say.Given s s' e b l g h = stays_held w.order s _ s' e (λ u is. is)
+held_step w (On.Tenant i (Command.Give number first)) Say.Given s s' e b l g h = stays_held w.order s _ s' e (λ u is. is)
     (λ place. doubted_cells (λ p. is_same (Holder.Object number first)) place s) h
-held_step w (On.Tenant i Asked.Reap) (Say.Reaped frames) s s' e b l g h = stays_held w.order s _ s' e (λ u is. is)
+held_step w (On.Tenant i Command.Reap) (Say.Reaped frames) s s' e b l g h = stays_held w.order s _ s' e (λ u is. is)
     (λ place. without_cells (λ p. is_object (is_in_no_slab s.has)) place s) h
-held_step w (On.Tenant i Asked.Report) (Say.Report r) s s' e b l g h = stays_held w.order s _ s' e (λ u is. is) (λ place. same_cells place s) h
+held_step w (On.Tenant i Command.Report) (Say.Report r) s s' e b l g h = stays_held w.order s _ s' e (λ u is. is) (λ place. same_cells place s) h
 held_step w (On.Admin (Do.Grant i)) (Say.Granted told u superblock) s s' e b l g h =
     stays_held w.order s _ s' e (slot_put u s.has) (λ place. same_cells place s) h
 held_step w (On.Admin (Do.TakeBack i u)) (Say.TakenBack superblock) s s' e b l g h =

@@ -15,7 +15,7 @@ use Rattle.model_core.proofs.PageSteps.{in_slot_overlaps}
 use Rattle.words_core.specs.declared.event.Event.{Event}
 use Rattle.words_core.specs.declared.event.Event.TheVariants as On
 use Rattle.words_core.specs.declared.event.AdminCommand.TheVariants as Do
-use Rattle.words_core.specs.declared.event.Command.TheVariants as Asked
+use Rattle.words_core.specs.declared.event.Command.TheVariants as Command
 use Rattle.words_core.specs.declared.reply.Body.{Body}
 use Rattle.words_core.specs.declared.reply.Body.TheVariants as Say
 use Rattle.words_core.specs.declared.reply.Refusal.{Refusal}
@@ -279,19 +279,19 @@ pub step : (w : Known) (event : Event) (body : Body) (s s' : State) → state_af
     → blocks event body w s ≡ true → objects event body w s ≡ true → new_layout event body w s ≡ true → IsLaid w.order s.has → IsLaid w.order s'.has
 unfolding state_after due
 step w event (Say.Refused r) s s' e f b o c l = subst (λ y. IsLaid w.order y.has) (some_state e) l
-step w (On.Tenant i (Asked.Alloc k)) (Say.Frame first) s s' e f b o c l = subst (λ y. IsLaid w.order y.has) (some_state e) (alloc_laid w.order s.has (block first k) l b)
-step w (On.Tenant i (Asked.Free first)) (Say.Freed k) s s' e f b o c l = subst (λ y. IsLaid w.order y.has) (some_state e) (free_laid w.order first s.has l)
-step w (On.Tenant i (Asked.Read begin len)) (Say.Bytes told) s s' e f b o c l = subst (λ y. IsLaid w.order y.has) (some_state e) l
-step w (On.Tenant i (Asked.Write begin new)) (Say.Written count) s s' e f b o c l = subst (λ y. IsLaid w.order y.has) (some_state e) l
-step w (On.Tenant i (Asked.Cache size align pattern)) (Say.Cache number chunk q n colours) s s' e f b o c l = subst (λ y. IsLaid w.order y.has) (some_state e)
+step w (On.Tenant i (Command.Alloc k)) (Say.Frame first) s s' e f b o c l = subst (λ y. IsLaid w.order y.has) (some_state e) (alloc_laid w.order s.has (block first k) l b)
+step w (On.Tenant i (Command.Free first)) (Say.Freed k) s s' e f b o c l = subst (λ y. IsLaid w.order y.has) (some_state e) (free_laid w.order first s.has l)
+step w (On.Tenant i (Command.Read begin len)) (Say.Bytes told) s s' e f b o c l = subst (λ y. IsLaid w.order y.has) (some_state e) l
+step w (On.Tenant i (Command.Write begin new)) (Say.Written count) s s' e f b o c l = subst (λ y. IsLaid w.order y.has) (some_state e) l
+step w (On.Tenant i (Command.Cache size align pattern)) (Say.Cache number chunk q n colours) s s' e f b o c l = subst (λ y. IsLaid w.order y.has) (some_state e)
     (cache_laid w.order s.has (record { number = number; size = size; align = align; pattern = pattern.items; chunk = chunk; order = q; count = n; live = [] }) refl l
     (and_parts _ _ (and_parts _ _ c).0).1)
-step w (On.Tenant i (Asked.Destroy number)) (Say.Destroyed frames) s s' e f b o c l = subst (λ y. IsLaid w.order y.has) (some_state e) (destroy_laid w.order number s.has l)
-step w (On.Tenant i (Asked.Take number)) (Say.Object place) s s' e f b o c l = let v = value_of _ (known_cache s.has number) o in
+step w (On.Tenant i (Command.Destroy number)) (Say.Destroyed frames) s s' e f b o c l = subst (λ y. IsLaid w.order y.has) (some_state e) (destroy_laid w.order number s.has l)
+step w (On.Tenant i (Command.Take number)) (Say.Object place) s s' e f b o c l = let v = value_of _ (known_cache s.has number) o in
     subst (λ y. IsLaid w.order y.has) (some_state e) (take_laid w.order number place s.has v.0 l v.1 v.2)
-step w (On.Tenant i (Asked.Give number place)) Say.Given s s' e f b o c l = subst (λ y. IsLaid w.order y.has) (some_state e) (give_laid w.order number place s.has l)
-step w (On.Tenant i Asked.Reap) (Say.Reaped frames) s s' e f b o c l = subst (λ y. IsLaid w.order y.has) (some_state e) l
-step w (On.Tenant i Asked.Report) (Say.Report r) s s' e f b o c l = subst (λ y. IsLaid w.order y.has) (some_state e) l
+step w (On.Tenant i (Command.Give number place)) Say.Given s s' e f b o c l = subst (λ y. IsLaid w.order y.has) (some_state e) (give_laid w.order number place s.has l)
+step w (On.Tenant i Command.Reap) (Say.Reaped frames) s s' e f b o c l = subst (λ y. IsLaid w.order y.has) (some_state e) l
+step w (On.Tenant i Command.Report) (Say.Report r) s s' e f b o c l = subst (λ y. IsLaid w.order y.has) (some_state e) l
 step w (On.Admin (Do.Grant i)) (Say.Granted told u superblock) s s' e f b o c l = subst (λ y. IsLaid w.order y.has) (some_state e) (grant_laid w.order u s.has l)
 step w (On.Admin (Do.TakeBack i u)) (Say.TakenBack superblock) s s' e f b o c l = subst (λ y. IsLaid w.order y.has) (some_state e)
     (take_back_laid w.order u s.has (second_none (not (has_slot s.has u)) (is_slot_busy w.order s.has u) Refusal.NoSlot Refusal.SlotBusy f) l)
@@ -327,8 +327,8 @@ second_fits a b n e = omega (arith, e)
 
 -- the reply told such a layout
 told_fits : (w : Known) (t size align : ℕ) (pattern : ArrayVec ℕ) (number chunk q n colours : ℕ) (s : State)
-    → is_none (due (On.Tenant t (Asked.Cache size align pattern)) w s) ≡ true
-    → new_layout (On.Tenant t (Asked.Cache size align pattern)) (Say.Cache number chunk q n colours) w s ≡ true
+    → is_none (due (On.Tenant t (Command.Cache size align pattern)) w s) ≡ true
+    → new_layout (On.Tenant t (Command.Cache size align pattern)) (Say.Cache number chunk q n colours) w s ≡ true
     → IsFitted w.order (record { number = number; size = size; align = align; pattern = pattern.items; chunk = chunk; order = q; count = n; live = [] })
 unfolding due
 told_fits w t size align pattern number chunk q n colours s none fits =
@@ -351,11 +351,11 @@ pub grid_step : (w : Known) (event : Event) (body : Body) (s s' : State) → sta
     → objects event body w s ≡ true → new_layout event body w s ≡ true → HaveOwnNumbers s.has → AllGridded w.order s.has → AllGridded w.order s'.has
 unfolding state_after
 grid_step w event (Say.Refused r) s s' e f o c own g = subst (λ y. AllGridded w.order y.has) (some_state e) g
-grid_step w (On.Tenant i (Asked.Alloc k)) (Say.Frame first) s s' e f o c own g = subst (λ y. AllGridded w.order y.has) (some_state e) g
-grid_step w (On.Tenant i (Asked.Free first)) (Say.Freed k) s s' e f o c own g = subst (λ y. AllGridded w.order y.has) (some_state e) g
-grid_step w (On.Tenant i (Asked.Read begin len)) (Say.Bytes told) s s' e f o c own g = subst (λ y. AllGridded w.order y.has) (some_state e) g
-grid_step w (On.Tenant i (Asked.Write begin new)) (Say.Written count) s s' e f o c own g = subst (λ y. AllGridded w.order y.has) (some_state e) g
-grid_step w (On.Tenant i (Asked.Cache size align pattern)) (Say.Cache number chunk q n colours) s s' e f o c own g = subst (λ y. AllGridded w.order y.has) (some_state e)
+grid_step w (On.Tenant i (Command.Alloc k)) (Say.Frame first) s s' e f o c own g = subst (λ y. AllGridded w.order y.has) (some_state e) g
+grid_step w (On.Tenant i (Command.Free first)) (Say.Freed k) s s' e f o c own g = subst (λ y. AllGridded w.order y.has) (some_state e) g
+grid_step w (On.Tenant i (Command.Read begin len)) (Say.Bytes told) s s' e f o c own g = subst (λ y. AllGridded w.order y.has) (some_state e) g
+grid_step w (On.Tenant i (Command.Write begin new)) (Say.Written count) s s' e f o c own g = subst (λ y. AllGridded w.order y.has) (some_state e) g
+grid_step w (On.Tenant i (Command.Cache size align pattern)) (Say.Cache number chunk q n colours) s s' e f o c own g = subst (λ y. AllGridded w.order y.has) (some_state e)
     (λ d m. elim (in_put (λ x. x.number) new d s.has.caches m) [
       | inl same ↦ subst (IsGridded w.order) same (new_gridded w.order new refl (told_fits w i size align pattern number chunk q n colours s f c))
       | inr old ↦ g d old
@@ -363,18 +363,18 @@ grid_step w (On.Tenant i (Asked.Cache size align pattern)) (Say.Cache number chu
   where
     new : KnownCache
     new = record { number = number; size = size; align = align; pattern = pattern.items; chunk = chunk; order = q; count = n; live = [] }
-grid_step w (On.Tenant i (Asked.Destroy number)) (Say.Destroyed frames) s s' e f o c own g = subst (λ y. AllGridded w.order y.has) (some_state e)
+grid_step w (On.Tenant i (Command.Destroy number)) (Say.Destroyed frames) s s' e f o c own g = subst (λ y. AllGridded w.order y.has) (some_state e)
     (λ d m. g d (filter_in (λ x. not (x.number == number)) d s.has.caches m).0)
-grid_step w (On.Tenant i (Asked.Take number)) (Say.Object place) s s' e f o c own g =
+grid_step w (On.Tenant i (Command.Take number)) (Say.Object place) s s' e f o c own g =
     let v = value_of _ (known_cache s.has number) o in
     let at = find_in (λ y. y.number == number) v.0 s.has.caches v.1 in
     subst (λ y. AllGridded w.order y.has) (some_state e) (live_gridded w.order number (put_rising (λ p. p) place) s.has g
     (λ d m is. subst (λ y. IsGridded w.order (record y { live = put_rising (λ p. p) place y.live })) (own v.0 d at.0 m (eqb-true _ _ at.1 ∙ sym is))
     (taken_gridded w.order s.has v.0 place (g v.0 at.0) v.2)))
-grid_step w (On.Tenant i (Asked.Give number place)) Say.Given s s' e f o c own g = subst (λ y. AllGridded w.order y.has) (some_state e)
+grid_step w (On.Tenant i (Command.Give number place)) Say.Given s s' e f o c own g = subst (λ y. AllGridded w.order y.has) (some_state e)
     (live_gridded w.order number (filter (λ p. not (p == place))) s.has g (λ d m is. given_gridded w.order d (λ p. not (p == place)) (g d m)))
-grid_step w (On.Tenant i Asked.Reap) (Say.Reaped frames) s s' e f o c own g = subst (λ y. AllGridded w.order y.has) (some_state e) g
-grid_step w (On.Tenant i Asked.Report) (Say.Report r) s s' e f o c own g = subst (λ y. AllGridded w.order y.has) (some_state e) g
+grid_step w (On.Tenant i Command.Reap) (Say.Reaped frames) s s' e f o c own g = subst (λ y. AllGridded w.order y.has) (some_state e) g
+grid_step w (On.Tenant i Command.Report) (Say.Report r) s s' e f o c own g = subst (λ y. AllGridded w.order y.has) (some_state e) g
 grid_step w (On.Admin (Do.Grant i)) (Say.Granted told u superblock) s s' e f o c own g = subst (λ y. AllGridded w.order y.has) (some_state e) g
 grid_step w (On.Admin (Do.TakeBack i u)) (Say.TakenBack superblock) s s' e f o c own g = subst (λ y. AllGridded w.order y.has) (some_state e) g
 grid_step w (On.Admin (Do.Reset i)) (Say.WasReset told superblocks) s s' e f o c own g = subst (λ y. AllGridded w.order y.has) (some_state e) (nothing_gridded w.order)

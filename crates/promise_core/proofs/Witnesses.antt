@@ -4,7 +4,7 @@ use Rattle.std.proofs.Common.{◌≡◌, ℕ, true, false, [], ◌∷◌, Option
 use Rattle.model_core.specs.Blocks.{block, HasFrame}
 use Rattle.model_core.specs.Machine.{slot_of}
 use Rattle.words_core.specs.declared.event.Event.TheVariants as On
-use Rattle.words_core.specs.declared.event.Command.TheVariants as Asked
+use Rattle.words_core.specs.declared.event.Command.TheVariants as Command
 use Rattle.words_core.specs.declared.reply.Addressee.TheVariants as To
 use Rattle.words_core.specs.declared.reply.Body.TheVariants as Say
 use Rattle.words_core.specs.declared.reply.Reply.{Reply}
@@ -48,23 +48,23 @@ LeftInHeld-met law = law 32 3 3 2 0 begun known the_state refl refl 8192 (record
 Confined-met : Confined → is_own 3 0 8193 2 begun ≡ true
 unfolding opening opening_state known_blocks can_stand vacant_blocks can_be_taken holder_of state_after owners_after due allowed
 Confined-met law = law 32 3 3 2 0 8192 3 1 2 begun (To.Tenant 0) (record { items = 1 ∷ 2 ∷ 0 ∷ [] }) known
-    (known_of (allowed (On.Tenant 0 (Asked.Read 8192 3)) (record { addressee = To.Tenant 0; body = Say.Bytes (record { items = 1 ∷ 2 ∷ 0 ∷ [] }) }) known)) refl refl refl
+    (known_of (allowed (On.Tenant 0 (Command.Read 8192 3)) (record { addressee = To.Tenant 0; body = Say.Bytes (record { items = 1 ∷ 2 ∷ 0 ∷ [] }) }) known)) refl refl refl
 
 -- no other byte is its own there
 not_own : is_own 3 0 8193 3 begun ≡ false
 not_own = refl
 
 -- in the run's state a frame can be answered, and no want of frames
-RefusedForCause-met : RefusedForCause → (f : ℕ) × (may_tell known 0 (Asked.Alloc 0) (Say.Frame f) ≡ true)
+RefusedForCause-met : RefusedForCause → (f : ℕ) × (may_tell known 0 (Command.Alloc 0) (Say.Frame f) ≡ true)
 unfolding opening opening_state known_blocks can_stand vacant_blocks can_be_taken holder_of state_after owners_after due allowed
 RefusedForCause-met law = (law known the_state 0 0 refl (omega arith)).answered refl
 
 -- and the second object of the slab, or one elsewhere
-TakeRefusedForCause-met : TakeRefusedForCause → (place : ℕ) × (may_tell known 0 (Asked.Take 0) (Say.Object place) ≡ true)
+TakeRefusedForCause-met : TakeRefusedForCause → (place : ℕ) × (may_tell known 0 (Command.Take 0) (Say.Object place) ≡ true)
 unfolding opening opening_state known_blocks can_stand vacant_blocks can_be_taken holder_of state_after owners_after due allowed
 TakeRefusedForCause-met law = (law 32 3 3 2 0 0 begun known the_state the_cache refl refl refl).answered refl
 
 -- the object can be given back
-UseAnswerable-met : UseAnswerable → (reply : Reply) × (is_ok (allowed (On.Tenant 0 (Asked.Give 0 0)) reply known) ≡ true)
+UseAnswerable-met : UseAnswerable → (reply : Reply) × (is_ok (allowed (On.Tenant 0 (Command.Give 0 0)) reply known) ≡ true)
 unfolding opening opening_state known_blocks can_stand vacant_blocks can_be_taken holder_of state_after owners_after due allowed
-UseAnswerable-met law = law 32 3 3 2 0 (Asked.Give 0 0) begun known refl refl
+UseAnswerable-met law = law 32 3 3 2 0 (Command.Give 0 0) begun known refl refl

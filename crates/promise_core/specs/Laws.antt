@@ -8,7 +8,6 @@ use Rattle.words_core.specs.declared.event.Command.{Command}
 use Rattle.words_core.specs.declared.event.Event.{Event}
 use Rattle.words_core.specs.declared.event.Event.TheVariants as On
 use Rattle.words_core.specs.declared.event.AdminCommand.TheVariants as Do
-use Rattle.words_core.specs.declared.event.Command.TheVariants as Asked
 use Rattle.words_core.specs.declared.reply.Addressee.{Addressee}
 use Rattle.words_core.specs.declared.reply.Addressee.TheVariants as To
 use Rattle.words_core.specs.declared.reply.Body.{Body}
@@ -23,12 +22,12 @@ use Rattle.promise_core.specs.Promises.{allowed, all_allowed}
 
 -- the tenant asks for a cache whose pattern has the byte
 abbrev pub gives_pattern : ℕ → ℕ → Event → Bool
-gives_pattern t byte (On.Tenant named (Asked.Cache size align pattern)) = named == t && list_any (λ b. b == byte) pattern.items
+gives_pattern t byte (On.Tenant named (Command.Cache size align pattern)) = named == t && list_any (λ b. b == byte) pattern.items
 gives_pattern t byte event = false
 
 -- the tenant writes_byte the byte at the place
 abbrev pub writes_byte : ℕ → ℕ → ℕ → Event → Body → Bool
-writes_byte t place byte (On.Tenant named (Asked.Write begin new)) (Say.Written n) =
+writes_byte t place byte (On.Tenant named (Command.Write begin new)) (Say.Written n) =
     named == t && ((nat_le begin place && nat_lt place (begin + length new.items))
     && slice_index new.items (place - begin) == byte)
 writes_byte t place byte event body = false
@@ -57,7 +56,7 @@ is_own order t place byte es = byte == 0 || (was_given t byte false es || was_wr
 abbrev pub Confined : Type 0
 Confined = (limit order superblocks tenants t begin len j byte : ℕ) (es : List Exchange) (addressee : Addressee) (told : ArrayVec ℕ) (w v : Known)
     → all_allowed es (Ok (opening limit order superblocks tenants)) ≡ Ok w
-    → allowed (On.Tenant t (Asked.Read begin len)) (record { addressee = addressee; body = Say.Bytes told }) w ≡ Ok v
+    → allowed (On.Tenant t (Command.Read begin len)) (record { addressee = addressee; body = Say.Bytes told }) w ≡ Ok v
     → slice_get told.items j ≡ Some byte → is_own order t (begin + j) byte es ≡ true
 
 -- what has frames: page blocks, by None, and the slabs of live objects, by the number of their cache
@@ -94,22 +93,22 @@ pub record IsRefusedForCause (w : Known) (t : ℕ) (command : Command) (answer :
 -- so it is for a block of every order up to that of a slot, in whatever state
 abbrev pub RefusedForCause : Type 0
 RefusedForCause = (w : Known) (s : State) (t k : ℕ) → slice_get w.states t ≡ Some s → k ≤ w.order
-    → IsRefusedForCause w t (Asked.Alloc k) Say.Frame
+    → IsRefusedForCause w t (Command.Alloc k) Say.Frame
 
 -- and for an object of a cache that is there, whatever was asked and answered before, if each reply was allowed
 abbrev pub TakeRefusedForCause : Type 0
 TakeRefusedForCause = (limit order superblocks tenants t number : ℕ) (es : List Exchange) (w : Known) (s : State) (c : KnownCache)
     → all_allowed es (Ok (opening limit order superblocks tenants)) ≡ Ok w → slice_get w.states t ≡ Some s
-    → known_cache s.has number ≡ Some c → IsRefusedForCause w t (Asked.Take number) Say.Object
+    → known_cache s.has number ≡ Some c → IsRefusedForCause w t (Command.Take number) Say.Object
 
 -- the commands by which a tenant uses its memory
 abbrev pub uses_memory : Command → Bool
-uses_memory (Asked.Alloc k) = true
-uses_memory (Asked.Free f) = true
-uses_memory (Asked.Read place len) = true
-uses_memory (Asked.Write place bytes) = true
-uses_memory (Asked.Take number) = true
-uses_memory (Asked.Give number place) = true
+uses_memory (Command.Alloc k) = true
+uses_memory (Command.Free f) = true
+uses_memory (Command.Read place len) = true
+uses_memory (Command.Write place bytes) = true
+uses_memory (Command.Take number) = true
+uses_memory (Command.Give number place) = true
 uses_memory command = false
 
 -- to each of these there is an allowed reply, whatever was asked and answered before, if each reply was allowed

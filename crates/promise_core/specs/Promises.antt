@@ -14,7 +14,7 @@ use Rattle.words_core.specs.Texts.{number_of_refusal}
 use Rattle.words_core.specs.declared.event.Event.{Event}
 use Rattle.words_core.specs.declared.event.Event.TheVariants as On
 use Rattle.words_core.specs.declared.event.AdminCommand.TheVariants as Do
-use Rattle.words_core.specs.declared.event.Command.TheVariants as Asked
+use Rattle.words_core.specs.declared.event.Command.TheVariants as Command
 use Rattle.words_core.specs.declared.report.Report.{Report}
 use Rattle.words_core.specs.declared.reply.Addressee.{Addressee}
 use Rattle.words_core.specs.declared.reply.Addressee.TheVariants as To
@@ -46,18 +46,18 @@ first_due ((stands, refusal) ∷ tests) = if stands then Some refusal else first
 
 -- the refusal that has to come
 unfoldable pub due : Event → Known → State → Option Refusal
-due (On.Tenant t (Asked.Alloc k)) w s = first_due ((nat_lt w.order k, Refusal.BadOrder) ∷ [])
-due (On.Tenant t (Asked.Free f)) w s = first_due ((is_none (order_in s.has.pages f), Refusal.NotABlock) ∷ [])
-due (On.Tenant t (Asked.Read place len)) w s = first_due ((not (nat_le 1 len && nat_le len MOST_BYTES), Refusal.BadLength)
+due (On.Tenant t (Command.Alloc k)) w s = first_due ((nat_lt w.order k, Refusal.BadOrder) ∷ [])
+due (On.Tenant t (Command.Free f)) w s = first_due ((is_none (order_in s.has.pages f), Refusal.NotABlock) ∷ [])
+due (On.Tenant t (Command.Read place len)) w s = first_due ((not (nat_le 1 len && nat_le len MOST_BYTES), Refusal.BadLength)
     ∷ (is_none (holder_of s.has place len), Refusal.OutOfReach) ∷ [])
-due (On.Tenant t (Asked.Write place bytes)) w s =
+due (On.Tenant t (Command.Write place bytes)) w s =
     first_due ((is_none (holder_of s.has place (length bytes.items)), Refusal.OutOfReach) ∷ [])
-due (On.Tenant t (Asked.Cache size align pattern)) w s = first_due ((not (is_size size), Refusal.BadSize)
+due (On.Tenant t (Command.Cache size align pattern)) w s = first_due ((not (is_size size), Refusal.BadSize)
     ∷ (not (is_alignment align), Refusal.BadAlign) ∷ (nat_le w.limit (length s.has.caches), Refusal.NoCacheSlot) ∷ [])
-due (On.Tenant t (Asked.Destroy number)) w s = let cache = known_cache s.has number in
+due (On.Tenant t (Command.Destroy number)) w s = let cache = known_cache s.has number in
     first_due ((is_none cache, Refusal.NoCache) ∷ (is_in_use cache, Refusal.CacheInUse) ∷ [])
-due (On.Tenant t (Asked.Take number)) w s = first_due ((is_none (known_cache s.has number), Refusal.NoCache) ∷ [])
-due (On.Tenant t (Asked.Give number place)) w s = let cache = known_cache s.has number in first_due ((is_none cache, Refusal.NoCache)
+due (On.Tenant t (Command.Take number)) w s = first_due ((is_none (known_cache s.has number), Refusal.NoCache) ∷ [])
+due (On.Tenant t (Command.Give number place)) w s = let cache = known_cache s.has number in first_due ((is_none cache, Refusal.NoCache)
     ∷ (not (option_map_or (λ c. list_any (λ p. p == place) c.live) cache false), Refusal.NotAnObject) ∷ [])
 due (On.Admin (Do.Grant t)) w s = first_due ((list_all is_some w.owners, Refusal.PoolEmpty) ∷ [])
 due (On.Admin (Do.TakeBack t u)) w s =
@@ -81,8 +81,8 @@ is_used_up order h c = list_all (is_slab_full c) c.live && not (has_room order h
 
 -- there are no frames where there is no room
 abbrev pub room : Event → Body → Known → State → Bool
-room (On.Tenant t (Asked.Alloc k)) (Say.Refused Refusal.NoFrames) w s = not (has_room w.order s.has k)
-room (On.Tenant t (Asked.Take number)) (Say.Refused Refusal.NoFrames) w s =
+room (On.Tenant t (Command.Alloc k)) (Say.Refused Refusal.NoFrames) w s = not (has_room w.order s.has k)
+room (On.Tenant t (Command.Take number)) (Say.Refused Refusal.NoFrames) w s =
     option_map_or (is_used_up w.order s.has) (known_cache s.has number) false
 room event (Say.Refused Refusal.NoFrames) w s = false
 room event body w s = true
@@ -95,17 +95,17 @@ busy event (Say.Refused Refusal.SlotBusy) w s = false
 busy event body w s = true
 
 abbrev pub blocks : Event → Body → Known → State → Bool
-blocks (On.Tenant t (Asked.Alloc k)) (Say.Frame f) w s = can_stand w.order s.has (block f k)
+blocks (On.Tenant t (Command.Alloc k)) (Say.Frame f) w s = can_stand w.order s.has (block f k)
 blocks event body w s = true
 
 abbrev pub objects : Event → Body → Known → State → Bool
-objects (On.Tenant t (Asked.Take number)) (Say.Object place) w s =
+objects (On.Tenant t (Command.Take number)) (Say.Object place) w s =
     option_map_or (λ c. can_be_taken w.order s.has c place) (known_cache s.has number) false
 objects event body w s = true
 
 -- a new cache has a number of its own, and its objects fit into a slab at each of its colours
 abbrev pub new_layout : Event → Body → Known → State → Bool
-new_layout (On.Tenant t (Asked.Cache size align pattern)) (Say.Cache number chunk q n colours) w s =
+new_layout (On.Tenant t (Command.Cache size align pattern)) (Say.Cache number chunk q n colours) w s =
     (nat_lt number w.limit && is_none (known_cache s.has number)) && ((nat_le size chunk && (chunk % align == 0 && nat_le q w.order))
     && ((nat_le 1 n && nat_le 1 colours) && nat_le (align * (colours - 1) + n * chunk) (FRAME_BYTES * 2 ^ q)))
 new_layout event body w s = true
@@ -116,10 +116,10 @@ can_come_back order caches frames s = frames == 0 || (nat_le frames (length (vac
     && list_any (λ c. s.may_have_empty c.number && frames % 2 ^ c.order == 0) caches)
 
 abbrev pub gives : Event → Body → Known → State → Bool
-gives (On.Tenant t (Asked.Free f)) (Say.Freed k) w s = option_eq (λ i j. i == j) (order_in s.has.pages f) (Some k)
-gives (On.Tenant t (Asked.Destroy number)) (Say.Destroyed frames) w s =
+gives (On.Tenant t (Command.Free f)) (Say.Freed k) w s = option_eq (λ i j. i == j) (order_in s.has.pages f) (Some k)
+gives (On.Tenant t (Command.Destroy number)) (Say.Destroyed frames) w s =
     can_come_back w.order (filter (λ c. c.number == number) s.has.caches) frames s
-gives (On.Tenant t Asked.Reap) (Say.Reaped frames) w s = can_come_back w.order s.has.caches frames s
+gives (On.Tenant t Command.Reap) (Say.Reaped frames) w s = can_come_back w.order s.has.caches frames s
 gives event body w s = true
 
 abbrev pub has_owner : (Option Owner → Bool) → ℕ → Known → Bool
@@ -139,9 +139,9 @@ owners event body w s = true
 
 -- each byte that is read may be there, and all are read, or written
 abbrev pub bytes : Event → Body → Known → State → Bool
-bytes (On.Tenant t (Asked.Read place len)) (Say.Bytes told) w s = length told.items == len
+bytes (On.Tenant t (Command.Read place len)) (Say.Bytes told) w s = length told.items == len
     && option_map_or (λ holder. may_all_be s.has s.cells holder place told.items) (holder_of s.has place len) false
-bytes (On.Tenant t (Asked.Write place new)) (Say.Written n) w s = length new.items == n
+bytes (On.Tenant t (Command.Write place new)) (Say.Written n) w s = length new.items == n
 bytes event body w s = true
 
 -- how many frames these numbers of blocks have, the first of them of order 0
@@ -164,7 +164,7 @@ known_count h rows k = length (filter (λ b. b.order == k) h.pages)
 
 -- there are a row of each order and of each cache; the figures are those of the state, and the free blocks such as there can be
 abbrev pub report : Event → Body → Known → State → Bool
-report (On.Tenant t Asked.Report) (Say.Report r) w s =
+report (On.Tenant t Command.Report) (Say.Report r) w s =
     let orders = range_with_len 0 (w.order + 1) in
     let free = map (λ row. row.free) r.orders.items in
     let taken = map (λ row. row.taken) r.orders.items in
@@ -184,11 +184,11 @@ empty_frames test h r = sum_by (λ p. if test p.0.number then p.1.empty * 2 ^ p.
 -- as long as a report has to stand, what comes back is what it told, and a new one tells the same
 -- (of free blocks and empty slabs; the rest is the state's)
 abbrev pub still : Event → Body → Known → State → Bool
-still (On.Tenant t (Asked.Destroy number)) (Say.Destroyed frames) w s =
+still (On.Tenant t (Command.Destroy number)) (Say.Destroyed frames) w s =
     option_map_or (λ r. frames == empty_frames (λ n. n == number) s.has r) s.told true
-still (On.Tenant t Asked.Reap) (Say.Reaped frames) w s =
+still (On.Tenant t Command.Reap) (Say.Reaped frames) w s =
     option_map_or (λ r. frames == empty_frames (λ n. true) s.has r) s.told true
-still (On.Tenant t Asked.Report) (Say.Report r) w s =
+still (On.Tenant t Command.Report) (Say.Report r) w s =
     option_map_or (λ q. list_all (λ p. p.0.free == p.1.free) (zip q.orders.items r.orders.items)
     && list_all (λ p. p.0.empty == p.1.empty) (zip q.caches.items r.caches.items)) s.told true
 still event body w s = true

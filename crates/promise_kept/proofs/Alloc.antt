@@ -20,7 +20,7 @@ use Rattle.model_core.proofs.ObjectsApart.{contains_in}
 use Rattle.model_core.proofs.ByNeed.{by_need_none}
 use Rattle.model_core.proofs.PageSteps.{by_need_kept}
 use Rattle.words_core.specs.declared.event.Event.TheVariants as On
-use Rattle.words_core.specs.declared.event.Command.TheVariants as Asked
+use Rattle.words_core.specs.declared.event.Command.TheVariants as Command
 use Rattle.words_core.specs.declared.reply.Addressee.TheVariants as To
 use Rattle.words_core.specs.declared.reply.Body.TheVariants as Say
 use Rattle.words_core.specs.declared.reply.Refusal.{Refusal}
@@ -81,21 +81,21 @@ module _ {limit : ℕ} (order k first : ℕ) (s : State) (n : Machine) (w : IsWe
   }
 
 module _ (limit order k : ℕ) (m : Machine) (s : State) (w : IsWellFormed limit order m) (h : Meets order s m) where
-  too_large : ltb order k ≡ true → IsKeptBy limit order (Asked.Alloc k) s (Say.Refused Refusal.BadOrder) m
+  too_large : ltb order k ≡ true → IsKeptBy limit order (Command.Alloc k) s (Say.Refused Refusal.BadOrder) m
   unfolding due
-  too_large e = refused limit order (Asked.Alloc k) Refusal.BadOrder s m h (λ t owners states. (rw e refl, refl))
+  too_large e = refused limit order (Command.Alloc k) Refusal.BadOrder s m h (λ t owners states. (rw e refl, refl))
 
-  no_frames : ltb order k ≡ false → choice_by_need order k m ≡ None → IsKeptBy limit order (Asked.Alloc k) s (Say.Refused Refusal.NoFrames) (by_need order k m)
+  no_frames : ltb order k ≡ false → choice_by_need order k m ≡ None → IsKeptBy limit order (Command.Alloc k) s (Say.Refused Refusal.NoFrames) (by_need order k m)
   unfolding due
   no_frames e none =
-      refused limit order (Asked.Alloc k) Refusal.NoFrames s (by_need order k m) (subst (λ n. Meets order s n) (sym (by_need_none order k m none)) h)
+      refused limit order (Command.Alloc k) Refusal.NoFrames s (by_need order k m) (subst (λ n. Meets order s n) (sym (by_need_none order k m none)) h)
       (λ t owners states. (rw e refl, and_from _ _ (ap (λ x. not (has_room order x k)) h.has ∙ ap not (room_served order k m w (ltb-false order k e) none)) refl))
 
   served : (first : ℕ) → ltb order k ≡ false → choice_by_need order k m ≡ Some first
-      → IsKeptBy limit order (Asked.Alloc k) s (Say.Frame first) (with_block (block first k) (by_need order k m))
+      → IsKeptBy limit order (Command.Alloc k) s (Say.Frame first) (with_block (block first k) (by_need order k m))
   unfolding due state_after
   served first e is = record {
-    allowed = λ t owners states. all_kept (On.Tenant t (Asked.Alloc k)) (record { addressee = To.Tenant t; body = Say.Frame first })
+    allowed = λ t owners states. all_kept (On.Tenant t (Command.Alloc k)) (record { addressee = To.Tenant t; body = Say.Frame first })
         (record { limit = limit; order = order; owners = owners; states = states }) s
         (formed t (Some (after_alloc (block first k) s)) refl) (rw e refl) refl refl
         (ap (λ x. can_stand order x (block first k)) h.has ∙ by_need_stands order k first m w is)
@@ -103,12 +103,12 @@ module _ (limit order k : ℕ) (m : Machine) (s : State) (w : IsWellFormed limit
     meets = λ t. (after_alloc (block first k) s, refl, alloc_meets order k first s (by_need order k m) (by_need_kept order k m w) (by_need_meets order s m w h k) is);
   }
 
-  pub alloc_is_kept : IsPromiseKept limit order (Asked.Alloc k) m s
+  pub alloc_is_kept : IsPromiseKept limit order (Command.Alloc k) m s
   unfolding command_step alloc_step
   alloc_is_kept = go (ltb order k) refl (choice_by_need order k m) refl
     where
       go : (b : Bool) → ltb order k ≡ b → (o : Option ℕ) → choice_by_need order k m ≡ o
-          → let step = if b then refuse AllocRefusal.BadOrder m else alloc_at k (by_need order k m) o in IsKeptBy limit order (Asked.Alloc k) s (alloc_body step.answer) step.machine
+          → let step = if b then refuse AllocRefusal.BadOrder m else alloc_at k (by_need order k m) o in IsKeptBy limit order (Command.Alloc k) s (alloc_body step.answer) step.machine
       go true e o is = too_large e
       go false e None is = no_frames e is
       go false e (Some first) is = served first e is

@@ -23,7 +23,7 @@ use Rattle.promise_kept.specs.Meets.{cache_as_known, holdings_of, is_object_live
 use Rattle.std.proofs.lemmas.List.{length-map}
 use Rattle.model_core.proofs.Layouts.{layouts_fit}
 use Rattle.words_core.specs.declared.event.Event.TheVariants as On
-use Rattle.words_core.specs.declared.event.Command.TheVariants as Asked
+use Rattle.words_core.specs.declared.event.Command.TheVariants as Command
 use Rattle.words_core.specs.declared.reply.Addressee.TheVariants as To
 use Rattle.words_core.specs.declared.reply.Body.TheVariants as Say
 use Rattle.words_core.specs.declared.reply.Refusal.{Refusal}
@@ -122,19 +122,19 @@ module _ (limit order size align : ℕ) (pattern : ArrayVec ℕ) (m : Machine) (
     free_told = λ r e. absurd (cc);
   }
 
-  no_slot : is_size size ≡ true → is_alignment align ≡ true → leb limit (next_number m) ≡ true → IsKeptBy limit order (Asked.Cache size align pattern) s (Say.Refused Refusal.NoCacheSlot) m
+  no_slot : is_size size ≡ true → is_alignment align ≡ true → leb limit (next_number m) ≡ true → IsKeptBy limit order (Command.Cache size align pattern) s (Say.Refused Refusal.NoCacheSlot) m
   unfolding due
   no_slot sized aligned full =
       let seen : leb limit (length s.has.caches) ≡ true = full_seen limit order m s w h ∙ full in
-      refused limit order (Asked.Cache size align pattern) Refusal.NoCacheSlot s m h (λ t owners states. (rw sized (rw aligned (rw seen refl)), refl))
+      refused limit order (Command.Cache size align pattern) Refusal.NoCacheSlot s m h (λ t owners states. (rw sized (rw aligned (rw seen refl)), refl))
 
-  bad_size : is_size size ≡ false → IsKeptBy limit order (Asked.Cache size align pattern) s (Say.Refused Refusal.BadSize) m
+  bad_size : is_size size ≡ false → IsKeptBy limit order (Command.Cache size align pattern) s (Say.Refused Refusal.BadSize) m
   unfolding due
-  bad_size e = refused limit order (Asked.Cache size align pattern) Refusal.BadSize s m h (λ t owners states. (rw e refl, refl))
+  bad_size e = refused limit order (Command.Cache size align pattern) Refusal.BadSize s m h (λ t owners states. (rw e refl, refl))
 
-  bad_align : is_size size ≡ true → is_alignment align ≡ false → IsKeptBy limit order (Asked.Cache size align pattern) s (Say.Refused Refusal.BadAlign) m
+  bad_align : is_size size ≡ true → is_alignment align ≡ false → IsKeptBy limit order (Command.Cache size align pattern) s (Say.Refused Refusal.BadAlign) m
   unfolding due
-  bad_align sized e = refused limit order (Asked.Cache size align pattern) Refusal.BadAlign s m h (λ t owners states. (rw sized (rw e refl), refl))
+  bad_align sized e = refused limit order (Command.Cache size align pattern) Refusal.BadAlign s m h (λ t owners states. (rw sized (rw e refl), refl))
 
   laid : Layout
   laid = layout_of size align
@@ -154,28 +154,28 @@ module _ (limit order size align : ℕ) (pattern : ArrayVec ℕ) (m : Machine) (
       (le-leb (align * (l.colours - 1) + l.count * l.chunk) (4096 * 2 ^ l.order) (omega (arith, last, f.inside, f.within))))
 
   cache_made : 3 ≤ order → is_size size ≡ true → is_alignment align ≡ true → leb limit (next_number m) ≡ false
-      → IsKeptBy limit order (Asked.Cache size align pattern) s (Say.Cache (next_number m) laid.chunk laid.order laid.count laid.colours) (created (next_number m) size align pattern.items m)
+      → IsKeptBy limit order (Command.Cache size align pattern) s (Say.Cache (next_number m) laid.chunk laid.order laid.count laid.colours) (created (next_number m) size align pattern.items m)
   unfolding due state_after laid holdings_of next_number
   cache_made large sized aligned below =
       let seen : leb limit (length s.has.caches) ≡ false = full_seen limit order m s w h ∙ below in
       let other : known_cache s.has (next_number m) ≡ None = ap (λ (x : Holdings). find (λ (c : KnownCache). eqb c.number (next_number m)) x.caches) h.has
       ∙ unseen (next_number m) m.caches (least_is_missing 0 (map (λ c. c.number) m.caches) w.caches_rise) in
       record {
-        allowed = λ t owners states. all_kept (On.Tenant t (Asked.Cache size align pattern)) (record { addressee = To.Tenant t; body = Say.Cache (next_number m) laid.chunk laid.order laid.count laid.colours })
+        allowed = λ t owners states. all_kept (On.Tenant t (Command.Cache size align pattern)) (record { addressee = To.Tenant t; body = Say.Cache (next_number m) laid.chunk laid.order laid.count laid.colours })
             (record { limit = limit; order = order; owners = owners; states = states }) s
             (formed t (Some after_cache) refl) (rw sized (rw aligned (rw seen refl))) refl refl refl refl
             (and_from _ _ (and_from _ _ (lt-ltb (next_number m) limit (leb-false limit (next_number m) below)) (ap is_none other)) (fits large sized aligned)) refl refl refl refl refl;
         meets = λ t. (after_cache, refl, cache_meets);
       }
 
-  pub cache_is_kept : 3 ≤ order → IsPromiseKept limit order (Asked.Cache size align pattern) m s
+  pub cache_is_kept : 3 ≤ order → IsPromiseKept limit order (Command.Cache size align pattern) m s
   unfolding command_step cache_step create_step laid
   cache_is_kept large = go (is_size size) refl (is_alignment align) refl (leb limit (next_number m)) refl
     where
       go : (a : Bool) → is_size size ≡ a → (b : Bool) → is_alignment align ≡ b → (c : Bool) → leb limit (next_number m) ≡ c
           → let made : Step (Option ℕ) = if c then record { answer = None; machine = m } else record { answer = Some (next_number m); machine = created (next_number m) size align pattern.items m } in
           let step : Step (Result ℕ CacheRefusal) = if not a then refuse CacheRefusal.BadSize m else (if not b then refuse CacheRefusal.BadAlign m else cache_answer made) in
-          IsKeptBy limit order (Asked.Cache size align pattern) s (cache_body size align step.answer) step.machine
+          IsKeptBy limit order (Command.Cache size align pattern) s (cache_body size align step.answer) step.machine
       go false e b f c g = bad_size e
       go true e false f c g = bad_align e f
       go true e true f true g = no_slot e f g

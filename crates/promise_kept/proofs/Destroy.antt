@@ -21,7 +21,7 @@ use Rattle.model_core.proofs.Laid.{Laid, laid, all_laid, laid_block, in_laid, in
 use Rattle.model_core.proofs.Split.{filter_laid, laid_of, slab_blocks_laid}
 use Rattle.model_core.proofs.Constructed.{not_gone}
 use Rattle.model_core.proofs.CacheSteps.{in_all_laid}
-use Rattle.words_core.specs.declared.event.Command.TheVariants as Asked
+use Rattle.words_core.specs.declared.event.Command.TheVariants as Command
 use Rattle.words_core.specs.declared.report.Report.{Report}
 use Rattle.words_core.specs.declared.reply.Body.TheVariants as Say
 use Rattle.words_core.specs.declared.reply.Refusal.{Refusal}
@@ -185,7 +185,7 @@ module _ (limit order : ℕ) (c : Cache) (m : Machine) (s : State) (w : IsWellFo
     free_told = λ r e. absurd (cc);
   }
 
-  gave_back : cache_of m c.number ≡ Some c → IsKeptBy limit order (Asked.Destroy c.number) (seen m s) (Say.Destroyed (frames_of (slab_blocks c))) (destroyed c m)
+  gave_back : cache_of m c.number ≡ Some c → IsKeptBy limit order (Command.Destroy c.number) (seen m s) (Say.Destroyed (frames_of (slab_blocks c))) (destroyed c m)
   unfolding holdings_of due state_after after
   gave_back e = record {
     allowed = λ t owners states. rw (eq-eqb t t refl) (rw (cache_seen c.number m.caches ∙ ap (option_map cache_as_known) e) (rw (ap (λ os. ltb 0 (length (map (λ o. o.place) os))) (none_in_use c c.slabs unused))
@@ -199,7 +199,7 @@ in_use c e =
     let o : (o : LiveObject) × IsIn o (live_in c t.0) × (o.slab ≡ t.0) = one_live c t.0 0 t.0.live (not-false _ (not-true (is_empty t.0) t.2)) in
     listed_some o.0.place (map (λ o. o.place) (live_objects c)) (in_map (λ o. o.place) o.0 (live_objects c) (in_flat_map (live_in c) o.0 t.0 c.slabs t.1 o.1))
 
-destroy_seen : (limit order number : ℕ) (m : Machine) (s : State) → IsWellFormed limit order m → Meets order s m → Meets order (seen m s) m → IsPromiseKept limit order (Asked.Destroy number) m (seen m s)
+destroy_seen : (limit order number : ℕ) (m : Machine) (s : State) → IsWellFormed limit order m → Meets order s m → Meets order (seen m s) m → IsPromiseKept limit order (Command.Destroy number) m (seen m s)
 unfolding command_step destroy_step holdings_of due state_after
 destroy_seen limit order number m s w h k = go (cache_of m number) refl
   where
@@ -207,23 +207,23 @@ destroy_seen limit order number m s w h k = go (cache_of m number) refl
     step c b = if b then refuse DestroyRefusal.CacheInUse m else record { answer = Ok (frames_of (slab_blocks c)); machine = destroyed c m }
 
     used : (c : Cache) → cache_of m number ≡ Some c → (b : Bool) → list_any (λ s. not (is_empty s)) c.slabs ≡ b
-        → IsKeptBy limit order (Asked.Destroy number) (seen m s) (destroy_body (step c b).answer) (step c b).machine
+        → IsKeptBy limit order (Command.Destroy number) (seen m s) (destroy_body (step c b).answer) (step c b).machine
     used c e true u =
-        refused limit order (Asked.Destroy number) Refusal.CacheInUse (seen m s) m k
+        refused limit order (Command.Destroy number) Refusal.CacheInUse (seen m s) m k
         (λ t owners states. (rw (cache_seen number m.caches ∙ ap (option_map cache_as_known) e) (rw (in_use c u) refl), refl))
     used c e false u =
         let in_c : IsIn c m.caches × (eqb c.number number ≡ true) = find_in (λ x. eqb x.number number) c m.caches e in
         let same : c.number ≡ number = eqb-true c.number number in_c.1 in
-        subst (λ i. IsKeptBy limit order (Asked.Destroy i) (seen m s) (Say.Destroyed (frames_of (slab_blocks c))) (destroyed c m)) same
+        subst (λ i. IsKeptBy limit order (Command.Destroy i) (seen m s) (Say.Destroyed (frames_of (slab_blocks c))) (destroyed c m)) same
         (gave_back limit order c m s w h in_c.0 u (subst (λ i. cache_of m i ≡ Some c) (sym same) e))
 
-    go : (o : Option Cache) → cache_of m number ≡ o → IsKeptBy limit order (Asked.Destroy number) (seen m s) (destroy_body (destroy_of m o).answer) (destroy_of m o).machine
+    go : (o : Option Cache) → cache_of m number ≡ o → IsKeptBy limit order (Command.Destroy number) (seen m s) (destroy_body (destroy_of m o).answer) (destroy_of m o).machine
     go None e =
-        refused limit order (Asked.Destroy number) Refusal.NoCache (seen m s) m k
+        refused limit order (Command.Destroy number) Refusal.NoCache (seen m s) m k
         (λ t owners states. (rw (cache_seen number m.caches ∙ ap (option_map cache_as_known) e) refl, refl))
     go (Some c) e = used c e (list_any (λ s. not (is_empty s)) c.slabs) refl
 
-pub destroy_kept : (limit order number : ℕ) (m : Machine) (s : State) → IsWellFormed limit order m → Meets order s m → IsPromiseKept limit order (Asked.Destroy number) m s
+pub destroy_kept : (limit order number : ℕ) (m : Machine) (s : State) → IsWellFormed limit order m → Meets order s m → IsPromiseKept limit order (Command.Destroy number) m s
 destroy_kept limit order number m s w h =
     let e : seen m s ≡ s = seen_is m s h.has in
-    subst (IsPromiseKept limit order (Asked.Destroy number) m) e (destroy_seen limit order number m s w h (subst (λ x. Meets order x m) (sym e) h))
+    subst (IsPromiseKept limit order (Command.Destroy number) m) e (destroy_seen limit order number m s w h (subst (λ x. Meets order x m) (sym e) h))

@@ -15,7 +15,7 @@ use Rattle.model_core.proofs.Lists.{in_filter, some_any, any_in}
 use Rattle.model_core.proofs.ObjectsApart.{one_key}
 use Rattle.model_core.proofs.TakenSteps.{order_in_is}
 use Rattle.words_core.specs.declared.event.Event.TheVariants as On
-use Rattle.words_core.specs.declared.event.Command.TheVariants as Asked
+use Rattle.words_core.specs.declared.event.Command.TheVariants as Command
 use Rattle.words_core.specs.declared.reply.Addressee.TheVariants as To
 use Rattle.words_core.specs.declared.reply.Body.TheVariants as Say
 use Rattle.words_core.specs.declared.reply.Refusal.{Refusal}
@@ -68,27 +68,27 @@ module _ (limit order first : ℕ) (m : Machine) (s : State) (w : IsWellFormed l
     free_told = λ r e. absurd (cc);
   }
 
-  no_block : order_in m.blocks first ≡ None → IsKeptBy limit order (Asked.Free first) s (Say.Refused Refusal.NotABlock) m
+  no_block : order_in m.blocks first ≡ None → IsKeptBy limit order (Command.Free first) s (Say.Refused Refusal.NotABlock) m
   unfolding due holdings_of
   no_block none =
       let missing : order_in s.has.pages first ≡ None = ap (λ (x : Holdings). order_in x.pages first) h.has ∙ none in
-      refused limit order (Asked.Free first) Refusal.NotABlock s m h (λ t owners states. (rw missing refl, refl))
+      refused limit order (Command.Free first) Refusal.NotABlock s m h (λ t owners states. (rw missing refl, refl))
 
-  freed : (k : ℕ) → order_in m.blocks first ≡ Some k → IsKeptBy limit order (Asked.Free first) s (Say.Freed k) (without_block first m)
+  freed : (k : ℕ) → order_in m.blocks first ≡ Some k → IsKeptBy limit order (Command.Free first) s (Say.Freed k) (without_block first m)
   unfolding due state_after holdings_of
   freed k is =
       let there : order_in s.has.pages first ≡ Some k = ap (λ (x : Holdings). order_in x.pages first) h.has ∙ is in
       record {
-        allowed = λ t owners states. all_kept (On.Tenant t (Asked.Free first)) (record { addressee = To.Tenant t; body = Say.Freed k })
+        allowed = λ t owners states. all_kept (On.Tenant t (Command.Free first)) (record { addressee = To.Tenant t; body = Say.Freed k })
             (record { limit = limit; order = order; owners = owners; states = states }) s
             (formed t (Some (after_free first k s)) refl) (rw there refl) refl refl refl refl refl (ap (λ o. option_eq (λ i j. eqb i j) o (Some k)) there ∙ eq-eqb k k refl) refl refl refl refl;
         meets = λ t. (after_free first k s, refl, free_meets k is);
       }
 
-  pub free_is_kept : IsPromiseKept limit order (Asked.Free first) m s
+  pub free_is_kept : IsPromiseKept limit order (Command.Free first) m s
   unfolding command_step free_step
   free_is_kept = go (order_in m.blocks first) refl
     where
-      go : (o : Option ℕ) → order_in m.blocks first ≡ o → IsKeptBy limit order (Asked.Free first) s (free_body (free_at first m o).answer) (free_at first m o).machine
+      go : (o : Option ℕ) → order_in m.blocks first ≡ o → IsKeptBy limit order (Command.Free first) s (free_body (free_at first m o).answer) (free_at first m o).machine
       go None is = no_block is
       go (Some k) is = freed k is

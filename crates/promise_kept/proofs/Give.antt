@@ -17,7 +17,7 @@ use Rattle.model_core.proofs.CacheSteps.{live_kept}
 use Rattle.model_core.proofs.SlabsLeave.{flagged_same}
 use Rattle.model_core.proofs.Objects.{IsLive, live_is}
 use Rattle.model_core.proofs.Rising.{same_members}
-use Rattle.words_core.specs.declared.event.Command.TheVariants as Asked
+use Rattle.words_core.specs.declared.event.Command.TheVariants as Command
 use Rattle.words_core.specs.declared.reply.Body.TheVariants as Say
 use Rattle.words_core.specs.declared.reply.Refusal.{Refusal}
 use Rattle.world_core.specs.PrivateStep.{command_step, give_body}
@@ -120,21 +120,21 @@ module _ (limit order place : ℕ) (c : Cache) (o : LiveObject) (m : Machine) (s
       (caches_known c.number (gone place) c d m.caches refl (λ x i e. one_key (λ y. y.number) 0 m.caches x c w.caches_rise i in_c e)
       (ap (λ ps. record (cache_as_known c) { live = ps }) left))
 
-  given : cache_of m c.number ≡ Some c → list_any (λ p. eqb p place) (map (λ x. x.place) (live_objects c)) ≡ true → IsKeptBy limit order (Asked.Give c.number place) (seen m s) Say.Given n
+  given : cache_of m c.number ≡ Some c → list_any (λ p. eqb p place) (map (λ x. x.place) (live_objects c)) ≡ true → IsKeptBy limit order (Command.Give c.number place) (seen m s) Say.Given n
   unfolding holdings_of due state_after after
   given e f = record {
     allowed = λ t owners states. rw (eq-eqb t t refl) (rw (cache_seen c.number m.caches ∙ ap (option_map cache_as_known) e) (rw f refl));
     meets = λ t. (record after { has = with_live_told c.number (gone place) (holdings_of m) }, refl, subst (λ x. Meets order (record after { has = x }) n) (sym has_after) meets);
   }
 
-give_seen : (limit order number place : ℕ) (m : Machine) (s : State) → IsWellFormed limit order m → Meets order s m → Meets order (seen m s) m → IsPromiseKept limit order (Asked.Give number place) m (seen m s)
+give_seen : (limit order number place : ℕ) (m : Machine) (s : State) → IsWellFormed limit order m → Meets order s m → Meets order (seen m s) m → IsPromiseKept limit order (Command.Give number place) m (seen m s)
 unfolding command_step give_step holdings_of due state_after
 give_seen limit order number place m s w h k = go (cache_of m number) refl
   where
     object : (c : Cache) → cache_of m number ≡ Some c → (o : Option LiveObject) → find (λ x. eqb x.place place) (live_objects c) ≡ o
-        → IsKeptBy limit order (Asked.Give number place) (seen m s) (give_body (give_object c m o).answer) (give_object c m o).machine
+        → IsKeptBy limit order (Command.Give number place) (seen m s) (give_body (give_object c m o).answer) (give_object c m o).machine
     object c e None f =
-        refused limit order (Asked.Give number place) Refusal.NotAnObject (seen m s) m k
+        refused limit order (Command.Give number place) Refusal.NotAnObject (seen m s) m k
         (λ t owners states. (
           rw (cache_seen number m.caches ∙ ap (option_map cache_as_known) e)
               (rw (any_map (λ p. eqb p place) (λ x. x.place) (live_objects c) ∙ any_unfound (λ x. eqb x.place place) (live_objects c) f) refl),
@@ -144,17 +144,17 @@ give_seen limit order number place m s w h k = go (cache_of m number) refl
         let in_c : IsIn c m.caches × (eqb c.number number ≡ true) = find_in (λ x. eqb x.number number) c m.caches e in
         let in_o : IsIn o (live_objects c) × (eqb o.place place ≡ true) = find_in (λ x. eqb x.place place) o (live_objects c) f in
         let same : c.number ≡ number = eqb-true c.number number in_c.1 in
-        subst (λ i. IsKeptBy limit order (Asked.Give i place) (seen m s) Say.Given (with_cache (with_slab (with_live o.index false o.slab) c) m)) same
+        subst (λ i. IsKeptBy limit order (Command.Give i place) (seen m s) Say.Given (with_cache (with_slab (with_live o.index false o.slab) c) m)) same
         (given limit order place c o m s w h in_c.0 (live_is c o in_o.0) (eqb-true o.place place in_o.1) (subst (λ i. cache_of m i ≡ Some c) (sym same) e)
         (any_map (λ p. eqb p place) (λ x. x.place) (live_objects c) ∙ any_in (λ x. eqb x.place place) o (live_objects c) in_o.0 in_o.1))
 
-    go : (o : Option Cache) → cache_of m number ≡ o → IsKeptBy limit order (Asked.Give number place) (seen m s) (give_body (give_of place m o).answer) (give_of place m o).machine
+    go : (o : Option Cache) → cache_of m number ≡ o → IsKeptBy limit order (Command.Give number place) (seen m s) (give_body (give_of place m o).answer) (give_of place m o).machine
     go None e =
-        refused limit order (Asked.Give number place) Refusal.NoCache (seen m s) m k
+        refused limit order (Command.Give number place) Refusal.NoCache (seen m s) m k
         (λ t owners states. (rw (cache_seen number m.caches ∙ ap (option_map cache_as_known) e) refl, refl))
     go (Some c) e = object c e (find (λ x. eqb x.place place) (live_objects c)) refl
 
-pub give_kept : (limit order number place : ℕ) (m : Machine) (s : State) → IsWellFormed limit order m → Meets order s m → IsPromiseKept limit order (Asked.Give number place) m s
+pub give_kept : (limit order number place : ℕ) (m : Machine) (s : State) → IsWellFormed limit order m → Meets order s m → IsPromiseKept limit order (Command.Give number place) m s
 give_kept limit order number place m s w h =
     let e : seen m s ≡ s = seen_is m s h.has in
-    subst (IsPromiseKept limit order (Asked.Give number place) m) e (give_seen limit order number place m s w h (subst (λ x. Meets order x m) (sym e) h))
+    subst (IsPromiseKept limit order (Command.Give number place) m) e (give_seen limit order number place m s w h (subst (λ x. Meets order x m) (sym e) h))

@@ -18,7 +18,7 @@ use Rattle.model_core.proofs.Objects.{IsPageByte, page_apart, reached, reached_m
 use Rattle.model_core.proofs.ObjectsApart.{contains_in}
 use Rattle.model_core.proofs.Lists.{none_of, some_of}
 use Rattle.words_core.specs.declared.event.Event.TheVariants as On
-use Rattle.words_core.specs.declared.event.Command.TheVariants as Asked
+use Rattle.words_core.specs.declared.event.Command.TheVariants as Command
 use Rattle.words_core.specs.declared.reply.Addressee.TheVariants as To
 use Rattle.words_core.specs.declared.reply.Body.TheVariants as Say
 use Rattle.words_core.specs.declared.reply.Refusal.{Refusal}
@@ -83,15 +83,15 @@ module _ (limit order place len : ℕ) (m : Machine) (s : State) (w : IsWellForm
   abbrev is_length : Bool
   is_length = leb 1 len && leb len MOST_BYTES
 
-  bad_length : is_length ≡ false → IsKeptBy limit order (Asked.Read place len) s (Say.Refused Refusal.BadLength) m
+  bad_length : is_length ≡ false → IsKeptBy limit order (Command.Read place len) s (Say.Refused Refusal.BadLength) m
   unfolding due
-  bad_length e = refused limit order (Asked.Read place len) Refusal.BadLength s m h (λ t owners states. (rw e refl, refl))
+  bad_length e = refused limit order (Command.Read place len) Refusal.BadLength s m h (λ t owners states. (rw e refl, refl))
 
-  unreached : is_length ≡ true → in_reach m place len ≡ false → IsKeptBy limit order (Asked.Read place len) s (Say.Refused Refusal.OutOfReach) m
+  unreached : is_length ≡ true → in_reach m place len ≡ false → IsKeptBy limit order (Command.Read place len) s (Say.Refused Refusal.OutOfReach) m
   unfolding due
   unreached e out =
       let none : holder_of s.has place len ≡ None = none_of (holder_of s.has place len) (reach_seen order m s place len h ∙ out) in
-      refused limit order (Asked.Read place len) Refusal.OutOfReach s m h (λ t owners states. (rw e (rw none refl), refl))
+      refused limit order (Command.Read place len) Refusal.OutOfReach s m h (λ t owners states. (rw e (rw none refl), refl))
 
   there : List ℕ
   there = filter_map m.bytes (range_with_len place len)
@@ -112,12 +112,12 @@ module _ (limit order place len : ℕ) (m : Machine) (s : State) (w : IsWellForm
       range_meets order s m w h place there holder (ap (λ n. holder_of s.has place n) is.0 ∙ reach) m.bytes
       (λ p low high. is.1 p low (omega (arith, high, is.0))) (λ p out. refl)
 
-  read_out : in_reach m place len ≡ true → is_length ≡ true → IsKeptBy limit order (Asked.Read place len) s (Say.Bytes (record { items = there })) m
+  read_out : in_reach m place len ≡ true → is_length ≡ true → IsKeptBy limit order (Command.Read place len) s (Say.Bytes (record { items = there })) m
   unfolding due state_after
   read_out within e =
       let some = some_of (holder_of s.has place len) (reach_seen order m s place len h ∙ within) in
       record {
-        allowed = λ t owners states. all_kept (On.Tenant t (Asked.Read place len)) (record { addressee = To.Tenant t; body = Say.Bytes (record { items = there }) })
+        allowed = λ t owners states. all_kept (On.Tenant t (Command.Read place len)) (record { addressee = To.Tenant t; body = Say.Bytes (record { items = there }) })
             (record { limit = limit; order = order; owners = owners; states = states }) s
             (formed t (Some (with_range place there s (holder_of s.has place len))) refl) (rw e (rw some.1 refl)) refl refl refl refl refl refl refl
             (and_from (eqb (length there) len) _ (eq-eqb (length there) len (all_there within).0)
@@ -129,14 +129,14 @@ module _ (limit order place len : ℕ) (m : Machine) (s : State) (w : IsWellForm
         );
       }
 
-  pub read_is_kept : IsPromiseKept limit order (Asked.Read place len) m s
+  pub read_is_kept : IsPromiseKept limit order (Command.Read place len) m s
   unfolding command_step read_step there
   read_is_kept = go is_length refl (in_reach m place len) refl
     where
       go : (b : Bool) → is_length ≡ b → (c : Bool) → in_reach m place len ≡ c
           → let step : Step (Result (List ℕ) ReadRefusal) = if not b then refuse ReadRefusal.BadLength m
           else (if not c then refuse ReadRefusal.OutOfReach m else record { answer = Ok (filter_map m.bytes (range_with_len place len)); machine = m }) in
-          IsKeptBy limit order (Asked.Read place len) s (read_body step.answer) step.machine
+          IsKeptBy limit order (Command.Read place len) s (read_body step.answer) step.machine
       go false e c f = bad_length e
       go true e false f = unreached e f
       go true e true f = read_out f e

@@ -14,7 +14,7 @@ use Rattle.model_core.specs.Elements.{IsIn}
 use Rattle.model_core.proofs.Lists.{each_in, filter_in, any_in, in_map, map_in, in_flat_map}
 use Rattle.model_core.proofs.ObjectsApart.{contains_in, in_contains}
 use Rattle.model_core.proofs.Layouts.{layouts_fit}
-use Rattle.words_core.specs.declared.event.Command.TheVariants as Asked
+use Rattle.words_core.specs.declared.event.Command.TheVariants as Command
 use Rattle.words_core.specs.declared.event.Event.TheVariants as On
 use Rattle.words_core.specs.declared.report.Report.{Report}
 use Rattle.words_core.specs.declared.reply.Addressee.TheVariants as To
@@ -119,16 +119,16 @@ module _ (limit order : ℕ) (m : Machine) (s : State) (w : IsWellFormed limit o
           subst (λ x. IsIn o.slab x.slabs → o.index < (layout x).count → is_in_no_slab (holdings_of m) x.number (object_place (layout x) o.slab.first o.slab.colour o.index) ≡ false) e
           (λ i l. in_one d o.slab o.index in_d i l) in_t lt
 
-  reap_seen : IsPromiseKept limit order Asked.Reap m (seen m s)
+  reap_seen : IsPromiseKept limit order Command.Reap m (seen m s)
   unfolding command_step reap_step state_after due after
   reap_seen = record {
-    allowed = λ t owners states. all_kept (On.Tenant t Asked.Reap) (record { addressee = To.Tenant t; body = Say.Reaped (frames_of (flat_map empty_blocks m.caches)) })
+    allowed = λ t owners states. all_kept (On.Tenant t Command.Reap) (record { addressee = To.Tenant t; body = Say.Reaped (frames_of (flat_map empty_blocks m.caches)) })
         (record { limit = limit; order = order; owners = owners; states = states }) (seen m s)
         (and_from (eqb t t) true (eq-eqb t t refl) refl) refl refl refl refl refl refl comes_back refl refl refl stays_told;
     meets = λ t. (after, refl, meets);
   }
 
-pub reap_kept : (limit order : ℕ) (m : Machine) (s : State) → IsWellFormed limit order m → Meets order s m → IsPromiseKept limit order Asked.Reap m s
+pub reap_kept : (limit order : ℕ) (m : Machine) (s : State) → IsWellFormed limit order m → Meets order s m → IsPromiseKept limit order Command.Reap m s
 reap_kept limit order m s w h =
     let e : seen m s ≡ s = seen_is m s h.has in
-    subst (IsPromiseKept limit order Asked.Reap m) e (reap_seen limit order m s w h (subst (λ x. Meets order x m) (sym e) h))
+    subst (IsPromiseKept limit order Command.Reap m) e (reap_seen limit order m s w h (subst (λ x. Meets order x m) (sym e) h))

@@ -20,7 +20,7 @@ use Rattle.model_core.specs.Elements.{IsIn}
 use Rattle.model_core.proofs.Lists.{each_in}
 use Rattle.model_core.proofs.ObjectsApart.{in_contains}
 use Rattle.words_core.specs.declared.event.Event.TheVariants as On
-use Rattle.words_core.specs.declared.event.Command.TheVariants as Asked
+use Rattle.words_core.specs.declared.event.Command.TheVariants as Command
 use Rattle.words_core.specs.declared.report.Report.{Report}
 use Rattle.words_core.specs.declared.reply.Addressee.TheVariants as To
 use Rattle.words_core.specs.declared.reply.Body.TheVariants as Say
@@ -179,7 +179,7 @@ module _ (limit order : ℕ) (m : Machine) (s : State) (w : IsWellFormed limit o
   has_empty_slab c x i j = h.may_have_empty c x (in_contains c m.caches i) (in_contains x c.slabs j)
 
   reported : (t : ℕ) (owners : List (Option Owner)) (states : List State)
-      → report (On.Tenant t Asked.Report) (Say.Report (figures_of order m)) (record { limit = limit; order = order; owners = owners; states = states }) (seen m s) ≡ true
+      → report (On.Tenant t Command.Report) (Say.Report (figures_of order m)) (record { limit = limit; order = order; owners = owners; states = states }) (seen m s) ≡ true
   unfolding figures_of holdings_of
   reported t owners states =
       and_from _ _ (eq-eqb _ _ (ap length free_is ∙ length-map-range_with_len (free_count order m) 0 (order + 1)))
@@ -199,7 +199,7 @@ module _ (limit order : ℕ) (m : Machine) (s : State) (w : IsWellFormed limit o
 
   -- a report that has to stand is told again
   stays : (t : ℕ) (owners : List (Option Owner)) (states : List State)
-      → still (On.Tenant t Asked.Report) (Say.Report (figures_of order m)) (record { limit = limit; order = order; owners = owners; states = states }) (seen m s) ≡ true
+      → still (On.Tenant t Command.Report) (Say.Report (figures_of order m)) (record { limit = limit; order = order; owners = owners; states = states }) (seen m s) ≡ true
   unfolding figures_of
   stays t owners states = go s.told refl
     where
@@ -228,16 +228,16 @@ module _ (limit order : ℕ) (m : Machine) (s : State) (w : IsWellFormed limit o
       some : {r : Report} → Some (figures_of order m) ≡ Some r → figures_of order m ≡ r
       some e = cc
 
-  report_seen : IsPromiseKept limit order Asked.Report m (seen m s)
+  report_seen : IsPromiseKept limit order Command.Report m (seen m s)
   unfolding command_step report_step state_after due after
   report_seen = record {
-    allowed = λ t owners states. all_kept (On.Tenant t Asked.Report) (record { addressee = To.Tenant t; body = Say.Report (figures_of order m) })
+    allowed = λ t owners states. all_kept (On.Tenant t Command.Report) (record { addressee = To.Tenant t; body = Say.Report (figures_of order m) })
         (record { limit = limit; order = order; owners = owners; states = states }) (seen m s)
         (formed t (Some after) refl) refl refl refl refl refl refl refl refl refl (reported t owners states) (stays t owners states);
     meets = λ t. (after, refl, meets);
   }
 
-pub report_kept : (limit order : ℕ) (m : Machine) (s : State) → IsWellFormed limit order m → Meets order s m → IsPromiseKept limit order Asked.Report m s
+pub report_kept : (limit order : ℕ) (m : Machine) (s : State) → IsWellFormed limit order m → Meets order s m → IsPromiseKept limit order Command.Report m s
 report_kept limit order m s w h =
     let e : seen m s ≡ s = seen_is m s h.has in
-    subst (IsPromiseKept limit order Asked.Report m) e (report_seen limit order m s w (subst (λ x. Meets order x m) (sym e) h))
+    subst (IsPromiseKept limit order Command.Report m) e (report_seen limit order m s w (subst (λ x. Meets order x m) (sym e) h))

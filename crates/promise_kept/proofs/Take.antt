@@ -17,7 +17,7 @@ use Rattle.model_core.proofs.CacheSteps.{in_all_laid}
 use Rattle.model_core.proofs.ObjectsApart.{contains_in, one_key, in_contains}
 use Rattle.model_core.proofs.SlabsLeave.{flagged_same}
 use Rattle.words_core.specs.declared.event.Event.TheVariants as On
-use Rattle.words_core.specs.declared.event.Command.TheVariants as Asked
+use Rattle.words_core.specs.declared.event.Command.TheVariants as Command
 use Rattle.words_core.specs.declared.reply.Addressee.TheVariants as To
 use Rattle.words_core.specs.declared.reply.Body.TheVariants as Say
 use Rattle.words_core.specs.declared.reply.Refusal.{Refusal}
@@ -154,10 +154,10 @@ module _ {limit : ℕ} (order : ℕ) (c : Cache) (s : Slab) (i : ℕ) (m : Machi
   said_meets = subst (λ x. Meets order (record after { has = x; cells = with_object place (known_cache (holdings_of m) c.number) st.cells }) n) (sym has_after)
       (subst (λ o. Meets order (record after { cells = with_object place o st.cells }) n) (sym told_here) meets)
 
-  pub handed : list_all (λ live. live) s.live ≡ false → IsKeptBy limit order (Asked.Take c.number) (seen m st) (Say.Object place) n
+  pub handed : list_all (λ live. live) s.live ≡ false → IsKeptBy limit order (Command.Take c.number) (seen m st) (Say.Object place) n
   unfolding due state_after
   handed some = record {
-    allowed = λ t owners states. all_kept (On.Tenant t (Asked.Take c.number)) (record { addressee = To.Tenant t; body = Say.Object place })
+    allowed = λ t owners states. all_kept (On.Tenant t (Command.Take c.number)) (record { addressee = To.Tenant t; body = Say.Object place })
         (record { limit = limit; order = order; owners = owners; states = states }) (seen m st)
         (formed t (Some said) refl)
         (ap (λ o. is_none (first_due ((is_none o, Refusal.NoCache) ∷ []))) told_here)

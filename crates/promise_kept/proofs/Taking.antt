@@ -17,7 +17,7 @@ use Rattle.model_core.proofs.ByNeed.{by_need_none}
 use Rattle.model_core.proofs.PageSteps.{by_need_kept}
 use Rattle.model_core.proofs.Outcomes.{used_in, stands_by_need}
 use Rattle.model_core.proofs.CacheSteps.{IsGrown, grown_is, grown_kept}
-use Rattle.words_core.specs.declared.event.Command.TheVariants as Asked
+use Rattle.words_core.specs.declared.event.Command.TheVariants as Command
 use Rattle.words_core.specs.declared.reply.Body.TheVariants as Say
 use Rattle.words_core.specs.declared.reply.Refusal.{Refusal}
 use Rattle.world_core.specs.PrivateStep.{take_body, command_step}
@@ -91,16 +91,16 @@ meets_hidden order number s m h = record {
 
 -- the least object of a slab that is not full is handed out
 hand_out_kept : {limit : ℕ} (order : ℕ) (c : Cache) (s : Slab) (m : Machine) (st : State) → IsWellFormed limit order m → Meets order (hidden c.number st) m → IsIn c m.caches → IsIn s c.slabs → is_full s ≡ false
-    → IsKeptBy limit order (Asked.Take c.number) st (take_body (hand_out c s m).answer) (hand_out c s m).machine
+    → IsKeptBy limit order (Command.Take c.number) st (take_body (hand_out c s m).answer) (hand_out c s m).machine
 hand_out_kept {limit} order c s m st w h in_c in_s some =
     let n : IsNext s.live = next_is s.live some in
     let lt : next_object s < (layout c).count = subst (λ k. next_object s < k) (is_slab order c m w in_c s in_s).count n.index_in in
-    subst (λ x. IsKeptBy limit order (Asked.Take c.number) x (take_body (hand_out c s m).answer) (hand_out c s m).machine) (seen_is m st h.has)
+    subst (λ x. IsKeptBy limit order (Command.Take c.number) x (take_body (hand_out c s m).answer) (hand_out c s m).machine) (seen_is m st h.has)
     (handed order c s (next_object s) m st w h in_c in_s lt n.dead some)
 
 -- .. of a new slab
 grow_kept : {limit : ℕ} (order first : ℕ) (c : Cache) (m : Machine) (st : State) → IsWellFormed limit order m → Meets order (untold st) m → IsIn c m.caches → choice order m (layout c).order ≡ Some first
-    → let step = hand_out (grown_cache first c) (new_slab c first) (grown first c m) in IsKeptBy limit order (Asked.Take c.number) st (take_body step.answer) step.machine
+    → let step = hand_out (grown_cache first c) (new_slab c first) (grown first c m) in IsKeptBy limit order (Command.Take c.number) st (take_body step.answer) step.machine
 unfolding grown_cache
 grow_kept order first c m st w h in_c e =
     let k : IsCache c = each_in IsCache c m.caches w.caches in_c in
@@ -114,10 +114,10 @@ module _ (limit order number : ℕ) (m : Machine) (s : State) (w : IsWellFormed 
   unfolding holdings_of
   told_of o e = ap (λ x. known_cache x number) h.has ∙ (cache_seen number m.caches ∙ ap (option_map cache_as_known) e)
 
-  no_cache : cache_of m number ≡ None → IsKeptBy limit order (Asked.Take number) s (Say.Refused Refusal.NoCache) m
+  no_cache : cache_of m number ≡ None → IsKeptBy limit order (Command.Take number) s (Say.Refused Refusal.NoCache) m
   unfolding due
   no_cache e =
-      refused limit order (Asked.Take number) Refusal.NoCache s m h (λ t owners states.
+      refused limit order (Command.Take number) Refusal.NoCache s m h (λ t owners states.
       (ap (λ o. option_map_or (is_one Refusal.NoCache) (first_due ((is_none o, Refusal.NoCache) ∷ [])) (is_one Refusal.NoCache Refusal.NoFrames)) (told_of None e), refl))
 
   -- all objects of its slabs are live, and there is no room for another slab
@@ -137,36 +137,36 @@ module _ (limit order number : ℕ) (m : Machine) (s : State) (w : IsWellFormed 
           ∙ (full_count c o.slab (all_full c e o.slab o.slab_in) ∙ count)))
 
   no_frames : (c : Cache) → 3 ≤ order → cache_of m number ≡ Some c → IsIn c m.caches → slab_to_use (find is_partial c.slabs) (find is_empty c.slabs) ≡ None → choice_by_need order (layout c).order m ≡ None
-      → IsKeptBy limit order (Asked.Take number) s (Say.Refused Refusal.NoFrames) (by_need order (layout c).order m)
+      → IsKeptBy limit order (Command.Take number) s (Say.Refused Refusal.NoFrames) (by_need order (layout c).order m)
   unfolding due
   no_frames c large is in_c e none =
-      refused limit order (Asked.Take number) Refusal.NoFrames s (by_need order (layout c).order m)
+      refused limit order (Command.Take number) Refusal.NoFrames s (by_need order (layout c).order m)
       (subst (λ n. Meets order s n) (sym (by_need_none order (layout c).order m none)) h) (λ t owners states. (
         ap (λ o. option_map_or (is_one Refusal.NoFrames) (first_due ((is_none o, Refusal.NoCache) ∷ [])) true) (told_of (Some c) is),
         and_from _ _ (ap (λ o. option_map_or (is_used_up order s.has) o false) (told_of (Some c) is) ∙ used_up c large in_c e none) refl,
       ))
 
   from_slab : (c : Cache) → 3 ≤ order → cache_of m number ≡ Some c → IsIn c m.caches → c.number ≡ number → (o : Option Slab) → slab_to_use (find is_partial c.slabs) (find is_empty c.slabs) ≡ o
-      → IsKeptBy limit order (Asked.Take number) s (take_body (take_from order c m o).answer) (take_from order c m o).machine
+      → IsKeptBy limit order (Command.Take number) s (take_body (take_from order c m o).answer) (take_from order c m o).machine
   from_slab c large is in_c same (Some t) e =
       let in_t : IsIn t c.slabs = used_in c t e in
-      subst (λ i. IsKeptBy limit order (Asked.Take i) s (take_body (hand_out c t m).answer) (hand_out c t m).machine) same
+      subst (λ i. IsKeptBy limit order (Command.Take i) s (take_body (hand_out c t m).answer) (hand_out c t m).machine) same
       (hand_out_kept order c t m s w (meets_hidden order c.number s m (meets_untold order s m h)) in_c in_t (not_full c t (is_slab order c m w in_c t in_t) e))
   from_slab c large is in_c same None e = go (choice_by_need order (layout c).order m) refl
     where
       go : (o : Option ℕ) → choice_by_need order (layout c).order m ≡ o
-          → let step = take_new c (by_need order (layout c).order m) o in IsKeptBy limit order (Asked.Take number) s (take_body step.answer) step.machine
+          → let step = take_new c (by_need order (layout c).order m) o in IsKeptBy limit order (Command.Take number) s (take_body step.answer) step.machine
       go None none = no_frames c large is in_c e none
       go (Some first) some =
           let n : Machine = by_need order (layout c).order m in
-          subst (λ i. IsKeptBy limit order (Asked.Take i) s (take_body (hand_out (grown_cache first c) (new_slab c first) (grown first c n)).answer) (hand_out (grown_cache first c) (new_slab c first) (grown first c n)).machine) same
+          subst (λ i. IsKeptBy limit order (Command.Take i) s (take_body (hand_out (grown_cache first c) (new_slab c first) (grown first c n)).answer) (hand_out (grown_cache first c) (new_slab c first) (grown first c n)).machine) same
           (grow_kept order first c n s (by_need_kept order (layout c).order m w) (by_need_meets order s m w h (layout c).order) (stands_by_need order (layout c).order c m in_c e) some)
 
-  pub take_kept : 3 ≤ order → IsPromiseKept limit order (Asked.Take number) m s
+  pub take_kept : 3 ≤ order → IsPromiseKept limit order (Command.Take number) m s
   unfolding command_step take_step
   take_kept large = go (cache_of m number) refl
     where
-      go : (o : Option Cache) → cache_of m number ≡ o → IsKeptBy limit order (Asked.Take number) s (take_body (take_of order m o).answer) (take_of order m o).machine
+      go : (o : Option Cache) → cache_of m number ≡ o → IsKeptBy limit order (Command.Take number) s (take_body (take_of order m o).answer) (take_of order m o).machine
       go None e = no_cache e
       go (Some c) e =
           let f = find_in (λ x. eqb x.number number) c m.caches e in

@@ -12,7 +12,7 @@ use Rattle.model_core.specs.WellFormed.{IsWellFormed}
 use Rattle.words_core.specs.declared.event.Event.{Event}
 use Rattle.words_core.specs.declared.event.Event.TheVariants as On
 use Rattle.words_core.specs.declared.event.AdminCommand.TheVariants as Do
-use Rattle.words_core.specs.declared.event.Command.TheVariants as Asked
+use Rattle.words_core.specs.declared.event.Command.TheVariants as Command
 use Rattle.words_core.specs.Cutting.{lines_of_trace}
 use Rattle.world_core.specs.PrivateStep.{private_step, command_step, report_step, figures_of}
 use Rattle.world_core.specs.PrivateRun.{private_run}
@@ -27,7 +27,7 @@ use Rattle.promise_kept.specs.Meets.{Meets, IsPromiseKept}
 use Rattle.promise_kept.specs.MeetsWorld.{IsKeptIn}
 use Rattle.promise_kept.specs.Laws.{AllocIsKept, FreeIsKept, WriteIsKept, ReadIsKept, CacheIsKept, ReportIsKept}
 use Rattle.promise_kept.specs.ObjectLaws.{TakeIsKept, GiveIsKept, DestroyIsKept, ReapIsKept}
-use Rattle.promise_kept.specs.WorldLaws.{CanBeAsked, GrantIsKept, TakeBackIsKept, ResetIsKept, MoveIsKept, PoolIsKept, EventIsKept, StrangerChangesNothing, IsKeptRun, KeepsPromises, TraceKeepsPromises}
+use Rattle.promise_kept.specs.WorldLaws.{CanBeRequested, GrantIsKept, TakeBackIsKept, ResetIsKept, MoveIsKept, PoolIsKept, EventIsKept, StrangerChangesNothing, IsKeptRun, KeepsPromises, TraceKeepsPromises}
 use Rattle.promise_kept.proofs.World.{beside}
 use Rattle.promise_kept.proofs.WorldSteps.{keeps_promises, opening_meets}
 
@@ -35,21 +35,21 @@ use Rattle.promise_kept.proofs.WorldSteps.{keeps_promises, opening_meets}
 -- objects and gives one back
 
 abbrev events : List Event
-events = On.Admin (Do.Grant 0) ∷ On.Tenant 0 (Asked.Alloc 1) ∷ On.Tenant 0 (Asked.Write 4096 (record { items = 7 ∷ 8 ∷ [] }))
-    ∷ On.Tenant 0 (Asked.Cache 64 8 (record { items = 90 ∷ [] })) ∷ On.Tenant 0 (Asked.Take 0) ∷ On.Tenant 0 (Asked.Take 0)
-    ∷ On.Tenant 0 (Asked.Give 0 8192) ∷ On.Admin (Do.Grant 1) ∷ On.Admin (Do.Move 1 0) ∷ On.Tenant 0 Asked.Report ∷ []
+events = On.Admin (Do.Grant 0) ∷ On.Tenant 0 (Command.Alloc 1) ∷ On.Tenant 0 (Command.Write 4096 (record { items = 7 ∷ 8 ∷ [] }))
+    ∷ On.Tenant 0 (Command.Cache 64 8 (record { items = 90 ∷ [] })) ∷ On.Tenant 0 (Command.Take 0) ∷ On.Tenant 0 (Command.Take 0)
+    ∷ On.Tenant 0 (Command.Give 0 8192) ∷ On.Admin (Do.Grant 1) ∷ On.Admin (Do.Move 1 0) ∷ On.Tenant 0 Command.Report ∷ []
 
-can_be_asked : AllByRecursion CanBeAsked events
-can_be_asked = (tt, ((tt, tt), ((tt, tt), ((refl, tt), ((tt, tt), ((tt, tt), ((tt, tt), (tt, (tt, (tt, tt))))))))))
+can_be_requested : AllByRecursion CanBeRequested events
+can_be_requested = (tt, ((tt, tt), ((tt, tt), ((refl, tt), ((tt, tt), ((tt, tt), ((tt, tt), (tt, (tt, (tt, tt))))))))))
 
 KeepsPromises-met : KeepsPromises → IsKeptRun 32 3 4 2 events
-KeepsPromises-met law = law 32 3 4 2 events (omega arith) (omega arith) can_be_asked
+KeepsPromises-met law = law 32 3 4 2 events (omega arith) (omega arith) can_be_requested
 
 TraceKeepsPromises-met : TraceKeepsPromises → IsKeptRun 32 3 2 2 (events_of (lines_of_trace (codes "admin grant 0\n0 cache 64 8 5a\n0 take 0\n0 read 0 4\n0 report\n")))
 TraceKeepsPromises-met law = law 32 3 2 2 (codes "admin grant 0\n0 cache 64 8 5a\n0 take 0\n0 read 0 4\n0 report\n") (omega arith) (omega arith)
 
 ran : IsKeptRun 32 3 4 2 events
-ran = keeps_promises 32 3 4 2 events (omega arith) (omega arith) can_be_asked
+ran = keeps_promises 32 3 4 2 events (omega arith) (omega arith) can_be_requested
 
 abbrev then_world : World
 then_world = world_after 32 3 (opening_world 4 2) events
@@ -69,14 +69,14 @@ MoveIsKept-met law = law 32 3 0 0 ran.after then_world ran.meets
 PoolIsKept-met : PoolIsKept → IsKeptIn 32 3 (On.Admin Do.Pool) ran.after (world_step 32 3 (On.Admin Do.Pool) then_world)
 PoolIsKept-met law = law 32 3 ran.after then_world ran.meets
 
-EventIsKept-met : EventIsKept → IsKeptIn 32 3 (On.Tenant 0 (Asked.Take 0)) ran.after (world_step 32 3 (On.Tenant 0 (Asked.Take 0)) then_world)
-EventIsKept-met law = law 32 3 (On.Tenant 0 (Asked.Take 0)) (omega arith) (tt, tt) ran.after then_world ran.meets
+EventIsKept-met : EventIsKept → IsKeptIn 32 3 (On.Tenant 0 (Command.Take 0)) ran.after (world_step 32 3 (On.Tenant 0 (Command.Take 0)) then_world)
+EventIsKept-met law = law 32 3 (On.Tenant 0 (Command.Take 0)) (omega arith) (tt, tt) ran.after then_world ran.meets
 
 StrangerChangesNothing-met : StrangerChangesNothing →
-    (allowed (On.Tenant 2 Asked.Reap) (world_step 32 3 (On.Tenant 2 Asked.Reap) (opening_world 4 2)).reply (opening 32 3 4 2) ≡ Ok (opening 32 3 4 2))
-    × ((world_step 32 3 (On.Tenant 2 Asked.Reap) (opening_world 4 2)).world ≡ opening_world 4 2)
+    (allowed (On.Tenant 2 Command.Reap) (world_step 32 3 (On.Tenant 2 Command.Reap) (opening_world 4 2)).reply (opening 32 3 4 2) ≡ Ok (opening 32 3 4 2))
+    × ((world_step 32 3 (On.Tenant 2 Command.Reap) (opening_world 4 2)).world ≡ opening_world 4 2)
 unfolding opening_world
-StrangerChangesNothing-met law = law 32 3 2 (On.Tenant 2 Asked.Reap) (opening 32 3 4 2) (opening_world 4 2) (opening_meets 32 3 4 2 (omega arith)) refl (omega arith)
+StrangerChangesNothing-met law = law 32 3 2 (On.Tenant 2 Command.Reap) (opening 32 3 4 2) (opening_world 4 2) (opening_meets 32 3 4 2 (omega arith)) refl (omega arith)
 
 -- The machine that the run leaves tenant 0, and what is known of it
 
@@ -103,32 +103,32 @@ formed = ran.meets.formed 0 left is_left
 met : Meets 3 of_it left
 met = ran.meets.meets 0 of_it left known_state.1 is_left
 
-AllocIsKept-met : AllocIsKept → IsPromiseKept 32 3 (Asked.Alloc 0) left of_it
+AllocIsKept-met : AllocIsKept → IsPromiseKept 32 3 (Command.Alloc 0) left of_it
 AllocIsKept-met law = law 32 3 0 left of_it formed met
 
-FreeIsKept-met : FreeIsKept → IsPromiseKept 32 3 (Asked.Free 0) left of_it
+FreeIsKept-met : FreeIsKept → IsPromiseKept 32 3 (Command.Free 0) left of_it
 FreeIsKept-met law = law 32 3 0 left of_it formed met
 
-WriteIsKept-met : WriteIsKept → IsPromiseKept 32 3 (Asked.Write 0 (record { items = 7 ∷ [] })) left of_it
+WriteIsKept-met : WriteIsKept → IsPromiseKept 32 3 (Command.Write 0 (record { items = 7 ∷ [] })) left of_it
 WriteIsKept-met law = law 32 3 0 (record { items = 7 ∷ [] }) left of_it formed met
 
-ReadIsKept-met : ReadIsKept → IsPromiseKept 32 3 (Asked.Read 4096 2) left of_it
+ReadIsKept-met : ReadIsKept → IsPromiseKept 32 3 (Command.Read 4096 2) left of_it
 ReadIsKept-met law = law 32 3 4096 2 left of_it formed met
 
-CacheIsKept-met : CacheIsKept → IsPromiseKept 32 3 (Asked.Cache 64 8 (record { items = 0 ∷ [] })) left of_it
+CacheIsKept-met : CacheIsKept → IsPromiseKept 32 3 (Command.Cache 64 8 (record { items = 0 ∷ [] })) left of_it
 CacheIsKept-met law = law 32 3 64 8 (record { items = 0 ∷ [] }) left of_it formed met (omega arith)
 
-ReportIsKept-met : ReportIsKept → IsPromiseKept 32 3 Asked.Report left of_it
+ReportIsKept-met : ReportIsKept → IsPromiseKept 32 3 Command.Report left of_it
 ReportIsKept-met law = law 32 3 left of_it formed met
 
-TakeIsKept-met : TakeIsKept → IsPromiseKept 32 3 (Asked.Take 0) left of_it
+TakeIsKept-met : TakeIsKept → IsPromiseKept 32 3 (Command.Take 0) left of_it
 TakeIsKept-met law = law 32 3 0 left of_it formed met (omega arith)
 
-GiveIsKept-met : GiveIsKept → IsPromiseKept 32 3 (Asked.Give 0 8256) left of_it
+GiveIsKept-met : GiveIsKept → IsPromiseKept 32 3 (Command.Give 0 8256) left of_it
 GiveIsKept-met law = law 32 3 0 8256 left of_it formed met
 
-DestroyIsKept-met : DestroyIsKept → IsPromiseKept 32 3 (Asked.Destroy 0) left of_it
+DestroyIsKept-met : DestroyIsKept → IsPromiseKept 32 3 (Command.Destroy 0) left of_it
 DestroyIsKept-met law = law 32 3 0 left of_it formed met
 
-ReapIsKept-met : ReapIsKept → IsPromiseKept 32 3 Asked.Reap left of_it
+ReapIsKept-met : ReapIsKept → IsPromiseKept 32 3 Command.Reap left of_it
 ReapIsKept-met law = law 32 3 left of_it formed met

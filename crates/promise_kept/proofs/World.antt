@@ -18,7 +18,6 @@ use Rattle.words_core.specs.declared.event.Event.{Event}
 use Rattle.words_core.specs.declared.event.Event.TheVariants as On
 use Rattle.words_core.specs.declared.event.AdminCommand.TheVariants as Do
 use Rattle.words_core.specs.declared.event.Command.{Command}
-use Rattle.words_core.specs.declared.event.Command.TheVariants as Asked
 use Rattle.words_core.specs.declared.reply.Addressee.TheVariants as To
 use Rattle.words_core.specs.declared.reply.Body.{Body}
 use Rattle.words_core.specs.declared.reply.Body.TheVariants as Say
@@ -82,16 +81,16 @@ allowed_stranger event reply k t name is for says =
 slots_after : (order t : ℕ) (command : Command) (body : Body) (s next : State) → state_after order (On.Tenant t command) body s ≡ Some next → s.has.slots ≡ next.has.slots
 unfolding state_after
 slots_after order t command (Say.Refused refusal) s next e = ap (λ (x : State). x.has.slots) (same_Some _ next e)
-slots_after order t (Asked.Alloc k) (Say.Frame f) s next e = ap (λ (x : State). x.has.slots) (same_Some _ next e)
-slots_after order t (Asked.Free f) (Say.Freed k) s next e = ap (λ (x : State). x.has.slots) (same_Some _ next e)
-slots_after order t (Asked.Read place len) (Say.Bytes bytes) s next e = ap (λ (x : State). x.has.slots) (same_Some _ next e)
-slots_after order t (Asked.Write place bytes) (Say.Written n) s next e = ap (λ (x : State). x.has.slots) (same_Some _ next e)
-slots_after order t (Asked.Cache size align pattern) (Say.Cache number chunk q n colours) s next e = ap (λ (x : State). x.has.slots) (same_Some _ next e)
-slots_after order t (Asked.Destroy number) (Say.Destroyed frames) s next e = ap (λ (x : State). x.has.slots) (same_Some _ next e)
-slots_after order t (Asked.Take number) (Say.Object place) s next e = ap (λ (x : State). x.has.slots) (same_Some _ next e)
-slots_after order t (Asked.Give number place) Say.Given s next e = ap (λ (x : State). x.has.slots) (same_Some _ next e)
-slots_after order t Asked.Reap (Say.Reaped frames) s next e = ap (λ (x : State). x.has.slots) (same_Some _ next e)
-slots_after order t Asked.Report (Say.Report r) s next e = ap (λ (x : State). x.has.slots) (same_Some _ next e)
+slots_after order t (Command.Alloc k) (Say.Frame f) s next e = ap (λ (x : State). x.has.slots) (same_Some _ next e)
+slots_after order t (Command.Free f) (Say.Freed k) s next e = ap (λ (x : State). x.has.slots) (same_Some _ next e)
+slots_after order t (Command.Read place len) (Say.Bytes bytes) s next e = ap (λ (x : State). x.has.slots) (same_Some _ next e)
+slots_after order t (Command.Write place bytes) (Say.Written n) s next e = ap (λ (x : State). x.has.slots) (same_Some _ next e)
+slots_after order t (Command.Cache size align pattern) (Say.Cache number chunk q n colours) s next e = ap (λ (x : State). x.has.slots) (same_Some _ next e)
+slots_after order t (Command.Destroy number) (Say.Destroyed frames) s next e = ap (λ (x : State). x.has.slots) (same_Some _ next e)
+slots_after order t (Command.Take number) (Say.Object place) s next e = ap (λ (x : State). x.has.slots) (same_Some _ next e)
+slots_after order t (Command.Give number place) Say.Given s next e = ap (λ (x : State). x.has.slots) (same_Some _ next e)
+slots_after order t Command.Reap (Say.Reaped frames) s next e = ap (λ (x : State). x.has.slots) (same_Some _ next e)
+slots_after order t Command.Report (Say.Report r) s next e = ap (λ (x : State). x.has.slots) (same_Some _ next e)
 slots_after order t command body s next e = absurd (cc)
 
 slots_stay : (order : ℕ) (m after : Machine) (s next : State) → Meets order s m → Meets order next after → s.has.slots ≡ next.has.slots → after.slots ≡ m.slots

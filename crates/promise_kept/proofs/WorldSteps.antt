@@ -18,7 +18,6 @@ use Rattle.words_core.specs.declared.event.Event.{Event}
 use Rattle.words_core.specs.declared.event.Event.TheVariants as On
 use Rattle.words_core.specs.declared.event.AdminCommand.TheVariants as Do
 use Rattle.words_core.specs.declared.event.Command.{Command}
-use Rattle.words_core.specs.declared.event.Command.TheVariants as Asked
 use Rattle.words_core.specs.declared.reply.Addressee.{Addressee}
 use Rattle.words_core.specs.declared.reply.Addressee.TheVariants as To
 use Rattle.words_core.specs.declared.reply.Body.TheVariants as Say
@@ -38,7 +37,7 @@ use Rattle.promise_core.specs.Promises.{is_for, due, named, kept, allowed, all_a
 use Rattle.promise_core.proofs.Steps.{replicated}
 use Rattle.promise_kept.specs.Meets.{Meets, IsPromiseKept}
 use Rattle.promise_kept.specs.MeetsWorld.{MeetsWorld, IsKeptIn, IsEventKept}
-use Rattle.promise_kept.specs.WorldLaws.{CanBeAsked, KeepsPromises, TraceKeepsPromises, StrangerChangesNothing}
+use Rattle.promise_kept.specs.WorldLaws.{CanBeRequested, KeepsPromises, TraceKeepsPromises, StrangerChangesNothing}
 use Rattle.promise_kept.proofs.Cells.{all_kept}
 use Rattle.promise_kept.proofs.Owning.{pool_first, same_owners}
 use Rattle.promise_kept.proofs.SlotsMeet.{nothing_meets}
@@ -57,16 +56,16 @@ use Rattle.promise_kept.proofs.Report.{report_kept}
 -- Commands
 
 command_kept : (limit order : ℕ) (command : Command) (m : Machine) (s : State) → 3 ≤ order → IsWellFormed limit order m → Meets order s m → IsPromiseKept limit order command m s
-command_kept limit order (Asked.Alloc k) m s le w h = alloc_is_kept limit order k m s w h
-command_kept limit order (Asked.Free first) m s le w h = free_is_kept limit order first m s w h
-command_kept limit order (Asked.Read place len) m s le w h = read_is_kept limit order place len m s w h
-command_kept limit order (Asked.Write place new) m s le w h = write_is_kept limit order place new m s w h
-command_kept limit order (Asked.Cache size align pattern) m s le w h = cache_is_kept limit order size align pattern m s w h le
-command_kept limit order (Asked.Destroy number) m s le w h = destroy.destroy_kept limit order number m s w h
-command_kept limit order (Asked.Take number) m s le w h = taking.take_kept limit order number m s w h le
-command_kept limit order (Asked.Give number place) m s le w h = give.give_kept limit order number place m s w h
-command_kept limit order Asked.Reap m s le w h = reap.reap_kept limit order m s w h
-command_kept limit order Asked.Report m s le w h = report_kept limit order m s w h
+command_kept limit order (Command.Alloc k) m s le w h = alloc_is_kept limit order k m s w h
+command_kept limit order (Command.Free first) m s le w h = free_is_kept limit order first m s w h
+command_kept limit order (Command.Read place len) m s le w h = read_is_kept limit order place len m s w h
+command_kept limit order (Command.Write place new) m s le w h = write_is_kept limit order place new m s w h
+command_kept limit order (Command.Cache size align pattern) m s le w h = cache_is_kept limit order size align pattern m s w h le
+command_kept limit order (Command.Destroy number) m s le w h = destroy.destroy_kept limit order number m s w h
+command_kept limit order (Command.Take number) m s le w h = taking.take_kept limit order number m s w h le
+command_kept limit order (Command.Give number place) m s le w h = give.give_kept limit order number place m s w h
+command_kept limit order Command.Reap m s le w h = reap.reap_kept limit order m s w h
+command_kept limit order Command.Report m s le w h = report_kept limit order m s w h
 
 command_formed : (limit order : ℕ) (command : Command) (m : Machine) → ArePossible (operations_in (Entry.Ask command)) → IsWellFormed limit order m → IsWellFormed limit order (command_step limit order command m).machine
 unfolding private_step
@@ -168,7 +167,7 @@ move_event limit order t u k w h = known_now limit order (On.Admin (Do.Move t u)
 pub pool_event : (limit order : ℕ) → IsEventKept limit order (On.Admin Do.Pool)
 pool_event limit order k w h = known_now limit order (On.Admin Do.Pool) k w _ (λ states met. pool_now limit order w states met) h
 
-pub event_kept : (limit order : ℕ) (event : Event) → 3 ≤ order → CanBeAsked event → IsEventKept limit order event
+pub event_kept : (limit order : ℕ) (event : Event) → 3 ≤ order → CanBeRequested event → IsEventKept limit order event
 event_kept limit order (On.Tenant t command) le can = λ k w h. known_now limit order (On.Tenant t command) k w _ (λ states met. command_now limit order w states met t command le can) h
 event_kept limit order (On.Admin (Do.Grant t)) le can = grant_event limit order t
 event_kept limit order (On.Admin (Do.TakeBack t u)) le can = back_event limit order t u
@@ -221,7 +220,7 @@ opening_meets limit order superblocks tenants ram = record {
     unowned t u zero = refl
     unowned t u (suc n) = unowned t u n
 
-run_kept : (limit order : ℕ) (events : List Event) → 3 ≤ order → Each CanBeAsked events → (k : Known) (w : World) → MeetsWorld limit order k w
+run_kept : (limit order : ℕ) (events : List Event) → 3 ≤ order → Each CanBeRequested events → (k : Known) (w : World) → MeetsWorld limit order k w
     → (v : Known) × (all_allowed (history limit order w events) (Ok k) ≡ Ok v) × MeetsWorld limit order v (world_after limit order w events)
 run_kept limit order [] le can k w h = (k, refl, h)
 run_kept limit order (event ∷ events) le (first, can) k w h =
@@ -239,15 +238,15 @@ keeps_promises limit order superblocks tenants events le ram can =
 
 -- what a line reads as can be asked for
 
-can_ask : (event : Event) → IsPossibleEvent event → CanBeAsked event
+can_ask : (event : Event) → IsPossibleEvent event → CanBeRequested event
 can_ask (On.Tenant t command) h = h
 can_ask (On.Admin command) h = tt
 
-pub read_asked : (line : List ℕ) (event : Event) → reading_of line ≡ Ok (Some event) → CanBeAsked event
+pub read_asked : (line : List ℕ) (event : Event) → reading_of line ≡ Ok (Some event) → CanBeRequested event
 read_asked line event e = can_ask event (reading_possible line event e)
 
-pub lines_asked : (lines : List (List ℕ)) → Each CanBeAsked (events_of lines)
-lines_asked lines = each_weaker IsPossibleEvent CanBeAsked can_ask (events_of lines) (events_possible lines)
+pub lines_asked : (lines : List (List ℕ)) → Each CanBeRequested (events_of lines)
+lines_asked lines = each_weaker IsPossibleEvent CanBeRequested can_ask (events_of lines) (events_possible lines)
 
 pub trace_keeps_promises : TraceKeepsPromises
 trace_keeps_promises limit order superblocks tenants trace le ram = keeps_promises limit order superblocks tenants (events_of (lines_of_trace trace)) le ram (lines_asked (lines_of_trace trace))

@@ -11,7 +11,7 @@ use Rattle.world_core.specs.World.{World, opening_world, world_step, world_after
 use Rattle.world_core.specs.Output.{event_in, events_of, shown_reading, shown_lines}
 use Rattle.world_core.specs.Laws.{opening_history}
 use Rattle.promise_kept.specs.WorldLaws.{IsKeptRun}
-use Rattle.promise_kept.specs.Written.{told_text, IsAllowedText}
+use Rattle.promise_kept.specs.Written.{text_of_replies, IsAllowedText}
 use Rattle.promise_kept.proofs.WorldSteps.{keeps_promises, lines_asked}
 
 history_events : (limit order : ℕ) (events : List Event) (w : World) → map (λ e. e.event) (history limit order w events) ≡ events
@@ -20,14 +20,14 @@ history_events limit order (event ∷ events) w = ap (λ es. event ∷ es) (hist
 
 -- what one line shows, and what the others tell
 one_told : (only : Option ℕ) (limit order : ℕ) (reading : Result (Option Event) LineFault) (readings : List (Result (Option Event) LineFault)) (events : List Event) (w : World)
-    → shown_reading only limit order reading w ++ told_text only readings (history limit order (world_after limit order w (event_in reading)) events)
-    ≡ told_text only (reading ∷ readings) (history limit order w (event_in reading ++ events))
+    → shown_reading only limit order reading w ++ text_of_replies only readings (history limit order (world_after limit order w (event_in reading)) events)
+    ≡ text_of_replies only (reading ∷ readings) (history limit order w (event_in reading ++ events))
 one_told only limit order (Ok None) readings events w = refl
 one_told only limit order (Ok (Some event)) readings events w = refl
 one_told only limit order (Err fault) readings events w = refl
 
 lines_told : (only : Option ℕ) (limit order : ℕ) (lines : List (List ℕ)) (w : World)
-    → shown_lines only limit order lines w ≡ told_text only (map reading_of lines) (history limit order w (events_of lines))
+    → shown_lines only limit order lines w ≡ text_of_replies only (map reading_of lines) (history limit order w (events_of lines))
 lines_told only limit order [] w = refl
 lines_told only limit order (line ∷ lines) w =
     ap (λ more. shown_reading only limit order (reading_of line) w ++ more) (lines_told only limit order lines (world_after limit order w (event_in (reading_of line))))

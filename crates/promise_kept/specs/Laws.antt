@@ -3,31 +3,31 @@ use Rattle.std.specs.Prelude.{ℕ, ◌≤◌}
 use Rattle.arrayvec.specs.ArrayVec.{ArrayVec}
 use Rattle.model_core.specs.Machine.{Machine}
 use Rattle.model_core.specs.WellFormed.{IsWellFormed}
-use Rattle.words_core.specs.declared.event.Command.TheVariants as Asked
+use Rattle.words_core.specs.declared.event.Command.TheVariants as Command
 use Rattle.promise_core.specs.State.{State}
 use Rattle.promise_kept.specs.Meets.{Meets, IsPromiseKept}
 
 -- a page block taken
 abbrev pub AllocIsKept : Type 0
-AllocIsKept = (limit order k : ℕ) (m : Machine) (s : State) → IsWellFormed limit order m → Meets order s m → IsPromiseKept limit order (Asked.Alloc k) m s
+AllocIsKept = (limit order k : ℕ) (m : Machine) (s : State) → IsWellFormed limit order m → Meets order s m → IsPromiseKept limit order (Command.Alloc k) m s
 
 -- a page block released
 abbrev pub FreeIsKept : Type 0
-FreeIsKept = (limit order first : ℕ) (m : Machine) (s : State) → IsWellFormed limit order m → Meets order s m → IsPromiseKept limit order (Asked.Free first) m s
+FreeIsKept = (limit order first : ℕ) (m : Machine) (s : State) → IsWellFormed limit order m → Meets order s m → IsPromiseKept limit order (Command.Free first) m s
 
 -- bytes written
 abbrev pub WriteIsKept : Type 0
-WriteIsKept = (limit order place : ℕ) (new : ArrayVec ℕ) (m : Machine) (s : State) → IsWellFormed limit order m → Meets order s m → IsPromiseKept limit order (Asked.Write place new) m s
+WriteIsKept = (limit order place : ℕ) (new : ArrayVec ℕ) (m : Machine) (s : State) → IsWellFormed limit order m → Meets order s m → IsPromiseKept limit order (Command.Write place new) m s
 
 -- bytes read
 abbrev pub ReadIsKept : Type 0
-ReadIsKept = (limit order place len : ℕ) (m : Machine) (s : State) → IsWellFormed limit order m → Meets order s m → IsPromiseKept limit order (Asked.Read place len) m s
+ReadIsKept = (limit order place len : ℕ) (m : Machine) (s : State) → IsWellFormed limit order m → Meets order s m → IsPromiseKept limit order (Command.Read place len) m s
 
 -- a cache made, where a slot has room for the largest slab
 abbrev pub CacheIsKept : Type 0
 CacheIsKept = (limit order size align : ℕ) (pattern : ArrayVec ℕ) (m : Machine) (s : State) → IsWellFormed limit order m → Meets order s m → 3 ≤ order
-    → IsPromiseKept limit order (Asked.Cache size align pattern) m s
+    → IsPromiseKept limit order (Command.Cache size align pattern) m s
 
 -- a report, which changes nothing
 abbrev pub ReportIsKept : Type 0
-ReportIsKept = (limit order : ℕ) (m : Machine) (s : State) → IsWellFormed limit order m → Meets order s m → IsPromiseKept limit order Asked.Report m s
+ReportIsKept = (limit order : ℕ) (m : Machine) (s : State) → IsWellFormed limit order m → Meets order s m → IsPromiseKept limit order Command.Report m s

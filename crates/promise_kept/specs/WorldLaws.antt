@@ -37,13 +37,13 @@ abbrev pub PoolIsKept : Type 0
 PoolIsKept = (limit order : ℕ) → IsEventKept limit order (On.Admin Do.Pool)
 
 -- the event can be asked for: a cache is made with a pattern of 1 to 16 bytes
-abbrev pub CanBeAsked : Event → Type 0
-CanBeAsked (On.Tenant t command) = ArePossible (operations_in (Entry.Ask command))
-CanBeAsked (On.Admin command) = ⊤
+abbrev pub CanBeRequested : Event → Type 0
+CanBeRequested (On.Tenant t command) = ArePossible (operations_in (Entry.Ask command))
+CanBeRequested (On.Admin command) = ⊤
 
 -- Any event, so a tenant's command too; slots have at least 8 frames, as many as the largest slab.
 abbrev pub EventIsKept : Type 0
-EventIsKept = (limit order : ℕ) (event : Event) → 3 ≤ order → CanBeAsked event → IsEventKept limit order event
+EventIsKept = (limit order : ℕ) (event : Event) → 3 ≤ order → CanBeRequested event → IsEventKept limit order event
 
 -- What names a tenant that there is not is said so, and changes neither the world nor what is known.
 abbrev pub StrangerChangesNothing : Type 0
@@ -61,7 +61,7 @@ pub record IsKeptRun (limit order superblocks tenants : ℕ) (events : List Even
 -- From the opening world on every reply is allowed, to all that can be asked, where RAM has at most 2 ^ 32 places ..
 abbrev pub KeepsPromises : Type 0
 KeepsPromises = (limit order superblocks tenants : ℕ) (events : List Event)
-    → 3 ≤ order → superblocks * 2 ^ order * 4096 ≤ 2 ^ 32 → AllByRecursion CanBeAsked events
+    → 3 ≤ order → superblocks * 2 ^ order * 4096 ≤ 2 ^ 32 → AllByRecursion CanBeRequested events
     → IsKeptRun limit order superblocks tenants events
 
 -- .. and whatever the trace.

@@ -12,19 +12,19 @@ use Rattle.promise_core.specs.Promises.{all_allowed}
 
 -- What lines tell that read like this, where the exchanges are their events with the replies: a line with an event its reply, a
 -- faulty one its fault, to nobody, a blank one or a comment nothing. With `only` a tenant its replies alone are shown.
-abbrev pub told_text : Option ℕ → List (Result (Option Event) LineFault) → List Exchange → List ℕ
-told_text only [] exchanges = []
-told_text only (Ok None ∷ readings) exchanges = told_text only readings exchanges
-told_text only (Err fault ∷ readings) exchanges =
-    shown_text only (record { addressee = To.Nobody; body = Fault fault }) ++ told_text only readings exchanges
-told_text only (Ok (Some event) ∷ readings) [] = []
-told_text only (Ok (Some event) ∷ readings) (e ∷ es) = shown_text only e.reply ++ told_text only readings es
+abbrev pub text_of_replies : Option ℕ → List (Result (Option Event) LineFault) → List Exchange → List ℕ
+text_of_replies only [] exchanges = []
+text_of_replies only (Ok None ∷ readings) exchanges = text_of_replies only readings exchanges
+text_of_replies only (Err fault ∷ readings) exchanges =
+    shown_text only (record { addressee = To.Nobody; body = Fault fault }) ++ text_of_replies only readings exchanges
+text_of_replies only (Ok (Some event) ∷ readings) [] = []
+text_of_replies only (Ok (Some event) ∷ readings) (e ∷ es) = shown_text only e.reply ++ text_of_replies only readings es
 
 -- The text is what the lines tell by replies to their events, and each of these replies is allowed from the opening on, also
 -- where it is not shown; `limit` is on a tenant's caches, slots have 2 ^ order frames.
 pub record IsAllowedText (only : Option ℕ) (limit order superblocks tenants : ℕ) (lines : List (List ℕ)) (text : List ℕ) : Type 0 where
   pub exchanges : List Exchange
   pub asked : map (λ e. e.event) exchanges ≡ events_of lines
-  pub told : text ≡ told_text only (map reading_of lines) exchanges
+  pub told : text ≡ text_of_replies only (map reading_of lines) exchanges
   pub after : Known
   pub are_allowed : all_allowed exchanges (Ok (opening limit order superblocks tenants)) ≡ Ok after

@@ -12,7 +12,7 @@ use Rattle.kernel_core.specs.Shows.{Shows}
 use Rattle.streams.specs.declared.tally.Tally.{Tally}
 use Rattle.streams.specs.declared.tally.ReplayError.TheVariants as Of
 use Rattle.replay_core.specs.Runs.{Counts, HasRun, IsCutShort, Replays}
-use Rattle.replay_core.specs.Promised.{TellsAllowed, BeginsAllowed, TakesAllowed}
+use Rattle.replay_core.specs.Promised.{IsAllowedOutput, BeginsAllowed, TakesAllowed}
 
 -- a kernel's limits are those of the opening world that it shows
 ram_shown : (k : KernelContent) (superblocks tenants : ℕ) → Shows k (opening_world superblocks tenants) → superblocks * 2 ^ k.order * 4096 ≤ 2 ^ 32
@@ -27,7 +27,7 @@ shown_allowed only before lines superblocks tenants shows least =
     shown_is_allowed only cache_limit before.order superblocks tenants lines least (ram_shown before superblocks tenants shows)
 
 answered_in_full : (only : Option ℕ) (before : KernelContent) (lines : List (List ℕ)) (taken : List ℕ)
-    → ((w : World) → Shows before w → taken ≡ shown_lines only cache_limit before.order lines w) → TellsAllowed only before lines taken
+    → ((w : World) → Shows before w → taken ≡ shown_lines only cache_limit before.order lines w) → IsAllowedOutput only before lines taken
 answered_in_full only before lines taken shown = λ superblocks tenants shows least.
     subst (IsAllowedText only cache_limit before.order superblocks tenants lines) (sym (shown (opening_world superblocks tenants) shows))
     (shown_allowed only before lines superblocks tenants shows least)
@@ -43,7 +43,7 @@ answered_in_part only before after lines line taken tally cut = λ superblocks t
 
 -- where all was answered
 pub all_promised : (only : Option ℕ) (before after : KernelContent) (lines : List (List ℕ)) (taken : List ℕ) (tally : Tally) → HasRun only before after lines taken tally
-    → Counts tally lines taken × TellsAllowed only before lines taken
+    → Counts tally lines taken × IsAllowedOutput only before lines taken
 all_promised only before after lines taken tally ran = (ran.counted, answered_in_full only before lines taken ran.shown)
 
 -- where the drain failed

@@ -2,7 +2,7 @@
 use Rattle.std.proofs.Common.{◌≡◌, sym, List, ℕ, Option, Some, None, Result, Ok, Err}
 use Rattle.words_core.specs.declared.event.Event.{Event}
 use Rattle.words_core.specs.declared.event.Event.TheVariants as On
-use Rattle.words_core.specs.declared.event.Command.TheVariants as Asked
+use Rattle.words_core.specs.declared.event.Command.TheVariants as Command
 use Rattle.words_core.specs.declared.event.LineFault.{LineFault}
 use Rattle.words_core.specs.Grammar.{reading_of}
 use Rattle.world_core.proofs.Asked.{IsPossibleEvent, reading_possible}
@@ -10,16 +10,16 @@ use Rattle.kernel_core.specs.Steps.{HasPattern}
 use Rattle.replay_core.specs.Standing.{IsRunnable}
 
 possible_pattern : (event : Event) → IsPossibleEvent event → HasPattern event
-possible_pattern (On.Tenant t (Asked.Cache size align pattern)) possible = possible.0
-possible_pattern (On.Tenant t (Asked.Alloc k)) possible = tt
-possible_pattern (On.Tenant t (Asked.Free frame)) possible = tt
-possible_pattern (On.Tenant t (Asked.Read place len)) possible = tt
-possible_pattern (On.Tenant t (Asked.Write place bytes)) possible = tt
-possible_pattern (On.Tenant t (Asked.Destroy number)) possible = tt
-possible_pattern (On.Tenant t (Asked.Take number)) possible = tt
-possible_pattern (On.Tenant t (Asked.Give number place)) possible = tt
-possible_pattern (On.Tenant t Asked.Reap) possible = tt
-possible_pattern (On.Tenant t Asked.Report) possible = tt
+possible_pattern (On.Tenant t (Command.Cache size align pattern)) possible = possible.0
+possible_pattern (On.Tenant t (Command.Alloc k)) possible = tt
+possible_pattern (On.Tenant t (Command.Free frame)) possible = tt
+possible_pattern (On.Tenant t (Command.Read place len)) possible = tt
+possible_pattern (On.Tenant t (Command.Write place bytes)) possible = tt
+possible_pattern (On.Tenant t (Command.Destroy number)) possible = tt
+possible_pattern (On.Tenant t (Command.Take number)) possible = tt
+possible_pattern (On.Tenant t (Command.Give number place)) possible = tt
+possible_pattern (On.Tenant t Command.Reap) possible = tt
+possible_pattern (On.Tenant t Command.Report) possible = tt
 possible_pattern (On.Admin command) possible = tt
 
 -- a line that was read

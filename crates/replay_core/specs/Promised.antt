@@ -14,8 +14,8 @@ use Rattle.streams.specs.declared.tally.ReplayError.TheVariants as Of
 use Rattle.replay_core.specs.Runs.{Counts, HasCome}
 
 -- From an opening world, whose slots have at least 8 frames, the text is that of allowed replies to these lines ..
-abbrev pub TellsAllowed : Option ℕ → KernelContent → List (List ℕ) → List ℕ → Type 0
-TellsAllowed only before lines text = (superblocks tenants : ℕ) → Shows before (opening_world superblocks tenants) → 3 ≤ before.order
+abbrev pub IsAllowedOutput : Option ℕ → KernelContent → List (List ℕ) → List ℕ → Type 0
+IsAllowedOutput only before lines text = (superblocks tenants : ℕ) → Shows before (opening_world superblocks tenants) → 3 ≤ before.order
     → IsAllowedText only cache_limit before.order superblocks tenants lines text
 
 -- .. or a beginning of it.
@@ -27,8 +27,8 @@ BeginsAllowed only before lines part = (superblocks tenants : ℕ) → Shows bef
 -- the drain failed.
 abbrev pub TakesAllowed : Bool → Option ℕ → KernelContent → List ℕ → List ℕ → Result Tally ReplayError → Type 0
 TakesAllowed ended only before given taken (Ok tally) =
-    Counts tally (lines_of_trace given) taken × TellsAllowed only before (lines_of_trace given) taken
+    Counts tally (lines_of_trace given) taken × IsAllowedOutput only before (lines_of_trace given) taken
 TakesAllowed ended only before given taken (Err (Of.Feed tally)) =
-    Counts tally (ended_lines given) taken × TellsAllowed only before (ended_lines given) taken
+    Counts tally (ended_lines given) taken × IsAllowedOutput only before (ended_lines given) taken
 TakesAllowed ended only before given taken (Err (Of.Drain tally)) = (lines : List (List ℕ)) × HasCome ended given lines
     × Counts tally lines taken × BeginsAllowed only before lines taken

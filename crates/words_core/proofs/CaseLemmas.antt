@@ -10,7 +10,7 @@ use Rattle.std.proofs.lemmas.Slice.Eq.{bytes_eq-Decides}
 use Rattle.std.proofs.lemmas.Bool.{cases_Bool}
 use Rattle.words_core.specs.Cases.{IsComment, Names, AsksFor, FirstFault, AllMake, CaseOfWords, blank, comment, nobody, alone, no_command, wrong_count, faulty, event, CaseOfBytes, too_long, of_words, Case, Says}
 use Rattle.words_core.specs.Commands.{or_fault, Form, Given, Maker, CommandRow, read_as, Actor, administrator, tenant, CommandOf, admin_rows, tenant_rows, command_rows, event_by, nobody_fault}
-use Rattle.words_core.specs.Grammar.{◌>>=◌, are_as_many, made_of, command_by, command_of, asked_of, tenant_of, actor_of, event_of, reading_of_words, reading_within, reading_of}
+use Rattle.words_core.specs.Grammar.{◌>>=◌, are_as_many, made_of, command_by, command_of, command_in_words, tenant_of, actor_of, event_of, reading_of_words, reading_within, reading_of}
 use Rattle.words_core.specs.Numbers.{value_of, number_of}
 use Rattle.words_core.specs.Words.{words_of}
 use Rattle.words_core.specs.declared.numbers.TheConstants.{MOST_DIGITS}
@@ -222,7 +222,7 @@ abbrev said_by : (actor : Actor) → Result (CommandOf actor) LineFault → Resu
 said_by actor asked = (asked >>= (λ command. Ok (event_by actor command))) >>= (λ event. Ok (Some event))
 
 named : (first : List ℕ) (rest : List (List ℕ)) (actor : Actor) (number : ℕ) (asked : Result (CommandOf actor) LineFault) → Names first actor
-    → asked_case (command_rows actor) rest ≡ number → asked_of (command_rows actor) rest ≡ asked
+    → asked_case (command_rows actor) rest ≡ number → command_in_words (command_rows actor) rest ≡ asked
     → (words_case (first ∷ rest) ≡ number) × (reading_of_words (first ∷ rest) ≡ said_by actor asked)
 unfolding reading_of_words event_of
 named first rest actor number asked names number_is asked_is =
@@ -232,7 +232,7 @@ named first rest actor number asked names number_is asked_is =
           ∙ ap (λ found. actor_case found rest) names_actor
           ∙ number_is,
       ap (λ test. if test then Ok None else (event_of first rest >>= (λ event. Ok (Some event)))) no_comment
-          ∙ ap (λ found. (found >>= (λ actor. asked_of (command_rows actor) rest >>= (λ command. Ok (event_by actor command)))) >>= (λ event. Ok (Some event))) names_actor
+          ∙ ap (λ found. (found >>= (λ actor. command_in_words (command_rows actor) rest >>= (λ command. Ok (event_by actor command)))) >>= (λ event. Ok (Some event))) names_actor
           ∙ ap (said_by actor) asked_is,
     )
 
@@ -265,7 +265,7 @@ only_of_words number words reading (nobody {first} {rest} no_comment none) =
     let nobody : actor_of first ≡ Err (nobody_fault first) = actor_of-nobody first none in (
       ap (λ test. if test then 2 else actor_case (actor_of first) rest) test ∙ ap (λ found. actor_case found rest) nobody,
       ap (λ test. if test then Ok None else (event_of first rest >>= (λ event. Ok (Some event)))) test
-          ∙ ap (λ found. (found >>= (λ actor. asked_of (command_rows actor) rest >>= (λ command. Ok (event_by actor command)))) >>= (λ event. Ok (Some event))) nobody,
+          ∙ ap (λ found. (found >>= (λ actor. command_in_words (command_rows actor) rest >>= (λ command. Ok (event_by actor command)))) >>= (λ event. Ok (Some event))) nobody,
     )
 only_of_words number words reading (alone {first} actor names) = named first [] actor 4 (Err Words) names refl refl
 only_of_words number words reading (no_command {first} {word} {arguments} actor names none) =

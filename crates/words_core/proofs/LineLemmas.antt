@@ -5,10 +5,10 @@ use Rattle.std.specs.Str.Lines.{strip_carriage_return}
 use Rattle.words_core.specs.declared.event.LineFault.{LineFault}
 use Rattle.words_core.specs.declared.event.LineFault.TheVariants.{Long}
 use Rattle.words_core.specs.Commands.{Actor, administrator, tenant, command_rows, event_by}
-use Rattle.words_core.specs.Grammar.{◌>>=◌, asked_of, actor_of, event_of, reading_of_words, reading_within, reading_of}
+use Rattle.words_core.specs.Grammar.{◌>>=◌, command_in_words, actor_of, event_of, reading_of_words, reading_within, reading_of}
 use Rattle.words_core.specs.Words.{words_of}
 
-asked-take : (actor : Actor) (words : List (List ℕ)) → asked_of (command_rows actor) (take 5 words) ≡ asked_of (command_rows actor) words
+asked-take : (actor : Actor) (words : List (List ℕ)) → command_in_words (command_rows actor) (take 5 words) ≡ command_in_words (command_rows actor) words
 asked-take actor [] = refl
 asked-take administrator (a ∷ []) = refl
 asked-take administrator (a ∷ b ∷ []) = refl

@@ -17,7 +17,7 @@ use Rattle.words_core.specs.declared.event.LineFault.TheVariants.{Long, Unknown,
 use Rattle.words_core.specs.declared.answer.Answer.TheVariants as Say
 use Rattle.words_core.specs.declared.reply.Reply.{Reply}
 use Rattle.words_core.specs.declared.reply.Addressee.TheVariants as To
-use Rattle.words_core.specs.declared.reply.Body.TheVariants as Told
+use Rattle.words_core.specs.declared.reply.Body.TheVariants as Body
 use Rattle.words_core.specs.declared.report.Report.{Report as Figures}
 use Rattle.words_core.specs.declared.reply.Refusal.TheVariants.{NotABlock}
 
@@ -106,12 +106,12 @@ one_slab = record {
 -- replies, each with its text
 abbrev replies : List (Reply × List ℕ)
 replies =
-    (record { addressee = To.Nobody; body = Told.Fault Words }, codes "!> fault Words\n")
+    (record { addressee = To.Nobody; body = Body.Fault Words }, codes "!> fault Words\n")
     ∷ (
-      record { addressee = To.Admin; body = Told.Owners (record { items = Some (owned_by 1 0) ∷ None ∷ [] }) },
+      record { addressee = To.Admin; body = Body.Owners (record { items = Some (owned_by 1 0) ∷ None ∷ [] }) },
       codes "admin> pool free 1 of 2\nadmin> superblock 0 tenant 1 slot 0\nadmin> superblock 1 free\n",
     )
-    ∷ (record { addressee = To.Admin; body = Told.Moved 0 0 1 }, codes "admin> moved 0 slot 0 superblock 1\n")
+    ∷ (record { addressee = To.Admin; body = Body.Moved 0 0 1 }, codes "admin> moved 0 slot 0 superblock 1\n")
     ∷ (reply_of_answer 0 (Say.Cache 0 200 0 20 9), codes "0> cache 0 chunk 200 order 0 objects 20 colours 9\n")
     ∷ (reply_of_answer 0 (Say.Destroyed 1), codes "0> destroyed 1\n")
     ∷ (reply_of_answer 0 (Say.Object 4096), codes "0> object 4096\n")
@@ -119,11 +119,11 @@ replies =
     ∷ (reply_of_answer 0 (Say.Reaped 0), codes "0> reaped 0\n")
     ∷ (reply_of_answer 3 (Say.Refused NotABlock), codes "3> refused 3 NotABlock\n")
     ∷ (
-      record { addressee = To.Tenant 1; body = Told.Report none_free },
+      record { addressee = To.Tenant 1; body = Body.Report none_free },
       codes "1> frames 0 live 0 free 0 top none split 0\n1> order 0 free 0 taken 0\n",
     )
     ∷ (
-      record { addressee = To.Tenant 0; body = Told.Report one_slab },
+      record { addressee = To.Tenant 0; body = Body.Report one_slab },
       codes "0> frames 2 live 1 free 1 top 0 split 0\n0> order 0 free 1 taken 1\n0> order 1 free 0 taken 0\n0> cache 3 full 0 partial 1 empty 0 live 1\n",
     )
     ∷ []

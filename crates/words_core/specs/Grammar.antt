@@ -43,9 +43,9 @@ command_of (row ∷ rows) word arguments =
     if bytes_eq word row.word then command_by row arguments else command_of rows word arguments
 
 -- what follows the word that says who speaks
-abbrev pub asked_of : {C : Type 0} → List (CommandRow C) → List (List ℕ) → Result C LineFault
-asked_of rows [] = Err Words
-asked_of rows (word ∷ arguments) = command_of rows word arguments
+abbrev pub command_in_words : {C : Type 0} → List (CommandRow C) → List (List ℕ) → Result C LineFault
+command_in_words rows [] = Err Words
+command_in_words rows (word ∷ arguments) = command_of rows word arguments
 
 -- the tenant whom the first word names
 abbrev pub tenant_of : List ℕ → Result ℕ LineFault
@@ -62,7 +62,7 @@ actor_of word =
 unfoldable pub event_of : List ℕ → List (List ℕ) → Result Event LineFault
 event_of first rest = do
   actor ← actor_of first
-  command ← asked_of (command_rows actor) rest
+  command ← command_in_words (command_rows actor) rest
   Ok (event_by actor command)
 
 -- what words say; byte 35 is `#`

@@ -4,7 +4,6 @@ use Rattle.model_core.specs.Layouts.{is_pattern}
 use Rattle.model_core.specs.declared.limits.TheConstants.{MOST_BYTES, MOST_SUPERBLOCKS}
 use Rattle.words_core.specs.declared.answer.TheConstants.{MOST_ANSWER_BYTES, SHORT_ANSWER_BYTES}
 use Rattle.words_core.specs.declared.answer.Answer.{Answer}
-use Rattle.words_core.specs.declared.answer.Answer.TheVariants as Told
 use Rattle.words_core.specs.declared.event.Command.{Command}
 use Rattle.words_core.specs.declared.event.Command.TheVariants.{Alloc, Free, Read, Write, Destroy, Take, Give, Reap}
 use Rattle.words_core.specs.declared.event.Command.TheVariants as Whole
@@ -14,37 +13,36 @@ use Rattle.words_core.specs.declared.reply.Body.{Body}
 use Rattle.words_core.specs.declared.reply.Body.TheVariants.{Granted, TakenBack, WasReset, Moved, Owners, Frame, Freed, Bytes, Written, Cache, Destroyed, Object, Given, Reaped, Report, Refused, Fault}
 use Rattle.words_core.specs.declared.reply.Reply.{Reply}
 use Rattle.words_core.specs.declared.event.Request.{Request}
-use Rattle.words_core.specs.declared.event.Request.TheVariants as Asked
 use Rattle.words_core.specs.declared.text.Table.{Table}
 use Rattle.words_core.specs.declared.text.Table.TheVariants as Rows
 
 abbrev pub command_of : Request → Command
-command_of (Asked.Alloc order) = Alloc order
-command_of (Asked.Free frame) = Free frame
-command_of (Asked.Read place len) = Read place len
-command_of (Asked.Write place bytes) = Write place (record { items = bytes.now })
-command_of (Asked.Cache size align pattern) = Whole.Cache size align (record { items = pattern.now })
-command_of (Asked.Destroy cache) = Destroy cache
-command_of (Asked.Take cache) = Take cache
-command_of (Asked.Give cache place) = Give cache place
-command_of Asked.Reap = Reap
+command_of (Request.Alloc order) = Alloc order
+command_of (Request.Free frame) = Free frame
+command_of (Request.Read place len) = Read place len
+command_of (Request.Write place bytes) = Write place (record { items = bytes.now })
+command_of (Request.Cache size align pattern) = Whole.Cache size align (record { items = pattern.now })
+command_of (Request.Destroy cache) = Destroy cache
+command_of (Request.Take cache) = Take cache
+command_of (Request.Give cache place) = Give cache place
+command_of Request.Reap = Reap
 
 abbrev pub body_of_answer : Answer → Body
-body_of_answer (Told.Frame frame) = Frame frame
-body_of_answer (Told.Freed order) = Freed order
-body_of_answer (Told.Bytes bytes) = Bytes (record { items = bytes.now })
-body_of_answer (Told.Written count) = Written count
-body_of_answer (Told.Cache cache chunk order objects colours) = Cache cache chunk order objects colours
-body_of_answer (Told.Destroyed frames) = Destroyed frames
-body_of_answer (Told.Object place) = Object place
-body_of_answer Told.Given = Given
-body_of_answer (Told.Reaped frames) = Reaped frames
-body_of_answer (Told.Refused refusal) = Refused refusal
-body_of_answer (Told.Granted tenant slot superblock) = Granted tenant slot superblock
-body_of_answer (Told.TakenBack superblock) = TakenBack superblock
-body_of_answer (Told.WasReset tenant superblocks) = WasReset tenant superblocks
-body_of_answer (Told.Moved tenant slot superblock) = Moved tenant slot superblock
-body_of_answer (Told.Fault fault) = Fault fault
+body_of_answer (Answer.Frame frame) = Frame frame
+body_of_answer (Answer.Freed order) = Freed order
+body_of_answer (Answer.Bytes bytes) = Bytes (record { items = bytes.now })
+body_of_answer (Answer.Written count) = Written count
+body_of_answer (Answer.Cache cache chunk order objects colours) = Cache cache chunk order objects colours
+body_of_answer (Answer.Destroyed frames) = Destroyed frames
+body_of_answer (Answer.Object place) = Object place
+body_of_answer Answer.Given = Given
+body_of_answer (Answer.Reaped frames) = Reaped frames
+body_of_answer (Answer.Refused refusal) = Refused refusal
+body_of_answer (Answer.Granted tenant slot superblock) = Granted tenant slot superblock
+body_of_answer (Answer.TakenBack superblock) = TakenBack superblock
+body_of_answer (Answer.WasReset tenant superblocks) = WasReset tenant superblocks
+body_of_answer (Answer.Moved tenant slot superblock) = Moved tenant slot superblock
+body_of_answer (Answer.Fault fault) = Fault fault
 
 -- it has several lines, and is no answer
 abbrev pub is_table : Body → Bool
@@ -72,7 +70,7 @@ HasFewRows (Rows.Report tenant report) = Unit {0}
 
 -- the bytes that an answer tells are no more than a read may ask for
 abbrev pub HasFewBytes : Answer → Type 0
-HasFewBytes (Told.Bytes bytes) = length bytes.now ≤ MOST_BYTES
+HasFewBytes (Answer.Bytes bytes) = length bytes.now ≤ MOST_BYTES
 HasFewBytes other = Unit {0}
 
 -- the pattern of a cache that the command asks for has 1 to 16 bytes
@@ -90,41 +88,41 @@ AsksPattern Whole.Report = Unit {0}
 
 -- the bytes to be written are no more than a line can have, and the pattern of a cache has 1 to 16
 abbrev pub IsAskable : Request → Type 0
-IsAskable (Asked.Write place bytes) = length bytes.now ≤ MOST_BYTES
-IsAskable (Asked.Cache size align pattern) = is_pattern pattern.now ≡ true
-IsAskable (Asked.Alloc order) = Unit {0}
-IsAskable (Asked.Free frame) = Unit {0}
-IsAskable (Asked.Read place len) = Unit {0}
-IsAskable (Asked.Destroy cache) = Unit {0}
-IsAskable (Asked.Take cache) = Unit {0}
-IsAskable (Asked.Give cache place) = Unit {0}
-IsAskable Asked.Reap = Unit {0}
+IsAskable (Request.Write place bytes) = length bytes.now ≤ MOST_BYTES
+IsAskable (Request.Cache size align pattern) = is_pattern pattern.now ≡ true
+IsAskable (Request.Alloc order) = Unit {0}
+IsAskable (Request.Free frame) = Unit {0}
+IsAskable (Request.Read place len) = Unit {0}
+IsAskable (Request.Destroy cache) = Unit {0}
+IsAskable (Request.Take cache) = Unit {0}
+IsAskable (Request.Give cache place) = Unit {0}
+IsAskable Request.Reap = Unit {0}
 
 -- the request asks for bytes
 abbrev pub asks_bytes : Request → Bool
-asks_bytes (Asked.Read place len) = true
-asks_bytes (Asked.Alloc order) = false
-asks_bytes (Asked.Free frame) = false
-asks_bytes (Asked.Write place bytes) = false
-asks_bytes (Asked.Cache size align pattern) = false
-asks_bytes (Asked.Destroy cache) = false
-asks_bytes (Asked.Take cache) = false
-asks_bytes (Asked.Give cache place) = false
-asks_bytes Asked.Reap = false
+asks_bytes (Request.Read place len) = true
+asks_bytes (Request.Alloc order) = false
+asks_bytes (Request.Free frame) = false
+asks_bytes (Request.Write place bytes) = false
+asks_bytes (Request.Cache size align pattern) = false
+asks_bytes (Request.Destroy cache) = false
+asks_bytes (Request.Take cache) = false
+asks_bytes (Request.Give cache place) = false
+asks_bytes Request.Reap = false
 
 -- the answer tells bytes
-abbrev pub tells_bytes : Answer → Bool
-tells_bytes (Told.Bytes bytes) = true
-tells_bytes other = false
+abbrev pub has_bytes : Answer → Bool
+has_bytes (Answer.Bytes bytes) = true
+has_bytes other = false
 
 -- what is told has many bytes: those of a read, the layout of a cache, or a superblock
 abbrev pub is_long : Answer → Bool
-is_long (Told.Bytes bytes) = true
-is_long (Told.Cache cache chunk order objects colours) = true
-is_long (Told.Granted tenant slot superblock) = true
-is_long (Told.TakenBack superblock) = true
-is_long (Told.WasReset tenant superblocks) = true
-is_long (Told.Moved tenant slot superblock) = true
+is_long (Answer.Bytes bytes) = true
+is_long (Answer.Cache cache chunk order objects colours) = true
+is_long (Answer.Granted tenant slot superblock) = true
+is_long (Answer.TakenBack superblock) = true
+is_long (Answer.WasReset tenant superblocks) = true
+is_long (Answer.Moved tenant slot superblock) = true
 is_long other = false
 
 -- the room that the text of an answer is given

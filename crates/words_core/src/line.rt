@@ -6,7 +6,7 @@ ghost use Rattle.words_core.specs.declared.event.Event.{Event as EventValue};
 ghost use Rattle.words_core.specs.declared.event.LineFault.{LineFault as Fault};
 ghost use Rattle.words_core.specs.Cases.{Says};
 ghost use Rattle.words_core.specs.Commands.{admin_rows, tenant_rows};
-ghost use Rattle.words_core.specs.Grammar.{command_of, asked_of, tenant_of, event_of, reading_of_words, reading_of};
+ghost use Rattle.words_core.specs.Grammar.{command_of, command_in_words, tenant_of, event_of, reading_of_words, reading_of};
 
 use crate::commands::{
     alloc_of, cache_of, destroy_of, free_of, give_of, grant_of, move_of, pool_of, read_of, reap_of,
@@ -76,7 +76,7 @@ fn tenant_of(word: &[u8]) -> Result<u32, LineFault>
 }
 
 fn asked_of_admin(words: &[&[u8]]) -> Result<AdminCommand, LineFault>
-    ensures { result ≡ asked_of admin_rows (map (λ word. word.now) words.now) }
+    ensures { result ≡ command_in_words admin_rows (map (λ word. word.now) words.now) }
 {
     match words {
         [] => Err(LineFault::Words),
@@ -85,7 +85,7 @@ fn asked_of_admin(words: &[&[u8]]) -> Result<AdminCommand, LineFault>
 }
 
 fn asked_of_tenant(words: &[&[u8]]) -> Result<Command, LineFault>
-    ensures { result ≡ asked_of tenant_rows (map (λ word. word.now) words.now) }
+    ensures { result ≡ command_in_words tenant_rows (map (λ word. word.now) words.now) }
 {
     match words {
         [] => Err(LineFault::Words),

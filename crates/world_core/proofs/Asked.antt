@@ -25,13 +25,13 @@ use Rattle.words_core.specs.declared.reply.Body.{Body}
 use Rattle.words_core.specs.Cutting.{lines_of_trace}
 use Rattle.words_core.specs.Words.{words_of}
 use Rattle.words_core.specs.Commands.{Form, Given, bytes_or_fault, bytes_argument, read_as, Maker, CommandRow, Actor, administrator, tenant, tenant_rows, command_rows, event_by}
-use Rattle.words_core.specs.Grammar.{◌>>=◌, are_as_many, made_of, command_by, command_of, asked_of, actor_of, event_of, reading_of_words, reading_of}
+use Rattle.words_core.specs.Grammar.{◌>>=◌, are_as_many, made_of, command_by, command_of, command_in_words, actor_of, event_of, reading_of_words, reading_of}
 use Rattle.world_core.specs.PrivateStep.{Entry, Ask, Grant, TakeBack, Reset}
 use Rattle.world_core.specs.World.{World, history, world_step}
 use Rattle.world_core.specs.OwnList.{is_refused, own_entries, own_list}
 use Rattle.world_core.specs.Output.{event_in, events_of}
 use Rattle.world_core.specs.Laws.{opening_history}
-use Rattle.world_core.specs.Reached.{operations_in, AreAsked, OwnListsAreAsked}
+use Rattle.world_core.specs.Reached.{operations_in, AreRequests, OwnListsAreRequests}
 
 -- Results
 
@@ -117,7 +117,7 @@ command_has {C} P (row ∷ rows) word arguments c (here, later) e = go (bytes_eq
     go true e more = count (are_as_many row.forms arguments) e
     go false e more = more e
 
-asked_has : {C : Type 0} (P : C → Type 0) (rows : List (CommandRow C)) (words : List (List ℕ)) (c : C) → Each (RowMakes P) rows → asked_of rows words ≡ Ok c → P c
+asked_has : {C : Type 0} (P : C → Type 0) (rows : List (CommandRow C)) (words : List (List ℕ)) (c : C) → Each (RowMakes P) rows → command_in_words rows words ≡ Ok c → P c
 asked_has P rows [] c h e = absurd (cc)
 asked_has P rows (word ∷ arguments) c h e = command_has P rows word arguments c h e
 
@@ -149,19 +149,19 @@ IsPossibleEvent (On.Tenant t command) = IsPossibleCommand command
 IsPossibleEvent (On.Admin command) = Unit {0}
 
 by_actor : (actor : Actor) (rest : List (List ℕ)) (event : Event)
-    → (asked_of (command_rows actor) rest >>= λ command. Ok (event_by actor command)) ≡ Ok event → IsPossibleEvent event
+    → (command_in_words (command_rows actor) rest >>= λ command. Ok (event_by actor command)) ≡ Ok event → IsPossibleEvent event
 by_actor administrator rest event e =
-    let parts = both (asked_of (command_rows administrator) rest) (λ command. Ok (event_by administrator command)) event e in
+    let parts = both (command_in_words (command_rows administrator) rest) (λ command. Ok (event_by administrator command)) event e in
     subst IsPossibleEvent (ok_same (On.Admin parts.value) event parts.rest) tt
 by_actor (tenant t) rest event e =
-    let parts = both (asked_of (command_rows (tenant t)) rest) (λ command. Ok (event_by (tenant t) command)) event e in
+    let parts = both (command_in_words (command_rows (tenant t)) rest) (λ command. Ok (event_by (tenant t) command)) event e in
     subst IsPossibleEvent (ok_same (On.Tenant t parts.value) event parts.rest)
     (asked_has IsPossibleCommand tenant_rows rest parts.value tenant_rows_make parts.is)
 
 event_possible : (first : List ℕ) (rest : List (List ℕ)) (event : Event) → event_of first rest ≡ Ok event → IsPossibleEvent event
 unfolding event_of
 event_possible first rest event e =
-    let parts = both (actor_of first) (λ actor. asked_of (command_rows actor) rest >>= λ command. Ok (event_by actor command)) event e in
+    let parts = both (actor_of first) (λ actor. command_in_words (command_rows actor) rest >>= λ command. Ok (event_by actor command)) event e in
     by_actor parts.value rest event parts.rest
 
 judged_possible : (words : List (List ℕ)) (event : Event) → reading_of_words words ≡ Ok (Some event) → IsPossibleEvent event
@@ -198,15 +198,15 @@ events_possible (line ∷ lines) = each_append IsPossibleEvent (event_in (readin
 
 -- Own lists
 
-named_asked : (named : Bool) (entry : Entry) → ArePossible (operations_in entry) → AreAsked (if named then entry ∷ [] else [])
+named_asked : (named : Bool) (entry : Entry) → ArePossible (operations_in entry) → AreRequests (if named then entry ∷ [] else [])
 named_asked true entry h = each_append IsPossible (operations_in entry) [] h tt
 named_asked false entry h = tt
 
-granted_asked : (refused named : Bool) (entry : Entry) → ArePossible (operations_in entry) → AreAsked (if refused then [] else (if named then entry ∷ [] else []))
+granted_asked : (refused named : Bool) (entry : Entry) → ArePossible (operations_in entry) → AreRequests (if refused then [] else (if named then entry ∷ [] else []))
 granted_asked true named entry h = tt
 granted_asked false named entry h = named_asked named entry h
 
-entries_asked : (t : ℕ) (event : Event) (body : Body) → IsPossibleEvent event → AreAsked (own_entries t event body)
+entries_asked : (t : ℕ) (event : Event) (body : Body) → IsPossibleEvent event → AreRequests (own_entries t event body)
 entries_asked t (On.Tenant named command) body h = named_asked (named == t) (Ask command) h
 entries_asked t (On.Admin (Do.Grant named)) body h = granted_asked (is_refused body) (named == t) Grant (tt, tt)
 entries_asked t (On.Admin (Do.TakeBack named slot)) body h = granted_asked (is_refused body) (named == t) (TakeBack slot) (tt, tt)
@@ -214,16 +214,16 @@ entries_asked t (On.Admin (Do.Reset named)) body h = named_asked (named == t) Re
 entries_asked t (On.Admin (Do.Move named slot)) body h = tt
 entries_asked t (On.Admin Do.Pool) body h = tt
 
-asked_append : (xs ys : List Entry) → AreAsked xs → AreAsked ys → AreAsked (xs ++ ys)
+asked_append : (xs ys : List Entry) → AreRequests xs → AreRequests ys → AreRequests (xs ++ ys)
 asked_append xs ys h k =
     subst ArePossible (sym (flat_map-append operations_in xs ys)) (each_append IsPossible (flat_map operations_in xs) (flat_map operations_in ys) h k)
 
-own_asked : (limit order t : ℕ) (events : List Event) (w : World) → Each IsPossibleEvent events → AreAsked (own_list t (history limit order w events))
+own_asked : (limit order t : ℕ) (events : List Event) (w : World) → Each IsPossibleEvent events → AreRequests (own_list t (history limit order w events))
 own_asked limit order t [] w h = tt
 own_asked limit order t (event ∷ events) w (here, later) =
     asked_append (own_entries t event (world_step limit order event w).reply.body) _
     (entries_asked t event (world_step limit order event w).reply.body here) (own_asked limit order t events (world_step limit order event w).world later)
 
-pub own_lists_are_asked : OwnListsAreAsked
+pub own_lists_are_requests : OwnListsAreRequests
 unfolding opening_history
-own_lists_are_asked limit order superblocks tenants t trace = own_asked limit order t (events_of (lines_of_trace trace)) _ (events_possible (lines_of_trace trace))
+own_lists_are_requests limit order superblocks tenants t trace = own_asked limit order t (events_of (lines_of_trace trace)) _ (events_possible (lines_of_trace trace))

@@ -8,11 +8,11 @@ use Rattle.model_core.specs.Layouts.{is_size, is_alignment}
 use Rattle.model_core.specs.Machine.{Machine}
 use Rattle.model_core.specs.Operations.{Step, refuse}
 use Rattle.model_core.specs.CacheOperations.{created, next_number, create_step, cache_answer, cache_step}
-use Rattle.words_core.specs.declared.event.Command.TheVariants as Asked
+use Rattle.words_core.specs.declared.event.Command.TheVariants as Command
 use Rattle.words_core.specs.declared.reply.Body.{Body}
 use Rattle.words_core.specs.declared.reply.Body.TheVariants.{Refused}
 use Rattle.words_core.specs.declared.reply.Refusal.TheVariants.{NoCacheSlot}
-use Rattle.world_core.specs.PrivateStep.{Entry, Ask, Grant, TakeBack, Reset, Told, told_by, cache_body, command_step, private_step}
+use Rattle.world_core.specs.PrivateStep.{Entry, Ask, Grant, TakeBack, Reset, Told, with_body, cache_body, command_step, private_step}
 use Rattle.world_core.specs.PrivateRun.{private_run}
 use Rattle.world_core.specs.Laws.{MoreCaches}
 
@@ -61,18 +61,18 @@ told_once step = record { replies = step.answer ∷ []; machine = step.machine }
 same_step : (limit more order : ℕ) (entry : Entry) (m : Machine) → limit ≤ more
     → (Contains (private_step limit order entry m).replies (Refused NoCacheSlot) → ⊥) → private_step more order entry m ≡ private_step limit order entry m
 unfolding private_step command_step
-same_step limit more order (Ask (Asked.Cache size align pattern)) m le none =
-    ap (λ step. told_once (told_by (cache_body size align) step)) (same_cache limit more size align pattern.items m le
+same_step limit more order (Ask (Command.Cache size align pattern)) m le none =
+    ap (λ step. told_once (with_body (cache_body size align) step)) (same_cache limit more size align pattern.items m le
     (λ refused. none (0, omega arith, ap (cache_body size align) refused)))
-same_step limit more order (Ask (Asked.Alloc k)) m le none = refl
-same_step limit more order (Ask (Asked.Free frame)) m le none = refl
-same_step limit more order (Ask (Asked.Read place len)) m le none = refl
-same_step limit more order (Ask (Asked.Write place bytes)) m le none = refl
-same_step limit more order (Ask (Asked.Destroy number)) m le none = refl
-same_step limit more order (Ask (Asked.Take number)) m le none = refl
-same_step limit more order (Ask (Asked.Give number place)) m le none = refl
-same_step limit more order (Ask Asked.Reap) m le none = refl
-same_step limit more order (Ask Asked.Report) m le none = refl
+same_step limit more order (Ask (Command.Alloc k)) m le none = refl
+same_step limit more order (Ask (Command.Free frame)) m le none = refl
+same_step limit more order (Ask (Command.Read place len)) m le none = refl
+same_step limit more order (Ask (Command.Write place bytes)) m le none = refl
+same_step limit more order (Ask (Command.Destroy number)) m le none = refl
+same_step limit more order (Ask (Command.Take number)) m le none = refl
+same_step limit more order (Ask (Command.Give number place)) m le none = refl
+same_step limit more order (Ask Command.Reap) m le none = refl
+same_step limit more order (Ask Command.Report) m le none = refl
 same_step limit more order Grant m le none = refl
 same_step limit more order (TakeBack slot) m le none = refl
 same_step limit more order Reset m le none = refl

@@ -15,7 +15,7 @@ use Rattle.world_core.specs.OwnList.{own_list}
 use Rattle.world_core.specs.Output.{events_of}
 use Rattle.world_core.specs.Laws.{opening_history}
 use Rattle.world_core.specs.Reached.{reached_machine, ReachedRoom, ReachedObjectRoom, NobodyStarves}
-use Rattle.world_core.proofs.Asked.{own_lists_are_asked}
+use Rattle.world_core.proofs.Asked.{own_lists_are_requests}
 use Rattle.world_core.proofs.Reached.{reached_well_formed}
 use Rattle.world_core.proofs.Runs.{own_run}
 
@@ -44,7 +44,7 @@ nobody_starves limit order superblocks tenants t k trace m is_tenant here room =
     let w : World = world_after limit order (opening_world superblocks tenants) events in
     let same : m ≡ reached_machine limit order own =
     same_Some m (reached_machine limit order own) (sym here ∙ (own_run limit order superblocks tenants t events is_tenant).machine) in
-    let served = reached_room limit order k own (own_lists_are_asked limit order superblocks tenants t trace) (subst (IsAmple order k) same room) in (
+    let served = reached_room limit order k own (own_lists_are_requests limit order superblocks tenants t trace) (subst (IsAmple order k) same room) in (
       served.0,
       told limit order t k w m here
           ∙ (ap (λ n. record { addressee = To.Tenant t; body = (command_step limit order (Ask.Alloc k) n).answer }) same

@@ -5,7 +5,7 @@ use Rattle.std.specs.List.{AllByRecursion}
 use Rattle.std.proofs.lemmas.Bool.{false≢true}
 use Rattle.std.proofs.lemmas.List.Elements.{All-from_recursion, All-contains}
 use Rattle.model_core.specs.Machine.{empty_machine}
-use Rattle.words_core.specs.declared.event.Command.TheVariants as Asked
+use Rattle.words_core.specs.declared.event.Command.TheVariants as Command
 use Rattle.words_core.specs.declared.reply.Body.{Body}
 use Rattle.words_core.specs.declared.reply.Body.TheVariants as Say
 use Rattle.words_core.specs.declared.reply.Refusal.TheVariants.{NoCacheSlot}
@@ -54,7 +54,7 @@ OwnLines-met law = law 32 3 3 4 0 among_others (omega arith) (omega arith)
 
 -- a cache, an object of it taken and given back: no cache is refused for want of a number
 abbrev one_cache : List Entry
-one_cache = Grant ∷ Ask (Asked.Cache 64 8 (record { items = 0 ∷ [] })) ∷ Ask (Asked.Take 0) ∷ Ask (Asked.Give 0 0) ∷ []
+one_cache = Grant ∷ Ask (Command.Cache 64 8 (record { items = 0 ∷ [] })) ∷ Ask (Command.Take 0) ∷ Ask (Command.Give 0 0) ∷ []
 
 no_refusal : AllByRecursion (λ body. is_refused body ≡ false) (private_run 16 3 one_cache empty_machine).replies
 unfolding computed_machine

@@ -13,14 +13,14 @@ use Rattle.model_core.specs.Laws.{Object, IsObject, HasByte}
 use Rattle.model_core.specs.Room.{IsAmple}
 use Rattle.model_core.proofs.BlocksByNumber.{available_tells}
 use Rattle.words_core.specs.declared.event.Event.TheVariants as On
-use Rattle.words_core.specs.declared.event.Command.TheVariants as Asked
+use Rattle.words_core.specs.declared.event.Command.TheVariants as Command
 use Rattle.words_core.specs.declared.reply.Addressee.TheVariants as To
 use Rattle.words_core.specs.declared.reply.Body.TheVariants as Say
 use Rattle.words_core.specs.Cutting.{lines_of_trace}
 use Rattle.world_core.specs.PrivateStep.{Entry, Ask, Grant, command_step, private_step}
 use Rattle.world_core.specs.World.{World, opening_world, world_step, world_after}
 use Rattle.world_core.specs.Output.{events_of}
-use Rattle.world_core.specs.Reached.{reached_machine, AreAsked, EntriesAreOperations, OwnListsAreAsked, IsFreeIn, ReachedWellFormed, ReachedSound, ReachedFreeOnce, ReachedSplits, ReachedJoins, ReachedApart, ReachedRecordsFree, ReachedRoom, ReachedObjectRoom, NobodyStarves}
+use Rattle.world_core.specs.Reached.{reached_machine, AreRequests, EntriesAreOperations, OwnListsAreRequests, IsFreeIn, ReachedWellFormed, ReachedSound, ReachedFreeOnce, ReachedSplits, ReachedJoins, ReachedApart, ReachedRecordsFree, ReachedRoom, ReachedObjectRoom, NobodyStarves}
 use Rattle.world_core.proofs.Computed.{computed_lines, computed_machine}
 
 -- A slot granted, a cache, an object of it taken and given back: one slab, which is empty
@@ -29,32 +29,32 @@ abbrev trace : List ℕ
 trace = codes "admin grant 0\n1 alloc 0\n0 cache 64 8 00\n0 take 0\n0 give 0 0\n"
 
 abbrev entries : List Entry
-entries = Grant ∷ Ask (Asked.Cache 64 8 (record { items = 0 ∷ [] })) ∷ Ask (Asked.Take 0) ∷ Ask (Asked.Give 0 0) ∷ []
+entries = Grant ∷ Ask (Command.Cache 64 8 (record { items = 0 ∷ [] })) ∷ Ask (Command.Take 0) ∷ Ask (Command.Give 0 0) ∷ []
 
 abbrev machine : Machine
 machine = reached_machine 32 3 entries
 
-are_asked : AreAsked entries
-are_asked = (tt, (refl, (tt, (tt, tt))))
+are_requests : AreRequests entries
+are_requests = (tt, (refl, (tt, (tt, tt))))
 
 EntriesAreOperations-met : EntriesAreOperations →
     machine ≡ run 32 3 (Operation.Grant ∷ Operation.Create 64 8 (0 ∷ []) ∷ Operation.Take 0 ∷ Operation.Give 0 0 ∷ []) empty_machine
 EntriesAreOperations-met law = law 32 3 entries empty_machine
 
-OwnListsAreAsked-met : OwnListsAreAsked → AreAsked entries
+OwnListsAreRequests-met : OwnListsAreRequests → AreRequests entries
 unfolding computed_lines
-OwnListsAreAsked-met law = law 32 3 2 2 0 trace
+OwnListsAreRequests-met law = law 32 3 2 2 0 trace
 
 ReachedWellFormed-met : ReachedWellFormed → IsWellFormed 32 3 machine
-ReachedWellFormed-met law = law 32 3 entries are_asked
+ReachedWellFormed-met law = law 32 3 entries are_requests
 
 ReachedSound-met : ReachedSound → IsSound 3 (holds machine) (taken_in machine)
-ReachedSound-met law = law 32 3 entries are_asked
+ReachedSound-met law = law 32 3 entries are_requests
 
 -- Frame 0 is taken: frame 1 lies in one free block, of order 0
 
 abbrev one_block : List Entry
-one_block = Grant ∷ Ask (Asked.Alloc 0) ∷ []
+one_block = Grant ∷ Ask (Command.Alloc 0) ∷ []
 
 untaken : IsTaken (taken_in (reached_machine 32 3 one_block)) 1 → ⊥
 unfolding command_step alloc_step free_step by_need reaped choice taken_blocks empty_machine next_slot after_grant private_step
@@ -97,11 +97,11 @@ unfolding layout_of
 its_byte = (omega arith, omega arith)
 
 ReachedApart-met : ReachedApart → object ≡ object
-ReachedApart-met law = law 32 3 entries are_asked object object it_is_there it_is_there 100 its_byte its_byte
+ReachedApart-met law = law 32 3 entries are_requests object object it_is_there it_is_there 100 its_byte its_byte
 
 ReachedRecordsFree-met : ReachedRecordsFree → (0 ≤ 100) × (100 < 4064)
 unfolding layout_of
-ReachedRecordsFree-met law = law 32 3 entries are_asked object it_is_there refl 100 its_byte
+ReachedRecordsFree-met law = law 32 3 entries are_requests object it_is_there refl 100 its_byte
 
 -- Its slab is empty, so the whole slot is there for a block ..
 
@@ -109,17 +109,17 @@ is_ample : IsAmple 3 3 machine
 unfolding computed_machine
 is_ample = record { of_slot = omega arith; fewer = omega arith }
 
-ReachedRoom-met : ReachedRoom → (first : ℕ) × ((command_step 32 3 (Asked.Alloc 3) machine).answer ≡ Say.Frame first)
-ReachedRoom-met law = law 32 3 3 entries are_asked is_ample
+ReachedRoom-met : ReachedRoom → (first : ℕ) × ((command_step 32 3 (Command.Alloc 3) machine).answer ≡ Say.Frame first)
+ReachedRoom-met law = law 32 3 3 entries are_requests is_ample
 
 -- .. and all its frames for slabs of the cache
 is_ample_for_slabs : IsAmple 3 (layout the_cache).order machine
 unfolding computed_machine
 is_ample_for_slabs = record { of_slot = omega arith; fewer = omega arith }
 
-ReachedObjectRoom-met : ReachedObjectRoom → (place : ℕ) × ((command_step 32 3 (Asked.Take 0) machine).answer ≡ Say.Object place)
+ReachedObjectRoom-met : ReachedObjectRoom → (place : ℕ) × ((command_step 32 3 (Command.Take 0) machine).answer ≡ Say.Object place)
 unfolding computed_machine
-ReachedObjectRoom-met law = law 32 3 0 entries the_cache are_asked refl is_ample_for_slabs
+ReachedObjectRoom-met law = law 32 3 0 entries the_cache are_requests refl is_ample_for_slabs
 
 -- the world of two tenants after the trace
 abbrev world : World
@@ -130,5 +130,5 @@ unfolding computed_lines
 its_machine = refl
 
 NobodyStarves-met : NobodyStarves →
-    (first : ℕ) × ((world_step 32 3 (On.Tenant 0 (Asked.Alloc 3)) world).reply ≡ record { addressee = To.Tenant 0; body = Say.Frame first })
+    (first : ℕ) × ((world_step 32 3 (On.Tenant 0 (Command.Alloc 3)) world).reply ≡ record { addressee = To.Tenant 0; body = Say.Frame first })
 NobodyStarves-met law = law 32 3 2 2 0 3 trace machine (omega arith) its_machine is_ample

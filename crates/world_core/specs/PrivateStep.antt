@@ -12,7 +12,6 @@ use Rattle.model_core.specs.declared.refusals.DestroyRefusal.{DestroyRefusal}
 use Rattle.model_core.specs.declared.refusals.TakeRefusal.{TakeRefusal}
 use Rattle.model_core.specs.declared.refusals.GiveRefusal.{GiveRefusal}
 use Rattle.words_core.specs.declared.event.Command.{Command}
-use Rattle.words_core.specs.declared.event.Command.TheVariants as Asked
 use Rattle.words_core.specs.declared.report.Report as figures
 use Rattle.words_core.specs.declared.reply.Body.{Body}
 use Rattle.words_core.specs.declared.reply.Body.TheVariants.{Frame, Freed, Bytes, Written, Cache, Destroyed, Object, Given, Reaped, Report, Refused}
@@ -74,23 +73,23 @@ unfoldable pub report_step : ℕ → Machine → Step Body
 report_step order m = record { answer = Report (figures_of order m); machine = m }
 
 -- the operation, with its answer put as the body of a reply
-abbrev pub told_by : {A : Type 0} → (A → Body) → Step A → Step Body
-told_by body step = record { answer = body step.answer; machine = step.machine }
+abbrev pub with_body : {A : Type 0} → (A → Body) → Step A → Step Body
+with_body body step = record { answer = body step.answer; machine = step.machine }
 
 -- What a tenant's command answers and makes of its machine. `limit` is on the number of its caches, slots have
 -- 2 ^ order frames.
 unfoldable pub command_step : ℕ → ℕ → Command → Machine → Step Body
-command_step limit order (Asked.Alloc k) m = told_by alloc_body (alloc_step order k m)
-command_step limit order (Asked.Free frame) m = told_by free_body (free_step frame m)
-command_step limit order (Asked.Read place len) m = told_by read_body (read_step place len m)
-command_step limit order (Asked.Write place bytes) m = told_by write_body (write_step place bytes.items m)
-command_step limit order (Asked.Cache size align pattern) m =
-    told_by (cache_body size align) (cache_step limit size align pattern.items m)
-command_step limit order (Asked.Destroy number) m = told_by destroy_body (destroy_step number m)
-command_step limit order (Asked.Take number) m = told_by take_body (take_step order number m)
-command_step limit order (Asked.Give number place) m = told_by give_body (give_step number place m)
-command_step limit order Asked.Reap m = told_by Reaped (reap_step m)
-command_step limit order Asked.Report m = report_step order m
+command_step limit order (Command.Alloc k) m = with_body alloc_body (alloc_step order k m)
+command_step limit order (Command.Free frame) m = with_body free_body (free_step frame m)
+command_step limit order (Command.Read place len) m = with_body read_body (read_step place len m)
+command_step limit order (Command.Write place bytes) m = with_body write_body (write_step place bytes.items m)
+command_step limit order (Command.Cache size align pattern) m =
+    with_body (cache_body size align) (cache_step limit size align pattern.items m)
+command_step limit order (Command.Destroy number) m = with_body destroy_body (destroy_step number m)
+command_step limit order (Command.Take number) m = with_body take_body (take_step order number m)
+command_step limit order (Command.Give number place) m = with_body give_body (give_step number place m)
+command_step limit order Command.Reap m = with_body Reaped (reap_step m)
+command_step limit order Command.Report m = report_step order m
 
 -- all that reaches the machine of a tenant: its own command, a superblock granted, a slot taken back, a reset
 pub data Entry : Type 0 where

@@ -13,7 +13,7 @@ use Rattle.model_core.specs.WellFormed.{IsWellFormed}
 use Rattle.model_core.specs.Laws.{Object, IsObject, place_of, HasByte, hand_outs}
 use Rattle.model_core.specs.Room.{IsAmple}
 use Rattle.words_core.specs.declared.event.Event.TheVariants as On
-use Rattle.words_core.specs.declared.event.Command.TheVariants as Asked
+use Rattle.words_core.specs.declared.event.Command.TheVariants as Command
 use Rattle.words_core.specs.declared.reply.Addressee.TheVariants as To
 use Rattle.words_core.specs.declared.reply.Body.TheVariants as Say
 use Rattle.words_core.specs.Cutting.{lines_of_trace}
@@ -26,16 +26,16 @@ use Rattle.world_core.specs.Laws.{opening_history}
 
 -- what an entry is to the model: an operation, or nothing where it only reads
 abbrev pub operations_in : Entry → List Operation
-operations_in (Entry.Ask (Asked.Alloc k)) = Operation.Alloc k ∷ []
-operations_in (Entry.Ask (Asked.Free first)) = Operation.Free first ∷ []
-operations_in (Entry.Ask (Asked.Read place len)) = []
-operations_in (Entry.Ask (Asked.Write place bytes)) = Operation.Write place bytes.items ∷ []
-operations_in (Entry.Ask (Asked.Cache size align pattern)) = Operation.Create size align pattern.items ∷ []
-operations_in (Entry.Ask (Asked.Destroy number)) = Operation.Destroy number ∷ []
-operations_in (Entry.Ask (Asked.Take number)) = Operation.Take number ∷ []
-operations_in (Entry.Ask (Asked.Give number place)) = Operation.Give number place ∷ []
-operations_in (Entry.Ask Asked.Reap) = Operation.Reap ∷ []
-operations_in (Entry.Ask Asked.Report) = []
+operations_in (Entry.Ask (Command.Alloc k)) = Operation.Alloc k ∷ []
+operations_in (Entry.Ask (Command.Free first)) = Operation.Free first ∷ []
+operations_in (Entry.Ask (Command.Read place len)) = []
+operations_in (Entry.Ask (Command.Write place bytes)) = Operation.Write place bytes.items ∷ []
+operations_in (Entry.Ask (Command.Cache size align pattern)) = Operation.Create size align pattern.items ∷ []
+operations_in (Entry.Ask (Command.Destroy number)) = Operation.Destroy number ∷ []
+operations_in (Entry.Ask (Command.Take number)) = Operation.Take number ∷ []
+operations_in (Entry.Ask (Command.Give number place)) = Operation.Give number place ∷ []
+operations_in (Entry.Ask Command.Reap) = Operation.Reap ∷ []
+operations_in (Entry.Ask Command.Report) = []
 operations_in Entry.Grant = Operation.Grant ∷ []
 operations_in (Entry.TakeBack slot) = Operation.TakeBack slot ∷ []
 operations_in Entry.Reset = Operation.Reset ∷ []
@@ -50,22 +50,22 @@ abbrev pub reached_machine : ℕ → ℕ → List Entry → Machine
 reached_machine limit order entries = (private_run limit order entries empty_machine).machine
 
 -- Each of the entries can be asked for: a cache is made with a pattern of 1 to 16 bytes.
-abbrev pub AreAsked : List Entry → Type 0
-AreAsked entries = ArePossible (flat_map operations_in entries)
+abbrev pub AreRequests : List Entry → Type 0
+AreRequests entries = ArePossible (flat_map operations_in entries)
 
 -- So it is in every tenant's own list of every trace.
-abbrev pub OwnListsAreAsked : Type 0
-OwnListsAreAsked = (limit order superblocks tenants t : ℕ) (trace : List ℕ) →
-    AreAsked (own_list t (opening_history limit order superblocks tenants (events_of (lines_of_trace trace))))
+abbrev pub OwnListsAreRequests : Type 0
+OwnListsAreRequests = (limit order superblocks tenants t : ℕ) (trace : List ℕ) →
+    AreRequests (own_list t (opening_history limit order superblocks tenants (events_of (lines_of_trace trace))))
 
 -- The machine that is left is well formed ..
 abbrev pub ReachedWellFormed : Type 0
-ReachedWellFormed = (limit order : ℕ) (entries : List Entry) → AreAsked entries
+ReachedWellFormed = (limit order : ℕ) (entries : List Entry) → AreRequests entries
     → IsWellFormed limit order (reached_machine limit order entries)
 
 -- .. so its taken blocks, page blocks and the blocks of slabs, are aligned, in held slots and apart
 abbrev pub ReachedSound : Type 0
-ReachedSound = (limit order : ℕ) (entries : List Entry) → AreAsked entries →
+ReachedSound = (limit order : ℕ) (entries : List Entry) → AreRequests entries →
     IsSound order (holds (reached_machine limit order entries)) (taken_in (reached_machine limit order entries))
 
 -- the block is free in this machine
@@ -81,7 +81,7 @@ ReachedFreeOnce = (limit order x : ℕ) (entries : List Entry) → let m = reach
 -- An `alloc` that answers a frame splits the free block that is chosen, of some order j, of those that there are once empty
 -- slabs are given back by need.
 abbrev pub ReachedSplits : Type 0
-ReachedSplits = (limit order k first : ℕ) (entries : List Entry) → AreAsked entries →
+ReachedSplits = (limit order k first : ℕ) (entries : List Entry) → AreRequests entries →
     let m = reached_machine limit order entries in
     let n = by_need order k m in
     (alloc_step order k m).answer ≡ Ok first →
@@ -90,7 +90,7 @@ ReachedSplits = (limit order k first : ℕ) (entries : List Entry) → AreAsked 
 
 -- A `free` that answers an order joins the block with its buddies as long as they are free, up to some order j.
 abbrev pub ReachedJoins : Type 0
-ReachedJoins = (limit order first k : ℕ) (entries : List Entry) → AreAsked entries →
+ReachedJoins = (limit order first k : ℕ) (entries : List Entry) → AreRequests entries →
     let m = reached_machine limit order entries in
     (free_step first m).answer ≡ Some k →
     (j : ℕ) × JoinsTo order (holds m) (taken_in m) first k j × ((b : Block) →
@@ -98,27 +98,27 @@ ReachedJoins = (limit order first k : ℕ) (entries : List Entry) → AreAsked e
 
 -- Two objects of its slabs that share a byte are one ..
 abbrev pub ReachedApart : Type 0
-ReachedApart = (limit order : ℕ) (entries : List Entry) → AreAsked entries → let m = reached_machine limit order entries in
+ReachedApart = (limit order : ℕ) (entries : List Entry) → AreRequests entries → let m = reached_machine limit order entries in
     (a b : Object) → IsObject m a → IsObject m b → (place : ℕ) → HasByte a place → HasByte b place → a ≡ b
 
 -- .. and those of small slabs stay below the control record of their frame.
 abbrev pub ReachedRecordsFree : Type 0
-ReachedRecordsFree = (limit order : ℕ) (entries : List Entry) → AreAsked entries → let m = reached_machine limit order entries in
+ReachedRecordsFree = (limit order : ℕ) (entries : List Entry) → AreRequests entries → let m = reached_machine limit order entries in
     (object : Object) → IsObject m object → is_small (layout object.cache).chunk ≡ true
     → (place : ℕ) → HasByte object place
     → (FRAME_BYTES * object.slab.first ≤ place) × (place < FRAME_BYTES * object.slab.first + RECORD_OFFSET)
 
 -- An object that was not handed out since its slab was made reads as its cache's pattern ..
 abbrev pub ReachedConstructed : Type 0
-ReachedConstructed = (limit order : ℕ) (entries : List Entry) (object : Object) (j : ℕ) → AreAsked entries
+ReachedConstructed = (limit order : ℕ) (entries : List Entry) (object : Object) (j : ℕ) → AreRequests entries
     → let m = reached_machine limit order entries in IsObject m object → j < object.cache.size
     → hand_outs limit order (place_of object) (flat_map operations_in entries) empty_machine 0 ≡ 0
     → m.bytes (place_of object + j) ≡ Some (pattern_byte object.cache.pattern j)
 
 -- .. and so does one that a `take` answers for the first time since then.
 abbrev pub ReachedConstructedWhenTaken : Type 0
-ReachedConstructedWhenTaken = (limit order number : ℕ) (entries : List Entry) (object : Object) (j : ℕ) → AreAsked entries
-    → let step = command_step limit order (Asked.Take number) (reached_machine limit order entries) in
+ReachedConstructedWhenTaken = (limit order number : ℕ) (entries : List Entry) (object : Object) (j : ℕ) → AreRequests entries
+    → let step = command_step limit order (Command.Take number) (reached_machine limit order entries) in
     step.answer ≡ Say.Object (place_of object) → IsObject step.machine object → j < object.cache.size
     → hand_outs limit order (place_of object) (flat_map operations_in entries ++ Operation.Take number ∷ []) empty_machine 0 ≡ 1
     → step.machine.bytes (place_of object + j) ≡ Some (pattern_byte object.cache.pattern j)
@@ -126,15 +126,15 @@ ReachedConstructedWhenTaken = (limit order number : ℕ) (entries : List Entry) 
 -- Where it holds more aligned blocks of an order than it has taken frames outside empty slabs, a block of that order is
 -- never refused ..
 abbrev pub ReachedRoom : Type 0
-ReachedRoom = (limit order k : ℕ) (entries : List Entry) → AreAsked entries → let m = reached_machine limit order entries in
-    IsAmple order k m → (first : ℕ) × ((command_step limit order (Asked.Alloc k) m).answer ≡ Say.Frame first)
+ReachedRoom = (limit order k : ℕ) (entries : List Entry) → AreRequests entries → let m = reached_machine limit order entries in
+    IsAmple order k m → (first : ℕ) × ((command_step limit order (Command.Alloc k) m).answer ≡ Say.Frame first)
 
 -- .. nor an object of a cache whose slabs have that order.
 abbrev pub ReachedObjectRoom : Type 0
-ReachedObjectRoom = (limit order number : ℕ) (entries : List Entry) (c : Cache) → AreAsked entries →
+ReachedObjectRoom = (limit order number : ℕ) (entries : List Entry) (c : Cache) → AreRequests entries →
     let m = reached_machine limit order entries in
     cache_of m number ≡ Some c → IsAmple order (layout c).order m
-    → (place : ℕ) × ((command_step limit order (Asked.Take number) m).answer ≡ Say.Object place)
+    → (place : ℕ) × ((command_step limit order (Command.Take number) m).answer ≡ Say.Object place)
 
 -- So nobody is starved by others: after any trace a tenant whose machine has that room is answered a frame, whatever all
 -- others did.
@@ -142,5 +142,5 @@ abbrev pub NobodyStarves : Type 0
 NobodyStarves = (limit order superblocks tenants t k : ℕ) (trace : List ℕ) (m : Machine) → t < tenants →
     let w = world_after limit order (opening_world superblocks tenants) (events_of (lines_of_trace trace)) in
     slice_get w.machines t ≡ Some m → IsAmple order k m
-    → (first : ℕ) × ((world_step limit order (On.Tenant t (Asked.Alloc k)) w).reply
+    → (first : ℕ) × ((world_step limit order (On.Tenant t (Command.Alloc k)) w).reply
     ≡ record { addressee = To.Tenant t; body = Say.Frame first })

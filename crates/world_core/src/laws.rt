@@ -1,7 +1,7 @@
 //! The laws of whole runs. Each is the contract of a function that does nothing: a caller has the law by the call.
 
 ghost use Rattle.world_core.specs.Laws.{OwnRun, MoreCaches, OwnLines, SameReplies, SameTexts, SameLines, AllShown, OwnShown, OwnLinesShown, EndedAllButTail, EndedLinesStay, ShownStays};
-ghost use Rattle.world_core.specs.Reached.{EntriesAreOperations, OwnListsAreAsked, ReachedWellFormed, ReachedSound, ReachedFreeOnce, ReachedSplits, ReachedJoins, ReachedApart, ReachedRecordsFree, ReachedConstructed, ReachedConstructedWhenTaken, ReachedRoom, ReachedObjectRoom, NobodyStarves};
+ghost use Rattle.world_core.specs.Reached.{EntriesAreOperations, OwnListsAreRequests, ReachedWellFormed, ReachedSound, ReachedFreeOnce, ReachedSplits, ReachedJoins, ReachedApart, ReachedRecordsFree, ReachedConstructed, ReachedConstructedWhenTaken, ReachedRoom, ReachedObjectRoom, NobodyStarves};
 
 /// In every run of the world, from its opening, a tenant is told exactly what its private machine
 /// answers to its own commands, grants, take-backs and resets, and is left with that machine.
@@ -53,8 +53,8 @@ pub fn more_caches()
 
 /// Each cache of a tenant's own list of a trace is made with a pattern, so the laws of reached machines hold of the machine of
 /// every tenant after every trace.
-pub fn own_lists_are_asked()
-    ensures { OwnListsAreAsked }
+pub fn own_lists_are_requests()
+    ensures { OwnListsAreRequests }
 {}
 
 /// The machine that a private run leaves is well formed, and its taken blocks, those of slabs included, are aligned, in

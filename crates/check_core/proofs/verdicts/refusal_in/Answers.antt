@@ -1,7 +1,7 @@
 use Rattle.std.proofs.Common.{◌≡◌, false, Option, Some, ap, sym, subst, ◌∙◌}
 use Rattle.std.specs.Prelude.{IfSome}
 use Rattle.words_core.specs.Requests.{reply_to}
-use Rattle.words_core.specs.declared.answer.Answer.TheVariants as Told
+use Rattle.words_core.specs.declared.answer.Answer.TheVariants as Answer
 use Rattle.words_core.specs.declared.reply.Reply.{Reply}
 use Rattle.check_core.specs.Finding.{is_refusal}
 use Rattle.check_core.specs.Tables.{table_of}
@@ -19,7 +19,7 @@ returns-in_err-addressee c came gathers =
 pub returns-in-Refused : goal.returns-in-Refused
 returns-in-Refused c came gathers =
     let bytes = c.in_ok-bytes.bytes.now in
-    let reply : Reply = reply_to c.in_ok-addressee.addressee (Told.Refused c.in-Refused.refusal) in
+    let reply : Reply = reply_to c.in_ok-addressee.addressee (Answer.Refused c.in-Refused.refusal) in
     read_so came bytes (Some reply) (c.in_ok-bytes.ensures came gathers)
     (as_answer bytes reply (c.in_ok-addressee.ensures.exact ∙ ap (λ answer. Some (reply_to c.in_ok-addressee.addressee answer)) c.in-Refused.is))
 

@@ -1,7 +1,7 @@
 use Rattle.std.proofs.Common.{◌+◌, ◌*◌, ◌^◌, ◌&&◌, [], ◌∷◌, ap, ◌∙◌, ◌-◌, ◌%◌}
 use Rattle.std.specs.Prelude.{◌==◌, is_none, nat_le}
 use Rattle.words_core.specs.declared.event.Event.TheVariants as On
-use Rattle.words_core.specs.declared.event.Command.TheVariants as Asked
+use Rattle.words_core.specs.declared.event.Command.TheVariants as Command
 use Rattle.words_core.specs.declared.reply.Body.TheVariants as Say
 use Rattle.promise_core.specs.declared.promise.Promise.{Promise}
 use Rattle.promise_core.specs.State.{state_after}
@@ -15,7 +15,7 @@ unfolding state_after
 returns-in-Some c t p w = let l = c.args.layout.now in
     ap (λ d. broken ((Promise.Refusals, is_none d) ∷ (
       Promise.Layout,
-      new_layout (On.Tenant t (Asked.Cache l.size l.align p)) (Say.Cache c.args.number l.chunk l.order l.count l.colours) (known_at c.args.self.now w) (state_of c.args.self.now),
+      new_layout (On.Tenant t (Command.Cache l.size l.align p)) (Say.Cache c.args.number l.chunk l.order l.count l.colours) (known_at c.args.self.now w) (state_of c.args.self.now),
     ) ∷ [])) (c.in-Some.ensures.value t p w)
 
 pub returns-in-None : goal.returns-in-None

@@ -5,7 +5,7 @@ use Rattle.std.specs.Option.{option_map_or}
 use Rattle.std.specs.Result.{IsErrAnd}
 use Rattle.words_core.specs.declared.event.Event.{Event}
 use Rattle.words_core.specs.declared.event.Event.TheVariants as On
-use Rattle.words_core.specs.declared.event.Command.TheVariants as Asked
+use Rattle.words_core.specs.declared.event.Command.TheVariants as Command
 use Rattle.words_core.specs.declared.reply.Body.{Body}
 use Rattle.words_core.specs.declared.reply.Body.TheVariants as Say
 use Rattle.promise_core.specs.declared.promise.Promise.{Promise}
@@ -27,10 +27,10 @@ unfolding due state_after
 returns-in_err-on_still_answer c t w =
     let x : Seen = record { has = c.self.inside.held; left = c.self.inside.left; may_have_empty = c.self.inside.may_have_empty; told = c.self.inside.told } in
     let r = c.args.report.now in
-    told_off (On.Tenant t Asked.Report) (Say.Report r) w c.args.self.now c.in_err-on_still_answer.field-0.0 c.from_residual.result c.from_residual.ensures.1
-    (subst (λ (y : Seen). Err c.in_err-on_still_answer.field-0.0 ≡ tenant_verdict (On.Tenant t Asked.Report) (Say.Report r) w y) c.self.view_is
+    told_off (On.Tenant t Command.Report) (Say.Report r) w c.args.self.now c.in_err-on_still_answer.field-0.0 c.from_residual.result c.from_residual.ensures.1
+    (subst (λ (y : Seen). Err c.in_err-on_still_answer.field-0.0 ≡ tenant_verdict (On.Tenant t Command.Report) (Say.Report r) w y) c.self.view_is
     (c.in_err-on_still_answer.ensures ∙ (λ i. broken ((Promise.Refusals, true)
-    ∷ (Promise.Report, (c.tells_state-is_right.ensures t w (state_of x) ∙ ap (λ k. report (On.Tenant t Asked.Report) (Say.Report r) (record w { order = k }) (state_of x)) c.order.ensures.value) i)
+    ∷ (Promise.Report, (c.tells_state-is_right.ensures t w (state_of x) ∙ ap (λ k. report (On.Tenant t Command.Report) (Say.Report r) (record w { order = k }) (state_of x)) c.order.ensures.value) i)
     ∷ (
       Promise.Still,
       (c.tells_same-is_still.ensures ∙ ap (λ o. option_map_or (λ q. list_all (λ p. p.0.free == p.1.free) (zip q.orders.items r.orders.items)
@@ -42,12 +42,12 @@ unfolding due state_after
 returns c t w =
     let x : Seen = record { has = c.self.inside.held; left = c.self.inside.left; may_have_empty = c.self.inside.may_have_empty; told = c.self.inside.told } in
     let r = c.args.report.now in
-    followed (On.Tenant t Asked.Report) (Say.Report r) w x c.args.self.now (record x { told = Some c.copy_of.result }) c.self.view_is
-    (subst (λ (y : Seen). Ok tt ≡ tenant_verdict (On.Tenant t Asked.Report) (Say.Report r) w y) c.self.view_is (c.in_ok-on_still_answer.ensures ∙ (λ i. broken ((Promise.Refusals, true)
-    ∷ (Promise.Report, (c.tells_state-is_right.ensures t w (state_of x) ∙ ap (λ k. report (On.Tenant t Asked.Report) (Say.Report r) (record w { order = k }) (state_of x)) c.order.ensures.value) i)
+    followed (On.Tenant t Command.Report) (Say.Report r) w x c.args.self.now (record x { told = Some c.copy_of.result }) c.self.view_is
+    (subst (λ (y : Seen). Ok tt ≡ tenant_verdict (On.Tenant t Command.Report) (Say.Report r) w y) c.self.view_is (c.in_ok-on_still_answer.ensures ∙ (λ i. broken ((Promise.Refusals, true)
+    ∷ (Promise.Report, (c.tells_state-is_right.ensures t w (state_of x) ∙ ap (λ k. report (On.Tenant t Command.Report) (Say.Report r) (record w { order = k }) (state_of x)) c.order.ensures.value) i)
     ∷ (
       Promise.Still,
       (c.tells_same-is_still.ensures ∙ ap (λ o. option_map_or (λ q. list_all (λ p. p.0.free == p.1.free) (zip q.orders.items r.orders.items)
           && list_all (λ p. p.0.empty == p.1.empty) (zip q.caches.items r.caches.items)) o true) c.as_ref.ensures.value) i,
     ) ∷ []))))
-    (λ kept. subst (λ q. IsFollowed (On.Tenant t Asked.Report) (Say.Report r) w x (record x { told = Some q })) (sym c.copy_of.ensures) (reported t r w x kept))
+    (λ kept. subst (λ q. IsFollowed (On.Tenant t Command.Report) (Say.Report r) w x (record x { told = Some q })) (sym c.copy_of.ensures) (reported t r w x kept))

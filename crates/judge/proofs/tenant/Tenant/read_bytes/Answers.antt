@@ -1,6 +1,6 @@
 use Rattle.std.proofs.Common.{◌<◌, Some, refl, ap, subst, ◌∙◌}
 use Rattle.words_core.specs.declared.event.Event.TheVariants as On
-use Rattle.words_core.specs.declared.event.Command.TheVariants as Asked
+use Rattle.words_core.specs.declared.event.Command.TheVariants as Command
 use Rattle.words_core.specs.declared.reply.Body.TheVariants as Say
 use Rattle.promise_core.specs.Bytes.{holder_of}
 use Rattle.judge_core.specs.Holders.{shown_holder}
@@ -15,7 +15,7 @@ pub invariant_of-self : goal.invariant_of-self
 invariant_of-self c =
     let x : Seen = record { has = c.self.inside.held; left = c.self.inside.left; may_have_empty = c.self.inside.may_have_empty; told = c.self.inside.told } in
     let new : Seen = record x { left = c.put.new.self } in
-    sound_in (On.Tenant 0 (Asked.Read c.args.place c.args.len)) (Say.Bytes (record { items = c.args.bytes.now })) nothing x c.args.self.now new c.self.view_is c.self.invariant (c.in_ok-holder.ensures.judged 0 nothing)
+    sound_in (On.Tenant 0 (Command.Read c.args.place c.args.len)) (Say.Bytes (record { items = c.args.bytes.now })) nothing x c.args.self.now new c.self.view_is c.self.invariant (c.in_ok-holder.ensures.judged 0 nothing)
     (λ kept. read 0 c.args.place c.args.len (record { items = c.args.bytes.now }) nothing x c.put.new.self (shown_holder c.in_ok-holder.holder) (ap (λ (y : Seen). holder_of y.has c.args.place c.args.len) c.self.view_is ∙ c.in_ok-holder.ensures.is.0) c.put.ensures kept)
     (same_slots x new _ c.self.invariant c.put.ensures refl)
 
@@ -23,7 +23,7 @@ pub returns : goal.returns
 returns c t w =
     let x : Seen = record { has = c.self.inside.held; left = c.self.inside.left; may_have_empty = c.self.inside.may_have_empty; told = c.self.inside.told } in
     let new : Seen = record x { left = c.put.new.self } in
-    followed (On.Tenant t (Asked.Read c.args.place c.args.len)) (Say.Bytes (record { items = c.args.bytes.now })) w x c.args.self.now new c.self.view_is (c.in_ok-holder.ensures.judged t w)
+    followed (On.Tenant t (Command.Read c.args.place c.args.len)) (Say.Bytes (record { items = c.args.bytes.now })) w x c.args.self.now new c.self.view_is (c.in_ok-holder.ensures.judged t w)
     (λ kept. read t c.args.place c.args.len (record { items = c.args.bytes.now }) w x c.put.new.self (shown_holder c.in_ok-holder.holder) (ap (λ (y : Seen). holder_of y.has c.args.place c.args.len) c.self.view_is ∙ c.in_ok-holder.ensures.is.0) c.put.ensures kept)
 
 pub put-requires-clause-held : goal.put-requires-clause-held

@@ -2,7 +2,7 @@ use Rattle.std.proofs.Common.{◌≡◌, ◌*◌, ◌/◌, ◌^◌, ◌<◌, ref
 use Rattle.std.specs.Prelude.{IsSome, Err}
 use Rattle.std.proofs.lemmas.Result.{err_from_is_err_and}
 use Rattle.words_core.specs.declared.event.Event.TheVariants as On
-use Rattle.words_core.specs.declared.event.Command.TheVariants as Asked
+use Rattle.words_core.specs.declared.event.Command.TheVariants as Command
 use Rattle.words_core.specs.declared.reply.Body.TheVariants.{Frame}
 use Rattle.kernel_core.specs.Steps.{Steps}
 use Rattle.kernel_core.specs.Lending.{reply_for}
@@ -10,12 +10,12 @@ use Rattle.space_core.specs.Content.{superblock_at}
 use Rattle.slab_core.specs.Lending.{IsPageAt}
 use Rattle.kernel_core.specs.Content.{KernelContent}
 use Rattle.kernel_core.proofs.Changing.{opened, known}
-use Rattle.kernel_core.proofs.PageCalls.{IsAsked}
+use Rattle.kernel_core.proofs.PageCalls.{IsRequested}
 use Rattle.kernel_core.proofs.LendSpans.{page_few, page_held, page_live, page_span, reply_unknown, reply_known, reply_refused}
 use Rattle.kernel_core.proofs.kernel.Kernel.alloc_span.Goals as goal
 use Rattle.kernel_core.proofs.kernel.Kernel.alloc_span.Goals.{After-machine_of}
 
-asked : (c : After-machine_of) → IsAsked c.self.inside.space c.self.inside.buddy c.self.inside.slabs c.in-Some.t
+asked : (c : After-machine_of) → IsRequested c.self.inside.space c.self.inside.buddy c.self.inside.slabs c.in-Some.t
 asked c = record {
   together = opened _ _ _ _ c.self.view_is c.laws-2.ensures.together;
   tenant = known _ _ _ _ c.in-Some.t c.self.view_is (subst (λ n. c.in-Some.t < n) (sym c.in_ok-first.ensures.steps.does.sizes.tenants) c.in-Some.ensures.1);
@@ -42,22 +42,22 @@ overflow_shl-result c =
     omega arith
 
 pub returns-in_default-clause-steps : goal.returns-in_default-clause-steps
-returns-in_default-clause-steps c = reply_unknown c.args.self.now c.args.tenant (Asked.Alloc c.args.order) c.in_default.ensures
+returns-in_default-clause-steps c = reply_unknown c.args.self.now c.args.tenant (Command.Alloc c.args.order) c.in_default.ensures
 
 pub returns-in_err-first-clause-steps : goal.returns-in_err-first-clause-steps
 returns-in_err-first-clause-steps c =
     let x = c.args in
     let told = err_from_is_err_and c.from_residual.result c.from_residual.ensures.1 in
     rw (told.1 ∙ ap Err told.2)
-    (reply_refused x.self.now c.alloc.new.self c.in-Some.t x.tenant (Asked.Alloc x.order) c.in_err-first.field-0.0 c.in-Some.ensures.0 c.in-Some.ensures.1
+    (reply_refused x.self.now c.alloc.new.self c.in-Some.t x.tenant (Command.Alloc x.order) c.in_err-first.field-0.0 c.in-Some.ensures.0 c.in-Some.ensures.1
     c.laws.ensures.agree c.in_err-first.ensures.steps)
 
 pub returns-clause-steps : goal.returns-clause-steps
 returns-clause-steps c =
     let first = c.in_ok-first.first in
     let frame : 4096 * first / 4096 ≡ first = omega arith in
-    subst (λ n. Steps c.args.self.now (On.Tenant c.args.tenant (Asked.Alloc c.args.order)) c.alloc.new.self (reply_for c.args.self.now c.args.tenant (Frame n))) (sym frame)
-    (reply_known c.args.self.now c.alloc.new.self c.in-Some.t c.args.tenant (Asked.Alloc c.args.order) (Frame first) c.in-Some.ensures.0 c.in-Some.ensures.1
+    subst (λ n. Steps c.args.self.now (On.Tenant c.args.tenant (Command.Alloc c.args.order)) c.alloc.new.self (reply_for c.args.self.now c.args.tenant (Frame n))) (sym frame)
+    (reply_known c.args.self.now c.alloc.new.self c.in-Some.t c.args.tenant (Command.Alloc c.args.order) (Frame first) c.in-Some.ensures.0 c.in-Some.ensures.1
     c.laws-2.ensures.agree c.in_ok-first.ensures.steps)
 
 pub returns-clause-block : goal.returns-clause-block

@@ -10,12 +10,12 @@ use Rattle.machine_changes.specs.Shows.{node_of, has_slab}
 use Rattle.kernel_core.specs.Content as content
 use Rattle.kernel_core.specs.Content.{KernelContent}
 use Rattle.kernel_core.proofs.Changing.{steady, opened, known}
-use Rattle.kernel_core.proofs.PageCalls.{block_slot, IsAsked}
+use Rattle.kernel_core.proofs.PageCalls.{block_slot, IsRequested}
 use Rattle.kernel_core.proofs.LendSpans.{refused_for, unheld_no_page, free_no_page, slab_no_page, few, block_live, has_block}
 use Rattle.kernel_core.proofs.kernel.Kernel.block_span.Goals as goal
 use Rattle.kernel_core.proofs.kernel.Kernel.block_span.Goals.{After-machine_of, After-is_slab_in}
 
-asked : (c : After-machine_of) → IsAsked c.self.inside.space c.self.inside.buddy c.self.inside.slabs c.in-Some.t
+asked : (c : After-machine_of) → IsRequested c.self.inside.space c.self.inside.buddy c.self.inside.slabs c.in-Some.t
 asked c = record { together = opened _ _ _ _ c.self.view_is c.laws.ensures.together; tenant = known _ _ _ _ c.in-Some.t c.self.view_is c.in-Some.ensures.1 }
 
 -- the tenant is there, and has no page block around the place

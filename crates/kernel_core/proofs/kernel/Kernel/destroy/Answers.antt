@@ -1,7 +1,7 @@
 use Rattle.std.proofs.Common.{refl, sym, ap, ◌∙◌}
 use Rattle.model_core.specs.CacheOperations.{destroy_step}
 use Rattle.words_core.specs.Refusals.{destroy_refusal}
-use Rattle.words_core.specs.declared.event.Command.TheVariants as Asked
+use Rattle.words_core.specs.declared.event.Command.TheVariants as Command
 use Rattle.words_core.specs.declared.reply.Body.TheVariants.{Destroyed}
 use Rattle.world_core.specs.PrivateStep.{command_step, destroy_body}
 use Rattle.kernel_core.specs.Content.{content_of}
@@ -10,11 +10,11 @@ use Rattle.kernel_core.proofs.Commanding.{called, by_err, passed}
 use Rattle.kernel_core.proofs.kernel.Kernel.destroy.Goals as goal
 use Rattle.kernel_core.proofs.kernel.Kernel.destroy.Goals.{After-destroy}
 
-tried : (c : After-destroy) → StepsMachine (content_of c.self.inside.space c.self.inside.buddy c.self.inside.slabs) c.args.t (Asked.Destroy c.args.cache)
+tried : (c : After-destroy) → StepsMachine (content_of c.self.inside.space c.self.inside.buddy c.self.inside.slabs) c.args.t (Command.Destroy c.args.cache)
     (content_of c.destroy.new.space c.destroy.new.buddy c.destroy.new.self) (destroy_body c.destroy.result)
 unfolding command_step
 tried c =
-    called _ _ _ _ _ _ c.args.t c.destroy.ensures.spares (Asked.Destroy c.args.cache) destroy_body (destroy_step c.args.cache) c.destroy.result (λ m. refl)
+    called _ _ _ _ _ _ c.args.t c.destroy.ensures.spares (Command.Destroy c.args.cache) destroy_body (destroy_step c.args.cache) c.destroy.result (λ m. refl)
     c.destroy.ensures.answer c.destroy.ensures.shows (by_err destroy_body c.destroy.result (λ done. refl) c.destroy.ensures.refused)
 
 pub returns-in_err-destroy : goal.returns-in_err-destroy

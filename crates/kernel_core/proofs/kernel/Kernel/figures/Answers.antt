@@ -8,7 +8,7 @@ use Rattle.machine_changes.specs.Steady.{IsSteady}
 use Rattle.world_core.specs.PrivateStep.{figures_of}
 use Rattle.kernel_core.proofs.Changing.{steady}
 use Rattle.kernel_core.proofs.ReportFigures.{within, meet, live_below, frames_read, top_none, top_some, figures_are}
-use Rattle.words_core.specs.declared.event.Command.TheVariants as Asked
+use Rattle.words_core.specs.declared.event.Command.TheVariants as Command
 use Rattle.kernel_core.specs.Shows.{Shows}
 use Rattle.kernel_core.proofs.Commanding.{reported}
 use Rattle.kernel_core.proofs.Worlds.{steps_asked}
@@ -52,5 +52,5 @@ returns-clause-machine c = λ m shown.
 
 pub returns-clause-steps : goal.returns-clause-steps
 returns-clause-steps c =
-    steps_asked _ _ c.args.t c.args.t Asked.Report _ refl c.requires (λ w (shown : Shows c.args.self.now w). shown.agree)
+    steps_asked _ _ c.args.t c.args.t Command.Report _ refl c.requires (λ w (shown : Shows c.args.self.now w). shown.agree)
     (reported _ c.args.t _ (returns-clause-machine c))

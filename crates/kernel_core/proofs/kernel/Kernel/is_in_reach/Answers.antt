@@ -2,7 +2,7 @@ use Rattle.std.proofs.Common.{◌≡◌, ◌⊎◌, ◌*◌, ◌^◌, ◌<◌, �
 use Rattle.std.proofs.lemmas.Bool.{false≢true, le-leb, leb-true}
 use Rattle.machine_changes.specs.Steady.{IsSteady}
 use Rattle.slab_core.proofs.ObjectReach.{no_block, no_slab}
-use Rattle.machine_changes.proofs.PageBlocks.{block_tells, no_block_tells}
+use Rattle.machine_changes.proofs.PageBlocks.{block_decides, no_block_decides}
 use Rattle.machine_changes.specs.Shows.{node_of, has_slab}
 use Rattle.kernel_core.specs.Content.{KernelContent, superblock_at}
 use Rattle.kernel_core.proofs.Changing.{steady, opened, known}
@@ -60,7 +60,7 @@ returns-in_default c =
     rw (← c.self.view_is) (
       (λ e. absurd (false≢true e)),
       (λ reach. absurd (neither reach.inside
-          (no_block_tells k.space k.buddy k.slabs x.t x.place x.len reach.some c.in_default.ensures)
+          (no_block_decides k.space k.buddy k.slabs x.t x.place x.len reach.some c.in_default.ensures)
           (λ o. no_block k.space k.buddy k.slabs x.t x.place x.len lends c.in_default.ensures o.0 o.1))),
     )
 
@@ -69,7 +69,7 @@ returns-then-is_slab_in c =
     let x = c.args in
     let k = c.self.inside in
     let some : 0 < x.len = omega arith in
-    let tells = block_tells k.space k.buddy k.slabs x.t x.place x.len c.in-Some.first c.in-Some.order (lent (goal.at.returns-then-is_slab_in c).After-block_in) some
+    let tells = block_decides k.space k.buddy k.slabs x.t x.place x.len c.in-Some.first c.in-Some.order (lent (goal.at.returns-then-is_slab_in c).After-block_in) some
     c.in-Some.ensures.0 c.in-Some.ensures.1 in
     rw (← c.self.view_is) (
       (λ e. record { some = some; inside = inr (c.object_in.ensures.0 e) }),
@@ -98,7 +98,7 @@ returns c =
     let is = small g.After-node_in-node in
     let page = told g.After-is_slab_in ∙ c.if-is_slab_in.false in
     let some : 0 < x.len = omega arith in
-    let tells = block_tells k.space k.buddy k.slabs x.t x.place x.len c.in-Some.first c.in-Some.order lends some
+    let tells = block_decides k.space k.buddy k.slabs x.t x.place x.len c.in-Some.first c.in-Some.order lends some
     c.in-Some.ensures.0 c.in-Some.ensures.1 in
     rw (c.from.ensures, c.from-2.ensures, c.from-3.ensures, c.from-4.ensures, is.0, ← c.self.view_is) (
       (λ fits. record { some = some; inside = inl (tells.1 (page, leb-true _ _ fits)) }),

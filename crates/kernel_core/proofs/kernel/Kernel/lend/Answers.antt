@@ -1,12 +1,12 @@
 use Rattle.std.proofs.Common.{refl}
 use Rattle.machine_changes.specs.Pages.{IsInReach}
 use Rattle.kernel_core.proofs.Changing.{known}
-use Rattle.kernel_core.proofs.PageCalls.{IsAsked, reach_opened}
+use Rattle.kernel_core.proofs.PageCalls.{IsRequested, reach_opened}
 use Rattle.kernel_core.proofs.LendBytes.{lent_agrees, lent_left, lent_is}
 use Rattle.kernel_core.proofs.kernel.Kernel.lend.Goals as goal
 use Rattle.kernel_core.proofs.kernel.Kernel.lend.Goals.{After-lend_within}
 
-asked : (c : After-lend_within) → IsAsked c.self.inside.space c.self.inside.buddy c.self.inside.slabs c.args.span.tenant
+asked : (c : After-lend_within) → IsRequested c.self.inside.space c.self.inside.buddy c.self.inside.slabs c.args.span.tenant
 asked c = record { together = c.laws.ensures.together; tenant = known _ _ _ _ c.args.span.tenant c.self.view_is c.requires.tenant }
 
 reach : (c : After-lend_within) → IsInReach c.self.inside.space c.self.inside.buddy c.self.inside.slabs c.args.span.tenant c.args.span.place c.args.span.bytes

@@ -1,6 +1,6 @@
 use Rattle.std.proofs.Common.{◌≡◌, Err, ok_or, refl, sym, ap, ◌∙◌}
 use Rattle.model_core.specs.declared.refusals.CacheRefusal.{CacheRefusal}
-use Rattle.words_core.specs.declared.event.Command.TheVariants as Asked
+use Rattle.words_core.specs.declared.event.Command.TheVariants as Command
 use Rattle.world_core.specs.PrivateStep.{cache_body}
 use Rattle.kernel_core.specs.Content.{content_of}
 use Rattle.kernel_core.specs.Steps.{StepsMachine}
@@ -21,7 +21,7 @@ returns-in-Err-BadAlign-clause-steps c =
 
 -- the cache, or the lack of a number for it
 tried : (c : After-create) → StepsMachine (content_of c.self.inside.space c.self.inside.buddy c.self.inside.slabs) c.args.t
-    (Asked.Cache c.args.size c.args.align (record { items = c.args.pattern.now })) (content_of c.self.inside.space c.self.inside.buddy c.create.new.self)
+    (Command.Cache c.args.size c.args.align (record { items = c.args.pattern.now })) (content_of c.self.inside.space c.self.inside.buddy c.create.new.self)
     (cache_body c.args.size c.args.align (ok_or c.create.result CacheRefusal.NoCacheSlot))
 tried c =
     let held : c.unwrap-pattern.result ≡ c.args.pattern.now = rw c.unwrap-pattern.ensures at c.new.ensures.value in

@@ -3,12 +3,12 @@ use Rattle.std.specs.Prelude.{IsSome}
 use Rattle.space_core.specs.Content.{superblock_at}
 use Rattle.kernel_core.specs.Content.{KernelContent}
 use Rattle.kernel_core.proofs.Changing.{opened, known}
-use Rattle.kernel_core.proofs.PageCalls.{IsAsked}
+use Rattle.kernel_core.proofs.PageCalls.{IsRequested}
 use Rattle.kernel_core.proofs.LendSpans.{object_live, object_held}
 use Rattle.kernel_core.proofs.kernel.Kernel.object_span.Goals as goal
 use Rattle.kernel_core.proofs.kernel.Kernel.object_span.Goals.{After-machine_of}
 
-asked : (c : After-machine_of) → IsAsked c.self.inside.space c.self.inside.buddy c.self.inside.slabs c.in-Some.t
+asked : (c : After-machine_of) → IsRequested c.self.inside.space c.self.inside.buddy c.self.inside.slabs c.in-Some.t
 asked c = record { together = opened _ _ _ _ c.self.view_is c.laws.ensures.together; tenant = known _ _ _ _ c.in-Some.t c.self.view_is c.in-Some.ensures.1 }
 
 -- what stands under the slot

@@ -1,10 +1,10 @@
 use Rattle.std.proofs.Common.{◌≡◌, sym, ap, ◌∙◌, ◌/◌, ◌^◌, arith}
 use Rattle.kernel_core.specs.Content.{KernelContent, superblock_at}
-use Rattle.kernel_core.proofs.PageCalls.{IsAsked, not_held, home_is}
+use Rattle.kernel_core.proofs.PageCalls.{IsRequested, not_held, home_is}
 use Rattle.kernel_core.proofs.kernel.Kernel.reached.Goals as goal
 use Rattle.kernel_core.proofs.kernel.Kernel.reached.Goals.{After-machine_of}
 
-asked : (c : After-machine_of) → IsAsked c.args.self.now.space c.args.self.now.buddy c.args.self.now.slabs c.args.t
+asked : (c : After-machine_of) → IsRequested c.args.self.now.space c.args.self.now.buddy c.args.self.now.slabs c.args.t
 asked c = record { together = c.laws.ensures.together; tenant = omega (arith, c.requires, c.laws.ensures.agree.holdings) }
 
 -- what stands under the slot

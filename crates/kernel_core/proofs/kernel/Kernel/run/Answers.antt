@@ -1,5 +1,5 @@
 use Rattle.std.proofs.Common.{◌≡◌, ℕ, false, refl}
-use Rattle.words_core.specs.Requests.{command_of, body_of_answer, HasFewBytes, asks_bytes, tells_bytes}
+use Rattle.words_core.specs.Requests.{command_of, body_of_answer, HasFewBytes, asks_bytes, has_bytes}
 use Rattle.words_core.specs.declared.answer.Answer.{Answer}
 use Rattle.words_core.specs.declared.event.Request.{Request}
 use Rattle.kernel_core.specs.Content.{KernelContent}
@@ -9,7 +9,7 @@ use Rattle.kernel_core.proofs.kernel.Kernel.run.Goals as goal
 -- the command was a step of the tenant's machine, and what its answer tells
 abbrev IsRun : KernelContent → ℕ → Request → KernelContent → Answer → Type 0
 IsRun k t request k' answer =
-    StepsMachine k t (command_of request) k' (body_of_answer answer) × (HasFewBytes answer × (asks_bytes request ≡ false → tells_bytes answer ≡ false))
+    StepsMachine k t (command_of request) k' (body_of_answer answer) × (HasFewBytes answer × (asks_bytes request ≡ false → has_bytes answer ≡ false))
 
 pub returns : goal.returns
 returns c =

@@ -2,7 +2,7 @@ use Rattle.std.proofs.Common.{◌≡◌, ℕ, ◌/◌, ◌^◌, ◌<◌, refl, s
 use Rattle.std.specs.Prelude.{IsSome, IfSome, Err}
 use Rattle.std.proofs.lemmas.Result.{err_from_is_err_and}
 use Rattle.model_core.specs.Machine.{Machine}
-use Rattle.words_core.specs.declared.event.Command.TheVariants as Asked
+use Rattle.words_core.specs.declared.event.Command.TheVariants as Command
 use Rattle.words_core.specs.declared.reply.Body.TheVariants.{Object}
 use Rattle.slab_core.specs.Lending.{HasObject}
 use Rattle.kernel_core.specs.Shows.{ShowsMachine}
@@ -14,12 +14,12 @@ use Rattle.machine_changes.specs.Objects.{IsLiveObject, HasRange}
 use Rattle.slab_core.proofs.ObjectBytes.{has_object, has_range}
 use Rattle.kernel_core.specs.Content.{KernelContent}
 use Rattle.kernel_core.proofs.Changing.{opened, known, steady}
-use Rattle.kernel_core.proofs.PageCalls.{IsAsked}
+use Rattle.kernel_core.proofs.PageCalls.{IsRequested}
 use Rattle.kernel_core.proofs.LendSpans.{object_live, object_held, reply_unknown, reply_known, reply_refused}
 use Rattle.kernel_core.proofs.kernel.Kernel.take_span.Goals as goal
 use Rattle.kernel_core.proofs.kernel.Kernel.take_span.Goals.{After-machine_of}
 
-asked : (c : After-machine_of) → IsAsked c.self.inside.space c.self.inside.buddy c.self.inside.slabs c.in-Some.t
+asked : (c : After-machine_of) → IsRequested c.self.inside.space c.self.inside.buddy c.self.inside.slabs c.in-Some.t
 asked c = record {
   together = opened _ _ _ _ c.self.view_is c.laws-2.ensures.together;
   tenant = known _ _ _ _ c.in-Some.t c.self.view_is (subst (λ n. c.in-Some.t < n) (sym c.in_ok-place.ensures.steps.does.sizes.tenants) c.in-Some.ensures.1);
@@ -52,19 +52,19 @@ sized : (c : After-machine_of) → (bytes : ℕ) → IfSome (cache_at c.self.ins
 sized c bytes told = subst (λ o. IfSome o (λ (cache : own.Cache). bytes ≡ cache.layout.size)) (object c).1.slab.cached told
 
 pub returns-in_default-clause-steps : goal.returns-in_default-clause-steps
-returns-in_default-clause-steps c = reply_unknown c.args.self.now c.args.tenant (Asked.Take c.args.cache) c.in_default.ensures
+returns-in_default-clause-steps c = reply_unknown c.args.self.now c.args.tenant (Command.Take c.args.cache) c.in_default.ensures
 
 pub returns-in_err-place-clause-steps : goal.returns-in_err-place-clause-steps
 returns-in_err-place-clause-steps c =
     let x = c.args in
     let told = err_from_is_err_and c.from_residual.result c.from_residual.ensures.1 in
     rw (told.1 ∙ ap Err told.2)
-    (reply_refused x.self.now c.take.new.self c.in-Some.t x.tenant (Asked.Take x.cache) c.in_err-place.field-0.0 c.in-Some.ensures.0 c.in-Some.ensures.1
+    (reply_refused x.self.now c.take.new.self c.in-Some.t x.tenant (Command.Take x.cache) c.in_err-place.field-0.0 c.in-Some.ensures.0 c.in-Some.ensures.1
     c.laws.ensures.agree c.in_err-place.ensures.steps)
 
 pub returns-clause-steps : goal.returns-clause-steps
 returns-clause-steps c =
-    reply_known c.args.self.now c.take.new.self c.in-Some.t c.args.tenant (Asked.Take c.args.cache) (Object c.in_ok-place.place) c.in-Some.ensures.0 c.in-Some.ensures.1
+    reply_known c.args.self.now c.take.new.self c.in-Some.t c.args.tenant (Command.Take c.args.cache) (Object c.in_ok-place.place) c.in-Some.ensures.0 c.in-Some.ensures.1
     c.laws-2.ensures.agree c.in_ok-place.ensures.steps
 
 pub returns-clause-object : goal.returns-clause-object

@@ -1,5 +1,0 @@
-use Rattle.world_core.proofs.Asked as asked
-use Rattle.world_core.proofs.laws.own_lists_are_asked.Goals as goal
-
-pub returns : goal.returns
-returns c = asked.own_lists_are_asked
