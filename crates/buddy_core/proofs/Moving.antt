@@ -11,7 +11,7 @@ use Rattle.model_core.specs.Blocks.{Taken}
 use Rattle.buddy_core.specs.Content.{Holding, with_holding, with_slot}
 use Rattle.buddy_core.specs.Stored.{StoredSuperblock, StoredTenant, bare_superblock, superblock_of, stored_tenant, superblock_at, held_by, holding_shown, content_shown}
 use Rattle.buddy_core.specs.Roots.{HasBit}
-use Rattle.buddy_core.specs.Bands.{AreBounded}
+use Rattle.buddy_core.specs.Summary.{AreBounded}
 use Rattle.buddy_core.specs.Kept.{IsKept, IsTenantKept}
 use Rattle.buddy_core.proofs.ContentShown.{slot_within, StandsAsBefore, taken_as_before, blank_of, bare_of, content_replaced}
 use Rattle.buddy_core.proofs.Bounding.{bounded_still}
@@ -121,8 +121,8 @@ module _ (top : ℕ) (superblocks : List StoredSuperblock) (tenants : List Store
       shows taken n = record { slots = set (stored_tenant t tenants).slots slot (Some m); taken = map taken (range_with_len 0 (n * 2 ^ top)) }
 
   -- the superblock that a slot stands over has the orders that it had
-  pub move_bounded : (bands : List (List ℕ)) → AreBounded superblocks tenants bands → AreBounded after (set tenants t moved) bands
-  move_bounded bands bounded = bounded_still bounded after (set tenants t moved) (length-set tenants t moved) (λ v u i j at bit. go v u i j at bit (cases_eq v t))
+  pub move_bounded : (summaries : List (List ℕ)) → AreBounded superblocks tenants summaries → AreBounded after (set tenants t moved) summaries
+  move_bounded summaries bounded = bounded_still bounded after (set tenants t moved) (length-set tenants t moved) (λ v u i j at bit. go v u i j at bit (cases_eq v t))
     where
       go : (v u i j : ℕ) → superblock_at (stored_tenant v (set tenants t moved)) u ≡ Some i → HasBit after i j → (v ≡ t) ⊎ (v ≡ t → ⊥) → (was : ℕ) × (superblock_at (stored_tenant v tenants) u ≡ Some was) × HasBit superblocks was j
       go v u i j at bit (inl e) =

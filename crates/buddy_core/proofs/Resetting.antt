@@ -9,7 +9,7 @@ use Rattle.model_core.proofs.Lists.{everywhere}
 use Rattle.buddy_core.specs.Content.{with_holding, nothing_held}
 use Rattle.buddy_core.specs.Stored.{StoredSuperblock, StoredTenant, bare_superblock, bare_tenant, superblock_of, stored_tenant, superblock_at, taken_by, content_shown}
 use Rattle.buddy_core.specs.Roots.{HasBit}
-use Rattle.buddy_core.specs.Bands.{AreBounded}
+use Rattle.buddy_core.specs.Summary.{AreBounded}
 use Rattle.buddy_core.specs.Kept.{IsKept, IsTenantKept}
 use Rattle.buddy_core.proofs.ContentShown.{taken_as_before, blank_of, bare_of, content_replaced, slot_within}
 use Rattle.buddy_core.proofs.Bounding.{bounded_still}
@@ -148,8 +148,8 @@ module _ (top : ℕ) (superblocks : List StoredSuperblock) (tenants : List Store
       (λ v ne lt. other_taken v ne) (blank_holding top after (length superblocks))
 
   -- no slot has an order that it did not have
-  pub reset_bounded : (bands : List (List ℕ)) → AreBounded superblocks tenants bands → AreBounded after (set tenants t (bare_tenant top (length superblocks))) bands
-  reset_bounded bands bounded = bounded_still bounded after (set tenants t (bare_tenant top (length superblocks))) (length-set tenants t (bare_tenant top (length superblocks))) (λ v u i j at bit. go v u i j at bit (cases_eq v t))
+  pub reset_bounded : (summaries : List (List ℕ)) → AreBounded superblocks tenants summaries → AreBounded after (set tenants t (bare_tenant top (length superblocks))) summaries
+  reset_bounded summaries bounded = bounded_still bounded after (set tenants t (bare_tenant top (length superblocks))) (length-set tenants t (bare_tenant top (length superblocks))) (λ v u i j at bit. go v u i j at bit (cases_eq v t))
     where
       go : (v u i j : ℕ) → superblock_at (stored_tenant v (set tenants t (bare_tenant top (length superblocks)))) u ≡ Some i → HasBit after i j → (v ≡ t) ⊎ (v ≡ t → ⊥)
           → (was : ℕ) × (superblock_at (stored_tenant v tenants) u ≡ Some was) × HasBit superblocks was j

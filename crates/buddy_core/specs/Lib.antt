@@ -5,4 +5,4 @@ pub mod Stored
 pub mod Kept
 pub mod Roots
 pub mod Counts
-pub mod Bands
+pub mod Summary

@@ -3,10 +3,10 @@
 ghost use Rattle.std.specs.Prelude.{◌≡◌, ℕ, ◌/◌, ◌<◌, ◌≤◌, Some, None, length, slice_index_or, MatchOption};
 ghost use Rattle.model_core.specs.declared.limits.TheConstants.{MOST_SUPERBLOCKS};
 ghost use Rattle.buddy_core.specs.Roots.{HasBit, IsCounted, IsThere, IsWithoutOrder, IsSource};
-ghost use Rattle.buddy_core.specs.Bands.{IsBounded, HasNoneIn};
-ghost use Rattle.buddy_core.specs.declared.bands.TheConstants.{BAND, BANDS};
+ghost use Rattle.buddy_core.specs.Summary.{IsBounded, HasNoneIn};
+ghost use Rattle.buddy_core.specs.declared.summaries.TheConstants.{GROUP_SLOTS, GROUPS};
 
-use crate::bands::{BAND, BANDS, Bands};
+use crate::summaries::{GROUP_SLOTS, GROUPS, Summary};
 use crate::superblock::Superblock;
 use crate::tenant::Tenant;
 use crate::tree;
@@ -19,47 +19,52 @@ pub struct Source {
     pub order: u8,
 }
 
-/// The first slot of the tenant with a free block of the least order of at least `k` that there is. It strikes out of `bands`
+/// The first slot of the tenant with a free block of the least order of at least `k` that there is. It strikes out of `summaries`
 /// where it looked in vain.
-pub fn find(superblocks: &[Superblock], tenant: &Tenant, bands: &mut Bands, k: u8) -> Option<Source>
+pub fn find(
+    superblocks: &[Superblock],
+    tenant: &Tenant,
+    summaries: &mut Summary,
+    k: u8,
+) -> Option<Source>
     requires there { IsThere superblocks.now tenant.now.slots }
     requires counted { IsCounted superblocks.now tenant.now }
-    requires bounded { IsBounded superblocks.now tenant.now.slots bands.old }
+    requires bounded { IsBounded superblocks.now tenant.now.slots summaries.old }
     ensures found { MatchOption result (IsWithoutOrder superblocks.now tenant.now.slots k)
         (IsSource superblocks.now tenant.now.slots k) }
-    ensures bounded { IsBounded superblocks.now tenant.now.slots bands.new }
+    ensures bounded { IsBounded superblocks.now tenant.now.slots summaries.new }
 {
     let order = tenant.least_free(k)?;
     let slots = tenant.held();
-    for _look in 0..BANDS {
-        let band = bands.first(order)?;
-        if let Some(source) = first_in(superblocks, slots, band, order) {
+    for _look in 0..GROUPS {
+        let group = summaries.first(order)?;
+        if let Some(source) = first_in(superblocks, slots, group, order) {
             return Some(source);
         }
-        bands.strike(band, order);
+        summaries.strike(group, order);
     }
     None
 }
 
-/// The first slot of a band with a free block of `order`.
+/// The first slot of a group with a free block of `order`.
 fn first_in(
     superblocks: &[Superblock],
     slots: &[Option<u16>],
-    band: usize,
+    group: usize,
     order: u8,
 ) -> Option<Source>
     requires there { IsThere superblocks.now slots.now }
     requires few { length slots.now ≤ MOST_SUPERBLOCKS }
-    requires band { band < BANDS }
+    requires group { group < GROUPS }
     requires order { order < 16 }
-    ensures { MatchOption result (HasNoneIn superblocks.now slots.now band order)
+    ensures { MatchOption result (HasNoneIn superblocks.now slots.now group order)
         (λ p. (slice_index_or slots.now p.slot None ≡ Some p.superblock) × HasBit superblocks.now p.superblock order
-        × (p.order ≡ order) × (p.slot / BAND ≡ band)
-        × ((u m : ℕ) → u / BAND ≡ band → u < p.slot → slice_index_or slots.now u None ≡ Some m
+        × (p.order ≡ order) × (p.slot / GROUP_SLOTS ≡ group)
+        × ((u m : ℕ) → u / GROUP_SLOTS ≡ group → u < p.slot → slice_index_or slots.now u None ≡ Some m
         → HasBit superblocks.now m order → ⊥)) }
 {
-    let end = slots.len().min((band + 1) * BAND);
-    for slot in band * BAND..end {
+    let end = slots.len().min((group + 1) * GROUP_SLOTS);
+    for slot in group * GROUP_SLOTS..end {
         if let Some(superblock) = slots[slot]
             && tree::has(superblocks[superblock as usize].tree().root(), order)
         {

@@ -31,13 +31,13 @@ ghost use Rattle.model_core.specs.Blocks.{Block, block, HasFrame, IsTaken, HasTa
 ghost use Rattle.buddy_core.specs.Content.{Content, empty_buddy, nothing_held, holding_of, with_holding, superblock_at, is_held, taken_of, with_block, without_block, with_slot, without_slot, BuddyLaws, free_block_count, taken_block_count, held_slots};
 ghost use Rattle.buddy_core.specs.Table.{IsTable};
 
-mod bands;
 mod find;
+mod summaries;
 mod superblock;
 mod tenant;
 mod tree;
 
-use crate::bands::Bands;
+use crate::summaries::Summary;
 use crate::superblock::Superblock;
 use crate::tenant::Tenant;
 use std::alloc::{AllocError, Global};
@@ -54,7 +54,7 @@ pub struct Buddy {
     superblocks: Vec<Superblock>,
     tenants: Vec<Tenant>,
     // By tenant, which slots a search passes over.
-    bands: Vec<Bands>,
+    summaries: Vec<Summary>,
 }
 
 impl Model for Buddy {
@@ -64,12 +64,12 @@ impl Model for Buddy {
 
     ghost use Rattle.buddy_core.specs.Stored.{content_shown};
     ghost use Rattle.buddy_core.specs.Kept.{IsKept};
-    ghost use Rattle.buddy_core.specs.Bands.{AreBounded};
+    ghost use Rattle.buddy_core.specs.Summary.{AreBounded};
 
     ghost view = { λ a. content_shown a.order a.superblocks.items a.tenants.items };
 
     ghost invariant = { λ a. IsKept a.order a.superblocks.items a.tenants.items
-        × AreBounded a.superblocks.items a.tenants.items a.bands.items };
+        × AreBounded a.superblocks.items a.tenants.items a.summaries.items };
 }
 
 impl Buddy {
@@ -81,10 +81,10 @@ impl Buddy {
         ensures { IfOk result (λ b. b ≡ empty_buddy order superblocks tenants) }
     {
         let mut all_tenants = Vec::new(alloc);
-        let mut bands = Vec::new(alloc);
+        let mut summaries = Vec::new(alloc);
         for _tenant in 0..tenants {
             all_tenants.push(Tenant::new(alloc, order, superblocks)?)?;
-            bands.push(Bands::new())?;
+            summaries.push(Summary::new())?;
         }
         let mut all_superblocks = Vec::new(alloc);
         for _superblock in 0..superblocks {
@@ -94,7 +94,7 @@ impl Buddy {
             order,
             superblocks: all_superblocks,
             tenants: all_tenants,
-            bands,
+            summaries,
         })
     }
 
@@ -138,7 +138,7 @@ impl Buddy {
     {
         let order = self.order;
         self.superblocks[m as usize].fill();
-        self.bands[t as usize].note(u32::from(slot), order);
+        self.summaries[t as usize].note(u32::from(slot), order);
         self.tenants[t as usize].add_slot(slot, m, order);
     }
 
@@ -206,13 +206,13 @@ impl Buddy {
             × (IsChoice self.old.top (is_held (holding_of t self.old)) (taken_of (holding_of t self.old)) k (block f j)
             × (self.new ≡ with_holding t (with_block f k (holding_of t self.old)) self.old))) }
     {
-        let bands = &mut self.bands[t as usize];
-        let source = find::find(&self.superblocks, &self.tenants[t as usize], bands, k)?;
+        let summaries = &mut self.summaries[t as usize];
+        let source = find::find(&self.superblocks, &self.tenants[t as usize], summaries, k)?;
         let superblock = &mut self.superblocks[source.superblock as usize];
         let first = superblock.tree().search(source.order);
         superblock.reserve_at(first, source.order, k);
         let slot = u32::from(source.slot);
-        bands.note_halves(slot, k, source.order);
+        summaries.note_halves(slot, k, source.order);
         self.tenants[t as usize].count_reserved(source.order, k);
         Some((slot << self.order) + first)
     }
@@ -242,7 +242,7 @@ impl Buddy {
         let k = self.superblocks[m as usize].order_at(first)?;
         let joined = self.superblocks[m as usize].release_at(first, k);
         self.tenants[t as usize].count_released(k, joined);
-        self.bands[t as usize].note(frame >> self.order, joined);
+        self.summaries[t as usize].note(frame >> self.order, joined);
         Some(k)
     }
 

@@ -5,7 +5,7 @@ use Rattle.std.proofs.lemmas.List.{get_or_read, get_or-set_same, get_or-set_othe
 use Rattle.buddy_core.specs.Content.{holding_of, with_holding, with_slot}
 use Rattle.buddy_core.specs.Stored.{StoredSuperblock, StoredTenant, stored_tenant, holding_shown, content_shown}
 use Rattle.buddy_core.specs.Tree.{Shows}
-use Rattle.buddy_core.specs.Bands.{IsBounded, AreBounded}
+use Rattle.buddy_core.specs.Summary.{IsBounded, AreBounded}
 use Rattle.buddy_core.specs.Kept.{IsKept}
 use Rattle.buddy_core.proofs.ContentShown.{shown_is, slot_at, blank_of, bare_of}
 use Rattle.buddy_core.proofs.TenantCounts.{room}
@@ -28,7 +28,7 @@ add_slot-requires-clause-room c =
 -- what is kept afterwards, and what is shown
 added : (c : After-add_slot)
     → (IsKept c.self.inside.order (set c.self.inside.superblocks.items c.args.m c.fill.new.self) (set c.self.inside.tenants.items c.args.t c.add_slot.new.self)
-    × AreBounded (set c.self.inside.superblocks.items c.args.m c.fill.new.self) (set c.self.inside.tenants.items c.args.t c.add_slot.new.self) (set c.self.inside.bands.items c.args.t c.note.new.self))
+    × AreBounded (set c.self.inside.superblocks.items c.args.m c.fill.new.self) (set c.self.inside.tenants.items c.args.t c.add_slot.new.self) (set c.self.inside.summaries.items c.args.t c.note.new.self))
     × (content_shown c.self.inside.order (set c.self.inside.superblocks.items c.args.m c.fill.new.self) (set c.self.inside.tenants.items c.args.t c.add_slot.new.self)
     ≡ with_holding c.args.t (with_slot c.args.slot c.args.m (holding_of c.args.t c.args.self.now)) c.args.self.now)
 added c =
@@ -52,7 +52,7 @@ added c =
     (kept_changed a.order a.superblocks.items a.tenants.items c.args.t c.args.m c.fill.new.self _ c.self.invariant.0 change) in
     let slots = (stored_tenant c.args.t a.tenants.items).slots in
     let inside : c.args.slot < length slots = subst (λ n. c.args.slot < n) (sym (c.self.invariant.0.each c.args.t s.listed).sizes.slots) slot_lt in
-    let band = get_or_read a.bands.items c.args.t c.index_mut-2.result.now (let size = c.self.invariant.1.size in let lt = s.listed in omega arith) c.index_mut-2.ensures.value [] in
+    let group = get_or_read a.summaries.items c.args.t c.index_mut-2.result.now (let size = c.self.invariant.1.size in let lt = s.listed in omega arith) c.index_mut-2.ensures.value [] in
     let root = first_word (λ _. true) a.order c.fill.new.self.tree.words words ∙ orders_clear (λ _. true) a.order 0 (clear_from (λ _. true) a.order 0 (λ x h. refl)) in (
       (
         kept,
@@ -61,7 +61,7 @@ added c =
             (λ u ne. ap (λ (r : StoredTenant). get_or r.slots u None) written ∙ get_or-set_other slots c.args.slot u (Some c.args.m) None ne)
             (λ j bit. subst (λ i. bit_at (slice_index c.note.new.self i) (c.args.slot / 8) ≡ 1) (sym (bit_apart a.order j (ap (λ w. bit_at w j) (sym root) ∙ bit)))
             (subst (λ n. bit_at (slice_index c.note.new.self a.order) (n / 8) ≡ 1) c.from.ensures c.note.ensures.noted))
-            c.index_mut-2.result.now (subst (λ (ws : List ℕ). IsBounded a.superblocks.items slots ws) (sym band) (c.self.invariant.1.each c.args.t)) c.note.ensures.kept,
+            c.index_mut-2.result.now (subst (λ (ws : List ℕ). IsBounded a.superblocks.items slots ws) (sym group) (c.self.invariant.1.each c.args.t)) c.note.ensures.kept,
       ),
       ap (λ (r : StoredTenant). content_shown a.order (set a.superblocks.items c.args.m c.fill.new.self) (set a.tenants.items c.args.t r)) written
           ∙ shown_changed a.order a.superblocks.items a.tenants.items c.args.t c.args.m c.fill.new.self _ c.self.invariant.0 change _ holding

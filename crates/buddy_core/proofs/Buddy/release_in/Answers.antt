@@ -4,7 +4,7 @@ use Rattle.std.specs.Prelude.{slice_index}
 use Rattle.std.proofs.lemmas.Nat.{pow_pos, mod_below}
 use Rattle.std.proofs.lemmas.List.{get_or_read}
 use Rattle.buddy_core.specs.Content.{superblock_at as held_at, holding_of, taken_of, with_holding, without_block}
-use Rattle.buddy_core.specs.Bands.{IsBounded}
+use Rattle.buddy_core.specs.Summary.{IsBounded}
 use Rattle.buddy_core.specs.Counts.{HasRoomForCounts}
 use Rattle.buddy_core.specs.Stored.{StoredSuperblock, StoredTenant, stored_tenant, superblock_of, superblock_at, holding_shown}
 use Rattle.buddy_core.proofs.ContentShown.{IsShown, shown_is, slot_at, size_is, blank_of, bare_of}
@@ -173,17 +173,17 @@ invariant_of-self c =
     let kept = kept_changed a.order a.superblocks.items a.tenants.items c.args.t c.args.m c.release_at-joined.new.self c.count_released.new.self c.self.invariant.0
     (step_change a.order a.superblocks.items a.tenants.items c.args.t (c.args.frame / 2 ^ a.order) c.args.m (c.args.frame % (1 * 2 ^ a.order % 4294967296)) c.release_at-joined.new.self c.count_released.new.self None c.self.invariant.0 step) in
     let m_lt = superblock_lt c.self.invariant.0 at in
-    let band = get_or_read a.bands.items c.args.t c.index_mut-3.result.now (let size = c.self.invariant.1.size in let lt = at.listed in omega arith) c.index_mut-3.ensures.value [] in
-    let told = subst (λ (ws : List ℕ). IsBounded a.superblocks.items (stored_tenant c.args.t a.tenants.items).slots ws) (sym band) (c.self.invariant.1.each c.args.t) in
+    let group = get_or_read a.summaries.items c.args.t c.index_mut-3.result.now (let size = c.self.invariant.1.size in let lt = at.listed in omega arith) c.index_mut-3.ensures.value [] in
+    let told = subst (λ (ws : List ℕ). IsBounded a.superblocks.items (stored_tenant c.args.t a.tenants.items).slots ws) (sym group) (c.self.invariant.1.each c.args.t) in
     let order = joined g.After-release_at-joined at in
     let orders = released_orders c.self.invariant.0 at c.release_at-joined.new.self c.count_released.new.self (release g.After-count_released at order (tenant_read g.After-index_mut-2 at.listed)) in
-    let band_of = c.args.frame / 2 ^ a.order / 8 in (
+    let group_of = c.args.frame / 2 ^ a.order / 8 in (
       kept,
       bounded_noted c.self.invariant.1 a.order c.args.m c.args.t (c.args.frame / 2 ^ a.order) c.release_at-joined.new.self c.count_released.new.self c.note.new.self at.listed m_lt kept
           (ap (λ (ss : List (Option ℕ)). get_or ss (c.args.frame / 2 ^ a.order) None) step.slots ∙ at.slot) (λ u ne. ap (λ (ss : List (Option ℕ)). get_or ss u None) step.slots)
           (λ j bit. elim (orders j bit) [
-            | inl e ↦ subst (λ n. bit_at (slice_index c.note.new.self n) band_of ≡ 1) (order ∙ sym e) c.note.ensures.noted
-            | inr was ↦ c.note.ensures.kept j band_of (told j (c.args.frame / 2 ^ a.order) c.args.m at.slot was)
+            | inl e ↦ subst (λ n. bit_at (slice_index c.note.new.self n) group_of ≡ 1) (order ∙ sym e) c.note.ensures.noted
+            | inr was ↦ c.note.ensures.kept j group_of (told j (c.args.frame / 2 ^ a.order) c.args.m at.slot was)
           ])
           c.index_mut-3.result.now told c.note.ensures.kept,
     )

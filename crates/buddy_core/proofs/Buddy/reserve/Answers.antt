@@ -7,7 +7,7 @@ use Rattle.std.proofs.Math.Pow.{pow_mono}
 use Rattle.model_core.specs.Blocks.{block, IsChoice, IsWithout}
 use Rattle.buddy_core.specs.Content.{holding_of, is_held, taken_of, with_holding, with_block}
 use Rattle.buddy_core.specs.Counts.{HasRoomForCounts}
-use Rattle.buddy_core.specs.Bands.{IsBounded}
+use Rattle.buddy_core.specs.Summary.{IsBounded}
 use Rattle.buddy_core.specs.Roots.{IsCounted, IsThere, IsSource, IsWithoutOrder}
 use Rattle.buddy_core.specs.Stored.{StoredTree, StoredSuperblock, StoredTenant, stored_tenant, superblock_of, holding_shown}
 use Rattle.buddy_core.proofs.ContentShown.{IsShown, shown_is, by_shown, blank_of, bare_of}
@@ -167,28 +167,28 @@ reserved : (c : After-count_reserved)
     c.search-first.result c.reserve_at.new.self c.count_reserved.new.self (Some c.args.k)
 reserved c found tenant = reserved_step c.self.invariant.0 found c.reserve_at.new.self c.count_reserved.new.self (reservation c found tenant)
 
--- the words of the tenant's bands, before and after the search
+-- the words of the tenant's summaries, before and after the search
 pub find-requires-clause-bounded : goal.find-requires-clause-bounded
 find-requires-clause-bounded c =
     let a = c.self.inside in
     let s = shown (goal.at.find-requires-clause-bounded c).After-index in
-    let words = get_or_read a.bands.items c.args.t c.index_mut-bands.result.now (let size = c.self.invariant.1.size in let lt = s.listed in omega arith) c.index_mut-bands.ensures.value [] in
-    subst (λ (r : StoredTenant). IsBounded c.deref.result.now r.slots c.index_mut-bands.result.now) (sym (tenant_read (goal.at.find-requires-clause-bounded c).After-index))
-    (subst (λ (xs : List StoredSuperblock). IsBounded xs (stored_tenant c.args.t a.tenants.items).slots c.index_mut-bands.result.now) (sym c.deref.ensures.value)
+    let words = get_or_read a.summaries.items c.args.t c.index_mut-summaries.result.now (let size = c.self.invariant.1.size in let lt = s.listed in omega arith) c.index_mut-summaries.ensures.value [] in
+    subst (λ (r : StoredTenant). IsBounded c.deref.result.now r.slots c.index_mut-summaries.result.now) (sym (tenant_read (goal.at.find-requires-clause-bounded c).After-index))
+    (subst (λ (xs : List StoredSuperblock). IsBounded xs (stored_tenant c.args.t a.tenants.items).slots c.index_mut-summaries.result.now) (sym c.deref.ensures.value)
     (subst (λ (ws : List ℕ). IsBounded a.superblocks.items (stored_tenant c.args.t a.tenants.items).slots ws) (sym words) (c.self.invariant.1.each c.args.t)))
 
-told : (c : After-find) → c.index.result.now ≡ stored_tenant c.args.t c.self.inside.tenants.items → IsBounded c.deref.result.now c.index.result.now.slots c.find.new.bands
-    → IsBounded c.self.inside.superblocks.items (stored_tenant c.args.t c.self.inside.tenants.items).slots c.find.new.bands
+told : (c : After-find) → c.index.result.now ≡ stored_tenant c.args.t c.self.inside.tenants.items → IsBounded c.deref.result.now c.index.result.now.slots c.find.new.summaries
+    → IsBounded c.self.inside.superblocks.items (stored_tenant c.args.t c.self.inside.tenants.items).slots c.find.new.summaries
 told c tenant still =
-    subst (λ (r : StoredTenant). IsBounded c.self.inside.superblocks.items r.slots c.find.new.bands) tenant
-    (subst (λ (xs : List StoredSuperblock). IsBounded xs c.index.result.now.slots c.find.new.bands) c.deref.ensures.value still)
+    subst (λ (r : StoredTenant). IsBounded c.self.inside.superblocks.items r.slots c.find.new.summaries) tenant
+    (subst (λ (xs : List StoredSuperblock). IsBounded xs c.index.result.now.slots c.find.new.summaries) c.deref.ensures.value still)
 
 -- nothing was found
 pub invariant_of-self : goal.invariant_of-self
 invariant_of-self c =
     let g = goal.at.invariant_of-self c in
     let listed = (shown g.After-index).listed in
-    (c.self.invariant.0, bounded_by c.self.invariant.1 c.args.t c.find.new.bands listed (told g.After-find (tenant_read g.After-index) c.in_err-source.ensures.bounded))
+    (c.self.invariant.0, bounded_by c.self.invariant.1 c.args.t c.find.new.summaries listed (told g.After-find (tenant_read g.After-index) c.in_err-source.ensures.bounded))
 
 pub note_halves-requires-clause-slot : goal.note_halves-requires-clause-slot
 note_halves-requires-clause-slot c =
@@ -227,7 +227,7 @@ invariant_of-self-2 c =
             | inl was ↦ c.note_halves.ensures.kept j (p.slot / 8) (bounded j p.slot p.superblock at.source.at was)
             | inr half ↦ subst (λ n. bit_at (slice_index c.note_halves.new.self j) (n / 8) ≡ 1) c.from-slot.ensures (c.note_halves.ensures.noted j half.0 half.1)
           ])
-          c.find.new.bands bounded c.note_halves.ensures.kept,
+          c.find.new.summaries bounded c.note_halves.ensures.kept,
     )
 
 pub overflow_add-result : goal.overflow_add-result

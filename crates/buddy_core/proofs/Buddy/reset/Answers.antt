@@ -4,7 +4,7 @@ use Rattle.std.proofs.lemmas.Option.{none-some}
 use Rattle.buddy_core.specs.declared.Buddy.TheInside.{Inside}
 use Rattle.buddy_core.specs.Content.{with_holding, nothing_held}
 use Rattle.buddy_core.specs.Stored.{StoredSuperblock, StoredTenant, bare_superblock, bare_tenant, stored_tenant, superblock_at, content_shown}
-use Rattle.buddy_core.specs.Bands.{AreBounded}
+use Rattle.buddy_core.specs.Summary.{AreBounded}
 use Rattle.buddy_core.specs.Kept.{IsKept, HasTenantSizes}
 use Rattle.buddy_core.proofs.ContentShown.{shown_is, slot_read, blank_of, bare_of}
 use Rattle.buddy_core.proofs.NothingHeld.{cleared_tenant}
@@ -38,7 +38,7 @@ loop-slot-preserved c =
                 (cleared_more a.order a.superblocks.items superblocks tenant l.slot m w.clear.new.self at m_lt blank apart l.invariant.0),
             ap (λ (z : Inside). z.tenants.items) w.self-inside-is ∙ l.invariant.1,
             ap (λ (z : Inside). z.order) w.self-inside-is ∙ l.invariant.2,
-            ap (λ (z : Inside). z.bands.items) w.self-inside-is ∙ l.invariant.3,
+            ap (λ (z : Inside). z.summaries.items) w.self-inside-is ∙ l.invariant.3,
           )
       | goal.in_default w ↦
           let at = slot_read a.tenants.items c.args.t c.index.result.now s.listed read l.slot None w.in_default.ensures in (
@@ -46,7 +46,7 @@ loop-slot-preserved c =
                 (cleared_past a.order a.superblocks.items superblocks tenant l.slot (λ m there. none-some m (sym at ∙ there)) l.invariant.0),
             ap (λ (z : Inside). z.tenants.items) w.self-inside-is ∙ l.invariant.1,
             ap (λ (z : Inside). z.order) w.self-inside-is ∙ l.invariant.2,
-            ap (λ (z : Inside). z.bands.items) w.self-inside-is ∙ l.invariant.3,
+            ap (λ (z : Inside). z.summaries.items) w.self-inside-is ∙ l.invariant.3,
           )
     ]
 
@@ -65,13 +65,13 @@ invariant_of-self c =
     let tenant = tenant_cleared a.order (length a.superblocks.items) l.self-inside.tenants.items a.tenants.items c.args.t c.index_mut-2.result.now c.clear-2.new.self l.invariant.1 s.listed c.index_mut-2.ensures.value
     (c.self.invariant.0.each c.args.t s.listed).sizes c.clear-2.ensures.slots c.clear-2.ensures.free c.clear-2.ensures.taken in
     let base = reset_kept a.order a.superblocks.items a.tenants.items c.self.invariant.0 c.args.t s.listed l.self-inside.superblocks.items l.slot all l.invariant.0 in
-    let bounded = reset_bounded a.order a.superblocks.items a.tenants.items c.self.invariant.0 c.args.t s.listed l.self-inside.superblocks.items l.slot all l.invariant.0 a.bands.items c.self.invariant.1 in (
+    let bounded = reset_bounded a.order a.superblocks.items a.tenants.items c.self.invariant.0 c.args.t s.listed l.self-inside.superblocks.items l.slot all l.invariant.0 a.summaries.items c.self.invariant.1 in (
       subst (λ n. IsKept n l.self-inside.superblocks.items (set l.self-inside.tenants.items c.args.t c.clear-2.new.self)) (sym l.invariant.2)
           (subst (λ (xs : List StoredTenant). IsKept a.order l.self-inside.superblocks.items (set xs c.args.t c.clear-2.new.self)) (sym l.invariant.1)
           (subst (λ (r : StoredTenant). IsKept a.order l.self-inside.superblocks.items (set a.tenants.items c.args.t r)) (sym tenant) base)),
       subst (λ (bs : List (List ℕ)). AreBounded l.self-inside.superblocks.items (set l.self-inside.tenants.items c.args.t c.clear-2.new.self) bs) (sym l.invariant.3)
-          (subst (λ (xs : List StoredTenant). AreBounded l.self-inside.superblocks.items (set xs c.args.t c.clear-2.new.self) a.bands.items) (sym l.invariant.1)
-          (subst (λ (r : StoredTenant). AreBounded l.self-inside.superblocks.items (set a.tenants.items c.args.t r) a.bands.items) (sym tenant) bounded)),
+          (subst (λ (xs : List StoredTenant). AreBounded l.self-inside.superblocks.items (set xs c.args.t c.clear-2.new.self) a.summaries.items) (sym l.invariant.1)
+          (subst (λ (r : StoredTenant). AreBounded l.self-inside.superblocks.items (set a.tenants.items c.args.t r) a.summaries.items) (sym tenant) bounded)),
     )
 
 pub returns : goal.returns

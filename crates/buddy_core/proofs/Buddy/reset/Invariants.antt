@@ -8,4 +8,4 @@ invariant-loop-slot l =
     Cleared l.initial.self-inside.order l.initial.self-inside.superblocks.items l.self-inside.superblocks.items (stored_tenant l.t l.initial.self-inside.tenants.items) l.slot
     × (l.self-inside.tenants.items ≡ l.initial.self-inside.tenants.items)
     × (l.self-inside.order ≡ l.initial.self-inside.order)
-    × (l.self-inside.bands.items ≡ l.initial.self-inside.bands.items)
+    × (l.self-inside.summaries.items ≡ l.initial.self-inside.summaries.items)

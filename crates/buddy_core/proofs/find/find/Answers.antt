@@ -33,30 +33,30 @@ returns-in-Some-clause-found c =
       first = λ u m lt there bit.
           let listed = same u ∙ there in
           let bit' = subst (HasBit c.args.superblocks.now m) order bit in
-          elim (cases_lt (u / 8) c.in_ok-band.band) [
-            | inl before ↦ c.in_ok-band.ensures.2 (u / 8) before (c.loop-look.invariant.0 c.in_ok-order.order u m listed bit')
+          elim (cases_lt (u / 8) c.in_ok-group.group) [
+            | inl before ↦ c.in_ok-group.ensures.2 (u / 8) before (c.loop-look.invariant.0 c.in_ok-order.order u m listed bit')
             | inr past ↦ here.4 u m (omega (arith, here.3)) lt listed bit'
           ];
     }
 
-pub returns-in_err-band-clause-found : goal.returns-in_err-band-clause-found
-returns-in_err-band-clause-found c =
+pub returns-in_err-group-clause-found : goal.returns-in_err-group-clause-found
+returns-in_err-group-clause-found c =
     let has = (c.requires.counted c.in_ok-order.order).0 c.in_ok-order.ensures.2 in
     let at = c.held-slots.ensures.same has.0 ∙ has.2 in
-    absurd (c.in_err-band.ensures (has.0 / 8) (c.loop-look.invariant.0 c.in_ok-order.order has.0 has.1 at has.3))
+    absurd (c.in_err-group.ensures (has.0 / 8) (c.loop-look.invariant.0 c.in_ok-order.order has.0 has.1 at has.3))
 
 pub loop-look-preserved : goal.loop-look-preserved
 loop-look-preserved c =
     let xs = c.args.superblocks.now in (
       λ j u m at bit. c.strike.ensures.kept j (u / 8) (λ same here. c.in_default.ensures u m here at (subst (HasBit xs m) same bit)) (c.loop-look.invariant.0 j u m at bit),
-      λ b lt set. elim (cases_lt b c.in_ok-band.band) [
-        | inl before ↦ c.in_ok-band.ensures.2 b before (c.strike.ensures.fewer c.in_ok-order.order b set)
+      λ b lt set. elim (cases_lt b c.in_ok-group.group) [
+        | inl before ↦ c.in_ok-group.ensures.2 b before (c.strike.ensures.fewer c.in_ok-order.order b set)
         | inr past ↦
-            let low : c.loop-look._look ≤ c.in_ok-band.band = elim (cases_lt c.in_ok-band.band c.loop-look._look) [
-              | inl below ↦ absurd (c.loop-look.invariant.1 c.in_ok-band.band below c.in_ok-band.ensures.1)
+            let low : c.loop-look._look ≤ c.in_ok-group.group = elim (cases_lt c.in_ok-group.group c.loop-look._look) [
+              | inl below ↦ absurd (c.loop-look.invariant.1 c.in_ok-group.group below c.in_ok-group.ensures.1)
               | inr up ↦ up
             ] in
-            let same : b ≡ c.in_ok-band.band = omega arith in
+            let same : b ≡ c.in_ok-group.group = omega arith in
             c.strike.ensures.struck (subst (λ n. bit_at (get_or c.strike.new.self c.in_ok-order.order 0) n ≡ 1) same set)
       ],
     )

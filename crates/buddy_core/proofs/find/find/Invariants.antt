@@ -1,9 +1,9 @@
 use Rattle.std.proofs.Common.{◌≡◌, ℕ, ◌<◌}
 use Rattle.std.specs.Int.{bit_at}
 use Rattle.std.specs.Prelude.{slice_index}
-use Rattle.buddy_core.specs.Bands.{IsBounded}
+use Rattle.buddy_core.specs.Summary.{IsBounded}
 use Rattle.buddy_core.proofs.find.find.Given as goal
 
--- the words still tell all that the slots have, and that of the order no band below the number of looks
+-- the words still tell all that the slots have, and that of the order no group below the number of looks
 abbrev pub invariant-loop-look : goal.invariant-loop-look
-invariant-loop-look l = IsBounded l.superblocks l.slots l.bands × ((b : ℕ) → b < l._look → bit_at (slice_index l.bands l.order) b ≡ 1 → ⊥)
+invariant-loop-look l = IsBounded l.superblocks l.slots l.summaries × ((b : ℕ) → b < l._look → bit_at (slice_index l.summaries l.order) b ≡ 1 → ⊥)

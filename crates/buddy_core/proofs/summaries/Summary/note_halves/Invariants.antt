@@ -1,7 +1,7 @@
 use Rattle.std.proofs.Common.{◌≡◌, ℕ, ◌/◌, ◌<◌, ◌≤◌}
 use Rattle.std.specs.Int.{bit_at}
 use Rattle.std.specs.Prelude.{slice_index}
-use Rattle.buddy_core.proofs.bands.Bands.note_halves.Given as goal
+use Rattle.buddy_core.proofs.summaries.Summary.note_halves.Given as goal
 
 -- the orders below this one are noted, and what was is
 abbrev pub invariant-loop-order : goal.invariant-loop-order

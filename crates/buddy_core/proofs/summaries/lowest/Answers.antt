@@ -1,6 +1,6 @@
 use Rattle.std.proofs.Common.{arith, w32}
 use Rattle.std.proofs.lemmas.Nat.Bits.{bit_at-trailing_zeros}
-use Rattle.buddy_core.proofs.bands.lowest.Goals as goal
+use Rattle.buddy_core.proofs.summaries.lowest.Goals as goal
 
 pub returns-clause-bound : goal.returns-clause-bound
 returns-clause-bound c = (bit_at-trailing_zeros w32 c.args.word (omega (arith, c.requires)) c.ranges.word.fits).0

@@ -1,6 +1,6 @@
 use Rattle.std.proofs.Common.{◌≡◌, ℕ, List, get_or, subst, sym}
 use Rattle.std.specs.Int.{bit_at}
-use Rattle.buddy_core.proofs.bands.Bands.first.Goals as goal
+use Rattle.buddy_core.proofs.summaries.Summary.first.Goals as goal
 
 pub returns : goal.returns
 returns c = (

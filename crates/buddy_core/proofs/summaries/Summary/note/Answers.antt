@@ -4,7 +4,7 @@ use Rattle.std.proofs.lemmas.Bool.{cases_eq}
 use Rattle.std.proofs.lemmas.List.{get_or-set_same, get_or-set_other}
 use Rattle.std.proofs.lemmas.Nat.{one_shl}
 use Rattle.std.proofs.lemmas.Nat.Bits.{bit_at_or, bit_at-lt, bit_at-pow_same}
-use Rattle.buddy_core.proofs.bands.Bands.note.Goals as goal
+use Rattle.buddy_core.proofs.summaries.Summary.note.Goals as goal
 
 or_left : (a b j : ℕ) → bit_at a j ≡ 1 → bit_at (bit_or a b) j ≡ 1
 or_left a b j bit = omega (arith, bit_at_or a b j, bit_at-lt b j)
@@ -16,11 +16,11 @@ pub returns-clause-noted : goal.returns-clause-noted
 returns-clause-noted c =
     let words = c.self.inside.words in
     let lt : c.args.order < length words = omega (arith, c.self.told, c.requires.order) in
-    let band = c.args.slot / 8 in
-    let bit = 1 * 2 ^ band % 4294967296 in
-    let same : bit ≡ 2 ^ band = one_shl band 32 (omega (arith, c.requires.slot)) in
-    ap (λ w. bit_at w band) (get_or-set_same words c.args.order (bit_or (get_or words c.args.order 0) bit) 0 lt)
-    ∙ or_right (get_or words c.args.order 0) bit band (ap (λ w. bit_at w band) same ∙ bit_at-pow_same band)
+    let group = c.args.slot / 8 in
+    let bit = 1 * 2 ^ group % 4294967296 in
+    let same : bit ≡ 2 ^ group = one_shl group 32 (omega (arith, c.requires.slot)) in
+    ap (λ w. bit_at w group) (get_or-set_same words c.args.order (bit_or (get_or words c.args.order 0) bit) 0 lt)
+    ∙ or_right (get_or words c.args.order 0) bit group (ap (λ w. bit_at w group) same ∙ bit_at-pow_same group)
 
 pub returns-clause-kept : goal.returns-clause-kept
 returns-clause-kept c j b bit =

@@ -6,23 +6,23 @@ ghost use Rattle.model_core.specs.declared.limits.TheConstants.{MOST_SUPERBLOCKS
 
 use std::marker::Model;
 
-/// So many slots that follow one another are a band.
-pub const BAND: usize = 8;
+/// The number of slots of a group: slots that follow one another.
+pub const GROUP_SLOTS: usize = 8;
 
-/// So many bands have all slots of a tenant: a bit of a word for each.
-pub const BANDS: usize = 32;
+/// The number of groups of a tenant's slots: a bit of a word for each.
+pub const GROUPS: usize = 32;
 
 /// Orders are below this number.
 pub const ORDERS: usize = 16;
 
-/// For each order the bands of a tenant's slots that may have a free block of it, a bit for each band. A bit stays 1 after the last
-/// such block went, until a search finds none.
+/// For each order, the groups of a tenant's slots that may have a free block of it: a bit for each group. A bit stays 1 after the
+/// last such block went, until a search finds none.
 #[derive(Debug, Drop)]
-pub struct Bands {
+pub struct Summary {
     words: [u32; ORDERS],
 }
 
-impl Model for Bands {
+impl Model for Summary {
     ghost use Rattle.std.specs.Prelude.{ℕ, List};
 
     ghost Value = { List ℕ };
@@ -40,20 +40,20 @@ fn lowest(word: u32) -> usize
     word.trailing_zeros() as usize
 }
 
-impl Bands {
-    /// No band has a free block.
-    pub fn new() -> Bands
+impl Summary {
+    /// No group has a free block.
+    pub fn new() -> Summary
         ensures { result ≡ replicate ORDERS 0 }
     {
-        Bands { words: [0; ORDERS] }
+        Summary { words: [0; ORDERS] }
     }
 
-    /// The first band of which a slot may have a free block of `order`.
+    /// The first group of which a slot may have a free block of `order`.
     pub fn first(&self, order: u8) -> Option<usize>
         requires { order < ORDERS }
         ensures { MatchOption result ((b : ℕ) → bit_at (slice_index self.now order) b ≡ 1 → ⊥)
-            (λ band. (band < BANDS) × (bit_at (slice_index self.now order) band ≡ 1)
-            × ((b : ℕ) → b < band → bit_at (slice_index self.now order) b ≡ 1 → ⊥)) }
+            (λ group. (group < GROUPS) × (bit_at (slice_index self.now order) group ≡ 1)
+            × ((b : ℕ) → b < group → bit_at (slice_index self.now order) b ≡ 1 → ⊥)) }
     {
         let word = self.words[order as usize];
         if word == 0 {
@@ -66,17 +66,17 @@ impl Bands {
     pub fn note(&mut self, slot: u32, order: u8)
         requires slot { slot < MOST_SUPERBLOCKS }
         requires order { order < ORDERS }
-        ensures noted { bit_at (slice_index self.new order) (slot / BAND) ≡ 1 }
+        ensures noted { bit_at (slice_index self.new order) (slot / GROUP_SLOTS) ≡ 1 }
         ensures kept { (j b : ℕ) → bit_at (slice_index self.old j) b ≡ 1 → bit_at (slice_index self.new j) b ≡ 1 }
     {
-        self.words[order as usize] |= 1 << (slot as usize / BAND);
+        self.words[order as usize] |= 1 << (slot as usize / GROUP_SLOTS);
     }
 
     /// Free blocks of the orders from `from` up to `to`, without `to`, are in the superblock under `slot`.
     pub fn note_halves(&mut self, slot: u32, from: u8, to: u8)
         requires slot { slot < MOST_SUPERBLOCKS }
         requires orders { to ≤ ORDERS }
-        ensures noted { (j : ℕ) → from ≤ j → j < to → bit_at (slice_index self.new j) (slot / BAND) ≡ 1 }
+        ensures noted { (j : ℕ) → from ≤ j → j < to → bit_at (slice_index self.new j) (slot / GROUP_SLOTS) ≡ 1 }
         ensures kept { (j b : ℕ) → bit_at (slice_index self.old j) b ≡ 1 → bit_at (slice_index self.new j) b ≡ 1 }
     {
         for order in from..to {
@@ -84,16 +84,16 @@ impl Bands {
         }
     }
 
-    /// No slot of the band has a free block of `order`.
-    pub fn strike(&mut self, band: usize, order: u8)
-        requires band { band < BANDS }
+    /// No slot of the group has a free block of `order`.
+    pub fn strike(&mut self, group: usize, order: u8)
+        requires group { group < GROUPS }
         requires order { order < ORDERS }
-        ensures struck { bit_at (slice_index self.new order) band ≡ 1 → ⊥ }
+        ensures struck { bit_at (slice_index self.new order) group ≡ 1 → ⊥ }
         ensures fewer { (j b : ℕ) → bit_at (slice_index self.new j) b ≡ 1 → bit_at (slice_index self.old j) b ≡ 1 }
-        ensures kept { (j b : ℕ) → (j ≡ order → b ≡ band → ⊥) → bit_at (slice_index self.old j) b ≡ 1
+        ensures kept { (j b : ℕ) → (j ≡ order → b ≡ group → ⊥) → bit_at (slice_index self.old j) b ≡ 1
             → bit_at (slice_index self.new j) b ≡ 1 }
     {
         let word = self.words[order as usize];
-        self.words[order as usize] = word & !(1 << band);
+        self.words[order as usize] = word & !(1 << group);
     }
 }

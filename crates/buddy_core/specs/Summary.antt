@@ -1,0 +1,19 @@
+-- Which groups of a tenant's slots may have free blocks of an order: a word for each order, a bit for each group.
+use Rattle.std.specs.Prelude.{◌≡◌, ℕ, ◌/◌, Option, Some, None, List, [], length, slice_index, slice_index_or}
+use Rattle.std.specs.Int.{bit_at}
+use Rattle.buddy_core.specs.declared.summaries.TheConstants.{GROUP_SLOTS}
+use Rattle.buddy_core.specs.Roots.{HasBit}
+use Rattle.buddy_core.specs.Stored.{StoredSuperblock, StoredTenant, stored_tenant}
+
+-- the bit of a group is 1 in the word of order j wherever a superblock under a slot of the group has a free block of that order
+abbrev pub IsBounded : List StoredSuperblock → List (Option ℕ) → List ℕ → Type 0
+IsBounded superblocks slots words = (j u m : ℕ) → slice_index_or slots u None ≡ Some m → HasBit superblocks m j → bit_at (slice_index words j) (u / GROUP_SLOTS) ≡ 1
+
+-- so it is for each tenant
+pub record AreBounded (superblocks : List StoredSuperblock) (tenants : List StoredTenant) (summaries : List (List ℕ)) : Type 0 where
+  pub size : length summaries ≡ length tenants
+  pub each : (t : ℕ) → IsBounded superblocks (stored_tenant t tenants).slots (slice_index_or summaries t [])
+
+-- no superblock under a slot of the group has a free block of order j
+abbrev pub HasNoneIn : List StoredSuperblock → List (Option ℕ) → ℕ → ℕ → Type 0
+HasNoneIn superblocks slots group j = (u m : ℕ) → u / GROUP_SLOTS ≡ group → slice_index_or slots u None ≡ Some m → HasBit superblocks m j → ⊥
