@@ -7,9 +7,9 @@ use Rattle.std.proofs.lemmas.List.{append-nil, get_or_append_left, get_or-append
 use Rattle.promise_core.specs.Bytes.{Cell}
 use Rattle.shadow_memory.specs.declared.kept.KeptByte.{KeptByte}
 use Rattle.shadow_memory.specs.declared.kept.KeptByte.TheVariants as Kept
-use Rattle.shadow_memory.specs.declared.mark.Mark.{Mark}
+use Rattle.shadow_memory.specs.declared.summary.Summary.{Summary}
 use Rattle.shadow_memory.specs.Inside.{CellStep, padded, shown_kept, within}
-use Rattle.shadow_memory.specs.Marks.{IsMarkedAs, any_mark, cell_in, AreMarked}
+use Rattle.shadow_memory.specs.Summaries.{IsSummarizedBy, any_summary, cell_in, AreSummarized}
 
 fresh_at : (n k : ℕ) → get_or (replicate n Kept.Fresh) k Kept.Fresh ≡ Kept.Fresh
 fresh_at n k = elim (cases_lt k n) [
@@ -29,9 +29,9 @@ pub padded_len : (n : ℕ) (xs : List KeptByte) → length xs ≤ n → length (
 padded_len n xs le = let a = length-append xs (replicate (n - length xs) Kept.Fresh) in
     let b = length-replicate (n - length xs) Kept.Fresh in omega (arith, a, b, le)
 
-pub marked_padded : (size n : ℕ) (marks : List Mark) (xs ys : List KeptByte) → ys ≡ padded n xs → AreMarked size marks xs → AreMarked size marks ys
-marked_padded size n marks xs ys is were k = subst (λ (zs : List KeptByte). IsMarkedAs (get_or marks (k / size) any_mark) (cell_in zs k)) (sym is)
-    (subst (λ (x : KeptByte). IsMarkedAs (get_or marks (k / size) any_mark) (shown_kept x)) (sym (padded_at n k xs)) (were k))
+pub marked_padded : (size n : ℕ) (summaries : List Summary) (xs ys : List KeptByte) → ys ≡ padded n xs → AreSummarized size summaries xs → AreSummarized size summaries ys
+marked_padded size n summaries xs ys is were k = subst (λ (zs : List KeptByte). IsSummarizedBy (get_or summaries (k / size) any_summary) (cell_in zs k)) (sym is)
+    (subst (λ (x : KeptByte). IsSummarizedBy (get_or summaries (k / size) any_summary) (shown_kept x)) (sym (padded_at n k xs)) (were k))
 
 map_at : (k : ℕ) (xs : List KeptByte) → get_or (map shown_kept xs) k None ≡ shown_kept (get_or xs k Kept.Fresh)
 map_at k [] = refl

@@ -1,4 +1,4 @@
--- Changes of ranges, and what marks say after them.
+-- Changes of ranges, and what summaries say after them.
 use Rattle.std.proofs.Common.{◌≡◌, ◌≢◌, ◌⊎◌, ℕ, ◌+◌, ◌-◌, ◌*◌, ◌/◌, ◌<◌, ◌≤◌, Bool, true, false, leb, ltb, eqb, List, length, get_or, min, max, Option, Some, None, inl, inr, refl, sym, ap, ◌∙◌, subst, arith}
 use Rattle.std.specs.Prelude.{if◌then◌else◌, ◌&&◌}
 use Rattle.std.proofs.Math.ListN.{set}
@@ -8,9 +8,9 @@ use Rattle.std.proofs.lemmas.Bool.Decides.{nat_tests}
 use Rattle.promise_core.specs.Bytes.{Holder, Cell, with_bytes}
 use Rattle.shadow_memory.specs.declared.kept.KeptByte.{KeptByte}
 use Rattle.shadow_memory.specs.declared.kept.KeptByte.TheVariants as Kept
-use Rattle.shadow_memory.specs.declared.mark.Mark.{Mark}
+use Rattle.shadow_memory.specs.declared.summary.Summary.{Summary}
 use Rattle.shadow_memory.specs.Inside.{CellStep, shown_kept, within}
-use Rattle.shadow_memory.specs.Marks.{IsMarkedAs, any_mark, cell_in, AreMarked, IsChanged}
+use Rattle.shadow_memory.specs.Summaries.{IsSummarizedBy, any_summary, cell_in, AreSummarized, IsChanged}
 
 -- one place more
 pub changed_more : (step : CellStep) (first low k : ℕ) (old new : List KeptByte) (kept : KeptByte) → low ≤ k → k < length new
@@ -64,36 +64,36 @@ changed_part step first size part low high begin end old mid new over under le i
     (changed_join step first low begin end old mid new (omega arith) (omega arith)
     (subst (λ (n : ℕ). IsChanged step first low n old mid) b one) two)
 
-any_marked : (cell : Option Cell) → IsMarkedAs any_mark cell
+any_marked : (cell : Option Cell) → IsSummarizedBy any_summary cell
 any_marked None = tt
 any_marked (Some cell) = (tt, λ e. absurd (cc))
 
--- the mark of a part after it
-mark_set : (marks : List Mark) (part : ℕ) (after : Mark) (cell : Option Cell) → IsMarkedAs after cell → IsMarkedAs (get_or (set marks part after) part any_mark) cell
-mark_set marks part after cell marked = elim (cases_lt part (length marks)) [
-  | inl lt ↦ subst (λ (m : Mark). IsMarkedAs m cell) (sym (get_or-set_same marks part after any_mark lt)) marked
-  | inr ge ↦ subst (λ (m : Mark). IsMarkedAs m cell)
-      (sym (ap (λ (ms : List Mark). get_or ms part any_mark) (set_past marks part after ge) ∙ get_or_past marks part any_mark ge)) (any_marked cell)
+-- the summary of a part after it
+mark_set : (summaries : List Summary) (part : ℕ) (after : Summary) (cell : Option Cell) → IsSummarizedBy after cell → IsSummarizedBy (get_or (set summaries part after) part any_summary) cell
+mark_set summaries part after cell marked = elim (cases_lt part (length summaries)) [
+  | inl lt ↦ subst (λ (m : Summary). IsSummarizedBy m cell) (sym (get_or-set_same summaries part after any_summary lt)) marked
+  | inr ge ↦ subst (λ (m : Summary). IsSummarizedBy m cell)
+      (sym (ap (λ (ms : List Summary). get_or ms part any_summary) (set_past summaries part after ge) ∙ get_or_past summaries part any_summary ge)) (any_marked cell)
 ]
 
--- places whose mark was this, when some of them have been changed
-pub marked_part : (step : CellStep) (first size part low high : ℕ) (marks : List Mark) (mark after : Mark) (all : Bool) (old new : List KeptByte)
+-- places whose summary was this, when some of them have been changed
+pub marked_part : (step : CellStep) (first size part low high : ℕ) (summaries : List Summary) (summary after : Summary) (all : Bool) (old new : List KeptByte)
     → ((k : ℕ) → part * size ≤ k → k < part * size + size → k / size ≡ part)
     → ((k : ℕ) → k / size ≡ part → (part * size ≤ k) × (k < part * size + size))
-    → part * size ≤ low → high ≤ part * size + size → low ≤ high → all ≡ eqb (high - low) size → mark ≡ get_or marks part any_mark
-    → ((place : ℕ) (cell : Option Cell) → IsMarkedAs mark cell → IsMarkedAs after (step place cell))
-    → (all ≡ false → (cell : Option Cell) → IsMarkedAs mark cell → IsMarkedAs after cell)
-    → AreMarked size marks old → IsChanged step first low high old new → AreMarked size (set marks part after) new
-marked_part step first size part low high marks mark after all old new here only begins ends order is_all is changed kept were by k =
+    → part * size ≤ low → high ≤ part * size + size → low ≤ high → all ≡ eqb (high - low) size → summary ≡ get_or summaries part any_summary
+    → ((place : ℕ) (cell : Option Cell) → IsSummarizedBy summary cell → IsSummarizedBy after (step place cell))
+    → (all ≡ false → (cell : Option Cell) → IsSummarizedBy summary cell → IsSummarizedBy after cell)
+    → AreSummarized size summaries old → IsChanged step first low high old new → AreSummarized size (set summaries part after) new
+marked_part step first size part low high summaries summary after all old new here only begins ends order is_all is changed kept were by k =
     elim (cases_eq (k / size) part) [
-      | inl e ↦ subst (λ (n : ℕ). IsMarkedAs (get_or (set marks part after) n any_mark) (cell_in new k)) (sym e)
-          (mark_set marks part after (cell_in new k) (inside e))
-      | inr ne ↦ subst (λ (m : Mark). IsMarkedAs m (cell_in new k)) (sym (get_or-set_other marks part (k / size) after any_mark ne))
-          (subst (IsMarkedAs (get_or marks (k / size) any_mark)) (sym (outside ne)) (were k))
+      | inl e ↦ subst (λ (n : ℕ). IsSummarizedBy (get_or (set summaries part after) n any_summary) (cell_in new k)) (sym e)
+          (mark_set summaries part after (cell_in new k) (inside e))
+      | inr ne ↦ subst (λ (m : Summary). IsSummarizedBy m (cell_in new k)) (sym (get_or-set_other summaries part (k / size) after any_summary ne))
+          (subst (IsSummarizedBy (get_or summaries (k / size) any_summary)) (sym (outside ne)) (were k))
     ]
   where
-    was : k / size ≡ part → IsMarkedAs mark (cell_in old k)
-    was e = subst (λ (m : Mark). IsMarkedAs m (cell_in old k)) (sym is) (subst (λ (n : ℕ). IsMarkedAs (get_or marks n any_mark) (cell_in old k)) e (were k))
+    was : k / size ≡ part → IsSummarizedBy summary (cell_in old k)
+    was e = subst (λ (m : Summary). IsSummarizedBy m (cell_in old k)) (sym is) (subst (λ (n : ℕ). IsSummarizedBy (get_or summaries n any_summary) (cell_in old k)) e (were k))
 
     outside : k / size ≢ part → cell_in new k ≡ cell_in old k
     outside ne = elim (cases_lt k low) [
@@ -107,24 +107,24 @@ marked_part step first size part low high marks mark after all old new here only
     some : k / size ≡ part → (k < low) ⊎ (high ≤ k) → all ≡ false
     some e out = let at = only k e in is_all ∙ grind (arith, nat_tests, at, out)
 
-    inside : k / size ≡ part → IsMarkedAs after (cell_in new k)
+    inside : k / size ≡ part → IsSummarizedBy after (cell_in new k)
     inside e = elim (cases_lt k low) [
-      | inl lt ↦ subst (IsMarkedAs after) (sym (by.before k lt)) (kept (some e (inl lt)) (cell_in old k) (was e))
+      | inl lt ↦ subst (IsSummarizedBy after) (sym (by.before k lt)) (kept (some e (inl lt)) (cell_in old k) (was e))
       | inr ge ↦ elim (cases_lt k high) [
-        | inl lt ↦ subst (IsMarkedAs after) (sym (by.inside k ge lt)) (changed (first + k) (cell_in old k) (was e))
-        | inr far ↦ subst (IsMarkedAs after) (sym (by.behind k far)) (kept (some e (inr far)) (cell_in old k) (was e))
+        | inl lt ↦ subst (IsSummarizedBy after) (sym (by.inside k ge lt)) (changed (first + k) (cell_in old k) (was e))
+        | inr far ↦ subst (IsSummarizedBy after) (sym (by.behind k far)) (kept (some e (inr far)) (cell_in old k) (was e))
       ]
     ]
 
--- places whose mark says that the step leaves them as they are
-pub left_part : (step : CellStep) (first size part low high : ℕ) (marks : List Mark) (mark : Mark) (old : List KeptByte)
+-- places whose summary says that the step leaves them as they are
+pub left_part : (step : CellStep) (first size part low high : ℕ) (summaries : List Summary) (summary : Summary) (old : List KeptByte)
     → ((k : ℕ) → part * size ≤ k → k < part * size + size → k / size ≡ part)
-    → part * size ≤ low → high ≤ part * size + size → mark ≡ get_or marks part any_mark
-    → ((place : ℕ) (cell : Option Cell) → IsMarkedAs mark cell → step place cell ≡ cell)
-    → AreMarked size marks old → IsChanged step first low high old old
-left_part step first size part low high marks mark old here begins ends is same were = changed_left step first low high old
-    (λ k from below. same (first + k) (cell_in old k) (subst (λ (m : Mark). IsMarkedAs m (cell_in old k)) (sym is)
-    (subst (λ (n : ℕ). IsMarkedAs (get_or marks n any_mark) (cell_in old k)) (here k (omega arith) (omega arith)) (were k))))
+    → part * size ≤ low → high ≤ part * size + size → summary ≡ get_or summaries part any_summary
+    → ((place : ℕ) (cell : Option Cell) → IsSummarizedBy summary cell → step place cell ≡ cell)
+    → AreSummarized size summaries old → IsChanged step first low high old old
+left_part step first size part low high summaries summary old here begins ends is same were = changed_left step first low high old
+    (λ k from below. same (first + k) (cell_in old k) (subst (λ (m : Summary). IsSummarizedBy m (cell_in old k)) (sym is)
+    (subst (λ (n : ℕ). IsSummarizedBy (get_or summaries n any_summary) (cell_in old k)) (here k (omega arith) (omega arith)) (were k))))
 
 -- so all are within the range
 pub changed_within : (step : CellStep) (first low high begin end : ℕ) (old new : List KeptByte) → low ≡ min (begin - first) (length old)

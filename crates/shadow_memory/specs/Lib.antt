@@ -1,3 +1,3 @@
 pub mod Left
 pub mod Inside
-pub mod Marks
+pub mod Summaries

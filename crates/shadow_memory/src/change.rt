@@ -4,10 +4,10 @@ ghost use Rattle.std.specs.Prelude.{◌≡◌, ℕ, ◌+◌, ◌-◌, ◌^◌, �
 ghost use Rattle.promise_core.specs.Bytes.{Cell, with_bytes};
 ghost use Rattle.judge_core.specs.Holders.{shown_holder};
 ghost use Rattle.shadow_memory.specs.Inside.{CellStep, shown_kept, doubted_of, removed_of};
-ghost use Rattle.shadow_memory.specs.Marks.{IsMarkedAs, IsChanged};
+ghost use Rattle.shadow_memory.specs.Summaries.{IsSummarizedBy, IsChanged};
 
 use crate::kept::KeptByte;
-use crate::mark::Mark;
+use crate::summary::Summary;
 use crate::tests_of_holders::{HolderTest, fails_all, passes_all};
 use judge_core::{LeftByte, RangeHolder};
 
@@ -26,14 +26,14 @@ pub(crate) trait Change {
     fn adds(&self) -> bool
         ensures { result ≡ false → (place : ℕ) → step self.now place None ≡ None };
 
-    /// Returns whether it surely leaves all places with this mark as they are.
-    fn leaves(&self, mark: Mark) -> bool
-        ensures { result ≡ true → (place : ℕ) (cell : Option Cell) → IsMarkedAs mark cell → step self.now place cell ≡ cell };
+    /// Returns whether it surely leaves all places with this summary as they are.
+    fn leaves(&self, summary: Summary) -> bool
+        ensures { result ≡ true → (place : ℕ) (cell : Option Cell) → IsSummarizedBy summary cell → step self.now place cell ≡ cell };
 
-    /// Returns the mark after it of places that had this mark; `all` is whether it changes all of them, or any part.
-    fn mark_after(&self, mark: Mark, all: bool) -> Mark
-        ensures changed { (place : ℕ) (cell : Option Cell) → IsMarkedAs mark cell → IsMarkedAs result (step self.now place cell) }
-        ensures kept { all ≡ false → (cell : Option Cell) → IsMarkedAs mark cell → IsMarkedAs result cell };
+    /// Returns the summary after it of places that had this summary; `all` is whether it changes all of them, or any part.
+    fn summary_after(&self, summary: Summary, all: bool) -> Summary
+        ensures changed { (place : ℕ) (cell : Option Cell) → IsSummarizedBy summary cell → IsSummarizedBy result (step self.now place cell) }
+        ensures kept { all ≡ false → (cell : Option Cell) → IsSummarizedBy summary cell → IsSummarizedBy result cell };
 }
 
 /// What is of a holder that passes is in doubt.
@@ -75,18 +75,18 @@ impl<T: HolderTest> Change for Doubt<T> {
         false
     }
 
-    fn leaves(&self, mark: Mark) -> bool {
-        !mark.sure || fails_all(&self.0, mark.owners)
+    fn leaves(&self, summary: Summary) -> bool {
+        !summary.sure || fails_all(&self.0, summary.owners)
     }
 
-    fn mark_after(&self, mark: Mark, all: bool) -> Mark {
-        if all && passes_all(&self.0, mark.owners) {
-            Mark {
-                owners: mark.owners,
+    fn summary_after(&self, summary: Summary, all: bool) -> Summary {
+        if all && passes_all(&self.0, summary.owners) {
+            Summary {
+                owners: summary.owners,
                 sure: false,
             }
         } else {
-            mark
+            summary
         }
     }
 }
@@ -126,15 +126,15 @@ impl<T: HolderTest> Change for Remove<T> {
         false
     }
 
-    fn leaves(&self, mark: Mark) -> bool {
-        fails_all(&self.0, mark.owners)
+    fn leaves(&self, summary: Summary) -> bool {
+        fails_all(&self.0, summary.owners)
     }
 
-    fn mark_after(&self, mark: Mark, all: bool) -> Mark {
-        if all && passes_all(&self.0, mark.owners) {
-            Mark::FRESH
+    fn summary_after(&self, summary: Summary, all: bool) -> Summary {
+        if all && passes_all(&self.0, summary.owners) {
+            Summary::FRESH
         } else {
-            mark
+            summary
         }
     }
 }
@@ -175,11 +175,11 @@ impl<'a> Change for Put<'a> {
         true
     }
 
-    fn leaves(&self, _mark: Mark) -> bool {
+    fn leaves(&self, _mark: Summary) -> bool {
         false
     }
 
-    fn mark_after(&self, mark: Mark, _all: bool) -> Mark {
-        mark.with(self.holder)
+    fn summary_after(&self, summary: Summary, _all: bool) -> Summary {
+        summary.with(self.holder)
     }
 }

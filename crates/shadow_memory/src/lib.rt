@@ -5,11 +5,11 @@
 mod change;
 mod kept;
 mod left;
-mod mark;
 mod ranges;
 mod reading;
 mod slot;
 mod slots;
+mod summary;
 mod tests_of_holders;
 
 pub use left::ShadowMemory;

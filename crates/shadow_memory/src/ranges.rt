@@ -1,24 +1,24 @@
-//! Changes of what is stored of a range of places, which pass over what their marks say they leave as it is.
+//! Changes of what is stored of a range of places, which pass over what their summaries say they leave as it is.
 
 ghost use Rattle.std.specs.Prelude.{◌≡◌, ℕ, ◌+◌, ◌*◌, ◌^◌, ◌<◌, ◌≤◌, length};
 ghost use Rattle.shadow_memory.specs.Inside.{within};
-ghost use Rattle.shadow_memory.specs.Marks.{cell_in, AreMarked, IsChanged};
+ghost use Rattle.shadow_memory.specs.Summaries.{cell_in, AreSummarized, IsChanged};
 
 use crate::change::Change;
 use crate::kept::KeptByte;
-use crate::mark::{Mark, mark_at, set_mark};
+use crate::summary::{Summary, set_summary, summary_at};
 use model_core::limits::FRAME_BYTES;
 
-/// How many places a chunk has: a part of a frame that has a mark of its own.
+/// How many places a chunk has: a part of a frame that has a summary of its own.
 pub(crate) const CHUNK: usize = 64;
 
 /// How many places a frame has.
 pub(crate) const FRAME: usize = FRAME_BYTES as usize;
 
-/// Changes those places, a chunk at a time, and passes over chunks whose marks say that the change leaves them as they are.
+/// Changes those places, a chunk at a time, and passes over chunks whose summaries say that the change leaves them as they are.
 fn change_chunks<C: Change>(
     cells: &mut [KeptByte],
-    chunks: &mut [Mark],
+    chunks: &mut [Summary],
     first: u64,
     low: usize,
     high: usize,
@@ -27,27 +27,31 @@ fn change_chunks<C: Change>(
     requires order { low ≤ high }
     requires most { high ≤ length cells.old }
     requires low { first + length cells.old ≤ 2 ^ 32 }
-    requires marked { AreMarked CHUNK chunks.old cells.old }
+    requires marked { AreSummarized CHUNK chunks.old cells.old }
     ensures changed { IsChanged (C.step change.now) first low high cells.old cells.new }
-    ensures marked { AreMarked CHUNK chunks.new cells.new }
+    ensures marked { AreSummarized CHUNK chunks.new cells.new }
 {
     for chunk in low / CHUNK..(high + CHUNK - 1) / CHUNK {
-        let mark = mark_at(chunks, chunk);
-        if change.leaves(mark) {
+        let summary = summary_at(chunks, chunk);
+        if change.leaves(summary) {
             continue;
         }
         let begin = (chunk * CHUNK).max(low);
         let end = (chunk * CHUNK + CHUNK).min(high);
         change.change_places(cells, first, begin, end);
-        set_mark(chunks, chunk, change.mark_after(mark, end - begin == CHUNK));
+        set_summary(
+            chunks,
+            chunk,
+            change.summary_after(summary, end - begin == CHUNK),
+        );
     }
 }
 
 /// Changes those places, a frame at a time, and passes over frames in the same way.
 fn change_frames<C: Change>(
     cells: &mut [KeptByte],
-    chunks: &mut [Mark],
-    frames: &mut [Mark],
+    chunks: &mut [Summary],
+    frames: &mut [Summary],
     first: u64,
     low: usize,
     high: usize,
@@ -56,41 +60,45 @@ fn change_frames<C: Change>(
     requires order { low ≤ high }
     requires most { high ≤ length cells.old }
     requires low { first + length cells.old ≤ 2 ^ 32 }
-    requires chunks { AreMarked CHUNK chunks.old cells.old }
-    requires frames { AreMarked FRAME frames.old cells.old }
+    requires chunks { AreSummarized CHUNK chunks.old cells.old }
+    requires frames { AreSummarized FRAME frames.old cells.old }
     ensures changed { IsChanged (C.step change.now) first low high cells.old cells.new }
-    ensures chunks { AreMarked CHUNK chunks.new cells.new }
-    ensures frames { AreMarked FRAME frames.new cells.new }
+    ensures chunks { AreSummarized CHUNK chunks.new cells.new }
+    ensures frames { AreSummarized FRAME frames.new cells.new }
 {
     for frame in low / FRAME..(high + FRAME - 1) / FRAME {
-        let mark = mark_at(frames, frame);
-        if change.leaves(mark) {
+        let summary = summary_at(frames, frame);
+        if change.leaves(summary) {
             continue;
         }
         let begin = (frame * FRAME).max(low);
         let end = (frame * FRAME + FRAME).min(high);
         change_chunks(cells, chunks, first, begin, end, change);
-        set_mark(frames, frame, change.mark_after(mark, end - begin == FRAME));
+        set_summary(
+            frames,
+            frame,
+            change.summary_after(summary, end - begin == FRAME),
+        );
     }
 }
 
 /// Changes the places from `begin` on, before `end`; the first place is `first`.
 pub(crate) fn change_range<C: Change>(
     cells: &mut [KeptByte],
-    chunks: &mut [Mark],
-    frames: &mut [Mark],
+    chunks: &mut [Summary],
+    frames: &mut [Summary],
     first: u64,
     begin: u64,
     end: u64,
     change: &C,
 )
     requires low { first + length cells.old ≤ 2 ^ 32 }
-    requires chunks { AreMarked CHUNK chunks.old cells.old }
-    requires frames { AreMarked FRAME frames.old cells.old }
+    requires chunks { AreSummarized CHUNK chunks.old cells.old }
+    requires frames { AreSummarized FRAME frames.old cells.old }
     ensures cells { (k : ℕ) → k < length cells.old
         → cell_in cells.new k ≡ within begin end (C.step change.now) (first + k) (cell_in cells.old k) }
-    ensures chunks { AreMarked CHUNK chunks.new cells.new }
-    ensures frames { AreMarked FRAME frames.new cells.new }
+    ensures chunks { AreSummarized CHUNK chunks.new cells.new }
+    ensures frames { AreSummarized FRAME frames.new cells.new }
 {
     let most = cells.len() as u64;
     let low = begin.saturating_sub(first).min(most) as usize;

@@ -8,8 +8,8 @@ ghost use Rattle.shadow_memory.specs.Inside.{padded, shown_kept, within};
 
 use crate::change::Change;
 use crate::kept::KeptByte;
-use crate::mark::Mark;
 use crate::ranges::{CHUNK, FRAME, change_range};
+use crate::summary::Summary;
 use judge_core::LeftByte;
 use std::alloc::{AllocError, Global};
 use std::marker::Model;
@@ -23,9 +23,9 @@ pub(crate) struct SlotBytes {
     /// The first of them, up to the last at which something was left; there is room for all.
     cells: Vec<KeptByte>,
     /// What may have been left in each chunk.
-    chunks: Vec<Mark>,
+    chunks: Vec<Summary>,
     /// What may have been left in each frame.
-    frames: Vec<Mark>,
+    frames: Vec<Summary>,
 }
 
 impl Model for SlotBytes {
@@ -33,13 +33,13 @@ impl Model for SlotBytes {
     ghost use Rattle.std.specs.Vec.{vec_capacity};
     ghost use Rattle.shadow_memory.specs.Left.{LeftSlot};
     ghost use Rattle.shadow_memory.specs.Inside.{padded, shown_kept};
-    ghost use Rattle.shadow_memory.specs.Marks.{AreMarked};
+    ghost use Rattle.shadow_memory.specs.Summaries.{AreSummarized};
 
     ghost Value = { LeftSlot };
 
     ghost view = { λ s. record { slot = s.slot; cells = map shown_kept (padded s.places s.cells.items) } };
 
-    ghost invariant = { λ s. AreMarked 64 s.chunks.items s.cells.items × AreMarked 4096 s.frames.items s.cells.items
+    ghost invariant = { λ s. AreSummarized 64 s.chunks.items s.cells.items × AreSummarized 4096 s.frames.items s.cells.items
         × (length s.cells.items ≤ s.places) × (s.places ≤ vec_capacity s.cells) };
 }
 
@@ -52,8 +52,8 @@ impl SlotBytes {
             slot,
             places,
             cells: Vec::with_capacity(alloc, places)?,
-            chunks: vec![in alloc; Mark::FRESH; places / CHUNK]?,
-            frames: vec![in alloc; Mark::FRESH; places / FRAME]?,
+            chunks: vec![in alloc; Summary::FRESH; places / CHUNK]?,
+            frames: vec![in alloc; Summary::FRESH; places / FRAME]?,
         })
     }
 

@@ -7,9 +7,9 @@ ghost use Rattle.promise_core.specs.Holdings.{slab_around};
 ghost use Rattle.promise_core.specs.Bytes.{Holder, is_same, is_object};
 ghost use Rattle.promise_core.specs.State.{is_in_no_slab};
 ghost use Rattle.judge_core.specs.Holders.{shown_holder};
-ghost use Rattle.shadow_memory.specs.Marks.{MayOwn};
+ghost use Rattle.shadow_memory.specs.Summaries.{MayOwn};
 
-use crate::mark::Owners;
+use crate::summary::Owners;
 use judge_core::{FrameBlock, Held, HeldCache, RangeHolder};
 use model_core::limits::FRAME_BYTES;
 

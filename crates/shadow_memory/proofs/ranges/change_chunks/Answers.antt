@@ -1,6 +1,6 @@
 use Rattle.std.proofs.Common.{◌≡◌, ℕ, ◌+◌, ◌*◌, ◌/◌, ◌<◌, ◌≤◌, List, min, max, refl, sym, subst, arith}
-use Rattle.shadow_memory.specs.declared.mark.Mark.{Mark}
-use Rattle.shadow_memory.specs.Marks.{AreMarked}
+use Rattle.shadow_memory.specs.declared.summary.Summary.{Summary}
+use Rattle.shadow_memory.specs.Summaries.{AreSummarized}
 use Rattle.shadow_memory.proofs.Passing.{changed_part, marked_part, left_part}
 use Rattle.shadow_memory.proofs.ranges.change_chunks.Goals as goal
 
@@ -20,8 +20,8 @@ loop-chunk-preserved-then-leaves g c =
     record {
       changed = changed_part step c.args.first 64 part c.args.low c.args.high begin end c.args.cells.now cells cells (omega arith) (omega arith)
           c.requires.order refl refl c.loop-chunk.invariant.changed
-          (left_part step c.args.first 64 part begin end c.loop-chunk.chunks c.mark_at-mark.result cells (here part) (omega arith) (omega arith)
-          c.mark_at-mark.ensures (c.leaves.ensures c.if-leaves.true) c.loop-chunk.invariant.marked);
+          (left_part step c.args.first 64 part begin end c.loop-chunk.chunks c.summary_at-summary.result cells (here part) (omega arith) (omega arith)
+          c.summary_at-summary.ensures (c.leaves.ensures c.if-leaves.true) c.loop-chunk.invariant.marked);
       marked = c.loop-chunk.invariant.marked;
     }
 
@@ -33,9 +33,9 @@ loop-chunk-preserved g c =
     record {
       changed = changed_part step c.args.first 64 part c.args.low c.args.high c.max-begin.result c.min-end.result c.args.cells.now cells
           c.change_places.new.cells (omega arith) (omega arith) c.requires.order c.max-begin.ensures c.min-end.ensures c.loop-chunk.invariant.changed c.change_places.ensures;
-      marked = subst (λ (ms : List Mark). AreMarked 64 ms c.change_places.new.cells) (sym c.set_mark.ensures)
-          (marked_part step c.args.first 64 part c.max-begin.result c.min-end.result c.loop-chunk.chunks c.mark_at-mark.result c.mark_after.result _ cells
+      marked = subst (λ (ms : List Summary). AreSummarized 64 ms c.change_places.new.cells) (sym c.set_summary.ensures)
+          (marked_part step c.args.first 64 part c.max-begin.result c.min-end.result c.loop-chunk.chunks c.summary_at-summary.result c.summary_after.result _ cells
           c.change_places.new.cells (here part) (only part) (omega (arith, c.max-begin.ensures)) (omega (arith, c.min-end.ensures))
-          (omega (arith, c.max-begin.ensures, c.min-end.ensures, c.requires.order)) refl c.mark_at-mark.ensures
-          c.mark_after.ensures.changed c.mark_after.ensures.kept c.loop-chunk.invariant.marked c.change_places.ensures);
+          (omega (arith, c.max-begin.ensures, c.min-end.ensures, c.requires.order)) refl c.summary_at-summary.ensures
+          c.summary_after.ensures.changed c.summary_after.ensures.kept c.loop-chunk.invariant.marked c.change_places.ensures);
     }

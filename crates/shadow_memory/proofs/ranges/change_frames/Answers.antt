@@ -1,6 +1,6 @@
 use Rattle.std.proofs.Common.{◌≡◌, ℕ, ◌+◌, ◌*◌, ◌/◌, ◌<◌, ◌≤◌, List, min, max, refl, sym, subst, arith}
-use Rattle.shadow_memory.specs.declared.mark.Mark.{Mark}
-use Rattle.shadow_memory.specs.Marks.{AreMarked}
+use Rattle.shadow_memory.specs.declared.summary.Summary.{Summary}
+use Rattle.shadow_memory.specs.Summaries.{AreSummarized}
 use Rattle.shadow_memory.proofs.Passing.{changed_part, marked_part, left_part}
 use Rattle.shadow_memory.proofs.ranges.change_frames.Goals as goal
 
@@ -20,8 +20,8 @@ loop-frame-preserved-then-leaves g c =
     record {
       changed = changed_part step c.args.first 4096 part c.args.low c.args.high begin end c.args.cells.now cells cells (omega arith) (omega arith)
           c.requires.order refl refl c.loop-frame.invariant.changed
-          (left_part step c.args.first 4096 part begin end c.loop-frame.frames c.mark_at-mark.result cells (here part) (omega arith) (omega arith)
-          c.mark_at-mark.ensures (c.leaves.ensures c.if-leaves.true) c.loop-frame.invariant.frames);
+          (left_part step c.args.first 4096 part begin end c.loop-frame.frames c.summary_at-summary.result cells (here part) (omega arith) (omega arith)
+          c.summary_at-summary.ensures (c.leaves.ensures c.if-leaves.true) c.loop-frame.invariant.frames);
       chunks = c.loop-frame.invariant.chunks;
       frames = c.loop-frame.invariant.frames;
     }
@@ -35,9 +35,9 @@ loop-frame-preserved g c =
       changed = changed_part step c.args.first 4096 part c.args.low c.args.high c.max-begin.result c.min-end.result c.args.cells.now cells
           c.change_chunks.new.cells (omega arith) (omega arith) c.requires.order c.max-begin.ensures c.min-end.ensures c.loop-frame.invariant.changed c.change_chunks.ensures.changed;
       chunks = c.change_chunks.ensures.marked;
-      frames = subst (λ (ms : List Mark). AreMarked 4096 ms c.change_chunks.new.cells) (sym c.set_mark.ensures)
-          (marked_part step c.args.first 4096 part c.max-begin.result c.min-end.result c.loop-frame.frames c.mark_at-mark.result c.mark_after.result _ cells
+      frames = subst (λ (ms : List Summary). AreSummarized 4096 ms c.change_chunks.new.cells) (sym c.set_summary.ensures)
+          (marked_part step c.args.first 4096 part c.max-begin.result c.min-end.result c.loop-frame.frames c.summary_at-summary.result c.summary_after.result _ cells
           c.change_chunks.new.cells (here part) (only part) (omega (arith, c.max-begin.ensures)) (omega (arith, c.min-end.ensures))
-          (omega (arith, c.max-begin.ensures, c.min-end.ensures, c.requires.order)) refl c.mark_at-mark.ensures
-          c.mark_after.ensures.changed c.mark_after.ensures.kept c.loop-frame.invariant.frames c.change_chunks.ensures.changed);
+          (omega (arith, c.max-begin.ensures, c.min-end.ensures, c.requires.order)) refl c.summary_at-summary.ensures
+          c.summary_after.ensures.changed c.summary_after.ensures.kept c.loop-frame.invariant.frames c.change_chunks.ensures.changed);
     }

@@ -1,5 +1,5 @@
 use Rattle.shadow_memory.specs.Inside.{doubted_of}
-use Rattle.shadow_memory.specs.Marks.{IsChanged}
+use Rattle.shadow_memory.specs.Summaries.{IsChanged}
 use Rattle.shadow_memory.proofs.change.DoubtChange.change_places.Given as goal
 
 abbrev pub invariant-loop-k : goal.invariant-loop-k

@@ -1,6 +1,6 @@
 use Rattle.promise_core.specs.Bytes.{with_bytes}
 use Rattle.judge_core.specs.Holders.{shown_holder}
-use Rattle.shadow_memory.specs.Marks.{IsChanged}
+use Rattle.shadow_memory.specs.Summaries.{IsChanged}
 use Rattle.shadow_memory.proofs.change.PutChange.change_places.Given as goal
 
 abbrev pub invariant-loop-k : goal.invariant-loop-k

@@ -2,10 +2,10 @@ use Rattle.std.proofs.Common.{◌≡◌, ◌+◌, ◌/◌, List, length, get_or,
 use Rattle.std.proofs.lemmas.List.{with_items_is}
 use Rattle.shadow_memory.specs.declared.kept.KeptByte.{KeptByte}
 use Rattle.shadow_memory.specs.declared.kept.KeptByte.TheVariants as Kept
-use Rattle.shadow_memory.specs.declared.mark.Mark.{Mark}
+use Rattle.shadow_memory.specs.declared.summary.Summary.{Summary}
 use Rattle.shadow_memory.specs.Left.{LeftSlot}
 use Rattle.shadow_memory.specs.Inside.{padded, shown_kept, within}
-use Rattle.shadow_memory.specs.Marks.{IsMarkedAs, any_mark, cell_in}
+use Rattle.shadow_memory.specs.Summaries.{IsSummarizedBy, any_summary, cell_in}
 use Rattle.shadow_memory.proofs.Padding.{changed_all, shown_at, shown_len}
 use Rattle.shadow_memory.proofs.slot.SlotBytes.change.Goals as goal
 
@@ -13,15 +13,15 @@ pub change_range-requires-clause-chunks : goal.change_range-requires-clause-chun
 change_range-requires-clause-chunks g c k =
     let same : get_or c.deref_mut.result.now k Kept.Fresh ≡ get_or c.self.inside.cells.items k Kept.Fresh =
     ap (λ (xs : List KeptByte). get_or xs k Kept.Fresh) c.deref_mut.ensures.value ∙ c.make_room.ensures.same k in
-    subst (λ (ms : List Mark). IsMarkedAs (get_or ms (k / 64) any_mark) (cell_in c.deref_mut.result.now k)) (sym c.deref_mut-2.ensures.value)
-    (subst (λ (x : KeptByte). IsMarkedAs (get_or c.self.inside.chunks.items (k / 64) any_mark) (shown_kept x)) (sym same) (c.self.invariant.0 k))
+    subst (λ (ms : List Summary). IsSummarizedBy (get_or ms (k / 64) any_summary) (cell_in c.deref_mut.result.now k)) (sym c.deref_mut-2.ensures.value)
+    (subst (λ (x : KeptByte). IsSummarizedBy (get_or c.self.inside.chunks.items (k / 64) any_summary) (shown_kept x)) (sym same) (c.self.invariant.0 k))
 
 pub change_range-requires-clause-frames : goal.change_range-requires-clause-frames
 change_range-requires-clause-frames g c k =
     let same : get_or c.deref_mut.result.now k Kept.Fresh ≡ get_or c.self.inside.cells.items k Kept.Fresh =
     ap (λ (xs : List KeptByte). get_or xs k Kept.Fresh) c.deref_mut.ensures.value ∙ c.make_room.ensures.same k in
-    subst (λ (ms : List Mark). IsMarkedAs (get_or ms (k / 4096) any_mark) (cell_in c.deref_mut.result.now k)) (sym c.deref_mut-3.ensures.value)
-    (subst (λ (x : KeptByte). IsMarkedAs (get_or c.self.inside.frames.items (k / 4096) any_mark) (shown_kept x)) (sym same) (c.self.invariant.1 k))
+    subst (λ (ms : List Summary). IsSummarizedBy (get_or ms (k / 4096) any_summary) (cell_in c.deref_mut.result.now k)) (sym c.deref_mut-3.ensures.value)
+    (subst (λ (x : KeptByte). IsSummarizedBy (get_or c.self.inside.frames.items (k / 4096) any_summary) (shown_kept x)) (sym same) (c.self.invariant.1 k))
 
 pub returns-clause-cells : goal.returns-clause-cells
 returns-clause-cells g c k lt =

@@ -1,12 +1,12 @@
--- What marks say of what was left.
+-- What summaries say of what was left.
 use Rattle.std.specs.Prelude.{◌≡◌, ℕ, ◌+◌, ◌/◌, ◌<◌, ◌≤◌, true, false, List, Option, Some, None, slice_index_or}
 use Rattle.promise_core.specs.Bytes.{Holder, Cell}
 use Rattle.judge_core.specs.Holders.{shown_holder}
 use Rattle.shadow_memory.specs.declared.kept.KeptByte.{KeptByte}
 use Rattle.shadow_memory.specs.declared.kept.KeptByte.TheVariants as Kept
-use Rattle.shadow_memory.specs.declared.mark.Mark.{Mark}
-use Rattle.shadow_memory.specs.declared.mark.Owners.{Owners}
-use Rattle.shadow_memory.specs.declared.mark.Owners.TheVariants as Owned
+use Rattle.shadow_memory.specs.declared.summary.Summary.{Summary}
+use Rattle.shadow_memory.specs.declared.summary.Owners.{Owners}
+use Rattle.shadow_memory.specs.declared.summary.Owners.TheVariants as Owned
 use Rattle.shadow_memory.specs.Inside.{CellStep, shown_kept}
 
 -- the holder may be one of these
@@ -16,22 +16,22 @@ MayOwn (Owned.One one) holder = holder ≡ shown_holder one
 MayOwn (Owned.Objects number) holder = (first : ℕ) × (holder ≡ Holder.Object number first)
 MayOwn Owned.Any holder = Unit {0}
 
--- what was left may be what the mark says
-abbrev pub IsMarkedAs : Mark → Option Cell → Type 0
-IsMarkedAs mark None = Unit {0}
-IsMarkedAs mark (Some cell) = MayOwn mark.owners cell.holder × (mark.sure ≡ false → cell.sure ≡ false)
+-- what was left may be what the summary says
+abbrev pub IsSummarizedBy : Summary → Option Cell → Type 0
+IsSummarizedBy summary None = Unit {0}
+IsSummarizedBy summary (Some cell) = MayOwn summary.owners cell.holder × (summary.sure ≡ false → cell.sure ≡ false)
 
 -- it may be anything
-abbrev pub any_mark : Mark
-any_mark = record { owners = Owned.Any; sure = true }
+abbrev pub any_summary : Summary
+any_summary = record { owners = Owned.Any; sure = true }
 
 -- what is stored at one of these places
 abbrev pub cell_in : List KeptByte → ℕ → Option Cell
 cell_in cells k = shown_kept (slice_index_or cells k Kept.Fresh)
 
--- each `size` places have a mark
-abbrev pub AreMarked : ℕ → List Mark → List KeptByte → Type 0
-AreMarked size marks cells = (k : ℕ) → IsMarkedAs (slice_index_or marks (k / size) any_mark) (cell_in cells k)
+-- each `size` places have a summary
+abbrev pub AreSummarized : ℕ → List Summary → List KeptByte → Type 0
+AreSummarized size summaries cells = (k : ℕ) → IsSummarizedBy (slice_index_or summaries (k / size) any_summary) (cell_in cells k)
 
 -- a step at those from `low` on before `high`, where the first place is `first`; the others are as they were
 pub record IsChanged (step : CellStep) (first low high : ℕ) (old new : List KeptByte) : Type 0 where

@@ -1,9 +1,9 @@
-//! Marks: what may have been left at some places.
+//! Summaries: what may have been left at some places.
 
 ghost use Rattle.std.specs.Prelude.{◌≡◌, ℕ, true, Option, slice_index_or, slice_set};
 ghost use Rattle.promise_core.specs.Bytes.{Holder, Cell};
 ghost use Rattle.judge_core.specs.Holders.{shown_holder};
-ghost use Rattle.shadow_memory.specs.Marks.{MayOwn, IsMarkedAs, any_mark};
+ghost use Rattle.shadow_memory.specs.Summaries.{MayOwn, IsSummarizedBy, any_summary};
 
 use judge_core::RangeHolder;
 
@@ -22,31 +22,31 @@ pub(crate) enum Owners {
 
 /// What may have been left at some places: whose bytes, and whether one of them may surely be there.
 #[derive(Clone, Copy, Debug)]
-pub(crate) struct Mark {
+pub(crate) struct Summary {
     pub owners: Owners,
     pub sure: bool,
 }
 
-impl Mark {
+impl Summary {
     /// Nothing was left.
-    pub const FRESH: Mark = Mark {
+    pub const FRESH: Summary = Summary {
         owners: Owners::Nobody,
         sure: false,
     };
 
     /// Anything may have been left.
-    pub const ANY: Mark = Mark {
+    pub const ANY: Summary = Summary {
         owners: Owners::Any,
         sure: true,
     };
 
-    /// Returns the mark after bytes of the holder are surely there.
-    pub fn with(self, holder: RangeHolder) -> Mark
-        ensures more { (cell : Option Cell) → IsMarkedAs self cell → IsMarkedAs result cell }
+    /// Returns the summary after bytes of the holder are surely there.
+    pub fn with(self, holder: RangeHolder) -> Summary
+        ensures more { (cell : Option Cell) → IsSummarizedBy self cell → IsSummarizedBy result cell }
         ensures owners { MayOwn result.owners (shown_holder holder) }
         ensures sure { result.sure ≡ true }
     {
-        Mark {
+        Summary {
             owners: self.owners.with(holder),
             sure: true,
         }
@@ -89,18 +89,18 @@ fn both(one: RangeHolder, other: RangeHolder) -> Owners
     }
 }
 
-/// Returns the mark of this number, or the one that excludes nothing if there is none.
-pub(crate) fn mark_at(marks: &[Mark], number: usize) -> Mark
-    ensures { result ≡ slice_index_or marks.now number any_mark }
+/// Returns the summary of this number, or the one that excludes nothing if there is none.
+pub(crate) fn summary_at(summaries: &[Summary], number: usize) -> Summary
+    ensures { result ≡ slice_index_or summaries.now number any_summary }
 {
-    marks.get(number).copied().unwrap_or(Mark::ANY)
+    summaries.get(number).copied().unwrap_or(Summary::ANY)
 }
 
-/// Sets the mark of this number, if there is one.
-pub(crate) fn set_mark(marks: &mut [Mark], number: usize, mark: Mark)
-    ensures { marks.new ≡ slice_set marks.old number mark }
+/// Sets the summary of this number, if there is one.
+pub(crate) fn set_summary(summaries: &mut [Summary], number: usize, summary: Summary)
+    ensures { summaries.new ≡ slice_set summaries.old number summary }
 {
-    if number < marks.len() {
-        marks[number] = mark;
+    if number < summaries.len() {
+        summaries[number] = summary;
     }
 }
