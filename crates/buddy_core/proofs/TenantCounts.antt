@@ -11,7 +11,7 @@ use Rattle.model_core.specs.Choice.{is_free}
 use Rattle.buddy_core.specs.Content.{has_order}
 use Rattle.buddy_core.specs.Stored.{StoredSuperblock, StoredTenant, stored_tenant, superblock_at, held_by, taken_by, holding_shown}
 use Rattle.buddy_core.specs.Kept.{IsKept, IsTenantKept}
-use Rattle.buddy_core.specs.Counts.{HasRoomForCounts, IsTakenOut}
+use Rattle.buddy_core.specs.Counts.{CanCountMore, IsTakenOut}
 use Rattle.buddy_core.proofs.ContentShown.{slot_within}
 use Rattle.model_core.proofs.Counting.{count_le, bit}
 
@@ -57,7 +57,7 @@ module _ (top : ℕ) (superblocks : List StoredSuperblock) (tenants : List Store
             omega arith
 
     -- no count is near the limit of its type
-    pub room : HasRoomForCounts (stored_tenant t tenants)
+    pub room : CanCountMore (stored_tenant t tenants)
     room i = (free_room i, taken_room i)
 
 -- one entry of the table of taken blocks is written

@@ -3,8 +3,8 @@ use Rattle.std.specs.Prelude.{◌≡◌, ◌⊎◌, ℕ, ◌+◌, ◌^◌, ◌<�
 use Rattle.buddy_core.specs.Stored.{StoredTenant}
 
 -- one more of each order can be counted
-abbrev pub HasRoomForCounts : StoredTenant → Type 0
-HasRoomForCounts tenant = (i : ℕ) → (slice_index tenant.free i + 1 < 2 ^ 32) × (slice_index tenant.taken i + 1 < 2 ^ 32)
+abbrev pub CanCountMore : StoredTenant → Type 0
+CanCountMore tenant = (i : ℕ) → (slice_index tenant.free i + 1 < 2 ^ 32) × (slice_index tenant.taken i + 1 < 2 ^ 32)
 
 -- `part` counts what `whole` counts once a block of order k is taken out of a free one of order j: the halves between are free
 pub record IsTakenOut (k j : ℕ) (whole part : StoredTenant) : Type 0 where

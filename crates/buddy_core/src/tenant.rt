@@ -3,7 +3,7 @@
 ghost use Rattle.std.specs.Prelude.{◌≡◌, ℕ, replicate, count_by, is_some, ◌+◌, ◌-◌, ◌^◌, ◌<◌, ◌≤◌, Some, None, List, length, slice_index, slice_index_or, slice_set, IfOk, IsSome, MatchOption};
 ghost use Rattle.model_core.specs.declared.limits.TheConstants.{MOST_ORDER, MOST_SUPERBLOCKS};
 ghost use Rattle.buddy_core.specs.Stored.{bare_tenant};
-ghost use Rattle.buddy_core.specs.Counts.{HasRoomForCounts, IsTakenOut};
+ghost use Rattle.buddy_core.specs.Counts.{CanCountMore, IsTakenOut};
 
 use std::alloc::{AllocError, Global};
 use std::marker::Model;
@@ -142,7 +142,7 @@ impl Tenant {
         requires order { order ≤ from }
         requires from { from < length self.old.free }
         requires free { 0 < slice_index self.old.free from }
-        requires room { HasRoomForCounts self.old }
+        requires room { CanCountMore self.old }
         ensures { IsTakenOut order from self.old self.new }
     {
         self.taken[order as usize] += 1;
@@ -159,7 +159,7 @@ impl Tenant {
         requires to { to < length self.old.free }
         requires taken { 0 < slice_index self.old.taken order }
         requires buddies { (i : ℕ) → order ≤ i → i < to → 0 < slice_index self.old.free i }
-        requires room { HasRoomForCounts self.old }
+        requires room { CanCountMore self.old }
         ensures { IsTakenOut order to self.new self.old }
     {
         self.taken[order as usize] -= 1;

@@ -80,7 +80,7 @@ impl Tenant {
         let order = self.left.order();
         match command {
             Command::Alloc { order: k } if *k <= u32::from(order) => {
-                !self.held.has_room(order, *k as u8)
+                !self.held.has_vacant_block(order, *k as u8)
             }
             Command::Take { cache } => match self.held.cache(*cache) {
                 Some(cache) => self.is_used_up(cache),
@@ -94,7 +94,7 @@ impl Tenant {
     fn is_used_up(&self, cache: &HeldCache) -> bool
         ensures { result ≡ is_used_up self.now.left.order self.now.has cache.now }
     {
-        cache.is_full() && !self.held.has_room(self.left.order(), cache.order())
+        cache.is_full() && !self.held.has_vacant_block(self.left.order(), cache.order())
     }
 }
 

@@ -11,7 +11,7 @@ ghost use Rattle.model_core.specs.Operations.{overlaps};
 ghost use Rattle.model_core.specs.Reach.{within_block};
 ghost use Rattle.promise_core.specs.Bytes.{holder_of, object_with};
 ghost use Rattle.judge_core.specs.Holders.{shown_holder};
-ghost use Rattle.promise_core.specs.Holdings.{blocks_of_slot, vacant_blocks, has_room, can_be_taken, slab_around, has_slot, known_cache, is_vacant, can_stand, is_slot_busy};
+ghost use Rattle.promise_core.specs.Holdings.{blocks_of_slot, vacant_blocks, has_vacant_block, can_be_taken, slab_around, has_slot, known_cache, is_vacant, can_stand, is_slot_busy};
 
 use crate::block::FrameBlock;
 use crate::cache::HeldCache;
@@ -243,10 +243,10 @@ impl Held {
     }
 
     /// Returns whether there is room for a block of `2^k` frames.
-    pub fn has_room(&self, order: u8, k: u8) -> bool
+    pub fn has_vacant_block(&self, order: u8, k: u8) -> bool
         requires order { order ≤ MOST_ORDER }
         requires k { k ≤ MOST_ORDER }
-        ensures { result ≡ has_room order self.now k }
+        ensures { result ≡ has_vacant_block order self.now k }
     {
         self.count_vacant(order, k) > 0
     }

@@ -8,7 +8,7 @@ ghost use Rattle.kernel_core.specs.Stores.{IsKernel, StoresAreWrites, LoadsAreOw
 use crate::kernel::Kernel;
 pub use model_core::block_laws::splits_and_joins;
 pub use model_core::laws::{
-    bytes_stay, constructed_first, objects_apart, reaps_by_need, room_is_promised,
+    block_is_promised, bytes_stay, constructed_first, objects_apart, reaps_by_need,
     stays_well_formed, taken_is_sound,
 };
 pub use words_core::one_case;

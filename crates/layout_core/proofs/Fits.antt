@@ -2,7 +2,7 @@
 use Rattle.std.proofs.Common.{◌≡◌, ℕ, ◌+◌, ◌-◌, ◌*◌, ◌/◌, ◌^◌, ◌<◌, ◌≤◌, true, arith, ap, subst, sym, ◌∙◌}
 use Rattle.std.proofs.Math.Nat.{mul-le-mul_right, pow-le-pow_right}
 use Rattle.model_core.proofs.Layouts.{layouts_fit}
-use Rattle.model_core.specs.Layouts.{IsFit, layout_of, chunk_of, slab_order, slab_room, is_size, is_alignment}
+use Rattle.model_core.specs.Layouts.{IsFit, layout_of, chunk_of, slab_order, usable_bytes, is_size, is_alignment}
 use Rattle.layout_core.specs.Cut.{Cut, numbers_of}
 use Rattle.layout_core.specs.Inside.{AreLayoutFields}
 use Rattle.layout_core.specs.Objects.{IsColour}
@@ -24,20 +24,20 @@ ends_within l colour chunk i sized aligned is same object =
 
 -- the fields of a layout are the numbers of its size and alignment
 pub is_cut : (size align chunk order room : ℕ) → is_size size ≡ true → is_alignment align ≡ true
-    → chunk ≡ chunk_of size align → order ≡ slab_order chunk → room ≡ slab_room chunk
+    → chunk ≡ chunk_of size align → order ≡ slab_order chunk → room ≡ usable_bytes chunk
     → AreLayoutFields size align chunk order (room / chunk) ((room - room / chunk * chunk) / align + 1)
 unfolding layout_of
 is_cut size align chunk order room sized aligned same same_order same_room =
     let fits = layouts_fit size align sized aligned in
     let chunked = (fits.fits 0).chunked in
-    let at : room ≡ slab_room (chunk_of size align) = same_room ∙ ap slab_room same in
+    let at : room ≡ usable_bytes (chunk_of size align) = same_room ∙ ap usable_bytes same in
     record {
       accepted_size = sized;
       accepted_align = aligned;
       chunk_is = same;
       order_is = same_order ∙ ap slab_order same;
-      count_is = ap (λ n. n / chunk) at ∙ ap (λ n. slab_room (chunk_of size align) / n) same;
-      colours_is = ap (λ n. (n - n / chunk * chunk) / align + 1) at ∙ ap (λ c. (slab_room (chunk_of size align) - slab_room (chunk_of size align) / c * c) / align + 1) same;
+      count_is = ap (λ n. n / chunk) at ∙ ap (λ n. usable_bytes (chunk_of size align) / n) same;
+      colours_is = ap (λ n. (n - n / chunk * chunk) / align + 1) at ∙ ap (λ c. (usable_bytes (chunk_of size align) - usable_bytes (chunk_of size align) / c * c) / align + 1) same;
       some = omega (arith, chunked, same);
       sized = omega (arith, fits.chunked, same);
     }

@@ -5,7 +5,7 @@ use Rattle.std.proofs.lemmas.Nat.{mod_below}
 use Rattle.std.proofs.Math.Nat.{div-le_of_le-mul}
 use Rattle.std.specs.Prelude.{if◌then◌else◌, nat_le}
 use borrow.Author.Count.{below_none}
-use Rattle.model_core.specs.Layouts.{chunk_of, slab_order, slab_room, is_size, is_small, is_thrifty, bytes_of_order, layout_of}
+use Rattle.model_core.specs.Layouts.{chunk_of, slab_order, usable_bytes, is_size, is_small, is_thrifty, bytes_of_order, layout_of}
 use Rattle.model_core.proofs.Layouts.{layouts_fit, chunk_is}
 use Rattle.layout_core.specs.Laws.{IsLeastOrder, EverySizeHasAnOrder, OffsetsApart, FewObjects}
 use Rattle.layout_core.proofs.Objects.{holds_at}
@@ -37,7 +37,7 @@ least_order c false false false false s e0 e1 e2 some few =
       least = λ _. below_more _ 2 (below_more _ 1 (below_more _ 0 (below_none _) e0) e1) e2;
     }
 
-pub few_small : (c : ℕ) → 16 ≤ c → is_small c ≡ true → slab_room c / c ≤ 254
+pub few_small : (c : ℕ) → 16 ≤ c → is_small c ≡ true → usable_bytes c / c ≤ 254
 few_small c h s = subst (λ b. (if b then 4064 else bytes_of_order (slab_order c)) / c ≤ 254) (sym s) (div-le_of_le-mul c (omega arith))
 
 few_at : (c : ℕ) (t0 t1 t2 : Bool) → is_thrifty c 0 ≡ t0 → is_thrifty c 1 ≡ t1 → is_thrifty c 2 ≡ t2 → 512 ≤ c
@@ -47,7 +47,7 @@ few_at c false true t2 e0 e1 e2 h = let over = large_chunk 4096 c (omega arith) 
 few_at c false false true e0 e1 e2 h = let over = large_chunk 8192 c (omega arith) e1 in div-le_of_le-mul c (omega arith)
 few_at c false false false e0 e1 e2 h = let over = large_chunk 16384 c (omega arith) e2 in div-le_of_le-mul c (omega arith)
 
-pub few_large : (c : ℕ) → is_small c ≡ false → slab_room c / c ≤ 16
+pub few_large : (c : ℕ) → is_small c ≡ false → usable_bytes c / c ≤ 16
 few_large c s =
     let least : 512 ≤ c = ltb-false c 512 s in
     let at = few_at c _ _ _ refl refl refl least in

@@ -4,7 +4,7 @@ use Rattle.std.specs.Prelude.{if◌then◌else◌}
 use Rattle.std.proofs.lemmas.Bool.{or_cases, and_parts, eqb-true, leb-true, ltb-true, ltb-false, false≢true}
 use Rattle.std.proofs.lemmas.Nat.{div-add-mod'}
 use Rattle.std.proofs.Math.Nat.{div-mul-le_self, div-lt_iff_lt-mul, le-div_iff_mul-le, mul-mod_left, mod-lt, mul_comm, mul-le-mul_left}
-use Rattle.model_core.specs.Layouts.{is_alignment, chunk_of, is_small, bytes_of_order, is_thrifty, slab_order, slab_room, layout_of, LayoutsFit}
+use Rattle.model_core.specs.Layouts.{is_alignment, chunk_of, is_small, bytes_of_order, is_thrifty, slab_order, usable_bytes, layout_of, LayoutsFit}
 
 -- what holds of the six alignments holds of each
 pub for_alignment : (P : ℕ → Type 0) → P 8 → P 16 → P 32 → P 64 → P 128 → P 256 → (align : ℕ) → is_alignment align ≡ true → P align
@@ -88,7 +88,7 @@ layouts_fit size align is_in aligned =
     let high : size ≤ 4096 = leb-true size 4096 (and_parts (leb 1 size) (leb size 4096) is_in).1 in
     let c : IsChunk size align (chunk_of size align) = chunk_is align aligned size low high in
     let chunk = chunk_of size align in
-    let r : IsRoom chunk (slab_order chunk) (slab_room chunk) = room_is chunk c.least c.most (is_small chunk) (is_thrifty chunk 0) (is_thrifty chunk 1) (is_thrifty chunk 2) refl in
+    let r : IsRoom chunk (slab_order chunk) (usable_bytes chunk) = room_is chunk c.least c.most (is_small chunk) (is_thrifty chunk 0) (is_thrifty chunk 1) (is_thrifty chunk 2) refl in
     let some : 0 < chunk = omega arith in
     record {
       sized = low;
@@ -98,9 +98,9 @@ layouts_fit size align is_in aligned =
       order = r.order_most;
       fits = λ made. record {
         chunked = c.least;
-        some = (le-div_iff_mul-le {k = chunk} {x = 1} {y = slab_room chunk} some).1 (omega (arith, r.some));
-        few = omega (arith, (div-lt_iff_lt-mul {k = chunk} {x = slab_room chunk} {y = 257} some).1 (omega (arith, r.few)));
-        inside = colour_most align (slab_room chunk) (slab_room chunk / chunk * chunk) made (div-mul-le_self (slab_room chunk) chunk);
+        some = (le-div_iff_mul-le {k = chunk} {x = 1} {y = usable_bytes chunk} some).1 (omega (arith, r.some));
+        few = omega (arith, (div-lt_iff_lt-mul {k = chunk} {x = usable_bytes chunk} {y = 257} some).1 (omega (arith, r.few)));
+        inside = colour_most align (usable_bytes chunk) (usable_bytes chunk / chunk * chunk) made (div-mul-le_self (usable_bytes chunk) chunk);
         within = r.within;
         small = r.small;
       };

@@ -15,7 +15,7 @@ use Rattle.model_core.specs.Slabs.{is_partial, is_empty, cache_of, slab_to_use, 
 use Rattle.model_core.specs.Operations.{refuse, alloc_at, alloc_step}
 use Rattle.model_core.specs.CacheOperations.{frames_of, take_from, take_new, take_of, take_step}
 use Rattle.model_core.specs.WellFormed.{RisesFrom}
-use Rattle.model_core.specs.Room.{RoomIsPromised, AllocIsPromised, TakeIsPromised}
+use Rattle.model_core.specs.Room.{BlockIsPromised, AllocIsPromised, TakeIsPromised}
 use Rattle.model_core.specs.Elements.{IsIn}
 use Rattle.model_core.proofs.Lists.{each_in, in_filter, none_any, some_any, any_in, rises_more, in_left, in_right, in_map, in_append}
 use Rattle.model_core.proofs.BlocksByNumber.{number_is, number_first, number_of_frame, aligned_first}
@@ -220,8 +220,8 @@ reaped_slots : (m : Machine) → (reaped m).slots ≡ m.slots
 unfolding reaped
 reaped_slots m = refl
 
-pub room_is_promised : RoomIsPromised
-room_is_promised limit order k m w room = go (choice order m k) refl
+pub block_is_promised : BlockIsPromised
+block_is_promised limit order k m w room = go (choice order m k) refl
   where
     left : (first : ℕ) × (choice order (reaped m) k ≡ Some first)
     left = room_chosen order k (reaped m) (subst (RisesFrom 0) (sym (reaped_slots m)) w.slots_rise) room.of_slot
@@ -234,7 +234,7 @@ room_is_promised limit order k m w room = go (choice order m k) refl
 pub alloc_is_promised : AllocIsPromised
 unfolding alloc_step
 alloc_is_promised limit order k m w room =
-    let is = room_is_promised limit order k m w room in (
+    let is = block_is_promised limit order k m w room in (
       is.0,
       ap (λ t. (if t then refuse AllocRefusal.BadOrder m else alloc_at k (by_need order k m) (choice_by_need order k m)).answer) (le-ltb order k room.of_slot)
           ∙ ap (λ o. (alloc_at k (by_need order k m) o).answer) is.1,
@@ -247,7 +247,7 @@ take_is_promised limit order number m c w is room = go (slab_to_use (find is_par
     go : (o : Option Slab) → slab_to_use (find is_partial c.slabs) (find is_empty c.slabs) ≡ o → (place : ℕ) × ((take_of order m (cache_of m number)).answer ≡ Ok place)
     go (Some s) used = (_, ap (λ c. (take_of order m c).answer) is ∙ ap (λ s. (take_from order c m s).answer) used)
     go None unused =
-        let first = room_is_promised limit order (layout c).order m w room in (
+        let first = block_is_promised limit order (layout c).order m w room in (
           _,
           ap (λ c. (take_of order m c).answer) is ∙ (ap (λ s. (take_from order c m s).answer) unused
               ∙ ap (λ o. (take_new c (by_need order (layout c).order m) o).answer) first.1),

@@ -16,7 +16,7 @@ use Rattle.model_core.specs.CacheOperations.{create_step, cache_step, next_numbe
 use Rattle.model_core.specs.Runs.{Operation, Alloc, Create, Take, Give, Grant, ArePossible, after}
 use Rattle.model_core.specs.WellFormed.{IsApart, IsWellFormed}
 use Rattle.model_core.specs.Laws.{ChoiceIsUntaken, ChoicesMeet, AllocReaps, TakeReaps, RefusalsStay, KeepsWellFormed, RunsWellFormed, TakenApart, TakenSound, AllocTakes, FreeReleases, GrowthTakes, ReapReleases}
-use Rattle.model_core.specs.Room.{IsAmple, RoomIsPromised, AllocIsPromised, TakeIsPromised}
+use Rattle.model_core.specs.Room.{IsAmple, BlockIsPromised, AllocIsPromised, TakeIsPromised}
 use Rattle.model_core.proofs.Choosing.{choice_is_found}
 use Rattle.model_core.proofs.WellFormedRuns.{runs_well_formed}
 use Rattle.model_core.proofs.RowAnswers.{machine_after}
@@ -160,9 +160,9 @@ ReapReleases-met law = (refl, law MOST_CACHES 3 emptied emptied_well_formed 0, l
 -- Room
 
 -- two frames are taken, so the slot has room for a block of order 1: it has four of them
-RoomIsPromised-met : RoomIsPromised → (first : ℕ) × (choice_by_need 3 1 machine ≡ Some first)
+BlockIsPromised-met : BlockIsPromised → (first : ℕ) × (choice_by_need 3 1 machine ≡ Some first)
 unfolding layout_of alloc_step cache_step create_step next_number take_step grown_cache grown slab_to_use by_need reaped choice taken_blocks empty_machine next_slot after_grant
-RoomIsPromised-met law = law MOST_CACHES 3 1 machine is_well_formed (record { of_slot = omega arith; fewer = omega arith })
+BlockIsPromised-met law = law MOST_CACHES 3 1 machine is_well_formed (record { of_slot = omega arith; fewer = omega arith })
 
 -- the frame of an empty slab is not counted
 all_of_slot : IsAmple 3 3 emptied

@@ -47,14 +47,14 @@ slab_order chunk =
     else if is_thrifty chunk 0 then 0 else if is_thrifty chunk 1 then 1 else if is_thrifty chunk 2 then 2 else 3
 
 -- the room of a slab
-abbrev pub slab_room : ℕ → ℕ
-slab_room chunk = if is_small chunk then RECORD_OFFSET else bytes_of_order (slab_order chunk)
+abbrev pub usable_bytes : ℕ → ℕ
+usable_bytes chunk = if is_small chunk then RECORD_OFFSET else bytes_of_order (slab_order chunk)
 
 -- the layout for objects of a size and an alignment
 unfoldable pub layout_of : ℕ → ℕ → Layout
 layout_of size align =
     let chunk = chunk_of size align in
-    let room = slab_room chunk in
+    let room = usable_bytes chunk in
     let count = room / chunk in
     record { chunk = chunk; order = slab_order chunk; room = room; count = count; colours = (room - count * chunk) / align + 1 }
 

@@ -14,8 +14,8 @@ pub record IsAmple (order k : ℕ) (m : Machine) : Type 0 where
   pub fewer : frames_taken (reaped m) < length m.slots * 2 ^ (order - k)
 
 -- then a request for a block of order k gets one, whatever was done before ..
-abbrev pub RoomIsPromised : Type 0
-RoomIsPromised = (limit order k : ℕ) (m : Machine) → IsWellFormed limit order m → IsAmple order k m
+abbrev pub BlockIsPromised : Type 0
+BlockIsPromised = (limit order k : ℕ) (m : Machine) → IsWellFormed limit order m → IsAmple order k m
     → (first : ℕ) × (choice_by_need order k m ≡ Some first)
 
 -- .. so a page block is never refused ..

@@ -1,7 +1,7 @@
 //! The laws of the machine, each the contract of a function that does nothing: call it where a proof needs the law.
 
 ghost use Rattle.model_core.specs.Layouts.{LayoutsFit};
-ghost use Rattle.model_core.specs.Room.{RoomIsPromised, AllocIsPromised, TakeIsPromised};
+ghost use Rattle.model_core.specs.Room.{BlockIsPromised, AllocIsPromised, TakeIsPromised};
 ghost use Rattle.model_core.specs.Laws.{ChoiceIsUntaken, ChoicesMeet, AllocReaps, TakeReaps, RefusalsStay, KeepsWellFormed, RunsWellFormed, TakenApart, TakenSound, AllocTakes, FreeReleases, GrowthTakes, ReapReleases, ObjectsApart, RecordsFree, ConstructedFirst, ConstructedWhenTaken};
 ghost use Rattle.model_core.specs.ByteLaws.{AllocKeeps, FreeKeeps, TakeKeeps, GiveKeeps, BytesStay, RunsKeepBytes, WritesAlone, SlabsLeaveZeroes};
 
@@ -79,8 +79,8 @@ pub fn bytes_stay()
 /// Where fewer frames are taken, empty slabs not counted, than the held slots have aligned blocks of some order, a block of
 /// that order is never refused, however the taken blocks lie: neither a page block nor an object of a cache whose slabs have
 /// that order.
-pub fn room_is_promised()
-    ensures block { RoomIsPromised }
+pub fn block_is_promised()
+    ensures block { BlockIsPromised }
     ensures alloc { AllocIsPromised }
     ensures take { TakeIsPromised }
 {}

@@ -19,7 +19,7 @@ use Rattle.words_core.specs.declared.reply.Body.{Body}
 use Rattle.words_core.specs.declared.reply.Body.TheVariants as Say
 use Rattle.words_core.specs.declared.reply.Refusal.{Refusal}
 use Rattle.promise_core.specs.declared.promise.Promise.{Promise}
-use Rattle.promise_core.specs.Holdings.{KnownCache, Holdings, has_slot, known_cache, slab_around, is_vacant, can_stand, blocks_of_slot, vacant_blocks, has_room, live_beside, is_slab_full, can_be_taken}
+use Rattle.promise_core.specs.Holdings.{KnownCache, Holdings, has_slot, known_cache, slab_around, is_vacant, can_stand, blocks_of_slot, vacant_blocks, has_vacant_block, live_beside, is_slab_full, can_be_taken}
 use Rattle.promise_core.specs.State.{State, Known, state_after}
 use Rattle.promise_core.specs.Promises.{first_due, is_one, due, is_used_up, verdict, kept, judged, allowed}
 use Rattle.promise_core.specs.Laws.{may_tell, RefusedForCause, TakeRefusedForCause}
@@ -50,7 +50,7 @@ module _ (order k : ℕ) (of_slot : k ≤ order) (h : Holdings) where
       let size : 2 ^ order ≡ 2 ^ k * share = ap (λ n. 2 ^ n) (omega (arith, of_slot)) ∙ pow-add 2 k (order - k) in
       ap (λ n. q * 2 ^ k / n) size ∙ (sym (div-div-eq-div-mul (q * 2 ^ k) (2 ^ k) share) ∙ ap (λ n. n / share) (mul-div_cancel q (pow_pos k)))
 
-  stands_vacant : (f : ℕ) → can_stand order h (block f k) ≡ true → has_room order h k ≡ true
+  stands_vacant : (f : ℕ) → can_stand order h (block f k) ≡ true → has_vacant_block order h k ≡ true
   unfolding can_stand vacant_blocks
   stands_vacant f e =
       let parts = and_parts (leb k order && eqb (f % 2 ^ k) 0) (has_slot h (f / 2 ^ order) && is_vacant h (block f k)) e in
@@ -68,7 +68,7 @@ module _ (order k : ℕ) (of_slot : k ≤ order) (h : Holdings) where
       (in_range q (u.0 * share) share (subst (λ v. v * share ≤ q) (sym slot) low) (subst (λ v. q < v * share + share) (sym slot) high)))))
       there.1)
 
-  vacant_stands : has_room order h k ≡ true → (f : ℕ) × (can_stand order h (block f k) ≡ true)
+  vacant_stands : has_vacant_block order h k ≡ true → (f : ℕ) × (can_stand order h (block f k) ≡ true)
   unfolding can_stand vacant_blocks
   vacant_stands e =
       let b : (b : Block) × IsIn b (vacant_blocks order h k) = some_listed (vacant_blocks order h k) e in
@@ -109,12 +109,12 @@ both_ways_off false e on = false≢true on
 -- A page block
 
 module _ (w : Known) (s : State) (t k : ℕ) (is : slice_get w.states t ≡ Some s) (of_slot : k ≤ w.order) where
-  refusal_is : may_tell w t (Command.Alloc k) (Say.Refused Refusal.NoFrames) ≡ not (has_room w.order s.has k)
+  refusal_is : may_tell w t (Command.Alloc k) (Say.Refused Refusal.NoFrames) ≡ not (has_vacant_block w.order s.has k)
   unfolding due state_after
   refusal_is = tells_as w s t (Command.Alloc k) (Say.Refused Refusal.NoFrames) is
-      ∙ (ap (λ b. (b && true) && (option_map_or (is_one Refusal.NoFrames) (first_due ((ltb w.order k, Refusal.BadOrder) ∷ [])) true && (not (has_room w.order s.has k) && true))) (eq-eqb t t refl)
-      ∙ (ap (λ b. option_map_or (is_one Refusal.NoFrames) (first_due ((b, Refusal.BadOrder) ∷ [])) true && (not (has_room w.order s.has k) && true)) (le-ltb w.order k of_slot)
-      ∙ and-true (not (has_room w.order s.has k))))
+      ∙ (ap (λ b. (b && true) && (option_map_or (is_one Refusal.NoFrames) (first_due ((ltb w.order k, Refusal.BadOrder) ∷ [])) true && (not (has_vacant_block w.order s.has k) && true))) (eq-eqb t t refl)
+      ∙ (ap (λ b. option_map_or (is_one Refusal.NoFrames) (first_due ((b, Refusal.BadOrder) ∷ [])) true && (not (has_vacant_block w.order s.has k) && true)) (le-ltb w.order k of_slot)
+      ∙ and-true (not (has_vacant_block w.order s.has k))))
 
   frame_is : (f : ℕ) → may_tell w t (Command.Alloc k) (Say.Frame f) ≡ can_stand w.order s.has (block f k)
   unfolding due state_after
@@ -125,10 +125,10 @@ module _ (w : Known) (s : State) (t k : ℕ) (is : slice_get w.states t ≡ Some
 
 pub refused_for_cause : RefusedForCause
 refused_for_cause w s t k is of_slot = record {
-  answered = λ e. let f = vacant_stands w.order k of_slot s.has (not-false (has_room w.order s.has k) (sym (refusal_is w s t k is of_slot) ∙ e)) in
+  answered = λ e. let f = vacant_stands w.order k of_slot s.has (not-false (has_vacant_block w.order s.has k) (sym (refusal_is w s t k is of_slot) ∙ e)) in
       (f.0, frame_is w s t k is of_slot f.0 ∙ f.1);
   refused = λ f e. frame_is w s t k is of_slot f ∙ false_from_ne_true (can_stand w.order s.has (block f k))
-      (λ stands. both_ways_off (has_room w.order s.has k) (sym (refusal_is w s t k is of_slot) ∙ e) (stands_vacant w.order k of_slot s.has f stands));
+      (λ stands. both_ways_off (has_vacant_block w.order s.has k) (sym (refusal_is w s t k is of_slot) ∙ e) (stands_vacant w.order k of_slot s.has f stands));
 }
 
 -- An object
@@ -166,7 +166,7 @@ not_less a b n full same few = omega (arith, full, same, few)
 nothing_left : (order : ℕ) (h : Holdings) (c : KnownCache) (place : ℕ) → is_used_up order h c ≡ true → can_be_taken order h c place ≡ true → ⊥
 unfolding can_be_taken can_stand
 nothing_left order h c place used can =
-    let u : (list_all (is_slab_full c) c.live ≡ true) × (not (has_room order h c.order) ≡ true) = and_parts _ _ used in
+    let u : (list_all (is_slab_full c) c.live ≡ true) × (not (has_vacant_block order h c.order) ≡ true) = and_parts _ _ used in
     let p = and_parts _ _ can in
     let few : length (live_beside c place) < c.count = ltb-true (length (live_beside c place)) c.count (and_parts _ _ p.1).0 in
     elim (or_cases (ltb 0 (length (live_beside c place))) (can_stand order h (slab_around c place)) (and_parts _ _ p.0).1) [
@@ -178,13 +178,13 @@ nothing_left order h c place used can =
           not_less (length (live_beside c q.0)) (length (live_beside c place)) c.count full same few
       | inr stands ↦
           let of_slot : c.order ≤ order = leb-true c.order order (and_parts _ _ (and_parts _ _ stands).0).0 in
-          both_ways_off (has_room order h c.order) u.1 (stands_vacant order c.order of_slot h (slab_around c place).first stands)
+          both_ways_off (has_vacant_block order h c.order) u.1 (stands_vacant order c.order of_slot h (slab_around c place).first stands)
     ]
 
 -- where not, there is a place: in a slab that has a live object, or in a vacant block
 something_left : (order : ℕ) (h : Holdings) (c : KnownCache) → IsIn c h.caches → IsGridded order c → is_used_up order h c ≡ false
     → (place : ℕ) × (can_be_taken order h c place ≡ true)
-something_left order h c i g unused = go (has_room order h c.order) refl (list_all (is_slab_full c) c.live) refl unused
+something_left order h c i g unused = go (has_vacant_block order h c.order) refl (list_all (is_slab_full c) c.live) refl unused
   where
     beside : (p : ℕ) → IsIn p c.live → is_slab_full c p ≡ false → (place : ℕ) × (can_be_taken order h c place ≡ true)
     beside p j e =
@@ -194,14 +194,14 @@ something_left order h c i g unused = go (has_room order h c.order) refl (list_a
         let here : IsIn p (live_of_slab c f) = in_filter (λ q. eqb (slab_around c q).first f) p c.live j (eq-eqb f f refl) in
         free_place order h c g f (aligned_first (p / 4096 / 2 ^ c.order) c.order) (omega (arith, few, other)) (or_left _ _ (listed_some p (live_of_slab c f) here))
 
-    vacant : has_room order h c.order ≡ true → (place : ℕ) × (can_be_taken order h c place ≡ true)
+    vacant : has_vacant_block order h c.order ≡ true → (place : ℕ) × (can_be_taken order h c place ≡ true)
     vacant room =
         let f : (f : ℕ) × (can_stand order h (block f c.order) ≡ true) = vacant_stands order c.order g.fitted.of_slot h room in
         let stands = can_stand_is order h (block f.0 c.order) f.1 in
         let none : length (live_of_slab c f.0) ≡ 0 = empty_slab order h c i f.0 stands.vacant in
         free_place order h c g f.0 stands.aligned.1 (omega (arith, none, g.fitted.some)) (or_right _ _ f.1)
 
-    go : (r : Bool) → has_room order h c.order ≡ r → (a : Bool) → list_all (is_slab_full c) c.live ≡ a → (a && not r) ≡ false → (place : ℕ) × (can_be_taken order h c place ≡ true)
+    go : (r : Bool) → has_vacant_block order h c.order ≡ r → (a : Bool) → list_all (is_slab_full c) c.live ≡ a → (a && not r) ≡ false → (place : ℕ) × (can_be_taken order h c place ≡ true)
     go true room a full e = vacant room
     go false room true full e = absurd (false≢true (sym e))
     go false room false full e = let p : (p : ℕ) × IsIn p c.live × (is_slab_full c p ≡ false) = some_not (is_slab_full c) c.live full in beside p.0 p.1 p.2

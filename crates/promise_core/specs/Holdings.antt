@@ -60,8 +60,8 @@ blocks_of_slot order k u = map (λ i. block (i * 2 ^ k) k) (range_with_len (u * 
 unfoldable pub vacant_blocks : ℕ → Holdings → ℕ → List Block
 vacant_blocks order h k = filter (is_vacant h) (flat_map (blocks_of_slot order k) h.slots)
 
-abbrev pub has_room : ℕ → Holdings → ℕ → Bool
-has_room order h k = nat_lt 0 (length (vacant_blocks order h k))
+abbrev pub has_vacant_block : ℕ → Holdings → ℕ → Bool
+has_vacant_block order h k = nat_lt 0 (length (vacant_blocks order h k))
 
 -- a frame of the slot is taken
 abbrev pub is_slot_busy : ℕ → Holdings → ℕ → Bool

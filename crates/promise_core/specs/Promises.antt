@@ -24,7 +24,7 @@ use Rattle.words_core.specs.declared.reply.Refusal.{Refusal}
 use Rattle.words_core.specs.declared.reply.Reply.{Reply}
 use Rattle.world_core.specs.World.{Exchange}
 use Rattle.promise_core.specs.declared.promise.Promise.{Promise}
-use Rattle.promise_core.specs.Holdings.{KnownCache, Holdings, has_slot, known_cache, can_stand, vacant_blocks, has_room, is_slot_busy, live_beside, is_slab_full, can_be_taken}
+use Rattle.promise_core.specs.Holdings.{KnownCache, Holdings, has_slot, known_cache, can_stand, vacant_blocks, has_vacant_block, is_slot_busy, live_beside, is_slab_full, can_be_taken}
 use Rattle.promise_core.specs.Bytes.{may_all_be, holder_of}
 use Rattle.promise_core.specs.State.{State, Known, opening_state, is_in_use, state_after, owners_after}
 
@@ -77,11 +77,11 @@ refusals event body w s = is_none (due event w s)
 
 -- all objects in the cache's slabs are live, and there is no room for another slab
 abbrev pub is_used_up : ℕ → Holdings → KnownCache → Bool
-is_used_up order h c = list_all (is_slab_full c) c.live && not (has_room order h c.order)
+is_used_up order h c = list_all (is_slab_full c) c.live && not (has_vacant_block order h c.order)
 
 -- there are no frames where there is no room
 abbrev pub room : Event → Body → Known → State → Bool
-room (On.Tenant t (Command.Alloc k)) (Say.Refused Refusal.NoFrames) w s = not (has_room w.order s.has k)
+room (On.Tenant t (Command.Alloc k)) (Say.Refused Refusal.NoFrames) w s = not (has_vacant_block w.order s.has k)
 room (On.Tenant t (Command.Take number)) (Say.Refused Refusal.NoFrames) w s =
     option_map_or (is_used_up w.order s.has) (known_cache s.has number) false
 room event (Say.Refused Refusal.NoFrames) w s = false

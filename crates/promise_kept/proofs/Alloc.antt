@@ -25,7 +25,7 @@ use Rattle.words_core.specs.declared.reply.Addressee.TheVariants as To
 use Rattle.words_core.specs.declared.reply.Body.TheVariants as Say
 use Rattle.words_core.specs.declared.reply.Refusal.{Refusal}
 use Rattle.world_core.specs.PrivateStep.{alloc_body, command_step}
-use Rattle.promise_core.specs.Holdings.{Holdings, can_stand, has_room}
+use Rattle.promise_core.specs.Holdings.{Holdings, can_stand, has_vacant_block}
 use Rattle.promise_core.specs.Bytes.{Holder, is_same, without}
 use Rattle.promise_core.specs.State.{State, state_after}
 use Rattle.promise_core.specs.Promises.{due}
@@ -89,7 +89,7 @@ module _ (limit order k : ℕ) (m : Machine) (s : State) (w : IsWellFormed limit
   unfolding due
   no_frames e none =
       refused limit order (Command.Alloc k) Refusal.NoFrames s (by_need order k m) (subst (λ n. Meets order s n) (sym (by_need_none order k m none)) h)
-      (λ t owners states. (rw e refl, and_from _ _ (ap (λ x. not (has_room order x k)) h.has ∙ ap not (room_served order k m w (ltb-false order k e) none)) refl))
+      (λ t owners states. (rw e refl, and_from _ _ (ap (λ x. not (has_vacant_block order x k)) h.has ∙ ap not (room_served order k m w (ltb-false order k e) none)) refl))
 
   served : (first : ℕ) → ltb order k ≡ false → choice_by_need order k m ≡ Some first
       → IsKeptBy limit order (Command.Alloc k) s (Say.Frame first) (with_block (block first k) (by_need order k m))

@@ -26,7 +26,7 @@ use Rattle.model_core.proofs.PageSteps.{by_need_kept}
 use Rattle.model_core.proofs.Vacant.{IsVacant, some_choice}
 use Rattle.model_core.proofs.Room.{range_in}
 use Rattle.model_core.proofs.TakenSteps.{order_in_is}
-use Rattle.promise_core.specs.Holdings.{slab_around, known_blocks, is_vacant, can_stand, blocks_of_slot, vacant_blocks, has_room}
+use Rattle.promise_core.specs.Holdings.{slab_around, known_blocks, is_vacant, can_stand, blocks_of_slot, vacant_blocks, has_vacant_block}
 use Rattle.promise_core.proofs.Grids.{around_is}
 use Rattle.promise_kept.specs.Meets.{cache_as_known, holdings_of}
 use Rattle.promise_kept.proofs.Seen.{holdings_reaped}
@@ -161,7 +161,7 @@ some_first : (o : Option Block) → is_some o ≡ true → option_map (λ b. b.f
 some_first None e none = false≢true e
 some_first (Some b) e none = absurd (cc)
 
-unserved : {limit : ℕ} (order k : ℕ) (m : Machine) → IsWellFormed limit order m → k ≤ order → choice order (reaped m) k ≡ None → has_room order (holdings_of m) k ≡ false
+unserved : {limit : ℕ} (order k : ℕ) (m : Machine) → IsWellFormed limit order m → k ≤ order → choice order (reaped m) k ≡ None → has_vacant_block order (holdings_of m) k ≡ false
 unfolding vacant_blocks choice reaped holdings_of
 unserved order k m w of_slot none = ap (λ bs. ltb 0 (length bs)) (none_in _ (λ b i.
     let f = filter_in (is_vacant (holdings_of m)) b (flat_map (blocks_of_slot order k) m.slots) i in
@@ -173,7 +173,7 @@ unserved order k m w of_slot none = ap (λ bs. ltb 0 (length bs)) (none_in _ (λ
     (some_choice order (holds m) (taken_in (reaped m)) (beyond m.slots) (held_below m.slots) (q.0 * 2 ^ k) k v) none))
 
 -- where a request gets nothing there is no room
-pub room_served : {limit : ℕ} (order k : ℕ) (m : Machine) → IsWellFormed limit order m → k ≤ order → choice_by_need order k m ≡ None → has_room order (holdings_of m) k ≡ false
+pub room_served : {limit : ℕ} (order k : ℕ) (m : Machine) → IsWellFormed limit order m → k ≤ order → choice_by_need order k m ≡ None → has_vacant_block order (holdings_of m) k ≡ false
 room_served order k m w of_slot none = unserved order k m w of_slot (go (choice order (reaped m) k) refl)
   where
     at_once : choice order m k ≡ None

@@ -21,7 +21,7 @@ use Rattle.words_core.specs.declared.event.Command.TheVariants as Command
 use Rattle.words_core.specs.declared.reply.Body.TheVariants as Say
 use Rattle.words_core.specs.declared.reply.Refusal.{Refusal}
 use Rattle.world_core.specs.PrivateStep.{take_body, command_step}
-use Rattle.promise_core.specs.Holdings.{live_beside, is_slab_full as is_full_there, has_room, known_cache as known_cache}
+use Rattle.promise_core.specs.Holdings.{live_beside, is_slab_full as is_full_there, has_vacant_block, known_cache as known_cache}
 use Rattle.promise_core.specs.State.{State}
 use Rattle.promise_core.specs.Promises.{due, first_due, is_used_up, is_one}
 use Rattle.promise_kept.specs.Meets.{cache_as_known, holdings_of, Meets, IsKeptBy, IsPromiseKept}
@@ -127,7 +127,7 @@ module _ (limit order number : ℕ) (m : Machine) (s : State) (w : IsWellFormed 
       let k : IsCache c = each_in IsCache c m.caches w.caches in_c in
       let l : IsLayout c.size c.align (layout c) = layouts_fit c.size c.align k.sized k.aligned in
       and_from _ _ (all_from (is_full_there (cache_as_known c)) (map (λ o. o.place) (live_objects c)) (λ u i. full u (live_place c u i)))
-      (ap (λ x. not (has_room order x (layout c).order)) h.has ∙ ap not (room_served order (layout c).order m w (omega (arith, l.order)) none))
+      (ap (λ x. not (has_vacant_block order x (layout c).order)) h.has ∙ ap not (room_served order (layout c).order m w (omega (arith, l.order)) none))
     where
       full : (u : ℕ) → IsLivePlace c u → is_full_there (cache_as_known c) u ≡ true
       full u o =

@@ -19,7 +19,7 @@ use Rattle.machine_changes.specs.Shows.{node_of, byte_or_zero, is_live, live_of,
 use Rattle.machine_changes.specs.Changes.{found, IsMarked}
 use Rattle.machine_changes.proofs.Lookups.{some_same}
 use Rattle.machine_changes.proofs.Flags.{length_flags, flag_at, count_few}
-use Rattle.slab_core.specs.Objects.{IsTurned, IsCounted}
+use Rattle.slab_core.specs.Objects.{IsTurned, IsRecounted}
 use Rattle.slab_core.proofs.BuildParts.{IsLocal, agreed_still, spares_of, agree_of}
 use Rattle.slab_core.proofs.MarkBits.{flags_changed, count_cleared, count_set}
 use Rattle.slab_core.proofs.ObjectSlabs.{IsHeld, held, node_within}
@@ -189,7 +189,7 @@ module _ {r : spaces.Content} {b : buddies.Content} {s : Content} {t c f n i : �
       | inr ne ↦ other_slab node head key cache' ne (sym (place_other node ne) ∙ place) cached tenant
     ]
 
-    pub counted : IsCounted r r' b s s' t c (found cache f n i) v
+    pub counted : IsRecounted r r' b s s' t c (found cache f n i) v
     counted = record {
       marked = marked;
       spares = spares_of r r' b b s s' t f n local laws.apart;

@@ -5,7 +5,7 @@ use Rattle.buddy_core.specs.Content as buddies
 use Rattle.slab_tables.specs.Content.{Content, IsPlacedIn, kept_at, layout_numbers}
 use Rattle.slab_tables.specs.Changes.{with_count}
 use Rattle.machine_changes.specs.Changes.{Found}
-use Rattle.slab_core.specs.Objects.{IsTurned, IsToCount, IsCounted}
+use Rattle.slab_core.specs.Objects.{IsTurned, IsToCount, IsRecounted}
 use Rattle.slab_core.proofs.MarkAgreed.{IsCountOf, some_live, count_below, is_placed, alone, counted}
 
 module _ {r r' : spaces.Content} {b : buddies.Content} {s s' : Content} {t c : ℕ} {o : Found} {v : Bool} (k : IsToCount r r' b s s' t c o v) where
@@ -42,8 +42,8 @@ module _ {r r' : spaces.Content} {b : buddies.Content} {s s' : Content} {t c : �
         subst (λ (x : spaces.Content). IsTurned r x s tables t o) k.turned.space
         (subst (λ (x : Content). IsTurned r r' s x t o) k.turned.tables k.turned)
 
-    pub counted_now : IsCounted r r' b s (with_count s' t c o.cache o.first o.node count) t c o v
+    pub counted_now : IsRecounted r r' b s (with_count s' t c o.cache o.first o.node count) t c o v
     counted_now =
-        subst (λ (x : spaces.Content). IsCounted r x b s (with_count s' t c o.cache o.first o.node count) t c o v) (sym k.turned.space)
-        (subst (λ (x : Content). IsCounted r space_now b s (with_count x t c o.cache o.first o.node count) t c o v) (sym k.turned.tables)
+        subst (λ (x : spaces.Content). IsRecounted r x b s (with_count s' t c o.cache o.first o.node count) t c o v) (sym k.turned.space)
+        (subst (λ (x : Content). IsRecounted r space_now b s (with_count x t c o.cache o.first o.node count) t c o v) (sym k.turned.tables)
         (counted k.slabs k.agree k.slab k.index v k.was k.laws r'.banks s'.kept count is_count turned))

@@ -55,7 +55,7 @@ pub record IsToCount (r r' : spaces.Content) (b : buddies.Content) (s s' : Conte
   pub turned : IsTurned r r' s s' t o
 
 -- .. and once it is counted
-pub record IsCounted (r r' : spaces.Content) (b : buddies.Content) (s s' : Content) (t c : ℕ) (o : Found) (live : Bool) : Type 0 where
+pub record IsRecounted (r r' : spaces.Content) (b : buddies.Content) (s s' : Content) (t c : ℕ) (o : Found) (live : Bool) : Type 0 where
   pub marked : IsMarked r r' s s' t c o live
   pub spares : Spares t r r' b b s s'
   pub agree : Agree r' b s'

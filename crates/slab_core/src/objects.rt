@@ -7,7 +7,7 @@ ghost use Rattle.slab_tables.specs.Content.{Content, IsSlabs, kept_at, cache_at,
 ghost use Rattle.machine_changes.specs.Shows.{node_of, has_slab, is_of_cache, is_live, IsSlab};
 ghost use Rattle.machine_changes.specs.Objects.{IsLiveObject, IsNoObject};
 ghost use Rattle.buddy_core.specs.Content as buddies;
-ghost use Rattle.slab_core.specs.Objects.{found_in, IsTurned, IsToCount, IsCounted};
+ghost use Rattle.slab_core.specs.Objects.{found_in, IsTurned, IsToCount, IsRecounted};
 ghost use Rattle.machine_changes.specs.Slots.{HoldTogether};
 ghost use Rattle.space_core.specs.Content as spaces;
 ghost use Rattle.space_core.specs.Laws.{SpaceLaws};
@@ -217,7 +217,7 @@ impl Slabs {
             × IsToCount r r' b s self.old cache.tenant cache.number (found_in cache.kept.now object) live }
         ensures { (r r' : spaces.Content) (b : buddies.Content) (s : Content)
             → IsToCount r r' b s self.old cache.entry.tenant cache.entry.number (found_in cache.entry.kept.now object) live
-            → IsCounted r r' b s self.new cache.entry.tenant cache.entry.number (found_in cache.entry.kept.now object) live }
+            → IsRecounted r r' b s self.new cache.entry.tenant cache.entry.number (found_in cache.entry.kept.now object) live }
     {
         let slab = object.slab;
         let before = u32::from(self.tables.kept_of(slab.machine_frame).live);

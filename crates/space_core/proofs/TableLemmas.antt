@@ -5,7 +5,7 @@ use Rattle.std.proofs.lemmas.List.Elements.{All-set}
 use Rattle.std.proofs.Math.ListN.{set}
 use Rattle.std.specs.Global.{Vec}
 use Rattle.std.specs.Vec.{with_items}
-use Rattle.space_core.specs.Storage.{HaveRoom}
+use Rattle.space_core.specs.Storage.{HaveCapacity}
 use Rattle.space_core.specs.Tables.{stored_bytes}
 
 abbrev pub lists_of : {X : Type 0} → List (Vec X) → List (List X)
@@ -42,8 +42,8 @@ bytes_of-copied v all from to source row written within read same =
     ∙ (lists_of-set v.items to row ∙ ap (λ (bytes : List ℕ). set (lists_of v.items) to bytes) (same ∙ sym (get_or-lists_of v.items from source within read)))
 
 -- and as much room as before
-pub HasRoom-written : (v : Vec (Vec ℕ)) (all : List (Vec ℕ)) (to : ℕ) (target row : Vec ℕ) → all ≡ set v.items to row → to < length v.items → target ≡ get_or v.items to target → target.cap ≤ row.cap → (unit : ℕ) → HaveRoom unit v.items → HaveRoom unit (with_items v all).items
+pub HasRoom-written : (v : Vec (Vec ℕ)) (all : List (Vec ℕ)) (to : ℕ) (target row : Vec ℕ) → all ≡ set v.items to row → to < length v.items → target ≡ get_or v.items to target → target.cap ≤ row.cap → (unit : ℕ) → HaveCapacity unit v.items → HaveCapacity unit (with_items v all).items
 HasRoom-written v all to target row written within read more unit room =
     let was : unit ≤ target.cap = subst (λ (bank : Vec ℕ). unit ≤ bank.cap) (sym read) (room to target within) in
-    subst (HaveRoom unit) (sym (with_items_is v all (ap length written ∙ omega (arith, length-set v.items to row, v.ok.0)) ∙ written))
+    subst (HaveCapacity unit) (sym (with_items_is v all (ap length written ∙ omega (arith, length-set v.items to row, v.ok.0)) ∙ written))
     (All-set (λ (bank : Vec ℕ). unit ≤ bank.cap) v.items to row (omega arith) room)

@@ -13,12 +13,12 @@ abbrev pub shown_banks : ℕ → List (List ℕ) → List (List ℕ)
 shown_banks unit stored = map (or_zeros unit) stored
 
 -- each superblock has room for unit bytes
-abbrev pub HaveRoom : ℕ → List (Vec ℕ) → Type 0
-HaveRoom unit banks = All (λ bank. unit ≤ vec_capacity bank) banks
+abbrev pub HaveCapacity : ℕ → List (Vec ℕ) → Type 0
+HaveCapacity unit banks = All (λ bank. unit ≤ vec_capacity bank) banks
 
 -- what is true of the vectors of every `Space`, and of the bits of a byte's number inside a superblock
 pub record IsStored (unit bits : ℕ) (banks : List (Vec ℕ)) (zeros : List ℕ) : Type 0 where
   pub few : bits < 32
   pub size : unit ≡ 2 ^ bits
-  pub room : HaveRoom unit banks
+  pub room : HaveCapacity unit banks
   pub blank : zeros ≡ replicate unit 0

@@ -126,5 +126,5 @@ is_long (Answer.Moved tenant slot superblock) = true
 is_long other = false
 
 -- the room that the text of an answer is given
-abbrev pub room_of : Answer → ℕ
-room_of answer = if is_long answer then MOST_ANSWER_BYTES else SHORT_ANSWER_BYTES
+abbrev pub buffer_of : Answer → ℕ
+buffer_of answer = if is_long answer then MOST_ANSWER_BYTES else SHORT_ANSWER_BYTES

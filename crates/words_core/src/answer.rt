@@ -3,7 +3,7 @@
 ghost use Rattle.std.specs.Prelude.{◌≡◌, ◌+◌, ◌*◌, ◌<◌, ◌≤◌, [], ◌∷◌, ◌++◌, codes, decimal, length, take, not, is_some, IfSome};
 ghost use Rattle.hex.specs.Hex.{encode_lower};
 ghost use Rattle.words_core.specs.Texts.{addressee_text, body_texts, text_of};
-ghost use Rattle.words_core.specs.Requests.{body_of_answer, reply_of_answer, reply_to, HasFewBytes, is_long, is_table, room_of};
+ghost use Rattle.words_core.specs.Requests.{body_of_answer, reply_of_answer, reply_to, HasFewBytes, is_long, is_table, buffer_of};
 ghost use Rattle.words_core.specs.declared.reply.Body.TheVariants.{Cache, Refused, Fault};
 
 use crate::event::LineFault;
@@ -213,10 +213,10 @@ fn copied(bytes: &[u8]) -> ArrayVec<u8, MOST_BYTES>
 #[inline(always)]
 pub fn write_answer(tenant: u8, answer: Answer<'_>, out: &mut [u8]) -> usize
     requires few { HasFewBytes answer }
-    requires room { room_of answer ≤ length out.old }
+    requires room { buffer_of answer ≤ length out.old }
     ensures text { take result out.new ≡ text_of (reply_of_answer tenant answer.entry) }
     ensures some { 0 < result }
-    ensures within { result ≤ room_of answer.entry }
+    ensures within { result ≤ buffer_of answer.entry }
 {
     let (front, len, number) = match answer {
         Answer::Frame(frame) => (b"0> frame        ", 9, frame),
@@ -234,10 +234,10 @@ pub fn write_answer(tenant: u8, answer: Answer<'_>, out: &mut [u8]) -> usize
 #[inline(always)]
 fn write_other(tenant: u8, answer: Answer<'_>, out: &mut [u8]) -> usize
     requires few { HasFewBytes answer }
-    requires room { room_of answer ≤ length out.old }
+    requires room { buffer_of answer ≤ length out.old }
     ensures text { take result out.new ≡ text_of (reply_of_answer tenant answer.entry) }
     ensures some { 0 < result }
-    ensures within { result ≤ room_of answer.entry }
+    ensures within { result ≤ buffer_of answer.entry }
 {
     let at = match answer {
         Answer::Bytes(bytes) => {
@@ -253,10 +253,10 @@ fn write_other(tenant: u8, answer: Answer<'_>, out: &mut [u8]) -> usize
 /// [`write_answer`] to anyone.
 pub fn write_answer_to(addressee: Addressee, answer: Answer<'_>, out: &mut [u8]) -> usize
     requires few { HasFewBytes answer }
-    requires room { room_of answer ≤ length out.old }
+    requires room { buffer_of answer ≤ length out.old }
     ensures text { take result out.new ≡ text_of (reply_to addressee answer.entry) }
     ensures some { 0 < result }
-    ensures within { result ≤ room_of answer.entry }
+    ensures within { result ≤ buffer_of answer.entry }
 {
     let at = put_line(addressee, answer, out);
     put_text(b"\n", at, out)
@@ -267,9 +267,9 @@ pub fn write_answer_to(addressee: Addressee, answer: Answer<'_>, out: &mut [u8])
 #[inline(never)]
 fn put_line(addressee: Addressee, answer: Answer<'_>, out: &mut [u8]) -> usize
     requires few { HasFewBytes answer }
-    requires room { room_of answer ≤ length out.old }
+    requires room { buffer_of answer ≤ length out.old }
     ensures text { body_texts (addressee_text addressee) (body_of_answer answer.entry) ≡ take result out.new ∷ [] }
-    ensures short { result < room_of answer.entry }
+    ensures short { result < buffer_of answer.entry }
 {
     let at = put_addressee(addressee, out);
     put_answer(answer, at, out)
@@ -298,9 +298,9 @@ pub(crate) fn put_addressee(addressee: Addressee, out: &mut [u8]) -> usize
 pub(crate) fn put_answer(answer: Answer<'_>, at: usize, out: &mut [u8]) -> usize
     requires few { HasFewBytes answer }
     requires front { at ≤ MOST_FRONT_BYTES }
-    requires room { room_of answer ≤ length out.old }
+    requires room { buffer_of answer ≤ length out.old }
     ensures text { body_texts (take at out.old) (body_of_answer answer.entry) ≡ take result out.new ∷ [] }
-    ensures short { result < room_of answer.entry }
+    ensures short { result < buffer_of answer.entry }
 {
     match answer {
         Answer::Frame(frame) => {

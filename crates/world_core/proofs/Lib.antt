@@ -10,7 +10,7 @@ pub mod Asked
 pub mod Reached
 pub mod ReachedObjects
 mod WitnessesConstructed
-pub mod ReachedRoom
+pub mod ReachedBlock
 mod Computed
 pub mod Rows
 pub mod Witnesses

@@ -20,7 +20,7 @@ use Rattle.words_core.specs.Cutting.{lines_of_trace}
 use Rattle.world_core.specs.PrivateStep.{Entry, Ask, Grant, command_step, private_step}
 use Rattle.world_core.specs.World.{World, opening_world, world_step, world_after}
 use Rattle.world_core.specs.Output.{events_of}
-use Rattle.world_core.specs.Reached.{reached_machine, AreRequests, EntriesAreOperations, OwnListsAreRequests, IsFreeIn, ReachedWellFormed, ReachedSound, ReachedFreeOnce, ReachedSplits, ReachedJoins, ReachedApart, ReachedRecordsFree, ReachedRoom, ReachedObjectRoom, NobodyStarves}
+use Rattle.world_core.specs.Reached.{reached_machine, AreRequests, EntriesAreOperations, OwnListsAreRequests, IsFreeIn, ReachedWellFormed, ReachedSound, ReachedFreeOnce, ReachedSplits, ReachedJoins, ReachedApart, ReachedRecordsFree, ReachedBlock, ReachedObject, NobodyStarves}
 use Rattle.world_core.proofs.Computed.{computed_lines, computed_machine}
 
 -- A slot granted, a cache, an object of it taken and given back: one slab, which is empty
@@ -109,17 +109,17 @@ is_ample : IsAmple 3 3 machine
 unfolding computed_machine
 is_ample = record { of_slot = omega arith; fewer = omega arith }
 
-ReachedRoom-met : ReachedRoom → (first : ℕ) × ((command_step 32 3 (Command.Alloc 3) machine).answer ≡ Say.Frame first)
-ReachedRoom-met law = law 32 3 3 entries are_requests is_ample
+ReachedBlock-met : ReachedBlock → (first : ℕ) × ((command_step 32 3 (Command.Alloc 3) machine).answer ≡ Say.Frame first)
+ReachedBlock-met law = law 32 3 3 entries are_requests is_ample
 
 -- .. and all its frames for slabs of the cache
 is_ample_for_slabs : IsAmple 3 (layout the_cache).order machine
 unfolding computed_machine
 is_ample_for_slabs = record { of_slot = omega arith; fewer = omega arith }
 
-ReachedObjectRoom-met : ReachedObjectRoom → (place : ℕ) × ((command_step 32 3 (Command.Take 0) machine).answer ≡ Say.Object place)
+ReachedObject-met : ReachedObject → (place : ℕ) × ((command_step 32 3 (Command.Take 0) machine).answer ≡ Say.Object place)
 unfolding computed_machine
-ReachedObjectRoom-met law = law 32 3 0 entries the_cache are_requests refl is_ample_for_slabs
+ReachedObject-met law = law 32 3 0 entries the_cache are_requests refl is_ample_for_slabs
 
 -- the world of two tenants after the trace
 abbrev world : World

@@ -125,13 +125,13 @@ ReachedConstructedWhenTaken = (limit order number : ℕ) (entries : List Entry) 
 
 -- Where it holds more aligned blocks of an order than it has taken frames outside empty slabs, a block of that order is
 -- never refused ..
-abbrev pub ReachedRoom : Type 0
-ReachedRoom = (limit order k : ℕ) (entries : List Entry) → AreRequests entries → let m = reached_machine limit order entries in
+abbrev pub ReachedBlock : Type 0
+ReachedBlock = (limit order k : ℕ) (entries : List Entry) → AreRequests entries → let m = reached_machine limit order entries in
     IsAmple order k m → (first : ℕ) × ((command_step limit order (Command.Alloc k) m).answer ≡ Say.Frame first)
 
 -- .. nor an object of a cache whose slabs have that order.
-abbrev pub ReachedObjectRoom : Type 0
-ReachedObjectRoom = (limit order number : ℕ) (entries : List Entry) (c : Cache) → AreRequests entries →
+abbrev pub ReachedObject : Type 0
+ReachedObject = (limit order number : ℕ) (entries : List Entry) (c : Cache) → AreRequests entries →
     let m = reached_machine limit order entries in
     cache_of m number ≡ Some c → IsAmple order (layout c).order m
     → (place : ℕ) × ((command_step limit order (Command.Take number) m).answer ≡ Say.Object place)

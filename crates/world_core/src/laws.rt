@@ -1,7 +1,7 @@
 //! The laws of whole runs. Each is the contract of a function that does nothing: a caller has the law by the call.
 
 ghost use Rattle.world_core.specs.Laws.{OwnRun, MoreCaches, OwnLines, SameReplies, SameTexts, SameLines, AllShown, OwnShown, OwnLinesShown, EndedAllButTail, EndedLinesStay, ShownStays};
-ghost use Rattle.world_core.specs.Reached.{EntriesAreOperations, OwnListsAreRequests, ReachedWellFormed, ReachedSound, ReachedFreeOnce, ReachedSplits, ReachedJoins, ReachedApart, ReachedRecordsFree, ReachedConstructed, ReachedConstructedWhenTaken, ReachedRoom, ReachedObjectRoom, NobodyStarves};
+ghost use Rattle.world_core.specs.Reached.{EntriesAreOperations, OwnListsAreRequests, ReachedWellFormed, ReachedSound, ReachedFreeOnce, ReachedSplits, ReachedJoins, ReachedApart, ReachedRecordsFree, ReachedConstructed, ReachedConstructedWhenTaken, ReachedBlock, ReachedObject, NobodyStarves};
 
 /// In every run of the world, from its opening, a tenant is told exactly what its private machine
 /// answers to its own commands, grants, take-backs and resets, and is left with that machine.
@@ -80,7 +80,7 @@ pub fn reached_objects()
 /// A tenant that holds more aligned blocks of some order than it has taken frames outside empty slabs is refused neither a
 /// block of that order nor an object of a cache whose slabs have it: in no run of the world is it starved by others.
 pub fn nobody_starves()
-    ensures block { ReachedRoom }
-    ensures object { ReachedObjectRoom }
+    ensures block { ReachedBlock }
+    ensures object { ReachedObject }
     ensures world { NobodyStarves }
 {}

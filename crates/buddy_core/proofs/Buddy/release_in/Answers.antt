@@ -5,7 +5,7 @@ use Rattle.std.proofs.lemmas.Nat.{pow_pos, mod_below}
 use Rattle.std.proofs.lemmas.List.{get_or_read}
 use Rattle.buddy_core.specs.Content.{superblock_at as held_at, holding_of, taken_of, with_holding, without_block}
 use Rattle.buddy_core.specs.Summary.{IsBounded}
-use Rattle.buddy_core.specs.Counts.{HasRoomForCounts}
+use Rattle.buddy_core.specs.Counts.{CanCountMore}
 use Rattle.buddy_core.specs.Stored.{StoredSuperblock, StoredTenant, stored_tenant, superblock_of, superblock_at, holding_shown}
 use Rattle.buddy_core.proofs.ContentShown.{IsShown, shown_is, slot_at, size_is, blank_of, bare_of}
 use Rattle.buddy_core.proofs.TenantCounts.{room, slot_small}
@@ -134,7 +134,7 @@ count_released-requires-clause-room c =
     let a = c.self.inside in
     let g = goal.at.count_released-requires-clause-room c in
     let at = block_at g.In_ok-k (shown g.After-self) (under g.After-self) (c.in_ok-k.ensures ∙ begins g.After-self c.index.result.now c.index.ensures) in
-    subst HasRoomForCounts (sym (tenant_read g.After-index_mut-2 at.listed)) (room a.order a.superblocks.items a.tenants.items c.self.invariant.0 c.args.t at.listed)
+    subst CanCountMore (sym (tenant_read g.After-index_mut-2 at.listed)) (room a.order a.superblocks.items a.tenants.items c.self.invariant.0 c.args.t at.listed)
 
 -- what is written is the release of that block
 release : (c : After-count_released)

@@ -6,7 +6,7 @@ use Rattle.std.proofs.lemmas.Nat.{shl_whole, mul-le}
 use Rattle.std.proofs.Math.Pow.{pow_mono}
 use Rattle.model_core.specs.Blocks.{block, IsChoice, IsWithout}
 use Rattle.buddy_core.specs.Content.{holding_of, is_held, taken_of, with_holding, with_block}
-use Rattle.buddy_core.specs.Counts.{HasRoomForCounts}
+use Rattle.buddy_core.specs.Counts.{CanCountMore}
 use Rattle.buddy_core.specs.Summary.{IsBounded}
 use Rattle.buddy_core.specs.Roots.{IsCounted, IsThere, IsSource, IsWithoutOrder}
 use Rattle.buddy_core.specs.Stored.{StoredTree, StoredSuperblock, StoredTenant, stored_tenant, superblock_of, holding_shown}
@@ -137,7 +137,7 @@ count_reserved-requires-clause-room c =
     let a = c.self.inside in
     let g = goal.at.count_reserved-requires-clause-room c in
     let listed = (shown g.After-index).listed in
-    subst HasRoomForCounts (sym (tenant_before g.After-index_mut listed)) (room a.order a.superblocks.items a.tenants.items c.self.invariant.0 c.args.t listed)
+    subst CanCountMore (sym (tenant_before g.After-index_mut listed)) (room a.order a.superblocks.items a.tenants.items c.self.invariant.0 c.args.t listed)
 
 -- what is written is the reservation of that block
 reservation : (c : After-count_reserved)

@@ -9,7 +9,7 @@ use Rattle.machine_changes.specs.Shows.{ShowsMachine}
 use Rattle.machine_changes.specs.Changes.{Found}
 use Rattle.machine_changes.specs.Objects.{IsLiveObject, IsNoObject}
 use Rattle.machine_changes.specs.Laws.{GivesObject}
-use Rattle.slab_core.specs.Objects.{found_in, IsToCount, IsCounted}
+use Rattle.slab_core.specs.Objects.{found_in, IsToCount, IsRecounted}
 use Rattle.slab_core.proofs.ObjectGiven.{give_refused}
 use Rattle.machine_changes.proofs.Marked.{marked_shows}
 use Rattle.machine_changes.proofs.Objects.{found_gives, not_found_refuses}
@@ -86,7 +86,7 @@ to_count c =
 pub recount-requires : goal.recount-requires
 recount-requires c = (_, _, c.args.buddy.now, c.args.self.now, to_count (goal.at.recount-requires c).After-turn_bit)
 
-counted : (c : After-recount) → IsCounted c.args.space.now c.turn_bit.new.space c.args.buddy.now c.args.self.now c.recount.new.self c.args.t c.args.c
+counted : (c : After-recount) → IsRecounted c.args.space.now c.turn_bit.new.space c.args.buddy.now c.args.self.now c.recount.new.self c.args.t c.args.c
     (object (goal.at.returns-clause-shows c).After-turn_bit) false
 counted c = c.recount.ensures _ _ _ _ (to_count (goal.at.returns-clause-shows c).After-turn_bit)
 

@@ -7,7 +7,7 @@ use Rattle.slab_tables.specs.declared.cache.Kept.{Kept}
 use Rattle.slab_tables.specs.Content.{Content, kept_at, layout_numbers}
 use Rattle.machine_changes.specs.Shows.{live_of, ShowsMachine}
 use Rattle.machine_changes.specs.Changes.{Found, found}
-use Rattle.slab_core.specs.Objects.{IsToCount, IsCounted}
+use Rattle.slab_core.specs.Objects.{IsToCount, IsRecounted}
 use Rattle.slab_core.proofs.TakeHand.{IsLeastFree, object_below, not_live, first_few, offset_few, next_is, answered}
 use Rattle.machine_changes.proofs.Marked.{marked_shows}
 use Rattle.slab_core.proofs.ObjectTaken.{marked_object}
@@ -83,7 +83,7 @@ overflow_add-result c =
     let fits : 4096 * c.args.slab.first + c.offset.result < 4294967296 = omega arith in
     search (rules, fits)
 
-counted : (c : After-offset) → IsCounted c.args.space.now c.mark_least_free-index.new.space c.args.buddy.now c.args.self.now c.recount.new.self
+counted : (c : After-offset) → IsRecounted c.args.space.now c.mark_least_free-index.new.space c.args.buddy.now c.args.self.now c.recount.new.self
     c.args.cache.tenant c.args.cache.number (object (goal.at.overflow_add-result c).After-mark_least_free-index) true
 counted c = c.recount.ensures _ _ _ _ (to_count (goal.at.overflow_add-result c).After-mark_least_free-index)
 

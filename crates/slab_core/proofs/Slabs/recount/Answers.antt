@@ -3,7 +3,7 @@ use Rattle.std.proofs.lemmas.Bool.{false≢true}
 use Rattle.slab_tables.specs.declared.cache.Kept.{Kept}
 use Rattle.slab_tables.specs.Content.{Content, IsPlacedIn, kept_at}
 use Rattle.slab_tables.specs.Changes.{with_count}
-use Rattle.slab_core.specs.Objects.{found_in, IsCounted}
+use Rattle.slab_core.specs.Objects.{found_in, IsRecounted}
 use Rattle.slab_core.proofs.MarkAgreed.{IsCountOf}
 use Rattle.slab_core.proofs.MarkCount.{some_now, placed_now, alone_now, below_now, counted_now}
 use Rattle.slab_core.proofs.Slabs.recount.Goals as goal
@@ -54,5 +54,5 @@ returns c = λ r r' b s k.
     let slab = c.args.object.slab in
     let same =
     c.set_count.ensures ∙ ap (λ (x : Content). with_count x cache.tenant cache.number cache.kept.now slab.first slab.machine_frame c.if-live.count) c.self.view_is in
-    subst (λ (x : Content). IsCounted r r' b s x cache.tenant cache.number (found_in cache.kept.now c.args.object) c.args.live) (sym same)
+    subst (λ (x : Content). IsRecounted r r' b s x cache.tenant cache.number (found_in cache.kept.now c.args.object) c.args.live) (sym same)
     (counted_now k c.if-live.count (counts c))

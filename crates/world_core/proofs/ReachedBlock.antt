@@ -14,20 +14,20 @@ use Rattle.world_core.specs.World.{World, opening_world, tenant_step, world_step
 use Rattle.world_core.specs.OwnList.{own_list}
 use Rattle.world_core.specs.Output.{events_of}
 use Rattle.world_core.specs.Laws.{opening_history}
-use Rattle.world_core.specs.Reached.{reached_machine, ReachedRoom, ReachedObjectRoom, NobodyStarves}
+use Rattle.world_core.specs.Reached.{reached_machine, ReachedBlock, ReachedObject, NobodyStarves}
 use Rattle.world_core.proofs.Asked.{own_lists_are_requests}
 use Rattle.world_core.proofs.Reached.{reached_well_formed}
 use Rattle.world_core.proofs.Runs.{own_run}
 
-pub reached_room : ReachedRoom
+pub reached_block : ReachedBlock
 unfolding command_step
-reached_room limit order k entries asked room =
+reached_block limit order k entries asked room =
     let is = alloc_is_promised limit order k (reached_machine limit order entries) (reached_well_formed limit order entries asked) room in
     (is.0, ap alloc_body is.1)
 
-pub reached_object_room : ReachedObjectRoom
+pub reached_object : ReachedObject
 unfolding command_step
-reached_object_room limit order number entries c asked cache room =
+reached_object limit order number entries c asked cache room =
     let is = take_is_promised limit order number (reached_machine limit order entries) c (reached_well_formed limit order entries asked) cache room in
     (is.0, ap take_body is.1)
 
@@ -44,7 +44,7 @@ nobody_starves limit order superblocks tenants t k trace m is_tenant here room =
     let w : World = world_after limit order (opening_world superblocks tenants) events in
     let same : m ≡ reached_machine limit order own =
     same_Some m (reached_machine limit order own) (sym here ∙ (own_run limit order superblocks tenants t events is_tenant).machine) in
-    let served = reached_room limit order k own (own_lists_are_requests limit order superblocks tenants t trace) (subst (IsAmple order k) same room) in (
+    let served = reached_block limit order k own (own_lists_are_requests limit order superblocks tenants t trace) (subst (IsAmple order k) same room) in (
       served.0,
       told limit order t k w m here
           ∙ (ap (λ n. record { addressee = To.Tenant t; body = (command_step limit order (Ask.Alloc k) n).answer }) same
