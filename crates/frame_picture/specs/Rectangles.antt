@@ -2,7 +2,7 @@
 use Rattle.std.specs.Prelude.{◌≡◌, ◌≢◌, ℕ, zero, suc, false, ◌+◌, ◌-◌, ◌<◌, ◌≤◌, ◌⊎◌, Bool, if◌then◌else◌, List, [], take, drop, slice_index_or}
 use Rattle.std.specs.List.{prefix_len}
 use Rattle.frame_picture.specs.Tones.{is_tone, not_held}
-use Rattle.frame_picture.specs.declared.rows.Tone.{Tone}
+use Rattle.frame_picture.specs.declared.drawing.Tone.{Tone}
 use Rattle.frame_picture.specs.declared.rectangles.Rectangle.{Rectangle}
 
 -- the tone is that of the row below this one

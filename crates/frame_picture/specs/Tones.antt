@@ -6,7 +6,7 @@ use Rattle.frame_picture.specs.declared.history.Column.{Column}
 use Rattle.frame_picture.specs.Kinds.{rank_of}
 use Rattle.frame_picture.specs.Rows.{row_cells, kind_count, first_of, end_of}
 use Rattle.frame_picture.specs.declared.grid.Grid.{Grid}
-use Rattle.frame_picture.specs.declared.rows.Tone.{Tone}
+use Rattle.frame_picture.specs.declared.drawing.Tone.{Tone}
 
 -- nothing is held
 abbrev pub not_held : Tone

@@ -6,11 +6,11 @@
 //! these values as text.
 #![tactic(auto)]
 
+pub mod drawing;
 pub mod grid;
 pub mod history;
 pub mod kinds;
 mod owned;
 pub mod rectangles;
-pub mod rows;
 mod showing;
 pub mod stacks;

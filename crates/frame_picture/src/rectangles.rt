@@ -4,7 +4,7 @@ ghost use Rattle.std.specs.Prelude.{◌≡◌, ◌≢◌, ℕ, ◌+◌, ◌-◌,
 ghost use Rattle.std.specs.List.{prefix_len};
 ghost use Rattle.frame_picture.specs.Rectangles.{run_at, run_in, IsRectangle, GoesOn};
 
-use crate::rows::{MOST_ROWS, Tone, is_tone};
+use crate::drawing::{MOST_ROWS, Tone, is_tone};
 
 /// A rectangle of cells of one tone.
 #[derive(Clone, Copy, Debug, PartialEq, Eq)]

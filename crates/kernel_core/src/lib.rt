@@ -25,6 +25,7 @@
 //! cache has a byte; for other commands this follows from their form.
 #![tactic(auto)]
 
+mod administrator;
 mod caches;
 mod frames;
 mod kernel;
@@ -33,7 +34,6 @@ mod lending;
 mod lookups;
 mod pages;
 mod reporting;
-mod slots;
 
 pub use frames::FrameKind;
 pub use kernel::{BootError, Kernel};

@@ -13,8 +13,8 @@ use Rattle.kernel_core.specs.Frames.{IsFrame}
 use Rattle.kernel_core.specs.declared.frames.FrameKind.{FrameKind}
 use Rattle.kernel_core.specs.declared.frames.FrameKind.TheVariants.{NotHeld, Free, Page, Full, Partial, Empty}
 use Rattle.partmem_c.specs.declared.status.TheConstants.{DONE, NO_MACHINE}
-use Rattle.partmem_c.specs.declared.finding.TheConstants.{NO_SUCH_SLOT, FREE_FRAME, PAGE_BLOCK, SLAB}
-use Rattle.partmem_c.specs.declared.finding.Block.{Block}
+use Rattle.partmem_c.specs.declared.lookups.TheConstants.{NO_SUCH_SLOT, FREE_FRAME, PAGE_BLOCK, SLAB}
+use Rattle.partmem_c.specs.declared.lookups.Block.{Block}
 use Rattle.partmem_c.specs.declared.granting.HeldSlot.{HeldSlot}
 
 -- what a lookup found is returned with DONE; a refusal as its status, with nothing found

@@ -5,7 +5,7 @@ ghost use Rattle.kernel_core.specs.Lending.{IsLive};
 ghost use Rattle.partmem_c.specs.Finding.{LooksUp};
 ghost use Rattle.partmem_c.specs.Lends.{no_lent, IsLentAt, FindsRange, FindsWholeBlock, FindsObject};
 
-use crate::finding::put;
+use crate::lookups::put;
 use crate::machine::Machine;
 use crate::status::NO_MACHINE;
 use kernel_core::{Kernel, Span};

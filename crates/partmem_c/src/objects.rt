@@ -9,9 +9,9 @@ ghost use Rattle.partmem_c.specs.Lends.{IsObjectLent, IsObjectOf, TakeLends};
 
 use crate::calls::{block_bytes, call_status, run_command};
 use crate::events::status_of_none;
-use crate::finding::put;
 use crate::kinds::{MADE, REAPED};
 use crate::lends::{Lent, lent_of};
+use crate::lookups::put;
 use crate::machine::Machine;
 use crate::status::NO_MACHINE;
 use crate::telling::ReplyNumbers;

@@ -7,8 +7,8 @@ ghost use Rattle.partmem_c.specs.Calls.{RunsCall, numbers_in_reply, call_status,
 ghost use Rattle.partmem_c.specs.Lends.{IsBlockLent, AllocLends};
 
 use crate::calls::{call_status, run_command};
-use crate::finding::put;
 use crate::lends::{Lent, lent_of};
+use crate::lookups::put;
 use crate::machine::Machine;
 use crate::status::NO_MACHINE;
 use kernel_core::Kernel;

@@ -4,9 +4,9 @@ ghost use Rattle.std.specs.Prelude.{◌≡◌, ◌+◌, ◌<◌, IfOk, IfSome, I
 ghost use Rattle.frame_picture.specs.Histories.{most_columns_of, tenants_of};
 
 use crate::svg::{HEAD, band_height, draw_band, draw_head, draw_opening};
+use frame_picture::drawing::{MOST_ROWS, Tone, set_cells};
 use frame_picture::grid::Grid;
 use frame_picture::history::History;
-use frame_picture::rows::{MOST_ROWS, Tone, set_cells};
 use std::alloc::{AllocError, Global};
 use std::io::{self, Write};
 use std::ops::Range;

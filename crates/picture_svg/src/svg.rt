@@ -2,11 +2,11 @@
 
 ghost use Rattle.std.specs.Prelude.{◌<◌, ◌≤◌, length};
 
+use frame_picture::drawing::{MOST_ROWS, Tone};
 use frame_picture::grid::Grid;
 use frame_picture::history::{Column, History, ORDERS};
 use frame_picture::kinds::ALL;
 use frame_picture::rectangles::{Rectangle, rectangle_at};
-use frame_picture::rows::{MOST_ROWS, Tone};
 use frame_picture::stacks::{figures_at, most_free, most_taken, refused_at, refused_in, turn_at};
 use kernel_core::FrameKind;
 use std::fmt;

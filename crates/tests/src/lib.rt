@@ -19,7 +19,6 @@ mod kernel_parts;
 mod layouts;
 #[cfg(test)]
 mod machine_memory;
-pub mod numbers;
 #[cfg(test)]
 mod pairs_of_worlds;
 pub mod pieces;
@@ -27,6 +26,7 @@ pub mod pieces;
 mod plain_machine;
 #[cfg(test)]
 mod public_types;
+pub mod random;
 #[cfg(test)]
 mod root_examples;
 #[cfg(test)]

@@ -7,7 +7,7 @@ mod machine;
 mod slab;
 mod tenant;
 
-use crate::numbers::Numbers;
+use crate::random::Numbers;
 use arrayvec::ArrayVec;
 use kernel_core::{Config, Kernel};
 use machine::{Machine, TENANTS};

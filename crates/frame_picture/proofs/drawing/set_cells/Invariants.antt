@@ -1,8 +1,8 @@
 use Rattle.std.proofs.Common.{◌≡◌, ℕ, ◌<◌, List, Some, slice_get, slice_index_or}
-use Rattle.frame_picture.specs.declared.rows.Tone.{Tone}
+use Rattle.frame_picture.specs.declared.drawing.Tone.{Tone}
 use Rattle.frame_picture.specs.declared.history.Column.{Column}
 use Rattle.frame_picture.specs.Tones.{not_held, IsRowTone}
-use Rattle.frame_picture.proofs.rows.set_cells.Given as goal
+use Rattle.frame_picture.proofs.drawing.set_cells.Given as goal
 
 -- the columns so far
 abbrev pub invariant-loop-at : goal.invariant-loop-at

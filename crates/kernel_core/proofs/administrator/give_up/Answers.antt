@@ -3,7 +3,7 @@ use Rattle.std.proofs.Common.{◌≡◌, Some, length, sym, ap, ◌∙◌, subst
 use Rattle.space_core.specs.Content.{owner_at, superblock_at}
 use Rattle.machine_changes.proofs.Lookups.{some_same}
 use Rattle.kernel_core.proofs.Resetting.{IsGivingUp, giving_takes, giving_ends}
-use Rattle.kernel_core.proofs.slots.give_up.Goals as goal
+use Rattle.kernel_core.proofs.administrator.give_up.Goals as goal
 
 pub loop-m-preserved : goal.loop-m-preserved
 loop-m-preserved c =

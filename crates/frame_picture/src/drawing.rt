@@ -6,7 +6,7 @@ ghost use Rattle.frame_picture.specs.Rows.{cells_in, row_cells, kind_count, firs
 ghost use Rattle.frame_picture.specs.Owned.{IsOwn};
 ghost use Rattle.frame_picture.specs.Tones.{is_tone, not_held, taken_cells, drawn_kinds, quarters_of, IsMostCommon, IsRowTone};
 ghost use Rattle.frame_picture.specs.declared.history.Column.{Column};
-ghost use Rattle.frame_picture.specs.declared.rows.Tone.{Tone};
+ghost use Rattle.frame_picture.specs.declared.drawing.Tone.{Tone};
 
 use crate::grid::Grid;
 use crate::history::{Column, Sheet};

@@ -1,7 +1,7 @@
 use Rattle.std.proofs.Common.{◌≡◌, ℕ, ◌^◌, ◌<◌, ◌==◌, length, take, get_or, count_by}
 use Rattle.frame_picture.specs.Kinds.{rank_of}
 use Rattle.frame_picture.specs.Owned.{listed_cells}
-use Rattle.frame_picture.proofs.rows.count_listed.Given as goal
+use Rattle.frame_picture.proofs.drawing.count_listed.Given as goal
 
 -- the listed sheets so far
 abbrev pub invariant-loop-j : goal.invariant-loop-j

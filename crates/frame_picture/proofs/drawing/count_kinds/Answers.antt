@@ -4,7 +4,7 @@ use Rattle.kernel_core.specs.declared.frames.FrameKind.{FrameKind}
 use Rattle.frame_picture.specs.Rows.{row_cells}
 use Rattle.frame_picture.proofs.RowLemmas.{row_cells_more}
 use Rattle.frame_picture.proofs.OwnedLemmas.{counts_more, shown_more}
-use Rattle.frame_picture.proofs.rows.count_kinds.Goals as goal
+use Rattle.frame_picture.proofs.drawing.count_kinds.Goals as goal
 
 pub loop-sheet-preserved : goal.loop-sheet-preserved
 loop-sheet-preserved c =

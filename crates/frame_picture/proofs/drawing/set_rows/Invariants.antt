@@ -1,6 +1,6 @@
 use Rattle.std.proofs.Common.{◌≡◌, ℕ, ◌<◌, length, slice_index_or}
 use Rattle.frame_picture.specs.Tones.{not_held, IsRowTone}
-use Rattle.frame_picture.proofs.rows.set_rows.Given as goal
+use Rattle.frame_picture.proofs.drawing.set_rows.Given as goal
 
 -- the rows so far
 abbrev pub invariant-loop-row : goal.invariant-loop-row

@@ -1,5 +1,5 @@
 use Rattle.std.proofs.Common.{◌<◌, length, ap, arith}
-use Rattle.partmem_c.proofs.finding.frames_around.Goals as goal
+use Rattle.partmem_c.proofs.lookups.frames_around.Goals as goal
 
 pub returns-in-Some-clause-order : goal.returns-in-Some-clause-order
 returns-in-Some-clause-order c =

@@ -4,7 +4,7 @@ use Rattle.frame_picture.specs.Kinds.{rank_of}
 use Rattle.frame_picture.specs.Rows.{row_cells, first_of, end_of, kind_count}
 use Rattle.frame_picture.specs.Tones.{taken_cells, quarters_of}
 use Rattle.frame_picture.proofs.RowLemmas.{drawn_along, taken_along}
-use Rattle.frame_picture.proofs.rows.row_tone.Goals as goal
+use Rattle.frame_picture.proofs.drawing.row_tone.Goals as goal
 
 pub returns : goal.returns
 returns c = λ _.

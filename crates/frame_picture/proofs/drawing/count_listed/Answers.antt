@@ -2,7 +2,7 @@ use Rattle.std.proofs.Common.{◌≡◌, ℕ, ◌+◌, ◌++◌, List, take, ap,
 use Rattle.kernel_core.specs.declared.frames.FrameKind.{FrameKind}
 use Rattle.frame_picture.specs.Owned.{listed_cells}
 use Rattle.frame_picture.proofs.OwnedLemmas.{listed_more, counts_more, shown_more}
-use Rattle.frame_picture.proofs.rows.count_listed.Goals as goal
+use Rattle.frame_picture.proofs.drawing.count_listed.Goals as goal
 
 pub loop-j-preserved : goal.loop-j-preserved
 loop-j-preserved c =

@@ -4,7 +4,7 @@ use Rattle.kernel_core.specs.declared.frames.FrameKind.{FrameKind}
 use Rattle.frame_picture.specs.Kinds.{rank_of}
 use Rattle.frame_picture.specs.Rows.{row_cells, first_of, end_of, kind_count}
 use Rattle.frame_picture.proofs.RowLemmas.{counted}
-use Rattle.frame_picture.proofs.rows.row_counts.Goals as goal
+use Rattle.frame_picture.proofs.drawing.row_counts.Goals as goal
 
 pub returns-clause-kinds : goal.returns-clause-kinds
 returns-clause-kinds c = λ k less short.

@@ -1,7 +1,7 @@
 use Rattle.std.proofs.Common.{◌≡◌, ℕ, ◌+◌, ◌^◌, ◌<◌, ◌==◌, length, take, get_or, count_by}
 use Rattle.frame_picture.specs.Kinds.{rank_of}
 use Rattle.frame_picture.specs.Rows.{row_cells}
-use Rattle.frame_picture.proofs.rows.count_kinds.Given as goal
+use Rattle.frame_picture.proofs.drawing.count_kinds.Given as goal
 
 -- the sheets so far
 abbrev pub invariant-loop-sheet : goal.invariant-loop-sheet

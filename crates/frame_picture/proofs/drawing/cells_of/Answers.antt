@@ -4,7 +4,7 @@ use Rattle.std.proofs.Math.Pow.{pow_mono}
 use Rattle.kernel_core.specs.declared.frames.FrameKind.{FrameKind}
 use Rattle.frame_picture.specs.Rows.{cells_between, owned_cells}
 use Rattle.frame_picture.proofs.RowLemmas.{owned}
-use Rattle.frame_picture.proofs.rows.cells_of.Goals as goal
+use Rattle.frame_picture.proofs.drawing.cells_of.Goals as goal
 
 -- the first frame of a slot fits
 base_fits : (slot p : ℕ) → slot < 2 ^ 16 → p ≤ 2 ^ 8 → slot * p % 2 ^ 32 ≡ slot * p

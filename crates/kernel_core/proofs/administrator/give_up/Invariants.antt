@@ -1,5 +1,5 @@
 use Rattle.kernel_core.proofs.Resetting.{IsGivingUp}
-use Rattle.kernel_core.proofs.slots.give_up.Given as goal
+use Rattle.kernel_core.proofs.administrator.give_up.Given as goal
 
 -- the superblocks so far are given up
 abbrev pub invariant-loop-m : goal.invariant-loop-m

@@ -1,5 +1,5 @@
 use Rattle.std.proofs.Common.{ℕ, ◌<◌, ◌≤◌, get_or}
-use Rattle.frame_picture.proofs.rows.greatest_at.Given as goal
+use Rattle.frame_picture.proofs.drawing.greatest_at.Given as goal
 
 -- the greatest so far, and the first of those
 abbrev pub invariant-loop-at : goal.invariant-loop-at

@@ -1,10 +1,10 @@
 use Rattle.std.proofs.Common.{◌≡◌, ℕ, ◌<◌, List, Some, slice_get, slice_index_or, refl, subst, sym, ◌∙◌, arith}
 use Rattle.std.proofs.lemmas.Option.{slice_get_within, slice_get_read}
-use Rattle.frame_picture.specs.declared.rows.Tone.{Tone}
+use Rattle.frame_picture.specs.declared.drawing.Tone.{Tone}
 use Rattle.frame_picture.specs.declared.history.Column.{Column}
 use Rattle.frame_picture.proofs.Filling.{more_filled}
 use Rattle.frame_picture.specs.Tones.{not_held, IsRowTone}
-use Rattle.frame_picture.proofs.rows.set_cells.Goals as goal
+use Rattle.frame_picture.proofs.drawing.set_cells.Goals as goal
 
 pub loop-at-preserved : goal.loop-at-preserved
 loop-at-preserved c = λ i row column rows less there here few shown.

@@ -1,6 +1,6 @@
 use Rattle.std.proofs.Common.{◌≡◌, ℕ, ◌+◌, ◌^◌, ◌<◌, ◌==◌, length, take, get_or, count_by}
 use Rattle.frame_picture.specs.Kinds.{rank_of}
-use Rattle.frame_picture.proofs.rows.count_cells.Given as goal
+use Rattle.frame_picture.proofs.drawing.count_cells.Given as goal
 
 -- the cells so far
 abbrev pub invariant-loop-cell : goal.invariant-loop-cell
