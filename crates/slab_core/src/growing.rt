@@ -42,8 +42,10 @@ impl Slabs {
         requires full { IsAllFull self.old cache.tenant cache.number }
         ensures chosen { (m : Machine) → ShowsMachine space.old buddy.old self.old cache.entry.tenant m
             → choice_by_need self.old.top (layout_numbers cache.entry.kept.now).order m ≡ option_map (λ o. o.first) result }
-        ensures shows { IfSome result (λ o. (m : Machine) (x : machines.Cache) → ShowsMachine space.old buddy.old self.old cache.entry.tenant m → cache_of m cache.entry.number ≡ Some x
-            → ShowsMachine space.new buddy.new self.new cache.entry.tenant (grown o.first x (by_need self.old.top (layout_numbers cache.entry.kept.now).order m))) }
+        ensures shows { IfSome result (λ o. (m : Machine) (x : machines.Cache)
+            → ShowsMachine space.old buddy.old self.old cache.entry.tenant m → cache_of m cache.entry.number ≡ Some x
+            → ShowsMachine space.new buddy.new self.new cache.entry.tenant
+            (grown o.first x (by_need self.old.top (layout_numbers cache.entry.kept.now).order m))) }
         ensures slab { IfSome result (λ o. IsNew space.new self.new cache.entry.tenant cache.entry.number cache.entry.kept.now o.first o.machine_frame) }
         ensures spares { Spares cache.entry.tenant space.old space.new buddy.old buddy.new self.old self.new }
         ensures agree { Agree space.new buddy.new self.new }
@@ -76,7 +78,8 @@ impl Slabs {
         ensures grown { IfSome result (λ o. IsGrown space.old space.new buddy.old buddy.new self.old self.new cache.entry.tenant cache.entry.number cache.entry.kept.now o.first o.machine_frame) }
         ensures chosen { (m : Machine) → ShowsMachine space.old buddy.old self.old cache.entry.tenant m
             → choice self.old.top m (layout_numbers cache.entry.kept.now).order ≡ option_map (λ o. o.first) result }
-        ensures shows { IfSome result (λ o. (m : Machine) (x : machines.Cache) → ShowsMachine space.old buddy.old self.old cache.entry.tenant m → cache_of m cache.entry.number ≡ Some x
+        ensures shows { IfSome result (λ o. (m : Machine) (x : machines.Cache)
+            → ShowsMachine space.old buddy.old self.old cache.entry.tenant m → cache_of m cache.entry.number ≡ Some x
             → ShowsMachine space.new buddy.new self.new cache.entry.tenant (grown o.first x m)) }
         ensures free { IsSome result ↔ HasFreeBlock buddy.old cache.entry.tenant (layout_numbers cache.entry.kept.now).order }
         ensures spares { Spares cache.entry.tenant space.old space.new buddy.old buddy.new self.old self.new }
@@ -119,10 +122,12 @@ pub(crate) fn construct(space: &mut Space, cache: TenantCache<'_>, first: u32, c
     requires tenant { cache.tenant < length space.old.slots }
     requires laws { SpaceLaws space.old }
     requires layout { IsLayout cache.kept.now.layout.size cache.kept.now.layout.align (layout_numbers cache.kept.now) }
-    requires in_reach { IsSome (home_of space.old cache.tenant (FRAME_BYTES * first) (FRAME_BYTES * 2 ^ (layout_numbers cache.kept.now).order)) }
+    requires in_reach { IsSome (home_of space.old cache.tenant (FRAME_BYTES * first)
+        (FRAME_BYTES * 2 ^ (layout_numbers cache.kept.now).order)) }
     requires first { first < 65536 }
     requires colour { IsColour cache.kept.now.layout colour }
-    ensures { IsConstructed space.old space.new cache.entry.tenant cache.entry.kept.now first colour (layout_numbers cache.entry.kept.now).count }
+    ensures { IsConstructed space.old space.new cache.entry.tenant cache.entry.kept.now first colour
+        (layout_numbers cache.entry.kept.now).count }
 {
     clear_record(space, cache, first);
     for i in 0..cache.kept.layout.count() {
@@ -134,7 +139,8 @@ pub(crate) fn construct(space: &mut Space, cache: TenantCache<'_>, first: u32, c
 fn clear_record(space: &mut Space, cache: TenantCache<'_>, first: u32)
     requires tenant { cache.tenant < length space.old.slots }
     requires laws { SpaceLaws space.old }
-    requires in_reach { IsSome (home_of space.old cache.tenant (FRAME_BYTES * first) (FRAME_BYTES * 2 ^ (layout_numbers cache.kept.now).order)) }
+    requires in_reach { IsSome (home_of space.old cache.tenant (FRAME_BYTES * first)
+        (FRAME_BYTES * 2 ^ (layout_numbers cache.kept.now).order)) }
     requires first { first < 65536 }
     ensures { (colour : ℕ) → IsConstructed space.old space.new cache.entry.tenant cache.entry.kept.now first colour 0 }
 {
@@ -151,7 +157,8 @@ fn clear_record(space: &mut Space, cache: TenantCache<'_>, first: u32)
 fn construct_one(space: &mut Space, cache: TenantCache<'_>, first: u32, colour: u32, i: u32)
     requires tenant { cache.tenant < length space.old.slots }
     requires layout { IsLayout cache.kept.now.layout.size cache.kept.now.layout.align (layout_numbers cache.kept.now) }
-    requires in_reach { IsSome (home_of space.old cache.tenant (FRAME_BYTES * first) (FRAME_BYTES * 2 ^ (layout_numbers cache.kept.now).order)) }
+    requires in_reach { IsSome (home_of space.old cache.tenant (FRAME_BYTES * first)
+        (FRAME_BYTES * 2 ^ (layout_numbers cache.kept.now).order)) }
     requires first { first < 65536 }
     requires colour { IsColour cache.kept.now.layout colour }
     requires object { i < (layout_numbers cache.kept.now).count }

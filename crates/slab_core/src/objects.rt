@@ -119,7 +119,8 @@ impl Slabs {
     fn is_of_cache(&self, cache: TenantCache<'_>, slab: Slab) -> bool
         requires cache { cache.number < MOST_CACHES }
         requires node { slab.machine_frame < length self.now.lists.places }
-        ensures { result ≡ is_of_cache (index_of_cache cache.entry.tenant cache.entry.number) slab.first (place_at self.now.lists.places slab.machine_frame) }
+        ensures { result ≡ is_of_cache (index_of_cache cache.entry.tenant cache.entry.number) slab.first
+            (place_at self.now.lists.places slab.machine_frame) }
     {
         match self.tables.place_of(slab.machine_frame) {
             None => false,
@@ -142,7 +143,8 @@ impl Slabs {
         requires unit { space.now.unit ≡ FRAME_BYTES * 2 ^ self.now.top }
         requires slab { IsSlab space.now self.now cache.tenant cache.number object.slab.first object.slab.machine_frame cache.kept.now }
         requires index { object.index < (layout_numbers cache.kept.now).count }
-        ensures { result ≡ is_live space.now cache.entry.tenant cache.entry.kept.now (kept_at self.now.kept object.slab.machine_frame) object.slab.first object.index }
+        ensures { result ≡ is_live space.now cache.entry.tenant cache.entry.kept.now
+            (kept_at self.now.kept object.slab.machine_frame) object.slab.first object.index }
     {
         if cache.kept.layout.in_page() {
             let superblock = self.superblock(object.slab.machine_frame);

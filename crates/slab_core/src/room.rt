@@ -108,7 +108,8 @@ impl View<'_> {
     /// Whether a slab is empty.
     fn has_empty_slab(self) -> bool
         requires { IsTenant self.tables.now self.tenant }
-        ensures { (result ≡ false) ↔ ((c : ℕ) → c < MOST_CACHES → IsEmpty self.entry.tables.now.lists.places (head_of self.entry.tenant c 2)) }
+        ensures { (result ≡ false) ↔ ((c : ℕ) → c < MOST_CACHES
+            → IsEmpty self.entry.tables.now.lists.places (head_of self.entry.tenant c 2)) }
     {
         self.tables.laws();
         for c in 0..self.tables.caches_below(self.tenant) {
@@ -154,7 +155,8 @@ impl View<'_> {
         requires refused { AreRefused self.space.now self.buddy.now self.tables.now self.tenant k (has_number refused.old) }
         ensures room { (result ≡ true) ↔ HasRoomAround self.entry.space.now self.entry.buddy.now self.entry.tables.now self.entry.tenant c k }
         ensures words { length refused.new ≡ length refused.old }
-        ensures refused { AreRefused self.entry.space.now self.entry.buddy.now self.entry.tables.now self.entry.tenant k (has_number refused.new) }
+        ensures refused { AreRefused self.entry.space.now self.entry.buddy.now self.entry.tables.now self.entry.tenant k
+            (has_number refused.new) }
     {
         let mut next = self.tables.first(self.tenant, c, Kind::Empty);
         while let Some((slab, node)) = next {

@@ -169,7 +169,8 @@ impl Slabs {
         requires cache { cache_at self.now cache.tenant cache.number ≡ Some cache.kept.now }
         ensures slab { MatchOption result (IsAllFull self.now cache.entry.tenant cache.entry.number)
             (λ p. IsToUse space.now self.now cache.entry.tenant cache.entry.number cache.entry.kept.now (standing p)) }
-        ensures free { IfSome result (λ p. (kept_at self.now.kept p.machine_frame).live < (layout_numbers cache.entry.kept.now).count) }
+        ensures free { IfSome result (λ p. (kept_at self.now.kept p.machine_frame).live
+            < (layout_numbers cache.entry.kept.now).count) }
     {
         let (tenant, number) = (cache.tenant, cache.number);
         if let Some((first, machine_frame)) = self.tables.first(tenant, number, Kind::Partial) {
@@ -193,9 +194,12 @@ impl Slabs {
         requires tables { IsSlabs self.old }
         requires unit { space.old.unit ≡ FRAME_BYTES * 2 ^ self.old.top }
         requires slab { IsSlab space.old self.old cache.tenant cache.number slab.first slab.machine_frame cache.kept.now }
-        requires free { position_or_len not (live_of space.old cache.tenant cache.kept.now (kept_at self.old.kept slab.machine_frame) slab.first) < (layout_numbers cache.kept.now).count }
-        ensures least { result ≡ position_or_len not (live_of space.old cache.entry.tenant cache.entry.kept.now (kept_at self.old.kept slab.machine_frame) slab.first) }
-        ensures turned { IsTurned space.old space.new self.old self.new cache.entry.tenant (found cache.entry.kept.now slab.first slab.machine_frame result) }
+        requires free { position_or_len not (live_of space.old cache.tenant cache.kept.now
+            (kept_at self.old.kept slab.machine_frame) slab.first) < (layout_numbers cache.kept.now).count }
+        ensures least { result ≡ position_or_len not (live_of space.old cache.entry.tenant cache.entry.kept.now
+            (kept_at self.old.kept slab.machine_frame) slab.first) }
+        ensures turned { IsTurned space.old space.new self.old self.new cache.entry.tenant
+            (found cache.entry.kept.now slab.first slab.machine_frame result) }
     {
         let node = slab.machine_frame;
         if cache.kept.layout.in_page() {
@@ -222,9 +226,11 @@ impl Slabs {
         requires agree { Agree space.old buddy.now self.old }
         requires slab { IsSlab space.old self.old cache.tenant cache.number slab.first slab.machine_frame cache.kept.now }
         requires free { (kept_at self.old.kept slab.machine_frame).live < (layout_numbers cache.kept.now).count }
-        ensures answer { (m : Machine) (x : machines.Cache) (y : machines.Slab) → ShowsMachine space.old buddy.now self.old cache.entry.tenant m
+        ensures answer { (m : Machine) (x : machines.Cache) (y : machines.Slab)
+            → ShowsMachine space.old buddy.now self.old cache.entry.tenant m
             → cache_of m cache.entry.number ≡ Some x → slab_of x slab.first ≡ Some y → Ok result ≡ (hand_out x y m).answer }
-        ensures shows { (m : Machine) (x : machines.Cache) (y : machines.Slab) → ShowsMachine space.old buddy.now self.old cache.entry.tenant m
+        ensures shows { (m : Machine) (x : machines.Cache) (y : machines.Slab)
+            → ShowsMachine space.old buddy.now self.old cache.entry.tenant m
             → cache_of m cache.entry.number ≡ Some x → slab_of x slab.first ≡ Some y
             → ShowsMachine space.new buddy.now self.new cache.entry.tenant (hand_out x y m).machine }
         ensures object { (o : Found) × IsLiveObject space.new self.new cache.entry.tenant cache.entry.number result o }
