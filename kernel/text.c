@@ -89,7 +89,7 @@ void *memmove(void *to, const void *from, size_t bytes)
     return to;
 }
 
-/* An unproved library writes here before it stops at a check that failed. */
+/* An unproved library refers to it, for a notice at the start of a program: nothing here makes it write one. */
 long write(int file, const void *text, size_t bytes);
 long write(int file, const void *text, size_t bytes)
 {

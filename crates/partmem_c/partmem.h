@@ -35,8 +35,8 @@
  * MEMORY. A machine uses the memory that partmem_boot_in is given: RAM, at most 256 MiB, and tables, whose sizes are constants.
  * No other call allocates. For more memory or more tenants boot several machines: client c is then the tenant
  * {&machines[c / 64], c % 64}. Of the C library memcpy, memmove and memset are used, and nothing else: no system call, no thread,
- * no clock. partmem_boot gets the memory from aligned_alloc and malloc, and partmem_end frees it. A program that does not call
- * partmem_boot is linked without these.
+ * no clock. (An unproved library also has write, for its notice.) partmem_boot gets the memory from aligned_alloc and malloc, and
+ * partmem_end frees it. A program that does not call partmem_boot is linked without these.
  *
  *     static _Alignas(4096) unsigned char ram[PARTMEM_RAM_BYTES(4, 16)];
  *     static _Alignas(16) unsigned char tables[PARTMEM_TABLE_BYTES(4, 16, 8)];
@@ -484,9 +484,10 @@ PARTMEM_CHECKED partmem_status partmem_line(partmem_machine *machine, const char
  *     interrupt handler that may have interrupted one, nor from the forked child of a process with threads. [Anything.] Loads
  *     and stores in lent bytes need no lock against calls, except a write to them, a read of them, and a call that ends their
  *     lifetime.
- *  9. Ring 0. SSE is enabled. A user's xmm registers are saved before the first call and restored after the last. The direction
- *     flag is clear. There are 4096 bytes of stack above a guard page, and no interrupt uses them: the library also uses the 128
- *     bytes below its stack pointer. [Registers leak from tenant to tenant; the stack overflows.]
+ *  9. Ring 0. SSE is enabled, and the stack is aligned as C requires. A user's xmm registers are saved before the first call and
+ *     restored after the last. The direction flag is clear. There are 4096 bytes of stack above a guard page, and no interrupt
+ *     uses them: the library also uses the 128 bytes below its stack pointer. [Registers leak from tenant to tenant; the stack
+ *     overflows.]
  *     libpartmem_kernel.a and libpartmem_linux.a require of this only the direction flag and 4096 bytes of stack. Interrupts may
  *     use the same stack, if it has space for both.
  * 10. After the end. Whoever uses the memory after partmem_end, or after a crash, clears it first. [It reads the tenants'
