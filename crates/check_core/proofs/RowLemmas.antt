@@ -1,5 +1,6 @@
--- Rows that are read are the rows that stand there, and rows are read again.
-use Rattle.std.proofs.Common.{◌≡◌, ℕ, zero, suc, ◌+◌, ◌^◌, ◌<◌, ◌≤◌, true, cond, List, [], ◌∷◌, ◌++◌, length, take, drop, get_or, Option, Some, None, refl, sym, ◌∙◌, ap, arith, append_assoc, take-append-drop, take_at, drop_at}
+-- The rows that are read are those of the text, and the text of rows is read as them.
+use Rattle.std.proofs.Common.{◌≡◌, ℕ, zero, suc, ◌+◌, ◌^◌, ◌<◌, ◌≤◌, Bool, true, false, cond, List, [], ◌∷◌, ◌++◌, length, take, drop, get_or, Option, Some, None, refl, sym, ◌∙◌, ap, arith, append_assoc, take-append-drop, take_at, drop_at}
+use Rattle.std.proofs.Math.Seq.{drop-nil}
 use Rattle.std.specs.Prelude.{codes, nat_lt, ◌==◌, ◌&&◌}
 use Rattle.std.specs.List.{AllByRecursion}
 use Rattle.std.specs.Str.{bytes_eq}
@@ -10,59 +11,19 @@ use Rattle.model_core.specs.declared.report.OrderRow.{OrderRow}
 use Rattle.model_core.specs.declared.report.CacheRow.{CacheRow}
 use Rattle.check_core.specs.Ranges.{OwnerFits, OrderFits, CacheFits}
 use Rattle.check_core.specs.Forms.{◌>>=◌, mark_at, form_at}
-use Rattle.check_core.specs.Replies.{made_at, fit_tenant, ◌or_else◌}
+use Rattle.check_core.specs.Replies.{fit_tenant, ◌or_else◌}
 use Rattle.check_core.specs.Tables.{after_front, then_rows, rows_from, order_at, cache_row_at, unowned_at, owned_at, owner_of, owner_at}
 use Rattle.check_core.proofs.FormLemmas.{bind_some, same_byte, itself, form_text, form_takes, form_again}
 use Rattle.check_core.proofs.KindLemmas.{text_takes, kind_again, either, if_same, two, three, five, small_one, small_more, below}
 
--- the rows as they stand, the first of this index
-abbrev pub shown : {A : Type 0} → (ℕ → A → List ℕ) → ℕ → List A → List ℕ
-shown show index [] = []
-shown show index (row ∷ rows) = show index row ++ shown show (index + 1) rows
-
-one_row : {A : Type 0} (show : ℕ → A → List ℕ) (index : ℕ) (text : List ℕ) (found : Option (A × List ℕ)) (more : List ℕ → List A × List ℕ)
-    → ((row : A) (rest : List ℕ) → found ≡ Some (row, rest) → text ≡ show index row ++ rest)
-    → ((rest : List ℕ) → rest ≡ shown show (index + 1) (more rest).0 ++ (more rest).1)
-    → text ≡ shown show index (then_rows found text more).0 ++ (then_rows found text more).1
-one_row show index text None more takes others = refl
-one_row show index text (Some (row, rest)) more takes others =
-    takes row rest refl
-    ∙ ap (λ t. show index row ++ t) (others rest)
-    ∙ sym (append_assoc (show index row) (shown show (index + 1) (more rest).0) (more rest).1)
-
-pub rows_take : {A : Type 0} (row_at : ℕ → List ℕ → Option (A × List ℕ)) (show : ℕ → A → List ℕ)
-    → ((index : ℕ) (text : List ℕ) (row : A) (rest : List ℕ) → row_at index text ≡ Some (row, rest) → text ≡ show index row ++ rest)
-    → (most index : ℕ) (text : List ℕ)
-    → text ≡ shown show index (rows_from row_at most index text).0 ++ (rows_from row_at most index text).1
-unfolding rows_from
-rows_take row_at show takes zero index text = refl
-rows_take row_at show takes (suc most) index text =
-    one_row show index text (row_at index text) (λ rest. rows_from row_at most (index + 1) rest) (takes index text)
-    (λ rest. rows_take row_at show takes most (index + 1) rest)
-
-abbrev row_before : {A : Type 0} → A → List A × List ℕ → List A × List ℕ
-row_before row found = (row ∷ found.0, found.1)
-
-pub rows_again : {A : Type 0} (row_at : ℕ → List ℕ → Option (A × List ℕ)) (show : ℕ → A → List ℕ) (Fits : A → Type 0)
-    → ((index : ℕ) (row : A) (rest : List ℕ) → index < 1000 → Fits row → row_at index (show index row ++ rest) ≡ Some (row, rest))
-    → (most index : ℕ) (rows : List A) (rest : List ℕ) → length rows ≤ most → index + most < 1000 → AllByRecursion Fits rows
-    → ((index : ℕ) → row_at index rest ≡ None) → rows_from row_at most index (shown show index rows ++ rest) ≡ (rows, rest)
-unfolding rows_from
-rows_again row_at show Fits again zero index [] rest few small fits ends = refl
-rows_again row_at show Fits again zero index (row ∷ rows) rest few small fits ends = absurd (omega (arith, few))
-rows_again row_at show Fits again (suc most) index [] rest few small fits ends =
-    ap (λ found. then_rows found rest (λ rest. rows_from row_at most (index + 1) rest)) (ends index)
-rows_again row_at show Fits again (suc most) index (row ∷ rows) rest few small fits ends =
-    let others = shown show (index + 1) rows ++ rest in
-    ap (λ text. then_rows (row_at index text) text (λ rest. rows_from row_at most (index + 1) rest))
-    (append_assoc (show index row) (shown show (index + 1) rows) rest)
-    ∙ ap (λ found. then_rows found (show index row ++ others) (λ rest. rows_from row_at most (index + 1) rest))
-    (again index row others (omega (arith, small)) fits.0)
-    ∙ ap (row_before row) (rows_again row_at show Fits again most (index + 1) rows rest (omega (arith, few)) (omega (arith, small)) fits.1 ends)
+-- the text of the rows, each behind the front, the first of this index
+abbrev pub shown : {A : Type 0} → (ℕ → A → List ℕ) → List ℕ → ℕ → List A → List ℕ
+shown show front index [] = []
+shown show front index (row ∷ rows) = (front ++ show index row) ++ shown show front (index + 1) rows
 
 -- ---- the front of a row
 
-pub front_takes : (front text rest : List ℕ) → after_front front text ≡ Some rest → text ≡ front ++ rest
+front_takes : (front text rest : List ℕ) → after_front front text ≡ Some rest → text ≡ front ++ rest
 unfolding after_front
 front_takes front text rest e =
     let (test, is) = cond_some (bytes_eq (take (length front) text) front) (drop (length front) text) rest e in
@@ -75,6 +36,61 @@ front_again front rest =
     ∙ ap (λ test. cond test (Some (drop (length front) (front ++ rest))) None) ((bytes_eq-Decides front front).1 refl)
     ∙ ap (λ t. Some t) (drop_at front rest (length front) refl)
 
+-- at the end of a text there is no row
+pub nothing_again : {A : Type 0} (front : List ℕ) (next : List ℕ → Option A) → next [] ≡ None → (after_front front [] >>= next) ≡ None
+unfolding after_front
+nothing_again front next none = step (bytes_eq (take (length front) []) front) where
+  step : (test : Bool) → (cond test (Some (drop (length front) [])) None >>= next) ≡ None
+  step true = ap next (drop-nil (length front)) ∙ none
+  step false = refl
+
+-- ---- rows
+
+module _ {A : Type 0} (row_at : ℕ → List ℕ → Option (A × List ℕ)) (show : ℕ → A → List ℕ) (front : List ℕ) where
+  one_row : (index : ℕ) (text : List ℕ) (found : Option (A × List ℕ)) (more : List ℕ → List A × List ℕ)
+      → ((row : A) (rest : List ℕ) → found ≡ Some (row, rest) → text ≡ (front ++ show index row) ++ rest)
+      → ((rest : List ℕ) → rest ≡ shown show front (index + 1) (more rest).0 ++ (more rest).1)
+      → text ≡ shown show front index (then_rows found text more).0 ++ (then_rows found text more).1
+  one_row index text None more takes others = refl
+  one_row index text (Some (row, rest)) more takes others =
+      takes row rest refl
+      ∙ ap (λ t. (front ++ show index row) ++ t) (others rest)
+      ∙ sym (append_assoc (front ++ show index row) (shown show front (index + 1) (more rest).0) (more rest).1)
+
+  pub rows_take : ((index : ℕ) (text : List ℕ) (row : A) (rest : List ℕ) → row_at index text ≡ Some (row, rest) → text ≡ show index row ++ rest)
+      → (most index : ℕ) (text : List ℕ)
+      → text ≡ shown show front index (rows_from row_at front most index text).0 ++ (rows_from row_at front most index text).1
+  unfolding rows_from
+  rows_take takes zero index text = refl
+  rows_take takes (suc most) index text =
+      one_row index text (after_front front text >>= row_at index) (λ rest. rows_from row_at front most (index + 1) rest)
+      (λ row rest found.
+      let (line, line_is, next) = bind_some (after_front front text) (row_at index) (row, rest) found in
+      front_takes front text line line_is ∙ ap (λ t. front ++ t) (takes index line row rest next) ∙ sym (append_assoc front (show index row) rest))
+      (λ rest. rows_take takes most (index + 1) rest)
+
+  abbrev row_before : A → List A × List ℕ → List A × List ℕ
+  row_before row found = (row ∷ found.0, found.1)
+
+  pub rows_again : (Fits : A → Type 0)
+      → ((index : ℕ) (row : A) (rest : List ℕ) → index < 1000 → Fits row → row_at index (show index row ++ rest) ≡ Some (row, rest))
+      → (most index : ℕ) (rows : List A) (rest : List ℕ) → length rows ≤ most → index + most < 1000 → AllByRecursion Fits rows
+      → ((index : ℕ) → (after_front front rest >>= row_at index) ≡ None)
+      → rows_from row_at front most index (shown show front index rows ++ rest) ≡ (rows, rest)
+  unfolding rows_from
+  rows_again Fits again zero index [] rest few small fits ends = refl
+  rows_again Fits again zero index (row ∷ rows) rest few small fits ends = absurd (omega (arith, few))
+  rows_again Fits again (suc most) index [] rest few small fits ends =
+      ap (λ found. then_rows found rest (λ rest. rows_from row_at front most (index + 1) rest)) (ends index)
+  rows_again Fits again (suc most) index (row ∷ rows) rest few small fits ends =
+      let others = shown show front (index + 1) rows ++ rest in
+      let line = show index row ++ others in
+      let more : List ℕ → List A × List ℕ = λ rest. rows_from row_at front most (index + 1) rest in
+      ap (λ text. then_rows (after_front front text >>= row_at index) text more)
+      (append_assoc (front ++ show index row) (shown show front (index + 1) rows) rest ∙ append_assoc front (show index row) others)
+      ∙ ap (λ found. then_rows found (front ++ line) more) (ap (λ found. found >>= row_at index) (front_again front line) ∙ again index row others (omega (arith, small)) fits.0)
+      ∙ ap (row_before row) (rows_again Fits again most (index + 1) rows rest (omega (arith, few)) (omega (arith, small)) fits.1 ends)
+
 -- ---- orders
 
 abbrev pub order_line : ℕ → OrderRow → List ℕ
@@ -83,68 +99,40 @@ order_line order row = form_text (codes "order # free # taken #\n") (order ∷ r
 abbrev order_of : List ℕ → OrderRow
 order_of ns = record { free = get_or ns 1 0; taken = get_or ns 2 0 }
 
-abbrev pub order_made : ℕ → List ℕ → Option (OrderRow × List ℕ)
-order_made order = made_at (codes "order # free # taken #\n") (λ ns. get_or ns 0 0 == order) order_of
-
-abbrev pub show_order : List ℕ → ℕ → OrderRow → List ℕ
-show_order front order row = front ++ order_line order row
-
-pub order_takes : (front : List ℕ) (order : ℕ) (text : List ℕ) (row : OrderRow) (rest : List ℕ) → order_at front order text ≡ Some (row, rest)
-    → text ≡ show_order front order row ++ rest
+pub order_takes : (order : ℕ) (text : List ℕ) (row : OrderRow) (rest : List ℕ) → order_at order text ≡ Some (row, rest) → text ≡ order_line order row ++ rest
 unfolding order_at
-order_takes front order text row rest e =
+order_takes order text row rest e =
     let form = codes "order # free # taken #\n" in
-    let (line, line_is, next) = bind_some (after_front front text) (order_made order) (row, rest) e in
-    front_takes front text line line_is
-    ∙ ap (λ t. front ++ t)
-    (text_takes form (λ ns. get_or ns 0 0 == order) order_of (order_line order) (λ ns count same.
+    text_takes form (λ ns. get_or ns 0 0 == order) order_of (order_line order) (λ ns count same.
     ap (λ n. form_text form (n ∷ get_or ns 1 0 ∷ get_or ns 2 0 ∷ [])) (sym (same_byte (get_or ns 0 0) order same))
-    ∙ ap (form_text form) (three ns count)) line row rest next)
-    ∙ sym (append_assoc front (order_line order row) rest)
+    ∙ ap (form_text form) (three ns count)) text row rest e
 
-pub order_again : (front : List ℕ) (order : ℕ) (row : OrderRow) (rest : List ℕ) → order < 1000 → OrderFits row
-    → order_at front order (show_order front order row ++ rest) ≡ Some (row, rest)
+pub order_again : (order : ℕ) (row : OrderRow) (rest : List ℕ) → order < 1000 → OrderFits row → order_at order (order_line order row ++ rest) ≡ Some (row, rest)
 unfolding order_at
-order_again front order row rest small fits =
-    ap (λ t. after_front front t >>= order_made order) (append_assoc front (order_line order row) rest)
-    ∙ ap (λ found. found >>= order_made order) (front_again front (order_line order row ++ rest))
-    ∙ kind_again (codes "order # free # taken #\n") (λ ns. get_or ns 0 0 == order) order_of (order ∷ row.free ∷ row.taken ∷ []) rest refl refl
+order_again order row rest small fits =
+    kind_again (codes "order # free # taken #\n") (λ ns. get_or ns 0 0 == order) order_of (order ∷ row.free ∷ row.taken ∷ []) rest refl refl
     (small_more order (row.free ∷ row.taken ∷ []) (omega arith) (small_more row.free (row.taken ∷ []) fits.0 (small_one row.taken fits.1)))
     (itself order)
 
 -- ---- caches
 
-abbrev pub cache_line : CacheRow → List ℕ
-cache_line row =
+abbrev pub cache_line : ℕ → CacheRow → List ℕ
+cache_line index row =
     form_text (codes "cache # full # partial # empty # live #\n") (row.cache ∷ row.full ∷ row.partial ∷ row.empty ∷ row.live ∷ [])
 
 abbrev cache_of : List ℕ → CacheRow
 cache_of ns = record { cache = get_or ns 0 0; full = get_or ns 1 0; partial = get_or ns 2 0; empty = get_or ns 3 0; live = get_or ns 4 0 }
 
-abbrev pub cache_made : List ℕ → Option (CacheRow × List ℕ)
-cache_made = made_at (codes "cache # full # partial # empty # live #\n") (λ ns. nat_lt (get_or ns 0 0) (2 ^ 8)) cache_of
-
-abbrev pub show_cache : List ℕ → ℕ → CacheRow → List ℕ
-show_cache front index row = front ++ cache_line row
-
-pub cache_takes : (front : List ℕ) (index : ℕ) (text : List ℕ) (row : CacheRow) (rest : List ℕ) → cache_row_at front text ≡ Some (row, rest)
-    → text ≡ show_cache front index row ++ rest
+pub cache_takes : (index : ℕ) (text : List ℕ) (row : CacheRow) (rest : List ℕ) → cache_row_at index text ≡ Some (row, rest) → text ≡ cache_line index row ++ rest
 unfolding cache_row_at
-cache_takes front index text row rest e =
+cache_takes index text row rest e =
     let form = codes "cache # full # partial # empty # live #\n" in
-    let (line, line_is, next) = bind_some (after_front front text) cache_made (row, rest) e in
-    front_takes front text line line_is
-    ∙ ap (λ t. front ++ t)
-    (text_takes form (λ ns. nat_lt (get_or ns 0 0) (2 ^ 8)) cache_of cache_line (λ ns count fit. ap (form_text form) (five ns count)) line row rest next)
-    ∙ sym (append_assoc front (cache_line row) rest)
+    text_takes form (λ ns. nat_lt (get_or ns 0 0) (2 ^ 8)) cache_of (cache_line index) (λ ns count fit. ap (form_text form) (five ns count)) text row rest e
 
-pub cache_again : (front : List ℕ) (index : ℕ) (row : CacheRow) (rest : List ℕ) → index < 1000 → CacheFits row
-    → cache_row_at front (show_cache front index row ++ rest) ≡ Some (row, rest)
+pub cache_again : (index : ℕ) (row : CacheRow) (rest : List ℕ) → index < 1000 → CacheFits row → cache_row_at index (cache_line index row ++ rest) ≡ Some (row, rest)
 unfolding cache_row_at
-cache_again front index row rest small (fits_a, fits_b, fits_c, fits_d, fits_e) =
-    ap (λ t. after_front front t >>= cache_made) (append_assoc front (cache_line row) rest)
-    ∙ ap (λ found. found >>= cache_made) (front_again front (cache_line row ++ rest))
-    ∙ kind_again (codes "cache # full # partial # empty # live #\n") (λ ns. nat_lt (get_or ns 0 0) (2 ^ 8)) cache_of
+cache_again index row rest small (fits_a, fits_b, fits_c, fits_d, fits_e) =
+    kind_again (codes "cache # full # partial # empty # live #\n") (λ ns. nat_lt (get_or ns 0 0) (2 ^ 8)) cache_of
     (row.cache ∷ row.full ∷ row.partial ∷ row.empty ∷ row.live ∷ []) rest refl refl
     (small_more row.cache (row.full ∷ row.partial ∷ row.empty ∷ row.live ∷ []) (omega arith)
     (small_more row.full (row.partial ∷ row.empty ∷ row.live ∷ []) fits_b
@@ -160,9 +148,6 @@ owner_said (Some owner) = form_text (codes "tenant # slot #\n") (owner.tenant �
 abbrev pub owner_line : ℕ → Option Owner → List ℕ
 owner_line superblock owner = form_text (codes "superblock # ") (superblock ∷ []) ++ owner_said owner
 
-abbrev pub show_owner : List ℕ → ℕ → Option Owner → List ℕ
-show_owner front superblock owner = front ++ owner_line superblock owner
-
 abbrev owned_by : List ℕ → Option Owner
 owned_by ns = Some (record { tenant = get_or ns 0 0; slot = get_or ns 1 0 })
 
@@ -175,19 +160,15 @@ owner_said_takes text owner rest e =
     (text_takes (codes "free\n") (λ ns. true) (λ ns. None) owner_said (λ ns count fit. refl) text owner rest)
     (text_takes (codes "tenant # slot #\n") fit_tenant owned_by owner_said (λ ns count fit. ap (form_text (codes "tenant # slot #\n")) (two ns count)) text owner rest)
 
-pub owner_takes : (front : List ℕ) (superblock : ℕ) (text : List ℕ) (owner : Option Owner) (rest : List ℕ)
-    → owner_at front superblock text ≡ Some (owner, rest) → text ≡ show_owner front superblock owner ++ rest
+pub owner_takes : (superblock : ℕ) (text : List ℕ) (owner : Option Owner) (rest : List ℕ)
+    → owner_at superblock text ≡ Some (owner, rest) → text ≡ owner_line superblock owner ++ rest
 unfolding owner_at
-owner_takes front superblock text owner rest e =
-    let (line, line_is, next) = bind_some (after_front front text) (λ rest. form_at (codes "superblock # ") rest >>= owner_of superblock) (owner, rest) e in
-    let (found, found_is, last) = bind_some (form_at (codes "superblock # ") line) (owner_of superblock) (owner, rest) next in
+owner_takes superblock text owner rest e =
+    let (found, found_is, last) = bind_some (form_at (codes "superblock # ") text) (owner_of superblock) (owner, rest) e in
     let (same, said) = if_same (get_or found.0 0 0 == superblock) (unowned_at found.1 or_else owned_at found.1) (owner, rest) last in
-    front_takes front text line line_is
-    ∙ ap (λ t. front ++ t)
-    ((form_takes (codes "superblock # ") line found.0 found.1 found_is).0
+    (form_takes (codes "superblock # ") text found.0 found.1 found_is).0
     ∙ (λ i. form_text (codes "superblock # ") (same_byte (get_or found.0 0 0) superblock same i ∷ []) ++ owner_said_takes found.1 owner rest said i)
-    ∙ sym (append_assoc (form_text (codes "superblock # ") (superblock ∷ [])) (owner_said owner) rest))
-    ∙ sym (append_assoc front (owner_line superblock owner) rest)
+    ∙ sym (append_assoc (form_text (codes "superblock # ") (superblock ∷ [])) (owner_said owner) rest)
 
 owner_said_again : (owner : Option Owner) (rest : List ℕ) → OwnerFits owner
     → (unowned_at (owner_said owner ++ rest) or_else owned_at (owner_said owner ++ rest)) ≡ Some (owner, rest)
@@ -198,15 +179,13 @@ owner_said_again (Some owner) rest fits =
     (small_more owner.tenant (owner.slot ∷ []) (omega (arith, fits.0)) (small_one owner.slot (omega (arith, fits.1))))
     (λ i. below owner.tenant (2 ^ 8) fits.0 i && below owner.slot (2 ^ 16) fits.1 i)
 
-pub owner_again : (front : List ℕ) (superblock : ℕ) (owner : Option Owner) (rest : List ℕ) → superblock < 1000 → OwnerFits owner
-    → owner_at front superblock (show_owner front superblock owner ++ rest) ≡ Some (owner, rest)
+pub owner_again : (superblock : ℕ) (owner : Option Owner) (rest : List ℕ) → superblock < 1000 → OwnerFits owner
+    → owner_at superblock (owner_line superblock owner ++ rest) ≡ Some (owner, rest)
 unfolding owner_at
-owner_again front superblock owner rest small fits =
+owner_again superblock owner rest small fits =
     let form = codes "superblock # " in
     let label = form_text form (superblock ∷ []) in
-    ap (λ t. after_front front t >>= (λ rest. form_at form rest >>= owner_of superblock)) (append_assoc front (owner_line superblock owner) rest)
-    ∙ ap (λ found. found >>= (λ rest. form_at form rest >>= owner_of superblock)) (front_again front (owner_line superblock owner ++ rest))
-    ∙ ap (λ t. form_at form t >>= owner_of superblock) (append_assoc label (owner_said owner) rest)
+    ap (λ t. form_at form t >>= owner_of superblock) (append_assoc label (owner_said owner) rest)
     ∙ ap (λ found. found >>= owner_of superblock)
     (form_again form (superblock ∷ []) (owner_said owner ++ rest) refl refl (small_one superblock (omega arith)))
     ∙ ap (λ test. cond test (unowned_at (owner_said owner ++ rest) or_else owned_at (owner_said owner ++ rest)) None) (itself superblock)

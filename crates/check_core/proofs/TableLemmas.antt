@@ -25,7 +25,7 @@ use Rattle.check_core.specs.Tables.{after_front, rows_from, order_at, cache_row_
 use Rattle.check_core.proofs.FormLemmas.{bind_some, both, same_byte, itself, form_text, form_takes, form_again}
 use Rattle.check_core.proofs.KindLemmas.{text_takes, kind_again, either, two, three, small_one, small_more, below}
 use Rattle.check_core.proofs.AnswerLemmas.{addressee_takes, addressee_again, alone_of, whole_is, line_is}
-use Rattle.check_core.proofs.RowLemmas.{shown, rows_take, rows_again, front_again, cache_line, owner_said, order_made, cache_made, show_order, order_takes, order_again, show_cache, cache_takes, cache_again, show_owner, owner_takes, owner_again}
+use Rattle.check_core.proofs.RowLemmas.{shown, rows_take, rows_again, front_again, nothing_again, order_line, order_takes, order_again, cache_line, cache_takes, cache_again, owner_said, owner_line, owner_takes, owner_again}
 
 -- ---- the text of rows
 
@@ -33,22 +33,22 @@ abbrev pub with_end : List (List ℕ) → List ℕ
 with_end lines = concat (map (λ text. text ++ 10 ∷ []) lines)
 
 caches_text : (front : List ℕ) (index : ℕ) (rows : List CacheRow)
-    → with_end (map (λ row. cache_text front row) rows) ≡ shown (show_cache front) index rows
+    → with_end (map (λ row. cache_text front row) rows) ≡ shown cache_line front index rows
 caches_text front index [] = refl
 caches_text front index (row ∷ rows) =
     let first = line_is front (codes "cache " ∷ decimal row.cache ∷ codes " full " ∷ decimal row.full ∷ codes " partial " ∷ decimal row.partial ∷ codes " empty " ∷ decimal row.empty ∷ codes " live " ∷ decimal row.live ∷ []) in
     (λ i. first i ++ caches_text front (index + 1) rows i)
 
 orders_text : (front : List ℕ) (order : ℕ) (rows : List OrderRow) (others : List (List ℕ))
-    → with_end (order_texts front order rows ++ others) ≡ shown (show_order front) order rows ++ with_end others
+    → with_end (order_texts front order rows ++ others) ≡ shown order_line front order rows ++ with_end others
 orders_text front order [] others = refl
 orders_text front order (row ∷ rows) others =
     let first = line_is front (codes "order " ∷ decimal order ∷ codes " free " ∷ decimal row.free ∷ codes " taken " ∷ decimal row.taken ∷ []) in
     (λ i. first i ++ orders_text front (order + 1) rows others i)
-    ∙ sym (append_assoc (show_order front order row) (shown (show_order front) (order + 1) rows) (with_end others))
+    ∙ sym (append_assoc (front ++ order_line order row) (shown order_line front (order + 1) rows) (with_end others))
 
 one_owner : (front : List ℕ) (superblock : ℕ) (owner : Option Owner)
-    → owner_text front superblock owner ++ 10 ∷ [] ≡ show_owner front superblock owner
+    → owner_text front superblock owner ++ 10 ∷ [] ≡ front ++ owner_line superblock owner
 one_owner front superblock None =
     append_assoc (front ++ codes "superblock " ++ decimal superblock) (codes " free") (10 ∷ [])
     ∙ append_assoc (front ++ codes "superblock ") (decimal superblock) (codes " free\n")
@@ -59,7 +59,7 @@ one_owner front superblock (Some owner) =
     ∙ ap (λ t. front ++ (codes "superblock " ++ t)) (sym (append_assoc (decimal superblock) (codes " ") (owner_said (Some owner))))
 
 owners_text : (front : List ℕ) (superblock : ℕ) (owners : List (Option Owner))
-    → with_end (owner_texts front superblock owners) ≡ shown (show_owner front) superblock owners
+    → with_end (owner_texts front superblock owners) ≡ shown owner_line front superblock owners
 owners_text front superblock [] = refl
 owners_text front superblock (owner ∷ owners) =
     (λ i. one_owner front superblock owner i ++ owners_text front (superblock + 1) owners i)
@@ -98,14 +98,14 @@ head_text front report =
 -- the lines of a report, without the front of the first
 abbrev pub report_lines : List ℕ → Report → List ℕ
 report_lines front report =
-    head_line report ++ (shown (show_order front) 0 report.orders.items ++ shown (show_cache front) 0 report.caches.items)
+    head_line report ++ (shown order_line front 0 report.orders.items ++ shown cache_line front 0 report.caches.items)
 
 pub report_text : (front : List ℕ) (report : Report) → with_end (report_texts front report) ≡ front ++ report_lines front report
 report_text front report =
     let caches = map (λ row. cache_text front row) report.caches.items in
     (λ i. head_text front report i
-    ++ (orders_text front 0 report.orders.items caches ∙ ap (λ t. shown (show_order front) 0 report.orders.items ++ t) (caches_text front 0 report.caches.items)) i)
-    ∙ append_assoc front (head_line report) (shown (show_order front) 0 report.orders.items ++ shown (show_cache front) 0 report.caches.items)
+    ++ (orders_text front 0 report.orders.items caches ∙ ap (λ t. shown order_line front 0 report.orders.items ++ t) (caches_text front 0 report.caches.items)) i)
+    ∙ append_assoc front (head_line report) (shown order_line front 0 report.orders.items ++ shown cache_line front 0 report.caches.items)
 
 -- ---- a report
 
@@ -136,8 +136,8 @@ top_again (Some top) split rest fits small =
 
 abbrev report_of : List ℕ → List ℕ → (Option ℕ × ℕ) × List ℕ → Option (Body × List ℕ)
 report_of front ns top =
-    let orders = rows_from (order_at front) 9 0 top.1 in
-    let caches = rows_from (λ index. cache_row_at front) 32 0 orders.1 in
+    let orders = rows_from order_at front 9 0 top.1 in
+    let caches = rows_from cache_row_at front 32 0 orders.1 in
     let report : Report = record {
       frames = get_or ns 0 0;
       live = get_or ns 1 0;
@@ -161,8 +161,8 @@ unfolding report_at
 report_takes front text body rest e =
     let (head, head_is, next) = bind_some (form_at (codes "frames # live # free # top ") text) (after_head front) (body, rest) e in
     let (top, top_is, last) = bind_some (some_top_at head.1) (report_of front head.0) (body, rest) next in
-    let orders = rows_from (order_at front) 9 0 top.1 in
-    let caches = rows_from (λ index. cache_row_at front) 32 0 orders.1 in
+    let orders = rows_from order_at front 9 0 top.1 in
+    let caches = rows_from cache_row_at front 32 0 orders.1 in
     let report : Report = record {
       frames = get_or head.0 0 0;
       live = get_or head.0 1 0;
@@ -175,15 +175,15 @@ report_takes front text body rest e =
     let (body_is, rest_is) = some_pair_parts (Say.Report report) body caches.1 rest last in
     let (text_is, count) = form_takes (codes "frames # live # free # top ") text head.0 head.1 head_is in
     let label = form_text (codes "frames # live # free # top ") (report.frames ∷ report.live ∷ report.free ∷ []) in
-    let order_lines = shown (show_order front) 0 orders.0 in
-    let cache_lines = shown (show_cache front) 0 caches.0 in
+    let order_lines = shown order_line front 0 orders.0 in
+    let cache_lines = shown cache_line front 0 caches.0 in
     let parts : text ≡ label ++ (top_line top.0.0 top.0.1 ++ (order_lines ++ (cache_lines ++ caches.1))) =
     text_is
     ∙ (λ i. form_text (codes "frames # live # free # top ") (sym (three head.0 count) i)
     ++ (top_takes head.1 top.0 top.1 top_is
     ∙ ap (λ t. top_line top.0.0 top.0.1 ++ t)
-    (rows_take (order_at front) (show_order front) (order_takes front) 9 0 top.1
-    ∙ ap (λ t. order_lines ++ t) (rows_take (λ index. cache_row_at front) (show_cache front) (cache_takes front) 32 0 orders.1))) i) in
+    (rows_take order_at order_line front order_takes 9 0 top.1
+    ∙ ap (λ t. order_lines ++ t) (rows_take cache_row_at cache_line front cache_takes 32 0 orders.1))) i) in
     let taken : front ++ text ≡ with_end (body_texts front body) ++ rest =
     ap (λ t. front ++ t)
     (parts
@@ -195,37 +195,30 @@ report_takes front text body rest e =
     ∙ (λ i. with_end (body_texts front (body_is i)) ++ rest_is i) in
     (taken, subst (λ (body : Body). is_table body ≡ true) body_is refl)
 
--- at the end of a text there is no row
-nothing_again : {A : Type 0} (front : List ℕ) (next : List ℕ → Option A) → next [] ≡ None → (after_front front [] >>= next) ≡ None
-unfolding after_front
-nothing_again front next none = step (bytes_eq (take (length front) []) front) where
-  step : (test : Bool) → (cond test (Some (drop (length front) [])) None >>= next) ≡ None
-  step true = ap next (drop-nil (length front)) ∙ none
-  step false = refl
-
-no_order : (front : List ℕ) (order : ℕ) (rows : List CacheRow) → order_at front order (shown (show_cache front) 0 rows ++ []) ≡ None
+-- behind the orders there is no order, and behind the caches no cache
+no_order : (front : List ℕ) (order : ℕ) (rows : List CacheRow) → (after_front front (shown cache_line front 0 rows ++ []) >>= order_at order) ≡ None
 unfolding order_at form_at mark_at
-no_order front order [] = nothing_again front (order_made order) refl
+no_order front order [] = nothing_again front (order_at order) refl
 no_order front order (row ∷ rows) =
-    let others = shown (show_cache front) 1 rows in
-    ap (λ t. after_front front t >>= order_made order)
-    (append-nil ((front ++ cache_line row) ++ others) ∙ append_assoc front (cache_line row) others)
-    ∙ ap (λ found. found >>= order_made order) (front_again front (cache_line row ++ others))
+    let others = shown cache_line front 1 rows in
+    ap (λ t. after_front front t >>= order_at order)
+    (append-nil ((front ++ cache_line 0 row) ++ others) ∙ append_assoc front (cache_line 0 row) others)
+    ∙ ap (λ found. found >>= order_at order) (front_again front (cache_line 0 row ++ others))
 
-no_cache : (front : List ℕ) (index : ℕ) → cache_row_at front [] ≡ None
+no_cache : (front : List ℕ) (index : ℕ) → (after_front front [] >>= cache_row_at index) ≡ None
 unfolding cache_row_at form_at mark_at
-no_cache front index = nothing_again front cache_made refl
+no_cache front index = nothing_again front (cache_row_at index) refl
 
-no_owner : (front : List ℕ) (superblock : ℕ) → owner_at front superblock [] ≡ None
+no_owner : (front : List ℕ) (superblock : ℕ) → (after_front front [] >>= owner_at superblock) ≡ None
 unfolding owner_at form_at mark_at
-no_owner front superblock = nothing_again front (λ rest. form_at (codes "superblock # ") rest >>= owner_of superblock) refl
+no_owner front superblock = nothing_again front (owner_at superblock) refl
 
 abbrev with_both : Report → List CacheRow × List ℕ → Option (Body × List ℕ)
 with_both report caches = Some (Say.Report (record report { caches = record { items = caches.0 } }), caches.1)
 
 abbrev with_caches : List ℕ → Report → List OrderRow × List ℕ → Option (Body × List ℕ)
 with_caches front report orders =
-    let caches = rows_from (λ index. cache_row_at front) 32 0 orders.1 in
+    let caches = rows_from cache_row_at front 32 0 orders.1 in
     let whole : Report = record report { orders = record { items = orders.0 }; caches = record { items = caches.0 } } in
     Some (Say.Report whole, caches.1)
 
@@ -234,8 +227,8 @@ unfolding report_at
 report_again front report fits =
     let form = codes "frames # live # free # top " in
     let ns = report.frames ∷ report.live ∷ report.free ∷ [] in
-    let order_lines = shown (show_order front) 0 report.orders.items in
-    let cache_lines = shown (show_cache front) 0 report.caches.items in
+    let order_lines = shown order_line front 0 report.orders.items in
+    let cache_lines = shown cache_line front 0 report.caches.items in
     let rows = order_lines ++ cache_lines in
     ap (report_at front) (append_assoc (form_text form ns) (top_line report.top report.split) rows)
     ∙ ap (λ found. found >>= after_head front)
@@ -244,36 +237,36 @@ report_again front report fits =
     ∙ ap (λ found. found >>= report_of front ns) (top_again report.top report.split rows fits.top fits.split)
     ∙ ap (λ t. report_of front ns ((report.top, report.split), order_lines ++ t)) (sym (append-nil cache_lines))
     ∙ ap (with_caches front report)
-    (rows_again (order_at front) (show_order front) OrderFits (order_again front) 9 0 report.orders.items (cache_lines ++ []) fits.few_orders (omega arith) fits.orders
+    (rows_again order_at order_line front OrderFits order_again 9 0 report.orders.items (cache_lines ++ []) fits.few_orders (omega arith) fits.orders
     (λ order. no_order front order report.caches.items))
     ∙ ap (with_both report)
-    (rows_again (λ index. cache_row_at front) (show_cache front) CacheFits (cache_again front) 32 0 report.caches.items [] fits.few_caches (omega arith) fits.caches (no_cache front))
+    (rows_again cache_row_at cache_line front CacheFits cache_again 32 0 report.caches.items [] fits.few_caches (omega arith) fits.caches (no_cache front))
 
 -- ---- the table of owners
 
 abbrev pub pool_lines : List ℕ → List (Option Owner) → List ℕ
 pool_lines front owners =
-    form_text (codes "pool free # of #\n") (count_by is_none owners ∷ length owners ∷ []) ++ shown (show_owner front) 0 owners
+    form_text (codes "pool free # of #\n") (count_by is_none owners ∷ length owners ∷ []) ++ shown owner_line front 0 owners
 
 pub pool_text : (front : List ℕ) (owners : List (Option Owner)) → with_end (pool_texts front owners) ≡ front ++ pool_lines front owners
 pool_text front owners =
     let counts = form_text (codes "pool free # of #\n") (count_by is_none owners ∷ length owners ∷ []) in
     let first = line_is front (codes "pool free " ∷ decimal (count_by is_none owners) ∷ codes " of " ∷ decimal (length owners) ∷ []) in
-    (λ i. first i ++ owners_text front 0 owners i) ∙ append_assoc front counts (shown (show_owner front) 0 owners)
+    (λ i. first i ++ owners_text front 0 owners i) ∙ append_assoc front counts (shown owner_line front 0 owners)
 
 abbrev pool_of : List ℕ → List (Option Owner) × List ℕ → Option (Body × List ℕ)
 pool_of ns owners =
     cond (count_by is_none owners.0 == get_or ns 0 0 && length owners.0 == get_or ns 1 0) (Some (Say.Owners (record { items = owners.0 }), owners.1)) None
 
 abbrev after_pool : List ℕ → List ℕ × List ℕ → Option (Body × List ℕ)
-after_pool front head = pool_of head.0 (rows_from (owner_at front) 256 0 head.1)
+after_pool front head = pool_of head.0 (rows_from owner_at front 256 0 head.1)
 
 pool_takes : (front text : List ℕ) (body : Body) (rest : List ℕ) → pool_at front text ≡ Some (body, rest) → Takes front text body rest
 unfolding pool_at
 pool_takes front text body rest e =
     let form = codes "pool free # of #\n" in
     let (head, head_is, last) = bind_some (form_at form text) (after_pool front) (body, rest) e in
-    let owners = rows_from (owner_at front) 256 0 head.1 in
+    let owners = rows_from owner_at front 256 0 head.1 in
     let made : Body × List ℕ = (Say.Owners (record { items = owners.0 }), owners.1) in
     let wanted : Body × List ℕ = (body, rest) in
     let (test, is) = cond_some (count_by is_none owners.0 == get_or head.0 0 0 && length owners.0 == get_or head.0 1 0) made wanted last in
@@ -286,8 +279,8 @@ pool_takes front text body rest e =
     (ap (form_text form) (sym (two head.0 count))
     ∙ (λ i. form_text form (sym (same_byte (count_by is_none owners.0) (get_or head.0 0 0) free_is) i ∷ sym (same_byte (length owners.0) (get_or head.0 1 0) count_is) i ∷ [])))
     ∙ ap (λ t. form_text form (count_by is_none owners.0 ∷ length owners.0 ∷ []) ++ t)
-    (rows_take (owner_at front) (show_owner front) (owner_takes front) 256 0 head.1)
-    ∙ sym (append_assoc (form_text form (count_by is_none owners.0 ∷ length owners.0 ∷ [])) (shown (show_owner front) 0 owners.0) owners.1))
+    (rows_take owner_at owner_line front owner_takes 256 0 head.1)
+    ∙ sym (append_assoc (form_text form (count_by is_none owners.0 ∷ length owners.0 ∷ [])) (shown owner_line front 0 owners.0) owners.1))
     ∙ sym (append_assoc front (pool_lines front owners.0) owners.1)
     ∙ ap (λ t. t ++ owners.1) (sym (pool_text front owners.0))
     ∙ ap (λ (made : Body × List ℕ). with_end (body_texts front made.0) ++ made.1) is in
@@ -300,12 +293,12 @@ pool_again front owners fits few =
     let form = codes "pool free # of #\n" in
     let free = count_by is_none owners in
     let ns = free ∷ length owners ∷ [] in
-    let rows = shown (show_owner front) 0 owners in
+    let rows = shown owner_line front 0 owners in
     ap (λ found. found >>= after_pool front)
     (form_again form ns rows refl refl
     (small_more free (length owners ∷ []) (omega (arith, few, count_by-le-length is_none owners)) (small_one (length owners) (omega (arith, few)))))
-    ∙ ap (λ t. pool_of ns (rows_from (owner_at front) 256 0 t)) (sym (append-nil rows))
-    ∙ ap (pool_of ns) (rows_again (owner_at front) (show_owner front) OwnerFits (owner_again front) 256 0 owners [] few (omega arith) fits (no_owner front))
+    ∙ ap (λ t. pool_of ns (rows_from owner_at front 256 0 t)) (sym (append-nil rows))
+    ∙ ap (pool_of ns) (rows_again owner_at owner_line front OwnerFits owner_again 256 0 owners [] few (omega arith) fits (no_owner front))
     ∙ (λ i. cond (itself free i && itself (length owners) i) (Some (Say.Owners (record { items = owners }), [])) None)
 
 -- ---- the whole text

@@ -26,15 +26,15 @@ with_caches ns top split orders caches = Some (Say.Report (report_made ns top sp
 
 abbrev with_orders : List ℕ → List ℕ → Option ℕ → ℕ → List OrderRow × List ℕ → Option (Body × List ℕ)
 with_orders front ns top split orders =
-    with_caches ns top split orders.0 (rows_from (λ index. cache_row_at front) 32 0 orders.1)
+    with_caches ns top split orders.0 (rows_from cache_row_at front 32 0 orders.1)
 
 abbrev with_top : List ℕ → List ℕ → (Option ℕ × ℕ) × List ℕ → Option (Body × List ℕ)
-with_top front ns top = with_orders front ns top.0.0 top.0.1 (rows_from (order_at front) 9 0 top.1)
+with_top front ns top = with_orders front ns top.0.0 top.0.1 (rows_from order_at front 9 0 top.1)
 
 pub report_is : (front text ns line : List ℕ) (top : Option ℕ) (split : ℕ) (rows : List ℕ) (orders : List OrderRow) (later : List ℕ)
     (caches : List CacheRow) (rest : List ℕ) → form_at (codes "frames # live # free # top ") text ≡ Some (ns, line)
-    → some_top_at line ≡ Some ((top, split), rows) → rows_from (order_at front) 9 0 rows ≡ (orders, later)
-    → rows_from (λ index. cache_row_at front) 32 0 later ≡ (caches, rest)
+    → some_top_at line ≡ Some ((top, split), rows) → rows_from order_at front 9 0 rows ≡ (orders, later)
+    → rows_from cache_row_at front 32 0 later ≡ (caches, rest)
     → report_at front text ≡ Some (Say.Report (report_made ns top split orders caches), rest)
 unfolding report_at
 report_is front text ns line top split rows orders later caches rest head tops order_rows cache_rows =
@@ -48,15 +48,15 @@ with_owners ns owners =
     cond (count_by is_none owners.0 == get_or ns 0 0 && length owners.0 == get_or ns 1 0) (Some (Say.Owners (record { items = owners.0 }), owners.1)) None
 
 pool_read : (front text ns rows : List ℕ) (owners : List (Option Owner)) (rest : List ℕ) → form_at (codes "pool free # of #\n") text ≡ Some (ns, rows)
-    → rows_from (owner_at front) 256 0 rows ≡ (owners, rest) → pool_at front text ≡ with_owners ns (owners, rest)
+    → rows_from owner_at front 256 0 rows ≡ (owners, rest) → pool_at front text ≡ with_owners ns (owners, rest)
 unfolding pool_at
 pool_read front text ns rows owners rest head owner_rows =
-    ap (λ found. found >>= (λ head. with_owners head.0 (rows_from (owner_at front) 256 0 head.1))) head
+    ap (λ found. found >>= (λ head. with_owners head.0 (rows_from owner_at front 256 0 head.1))) head
     ∙ ap (with_owners ns) owner_rows
 
 -- by whether the counts are those of the rows
 pub pool_so : (test fits : Bool) (front text ns rows : List ℕ) (slice owners : List (Option Owner)) (rest : List ℕ)
-    → form_at (codes "pool free # of #\n") text ≡ Some (ns, rows) → rows_from (owner_at front) 256 0 rows ≡ (owners, rest) → slice ≡ owners
+    → form_at (codes "pool free # of #\n") text ≡ Some (ns, rows) → rows_from owner_at front 256 0 rows ≡ (owners, rest) → slice ≡ owners
     → fits ≡ (count_by is_none slice == get_or ns 0 0 && length slice == get_or ns 1 0) → fits ≡ test
     → pool_at front text ≡ cond test (Some (Say.Owners (record { items = owners }), rest)) None
 pool_so test fits front text ns rows slice owners rest head owner_rows same counts is =

@@ -29,7 +29,7 @@ use Rattle.check_core.proofs.FormLoop.{marks, first_mark}
 use Rattle.check_core.proofs.FormLemmas.{form_text}
 use Rattle.check_core.proofs.SaidLemmas.{spelled, IsAnswer}
 use Rattle.check_core.proofs.AnswerLemmas.{answer_text}
-use Rattle.check_core.proofs.RowLemmas.{shown, order_line, cache_line, owner_said, owner_line, show_order, show_cache, show_owner}
+use Rattle.check_core.proofs.RowLemmas.{shown, order_line, cache_line, owner_said, owner_line}
 use Rattle.check_core.proofs.TableLemmas.{with_end, top_line, head_line, report_lines, report_text, pool_lines, pool_text}
 use Rattle.check_core.proofs.ReadingLemmas.{ended_first, ended_after, ended_has_end}
 
@@ -142,11 +142,17 @@ front_fits Nobody fits = leb-true 3 7 refl
 front_fits (Tenant tenant) fits =
     omega (arith, length-append (decimal tenant) (codes "> "), length-decimal-le 3 tenant (omega arith) (omega (arith, fits)) (omega (arith, fits)))
 
-rows_fit : {A : Type 0} (show : ℕ → A → List ℕ) (most : ℕ) → ((index : ℕ) (row : A) → length (show index row) ≤ most) → (index : ℕ) (rows : List A)
-    → length (shown show index rows) ≤ length rows * most
-rows_fit show most each index [] = omega arith
-rows_fit show most each index (row ∷ rows) =
-    omega (arith, each index row, rows_fit show most each (index + 1) rows, length-append (show index row) (shown show (index + 1) rows))
+rows_fit : {A : Type 0} (show : ℕ → A → List ℕ) (front : List ℕ) (most : ℕ) → ((index : ℕ) (row : A) → length front + length (show index row) ≤ most)
+    → (index : ℕ) (rows : List A) → length (shown show front index rows) ≤ length rows * most
+rows_fit show front most each index [] = omega arith
+rows_fit show front most each index (row ∷ rows) =
+    omega (
+      arith,
+      each index row,
+      rows_fit show front most each (index + 1) rows,
+      length-append front (show index row),
+      length-append (front ++ show index row) (shown show front (index + 1) rows),
+    )
 
 top_fits : (top : Option ℕ) (split : ℕ) → length (top_line top split) ≤ 200
 unfolding top_line
@@ -159,13 +165,13 @@ owner_fits (Some owner) = line_fits (codes "tenant # slot #\n") (owner.tenant �
 
 report_fits : (front : List ℕ) (report : figures.Report) → length front ≤ 7 → ReportFits report → length (with_end (body_texts front (Report report))) ≤ MOST_TEXT_BYTES
 report_fits front report short fits =
-    let orders = shown (show_order front) 0 report.orders.items in
-    let caches = shown (show_cache front) 0 report.caches.items in
+    let orders = shown order_line front 0 report.orders.items in
+    let caches = shown cache_line front 0 report.caches.items in
     let label = form_text (codes "frames # live # free # top ") (report.frames ∷ report.live ∷ report.free ∷ []) in
-    let order_fits : (order : ℕ) (row : OrderRow) → length (show_order front order row) ≤ 400 = λ order row.
-    omega (arith, short, length-append front (order_line order row), line_fits (codes "order # free # taken #\n") (order ∷ row.free ∷ row.taken ∷ []) 300 refl) in
-    let cache_fits : (index : ℕ) (row : CacheRow) → length (show_cache front index row) ≤ 400 = λ index row.
-    omega (arith, short, length-append front (cache_line row), line_fits (codes "cache # full # partial # empty # live #\n") (row.cache ∷ row.full ∷ row.partial ∷ row.empty ∷ row.live ∷ []) 370 refl) in
+    let order_fits : (order : ℕ) (row : OrderRow) → length front + length (order_line order row) ≤ 400 = λ order row.
+    omega (arith, short, line_fits (codes "order # free # taken #\n") (order ∷ row.free ∷ row.taken ∷ []) 300 refl) in
+    let cache_fits : (index : ℕ) (row : CacheRow) → length front + length (cache_line index row) ≤ 400 = λ index row.
+    omega (arith, short, line_fits (codes "cache # full # partial # empty # live #\n") (row.cache ∷ row.full ∷ row.partial ∷ row.empty ∷ row.live ∷ []) 370 refl) in
     omega (
       arith,
       ap length (report_text front report),
@@ -176,8 +182,8 @@ report_fits front report short fits =
       short,
       line_fits (codes "frames # live # free # top ") (report.frames ∷ report.live ∷ report.free ∷ []) 300 refl,
       top_fits report.top report.split,
-      rows_fit (show_order front) 400 order_fits 0 report.orders.items,
-      rows_fit (show_cache front) 400 cache_fits 0 report.caches.items,
+      rows_fit order_line front 400 order_fits 0 report.orders.items,
+      rows_fit cache_line front 400 cache_fits 0 report.caches.items,
       fits.few_orders,
       fits.few_caches,
     )
@@ -185,16 +191,16 @@ report_fits front report short fits =
 pool_fits : (front : List ℕ) (owners : List (Option Owner)) → length front ≤ 7 → length owners ≤ 256 → length (front ++ pool_lines front owners) ≤ MOST_TEXT_BYTES
 pool_fits front owners short few =
     let counts = form_text (codes "pool free # of #\n") (count_by is_none owners ∷ length owners ∷ []) in
-    let row_fits : (superblock : ℕ) (owner : Option Owner) → length (show_owner front superblock owner) ≤ 230 = λ superblock owner.
-    omega (arith, short, length-append front (owner_line superblock owner), length-append (form_text (codes "superblock # ") (superblock ∷ [])) (owner_said owner), line_fits (codes "superblock # ") (superblock ∷ []) 76 refl, owner_fits owner) in
+    let row_fits : (superblock : ℕ) (owner : Option Owner) → length front + length (owner_line superblock owner) ≤ 230 = λ superblock owner.
+    omega (arith, short, length-append (form_text (codes "superblock # ") (superblock ∷ [])) (owner_said owner), line_fits (codes "superblock # ") (superblock ∷ []) 76 refl, owner_fits owner) in
     omega (
       arith,
       length-append front (pool_lines front owners),
-      length-append counts (shown (show_owner front) 0 owners),
+      length-append counts (shown owner_line front 0 owners),
       short,
       few,
       line_fits (codes "pool free # of #\n") (count_by is_none owners ∷ length owners ∷ []) 200 refl,
-      rows_fit (show_owner front) 230 row_fits 0 owners,
+      rows_fit owner_line front 230 row_fits 0 owners,
     )
 
 answer_fits : (who : Addressee) (said : Body) → AddresseeFits who → IsAnswer said → length (text_of (record { addressee = who; body = said })) ≤ MOST_TEXT_BYTES

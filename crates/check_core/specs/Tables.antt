@@ -17,31 +17,36 @@ use Rattle.check_core.specs.Replies.{made_at, ◌or_else◌, fit_tenant, address
 unfoldable pub after_front : List ℕ → List ℕ → Option (List ℕ)
 after_front front text = if bytes_eq (take (length front) text) front then Some (drop (length front) text) else None
 
+-- a row behind the front
+abbrev pub row_behind : {A : Type 0} → (List ℕ → Option (A × List ℕ)) → List ℕ → List ℕ → Option (A × List ℕ)
+row_behind row_at front text = after_front front text >>= row_at
+
 -- a row before those that follow it, or none
 abbrev pub then_rows : {A : Type 0} → Option (A × List ℕ) → List ℕ → (List ℕ → List A × List ℕ) → List A × List ℕ
 then_rows None text more = ([], text)
 then_rows (Some found) text more = (found.0 ∷ (more found.1).0, (more found.1).1)
 
--- rows by their index, from this one on, as long as there are and not more than so many; and what follows them
-unfoldable pub rows_from : {A : Type 0} → (ℕ → List ℕ → Option (A × List ℕ)) → ℕ → ℕ → List ℕ → List A × List ℕ
-rows_from row_at zero index text = ([], text)
-rows_from row_at (suc most) index text = then_rows (row_at index text) text (λ rest. rows_from row_at most (index + 1) rest)
+-- rows by their index, each behind the front, from this index on, until there is none or there are `most`; and what follows them
+unfoldable pub rows_from : {A : Type 0} → (ℕ → List ℕ → Option (A × List ℕ)) → List ℕ → ℕ → ℕ → List ℕ → List A × List ℕ
+rows_from row_at front zero index text = ([], text)
+rows_from row_at front (suc most) index text =
+    then_rows (row_behind (row_at index) front text) text (λ rest. rows_from row_at front most (index + 1) rest)
 
 -- ---- a report
 
-unfoldable pub order_at : List ℕ → ℕ → List ℕ → Option (OrderRow × List ℕ)
-order_at front order text = after_front front text >>= made_at (codes "order # free # taken #\n")
-    (λ ns. slice_index ns 0 == order) (λ ns. record { free = slice_index ns 1; taken = slice_index ns 2 })
+unfoldable pub order_at : ℕ → List ℕ → Option (OrderRow × List ℕ)
+order_at order text = made_at (codes "order # free # taken #\n")
+    (λ ns. slice_index ns 0 == order) (λ ns. record { free = slice_index ns 1; taken = slice_index ns 2 }) text
 
-unfoldable pub cache_row_at : List ℕ → List ℕ → Option (CacheRow × List ℕ)
-cache_row_at front text = after_front front text >>= made_at (codes "cache # full # partial # empty # live #\n")
+unfoldable pub cache_row_at : ℕ → List ℕ → Option (CacheRow × List ℕ)
+cache_row_at index text = made_at (codes "cache # full # partial # empty # live #\n")
     (λ ns. nat_lt (slice_index ns 0) (2 ^ 8)) (λ ns. record {
       cache = slice_index ns 0;
       full = slice_index ns 1;
       partial = slice_index ns 2;
       empty = slice_index ns 3;
       live = slice_index ns 4;
-    })
+    }) text
 
 -- the greatest order of a free block, and the share outside one
 unfoldable pub top_at : List ℕ → Option ((Option ℕ × ℕ) × List ℕ)
@@ -59,8 +64,8 @@ unfoldable pub report_at : List ℕ → List ℕ → Option (Body × List ℕ)
 report_at front text =
     form_at (codes "frames # live # free # top ") text >>= (λ head.
     some_top_at head.1 >>= (λ top.
-    let orders = rows_from (order_at front) ORDERS 0 top.1 in
-    let caches = rows_from (λ index. cache_row_at front) CACHES 0 orders.1 in
+    let orders = rows_from order_at front ORDERS 0 top.1 in
+    let caches = rows_from cache_row_at front CACHES 0 orders.1 in
     let report : Report = record {
       frames = slice_index head.0 0;
       live = slice_index head.0 1;
@@ -86,15 +91,14 @@ abbrev pub owner_of : ℕ → List ℕ × List ℕ → Option (Option Owner × L
 owner_of superblock found =
     if slice_index found.0 0 == superblock then unowned_at found.1 or_else owned_at found.1 else None
 
-unfoldable pub owner_at : List ℕ → ℕ → List ℕ → Option (Option Owner × List ℕ)
-owner_at front superblock text =
-    after_front front text >>= (λ rest. form_at (codes "superblock # ") rest >>= owner_of superblock)
+unfoldable pub owner_at : ℕ → List ℕ → Option (Option Owner × List ℕ)
+owner_at superblock text = form_at (codes "superblock # ") text >>= owner_of superblock
 
 -- the counts at the head of the table are those of its rows
 unfoldable pub pool_at : List ℕ → List ℕ → Option (Body × List ℕ)
 pool_at front text =
     form_at (codes "pool free # of #\n") text >>= (λ head.
-    let owners = rows_from (owner_at front) OWNERS 0 head.1 in
+    let owners = rows_from owner_at front OWNERS 0 head.1 in
     if count_by is_none owners.0 == slice_index head.0 0 && length owners.0 == slice_index head.0 1
     then Some (Say.Owners (record { items = owners.0 }), owners.1) else None)
 

@@ -15,6 +15,7 @@ mod hexed;
 pub mod laws;
 mod lines;
 mod reader;
+mod rows;
 mod said;
 mod short;
 mod shown;
