@@ -3,7 +3,7 @@ use Rattle.std.proofs.Common.{◌≡◌, ℕ, Bool, true, false, cond, List, ◌
 use Rattle.std.specs.Prelude.{MatchOption}
 use Rattle.std.proofs.lemmas.Option.{same_Some}
 use Rattle.words_core.specs.Texts.{addressee_text, text_of}
-use Rattle.words_core.specs.Requests.{body_of_answer, is_table, reply_to, HasFewBytes}
+use Rattle.words_core.specs.Requests.{is_table, reply_to}
 use Rattle.words_core.specs.declared.answer.Answer.{Answer}
 use Rattle.words_core.specs.declared.reply.Addressee.{Addressee}
 use Rattle.words_core.specs.declared.reply.Reply.{Reply}
@@ -14,7 +14,6 @@ use Rattle.check_core.specs.Forms.{◌>>=◌, Gives, mark_at, form_at}
 use Rattle.check_core.specs.Replies.{◌or_else◌, said_at, written_at, bytes_at, frame_at, freed_at, object_at, given_at, refused_at, cache_at, destroyed_at, reaped_at, granted_at, taken_at, reset_at, moved_at, fault_at, some_fault_at, notice_at, rare_at, answer_of}
 use Rattle.check_core.specs.Tables.{table_of, reply_of_text}
 use Rattle.check_core.proofs.KindLemmas.{either}
-use Rattle.check_core.proofs.SaidLemmas.{IsAnswer}
 use Rattle.check_core.proofs.AnswerLemmas.{said_of, alone_of, addressee_again, answer_takes, answer_again}
 use Rattle.check_core.proofs.TableLemmas.{report_lines, report_text, pool_lines, pool_text, table_takes, report_read_again, pool_read_again}
 
@@ -24,10 +23,6 @@ unfolding reply_of_text
 reply_takes text reply e = either (answer_of text) (table_of text) reply e (λ e. (answer_takes text reply e).0) (λ e. (table_takes text reply e).0)
 
 -- ---- answers
-
-pub few_bytes : (answer : Answer) → IsAnswer (body_of_answer answer) → HasFewBytes answer
-few_bytes (Answer.Bytes bytes) few = few
-few_bytes _ _ = tt
 
 no_answer : (text : List ℕ) (who : Addressee) (lines : List ℕ) → AddresseeFits who → text ≡ addressee_text who ++ lines
     → said_at lines ≡ None → answer_of text ≡ None

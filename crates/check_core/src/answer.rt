@@ -1,7 +1,7 @@
 //! Answers: the replies of one line.
 
 ghost use Rattle.std.specs.Prelude.{◌≡◌, true, IfSome, MatchOption};
-ghost use Rattle.words_core.specs.Requests.{HasFewBytes, is_table, reply_to};
+ghost use Rattle.words_core.specs.Requests.{is_table, reply_to};
 ghost use Rattle.words_core.specs.Texts.{text_of};
 ghost use Rattle.words_core.specs.declared.reply.Reply.{Reply};
 ghost use Rattle.check_core.specs.Forms.{Gives};
@@ -24,7 +24,6 @@ pub fn read_answer<'a>(
     // What has this text is read, unless it is a table.
     ensures only { (due : Reply) → Fits due → text_of due ≡ text.now
         → MatchOption result (is_table due.body ≡ true) (λ found. reply_to found.0 found.1 ≡ due) }
-    ensures few { IfSome result (λ found. HasFewBytes found.1) }
     // The same as a function.
     ensures exact { Gives (λ found. reply_to found.0 found.1) result (answer_of text.now) }
 {

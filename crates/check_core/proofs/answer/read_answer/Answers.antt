@@ -1,13 +1,13 @@
 use Rattle.std.proofs.Common.{◌≡◌, ℕ, List, Option, Some, None}
 use Rattle.std.specs.Prelude.{IfSome}
-use Rattle.words_core.specs.Requests.{reply_to, HasFewBytes}
+use Rattle.words_core.specs.Requests.{reply_to}
 use Rattle.words_core.specs.Texts.{text_of}
 use Rattle.words_core.specs.declared.answer.Answer.{Answer}
 use Rattle.words_core.specs.declared.reply.Addressee.{Addressee}
 use Rattle.check_core.specs.Forms.{Gives}
 use Rattle.check_core.specs.Replies.{answer_of}
 use Rattle.check_core.proofs.AnswerLemmas.{answer_takes}
-use Rattle.check_core.proofs.ReplyLemmas.{answer_only, few_bytes}
+use Rattle.check_core.proofs.ReplyLemmas.{answer_only}
 use Rattle.check_core.proofs.answer.read_answer.Goals as goal
 
 has_text : (text : List ℕ) (found : Option (Addressee × Answer)) → Gives (λ found. reply_to found.0 found.1) found (answer_of text)
@@ -15,15 +15,9 @@ has_text : (text : List ℕ) (found : Option (Addressee × Answer)) → Gives (�
 has_text text None none = tt
 has_text text (Some found) is = (answer_takes text (reply_to found.0 found.1) is).0
 
-has_few : (text : List ℕ) (found : Option (Addressee × Answer)) → Gives (λ found. reply_to found.0 found.1) found (answer_of text)
-    → IfSome found (λ found. HasFewBytes found.1)
-has_few text None none = tt
-has_few text (Some found) is = few_bytes found.1 (answer_takes text (reply_to found.0 found.1) is).1
-
 pub returns : goal.returns
 returns c = record {
   found = has_text c.args.text.now c.answer_of.result c.answer_of.ensures;
   only = λ due fits same. answer_only c.args.text.now due c.answer_of.result c.answer_of.ensures fits same;
-  few = has_few c.args.text.now c.answer_of.result c.answer_of.ensures;
   exact = c.answer_of.ensures;
 }
