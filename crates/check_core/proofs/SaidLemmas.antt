@@ -18,7 +18,7 @@ use Rattle.words_core.specs.declared.event.LineFault.TheVariants.{Long, Unknown,
 use Rattle.words_core.specs.declared.reply.Body.{Body}
 use Rattle.words_core.specs.declared.reply.Body.TheVariants.{Granted, TakenBack, WasReset, Moved, Owners, Frame, Freed, Bytes, Written, Cache, Destroyed, Object, Given, Reaped, Report, Refused, Fault}
 use Rattle.words_core.specs.declared.reply.Refusal.{Refusal}
-use Rattle.words_core.specs.declared.reply.Refusal.TheVariants.{NoFrames, BadOrder, NotABlock, OutOfReach, BadLength, BadSize, BadAlign, NoCacheSlot, NoCache, CacheInUse, NotAnObject, NoTenant, PoolEmpty, NoSlot, SlotBusy}
+use Rattle.words_core.specs.declared.reply.Refusal.TheVariants.{NoFrames}
 use Rattle.hex.specs.Hex.{encode_lower, decode_of, is_hex_digit, IsBytes}
 use Rattle.words_core.specs.declared.reply.TheConstants.{REFUSALS}
 use Rattle.check_core.specs.Forms.{◌>>=◌, mark_at, form_at}
@@ -82,20 +82,7 @@ record IsNamed (refusal : Refusal) : Type 0 where
 
 named : (refusal : Refusal) → IsNamed refusal
 named NoFrames = record { good = refl; none = refl; text = λ ns. refl; number = refl; small = omega arith }
-named BadOrder = record { good = refl; none = refl; text = λ ns. refl; number = refl; small = omega arith }
-named NotABlock = record { good = refl; none = refl; text = λ ns. refl; number = refl; small = omega arith }
-named OutOfReach = record { good = refl; none = refl; text = λ ns. refl; number = refl; small = omega arith }
-named BadLength = record { good = refl; none = refl; text = λ ns. refl; number = refl; small = omega arith }
-named BadSize = record { good = refl; none = refl; text = λ ns. refl; number = refl; small = omega arith }
-named BadAlign = record { good = refl; none = refl; text = λ ns. refl; number = refl; small = omega arith }
-named NoCacheSlot = record { good = refl; none = refl; text = λ ns. refl; number = refl; small = omega arith }
-named NoCache = record { good = refl; none = refl; text = λ ns. refl; number = refl; small = omega arith }
-named CacheInUse = record { good = refl; none = refl; text = λ ns. refl; number = refl; small = omega arith }
-named NotAnObject = record { good = refl; none = refl; text = λ ns. refl; number = refl; small = omega arith }
-named NoTenant = record { good = refl; none = refl; text = λ ns. refl; number = refl; small = omega arith }
-named PoolEmpty = record { good = refl; none = refl; text = λ ns. refl; number = refl; small = omega arith }
-named NoSlot = record { good = refl; none = refl; text = λ ns. refl; number = refl; small = omega arith }
-named SlotBusy = record { good = refl; none = refl; text = λ ns. refl; number = refl; small = omega arith }
+named _ = record { good = refl; none = refl; text = λ ns. refl; number = refl; small = omega arith }
 
 name_again : (refusal : Refusal) (rest : List ℕ) → form_at (name_of_refusal refusal) (name_of_refusal refusal ++ rest) ≡ Some ([], rest)
 name_again refusal rest =
@@ -155,10 +142,7 @@ refused_again refusal rest =
 
 fault_text : (fault : LineFault) (ns : List ℕ) → form_text (name_of_fault fault) ns ≡ name_of_fault fault
 fault_text Long ns = refl
-fault_text Unknown ns = refl
-fault_text Words ns = refl
-fault_text Number ns = refl
-fault_text Hex ns = refl
+fault_text _ ns = refl
 
 abbrev after_fault : LineFault → List ℕ × List ℕ → Option (Body × List ℕ)
 after_fault fault named = form_at (codes "\n") named.1 >>= (λ ended. Some (Fault fault, ended.1))
@@ -195,10 +179,7 @@ some_fault_takes text said rest e =
 some_fault_again : (fault : LineFault) (rest : List ℕ) → some_fault_at (spelled (Fault fault) ++ rest) ≡ Some (Fault fault, rest)
 unfolding some_fault_at fault_at form_at mark_at
 some_fault_again Long rest = refl
-some_fault_again Unknown rest = refl
-some_fault_again Words rest = refl
-some_fault_again Number rest = refl
-some_fault_again Hex rest = refl
+some_fault_again _ rest = refl
 
 -- ---- bytes
 
@@ -310,57 +291,33 @@ first_takes (kind ∷ kinds) all text said rest e =
     let x : Body × List ℕ = (said, rest) in
     either (kind text) (first_of kinds text) x e (all.0 text said rest) (first_takes kinds all.1 text said rest)
 
+infixr 10 ◌also◌
+abbrev ◌also◌ : {A B : Type 0} → A → B → A × B
+a also b = (a, b)
+
 all_take : AllTake kinds
 unfolding written_at frame_at freed_at object_at given_at cache_at destroyed_at reaped_at granted_at taken_at reset_at moved_at
-all_take = (
-  bytes_takes,
-  (
-    takes (codes "written #\n") (λ ns. true) (λ ns. Written (get_or ns 0 0)) (λ ns count. (refl, tt)),
-    (
-      takes (codes "frame #\n") (λ ns. true) (λ ns. Frame (get_or ns 0 0)) (λ ns count. (refl, tt)),
-      (
-        takes (codes "freed #\n") (λ ns. nat_lt (get_or ns 0 0) (2 ^ 8)) (λ ns. Freed (get_or ns 0 0)) (λ ns count. (refl, tt)),
-        (
-          takes (codes "object #\n") (λ ns. true) (λ ns. Object (get_or ns 0 0)) (λ ns count. (refl, tt)),
-          (
-            takes (codes "given\n") (λ ns. true) (λ ns. Given) (λ ns count. (refl, tt)),
-            (
-              refused_takes,
-              (
-                takes (codes "cache # chunk # order # objects # colours #\n") (λ ns. nat_lt (get_or ns 0 0) (2 ^ 8) && nat_lt (get_or ns 2 0) (2 ^ 8))
-                    (λ ns. Cache (get_or ns 0 0) (get_or ns 1 0) (get_or ns 2 0) (get_or ns 3 0) (get_or ns 4 0))
-                    (λ ns count. (ap (form_text (codes "cache # chunk # order # objects # colours #\n")) (five ns count), tt)),
-                (
-                  takes (codes "destroyed #\n") (λ ns. true) (λ ns. Destroyed (get_or ns 0 0)) (λ ns count. (refl, tt)),
-                  (
-                    takes (codes "reaped #\n") (λ ns. true) (λ ns. Reaped (get_or ns 0 0)) (λ ns count. (refl, tt)),
-                    (
-                      takes (codes "granted # slot # superblock #\n") fit_place (λ ns. Granted (get_or ns 0 0) (get_or ns 1 0) (get_or ns 2 0))
-                          (λ ns count. (ap (form_text (codes "granted # slot # superblock #\n")) (three ns count), tt)),
-                      (
-                        takes (codes "taken superblock #\n") (λ ns. nat_lt (get_or ns 0 0) (2 ^ 16)) (λ ns. TakenBack (get_or ns 0 0)) (λ ns count. (refl, tt)),
-                        (
-                          takes (codes "reset # superblocks #\n") fit_tenant (λ ns. WasReset (get_or ns 0 0) (get_or ns 1 0))
-                              (λ ns count. (ap (form_text (codes "reset # superblocks #\n")) (two ns count), tt)),
-                          (
-                            takes (codes "moved # slot # superblock #\n") fit_place (λ ns. Moved (get_or ns 0 0) (get_or ns 1 0) (get_or ns 2 0))
-                                (λ ns count. (ap (form_text (codes "moved # slot # superblock #\n")) (three ns count), tt)),
-                            (
-                                tt),
-                          ),
-                        ),
-                      ),
-                    ),
-                  ),
-                ),
-              ),
-            ),
-          ),
-        ),
-      ),
-    ),
-  ),
-)
+all_take =
+    bytes_takes
+    also takes (codes "written #\n") (λ ns. true) (λ ns. Written (get_or ns 0 0)) (λ ns count. (refl, tt))
+    also takes (codes "frame #\n") (λ ns. true) (λ ns. Frame (get_or ns 0 0)) (λ ns count. (refl, tt))
+    also takes (codes "freed #\n") (λ ns. nat_lt (get_or ns 0 0) (2 ^ 8)) (λ ns. Freed (get_or ns 0 0)) (λ ns count. (refl, tt))
+    also takes (codes "object #\n") (λ ns. true) (λ ns. Object (get_or ns 0 0)) (λ ns count. (refl, tt))
+    also takes (codes "given\n") (λ ns. true) (λ ns. Given) (λ ns count. (refl, tt))
+    also refused_takes
+    also takes (codes "cache # chunk # order # objects # colours #\n") (λ ns. nat_lt (get_or ns 0 0) (2 ^ 8) && nat_lt (get_or ns 2 0) (2 ^ 8))
+    (λ ns. Cache (get_or ns 0 0) (get_or ns 1 0) (get_or ns 2 0) (get_or ns 3 0) (get_or ns 4 0))
+    (λ ns count. (ap (form_text (codes "cache # chunk # order # objects # colours #\n")) (five ns count), tt))
+    also takes (codes "destroyed #\n") (λ ns. true) (λ ns. Destroyed (get_or ns 0 0)) (λ ns count. (refl, tt))
+    also takes (codes "reaped #\n") (λ ns. true) (λ ns. Reaped (get_or ns 0 0)) (λ ns count. (refl, tt))
+    also takes (codes "granted # slot # superblock #\n") fit_place (λ ns. Granted (get_or ns 0 0) (get_or ns 1 0) (get_or ns 2 0))
+    (λ ns count. (ap (form_text (codes "granted # slot # superblock #\n")) (three ns count), tt))
+    also takes (codes "taken superblock #\n") (λ ns. nat_lt (get_or ns 0 0) (2 ^ 16)) (λ ns. TakenBack (get_or ns 0 0)) (λ ns count. (refl, tt))
+    also takes (codes "reset # superblocks #\n") fit_tenant (λ ns. WasReset (get_or ns 0 0) (get_or ns 1 0))
+    (λ ns count. (ap (form_text (codes "reset # superblocks #\n")) (two ns count), tt))
+    also takes (codes "moved # slot # superblock #\n") fit_place (λ ns. Moved (get_or ns 0 0) (get_or ns 1 0) (get_or ns 2 0))
+    (λ ns count. (ap (form_text (codes "moved # slot # superblock #\n")) (three ns count), tt))
+    also tt
 
 pub said_takes : (text : List ℕ) (said : Body) (rest : List ℕ) → said_at text ≡ Some (said, rest) → Takes text said rest
 unfolding said_at rare_at notice_at
