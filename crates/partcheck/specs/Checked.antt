@@ -1,4 +1,4 @@
--- What is told of how a check ends, and what it tells of two texts.
+-- How a check ends, and what its finding says of two texts.
 use Rattle.std.specs.Prelude.{ℕ, List, None}
 use Rattle.model_core.specs.declared.config.Config.{Config}
 use Rattle.model_core.specs.declared.limits.TheConstants.{MOST_CACHES}
@@ -16,9 +16,9 @@ use Rattle.partcheck.specs.declared.checked.Checked.TheVariants.{Found, Failed, 
 abbrev pub status_of_check : Checked → ℕ
 status_of_check (Found (Kept lines)) = 0
 status_of_check (Found (Broken breach)) = 4
-status_of_check (Failed Not.Trace) = 1
-status_of_check (Failed Not.Replies) = 1
-status_of_check (Failed Not.Memory) = 3
+status_of_check (Failed Not.Trace error) = 1
+status_of_check (Failed Not.Replies error) = 1
+status_of_check (Failed Not.Memory error) = 3
 status_of_check Unwritten = 1
 
 -- before the first line of a machine of these sizes

@@ -4,35 +4,47 @@ ghost use Rattle.std.specs.Prelude.{◌≡◌};
 ghost use Rattle.std.specs.Process.{exit_status};
 ghost use Rattle.partcheck.specs.Checked.{status_of_check};
 
-use crate::settings::{PROGRAM, REPLIES_PROGRAM};
+use crate::settings::{PROGRAM, REPLIES_PROGRAM, Settings};
 use check_core::{Finding, Unchecked};
-use command_line::{Outcome, tell};
+use command_line::{FileError, Outcome, tell, tell_file};
 use std::process::ExitCode;
 
 /// How a check ended.
-#[derive(Clone, Copy, Debug, PartialEq, Eq)]
+#[derive(Clone, Copy, Debug)]
 pub enum Checked {
     /// With a finding, which was written.
     Found(Finding),
-    /// Without one.
-    Failed(Unchecked),
+    /// Without one. Has the error of the file that could not be opened or read, if there is one.
+    Failed(Unchecked, Option<FileError>),
     /// With a finding that could not be written.
     Unwritten,
 }
 
-/// The exit status where a reply breaks a promise.
+/// The exit status if a reply breaks a promise.
 const BROKEN: u8 = 4;
 
-/// Prints on standard error why there is no finding, if there is none, and returns the exit status.
-pub fn tell_checked(rt: &impl Eprint, checked: Checked) -> ExitCode
+/// Prints on standard error why there is no finding, if there is none, and which file could not be opened or read. Returns the
+/// exit status.
+pub fn tell_checked(rt: &impl Eprint, settings: &Settings, checked: Checked) -> ExitCode
+    ensures { exit_status result ≡ status_of_check checked }
+{
+    let code = tell_status(rt, checked);
+    if let Checked::Failed(why, Some(error)) = checked {
+        tell_file(rt, PROGRAM, settings.name_of(why), &error);
+    }
+    code
+}
+
+/// Prints why there is no finding, if there is none, and returns the exit status.
+fn tell_status(rt: &impl Eprint, checked: Checked) -> ExitCode
     ensures { exit_status result ≡ status_of_check checked }
 {
     match checked {
         Checked::Found(Finding::Kept(_)) => tell(rt, PROGRAM, &Outcome::Done),
         Checked::Found(Finding::Broken(_)) => ExitCode::from(BROKEN),
-        Checked::Failed(Unchecked::Trace) => tell(rt, PROGRAM, &Outcome::Unreadable),
-        Checked::Failed(Unchecked::Replies) => tell(rt, REPLIES_PROGRAM, &Outcome::Unreadable),
-        Checked::Failed(Unchecked::Memory) => tell(rt, PROGRAM, &Outcome::NoMemory),
+        Checked::Failed(Unchecked::Trace, _) => tell(rt, PROGRAM, &Outcome::Unreadable),
+        Checked::Failed(Unchecked::Replies, _) => tell(rt, REPLIES_PROGRAM, &Outcome::Unreadable),
+        Checked::Failed(Unchecked::Memory, _) => tell(rt, PROGRAM, &Outcome::NoMemory),
         Checked::Unwritten => tell(rt, PROGRAM, &Outcome::Unwritable),
     }
 }

@@ -1,4 +1,4 @@
-//! Checks the replies to a trace: reads both in step, and tells the first reply that breaks a promise.
+//! Checks the replies to a trace: reads both in step, and prints the first reply that breaks a promise.
 //!
 //! `partcheck --order S --superblocks N --tenants T TRACE REPLIES`
 //!
@@ -14,10 +14,6 @@
 //! `command_line::Outcome`.
 #![tactic(auto)]
 
-ghost use Rattle.std.specs.Prelude.{◌≡◌};
-ghost use Rattle.std.specs.Process.{exit_status};
-ghost use Rattle.partcheck.specs.Checked.{status_of_check};
-
 mod checked;
 mod run;
 mod settings;
@@ -28,23 +24,20 @@ use check_core::{Finding, LineReader, Shown, Unchecked};
 use checked::{Checked, tell_checked};
 use command_line::{
     FileError, Outcome, Progress, ProgressReader, WatchedReader, hand_out, progress_in, tell,
-    tell_file, texts_of, words_given,
+    texts_of, words_given,
 };
 use run::run;
 use settings::{PROGRAM, Settings};
 use std::fs::File;
-use std::io::{self, BufWriter, IsTerminal, Read, Write};
+use std::io::{self, BufWriter, IsTerminal, Read};
 use std::process::ExitCode;
 use std::rt::{Clock, Env, Files};
 use streams::ReaderFeed;
 use telling::write_finding;
 use words::read_words;
 
-/// Room for the line that tells a finding.
+/// Capacity of the buffer for the line of a finding.
 const LINE_BYTES: usize = 4096;
-
-/// The path that stands for standard input.
-const STANDARD_INPUT: &str = "-";
 
 fn main(rt: HostRuntime) -> ExitCode {
     match read_command_line(&rt) {
@@ -52,12 +45,12 @@ fn main(rt: HostRuntime) -> ExitCode {
             let progress = progress_in(
                 &rt,
                 PROGRAM,
-                trace_path(&settings),
+                settings.trace_path(),
                 Some(settings.replies.as_str()),
                 rt.stderr().is_terminal(),
             );
-            let ended = check_files(&rt, &settings, progress);
-            tell_ended(&rt, &settings, &ended)
+            let checked = check_files(&rt, &settings, progress);
+            tell_checked(&rt, &settings, checked)
         }
         Err(refused) => {
             let outcome = hand_out(&mut io::writer(&rt), refused);
@@ -66,55 +59,11 @@ fn main(rt: HostRuntime) -> ExitCode {
     }
 }
 
-/// What the command line asks for.
+/// Reads the command line.
 fn read_command_line(rt: &(impl Env + AllocGlobal)) -> Result<Settings, Outcome> {
     let words = words_given(rt)?;
     let texts = texts_of(rt.alloc(), words.as_slice())?;
     read_words(rt.alloc(), texts.as_slice())
-}
-
-/// How a check ended, and why a file could not be opened or read.
-#[derive(Clone, Copy)]
-struct Ended {
-    checked: Checked,
-    error: Option<FileError>,
-}
-
-impl Ended {
-    /// Without a finding.
-    fn failed(unchecked: Unchecked, error: Option<FileError>) -> Ended {
-        Ended {
-            checked: Checked::Failed(unchecked),
-            error,
-        }
-    }
-}
-
-/// Prints why there is no finding, if there is none, and which file could not be opened or read. Returns the exit status.
-fn tell_ended(rt: &impl Eprint, settings: &Settings, ended: &Ended) -> ExitCode
-    ensures { exit_status result ≡ status_of_check ended.now.checked }
-{
-    let code = tell_checked(rt, ended.checked);
-    if let Some(error) = &ended.error {
-        tell_file(rt, PROGRAM, name_of(settings, ended.checked), error);
-    }
-    code
-}
-
-/// Returns the name of the file without which a check ended so.
-fn name_of(settings: &Settings, checked: Checked) -> &str {
-    match checked {
-        Checked::Failed(Unchecked::Replies) => settings.replies.as_str(),
-        _ => trace_path(settings).unwrap_or("standard input"),
-    }
-}
-
-/// Returns the path of the trace, if it is not standard input.
-fn trace_path(settings: &Settings) -> Option<&str> {
-    match settings.trace.as_str() {
-        STANDARD_INPUT => None,
-        path => Some(path),
-    }
 }
 
 /// Checks the files, and writes what is found to standard output.
@@ -122,34 +71,18 @@ fn check_files<P: Eprint + Clock>(
     rt: &(impl Files + Input + Print + AllocGlobal),
     settings: &Settings,
     progress: Option<Progress<'_, P>>,
-) -> Ended {
+) -> Checked {
     let Ok(mut out) = BufWriter::with_capacity(rt.alloc(), LINE_BYTES, io::writer(rt)) else {
-        return Ended::failed(Unchecked::Memory, None);
+        return Checked::Failed(Unchecked::Memory, None);
     };
     let mut shown = Shown::new();
-    let finding = match find(rt, settings, progress, &mut shown) {
-        Ok(finding) => finding,
-        Err(ended) => return ended,
-    };
-    let checked = match tell_finding(&mut out, &finding, &shown, settings.config.tenants) {
-        Ok(()) => Checked::Found(finding),
-        Err(_) => Checked::Unwritten,
-    };
-    Ended {
-        checked,
-        error: None,
+    match find(rt, settings, progress, &mut shown) {
+        Ok(finding) => match write_finding(&mut out, &finding, &shown, settings.config.tenants) {
+            Ok(()) => Checked::Found(finding),
+            Err(_) => Checked::Unwritten,
+        },
+        Err(checked) => checked,
     }
-}
-
-/// Writes what is found, and flushes.
-fn tell_finding<W: Write>(
-    out: &mut W,
-    finding: &Finding,
-    shown: &Shown,
-    tenants: u32,
-) -> io::Result<()> {
-    write_finding(out, finding, shown, tenants)?;
-    out.flush()
 }
 
 /// Checks the trace of TRACE, a file or standard input: a copy of the loop for each.
@@ -158,14 +91,14 @@ fn find<P: Eprint + Clock>(
     settings: &Settings,
     progress: Option<Progress<'_, P>>,
     shown: &mut Shown,
-) -> Result<Finding, Ended> {
-    let Some(path) = trace_path(settings) else {
+) -> Result<Finding, Checked> {
+    let Some(path) = settings.trace_path() else {
         let trace = ProgressReader::new(rt.reader(), progress);
         return find_beside(rt, settings, trace, shown);
     };
     match File::open(rt, path) {
         Ok(trace) => find_beside(rt, settings, ProgressReader::new(trace, progress), shown),
-        Err(error) => Err(Ended::failed(Unchecked::Trace, Some(FileError::Open(error)))),
+        Err(error) => Err(unopened(Unchecked::Trace, error)),
     }
 }
 
@@ -175,12 +108,10 @@ fn find_beside<R: Read + Drop>(
     settings: &Settings,
     trace: R,
     shown: &mut Shown,
-) -> Result<Finding, Ended> {
+) -> Result<Finding, Checked> {
     let replies = match File::open(rt, settings.replies.as_str()) {
         Ok(replies) => replies,
-        Err(error) => {
-            return Err(Ended::failed(Unchecked::Replies, Some(FileError::Open(error))));
-        }
+        Err(error) => return Err(unopened(Unchecked::Replies, error)),
     };
     let mut trace = WatchedReader::new(trace);
     let mut replies = WatchedReader::new(replies);
@@ -193,8 +124,13 @@ fn find_beside<R: Read + Drop>(
     );
     match found {
         Ok(finding) => Ok(finding),
-        Err(Unchecked::Trace) => Err(Ended::failed(Unchecked::Trace, trace.error())),
-        Err(Unchecked::Replies) => Err(Ended::failed(Unchecked::Replies, replies.error())),
-        Err(Unchecked::Memory) => Err(Ended::failed(Unchecked::Memory, None)),
+        Err(Unchecked::Trace) => Err(Checked::Failed(Unchecked::Trace, trace.error())),
+        Err(Unchecked::Replies) => Err(Checked::Failed(Unchecked::Replies, replies.error())),
+        Err(Unchecked::Memory) => Err(Checked::Failed(Unchecked::Memory, None)),
     }
+}
+
+/// A file could not be opened.
+fn unopened(file: Unchecked, error: io::Error) -> Checked {
+    Checked::Failed(file, Some(FileError::Open(error)))
 }

@@ -1,12 +1,13 @@
-//! What a command line asks for, and what the program tells of itself.
+//! What a command line requests, and what the program prints of itself.
 
 ghost use Rattle.std.specs.Prelude.{◌≡◌, true};
 ghost use Rattle.model_core.specs.Booting.{is_bootable};
 
+use check_core::Unchecked;
 use command_line::Program;
 use model_core::config::Config;
 
-/// What this program tells of itself.
+/// What this program prints of itself.
 pub const PROGRAM: Program<'static> = Program {
     name: "partcheck",
     about: "Checks replies to a trace against what a partitioning kernel owes its tenants",
@@ -15,13 +16,13 @@ pub const PROGRAM: Program<'static> = Program {
     unwritten: "finding could not be written",
 };
 
-/// The same where the replies are read.
+/// The same if the replies cannot be read.
 pub const REPLIES_PROGRAM: Program<'static> = Program {
     unread: "replies could not be read",
     ..PROGRAM
 };
 
-/// What `--help` tells below the arguments.
+/// What `--help` prints below the arguments.
 const AFTER_HELP: &str = "\
 The sizes are those of the machine that ran the trace. Lines of both files are those of partmem
 --help; which frames, objects and superblocks are handed out is open. What is found is a line
@@ -42,7 +43,10 @@ Example:
   partmem --order 3 --superblocks 2 --tenants 2 trace > replies
   partcheck --order 3 --superblocks 2 --tenants 2 trace replies";
 
-/// What a command line asks for.
+/// The path that means standard input.
+const STANDARD_INPUT: &str = "-";
+
+/// What a command line requests.
 #[derive(Debug, Drop)]
 pub struct Settings {
     /// The sizes of the machine, each in its range.
@@ -52,4 +56,22 @@ pub struct Settings {
     /// The path of the replies, as it was written.
     pub replies: String,
     ghost bootable: { is_bootable config ≡ true },
+}
+
+impl Settings {
+    /// Returns the path of the trace. `None` if it is standard input.
+    pub fn trace_path(&self) -> Option<&str> {
+        match self.trace.as_str() {
+            STANDARD_INPUT => None,
+            path => Some(path),
+        }
+    }
+
+    /// Returns the name of the file without which a check ended so.
+    pub fn name_of(&self, why: Unchecked) -> &str {
+        match why {
+            Unchecked::Replies => self.replies.as_str(),
+            _ => self.trace_path().unwrap_or("standard input"),
+        }
+    }
 }

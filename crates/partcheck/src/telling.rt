@@ -1,17 +1,17 @@
-//! The line that tells a finding.
+//! The line of a finding.
 
 use check_core::{Breach, Finding, Shown, TakenFrame};
 use promise_core::promise::Promise;
 use std::fmt;
 use std::io::{self, Write};
 
-/// A line of a trace is told up to this many bytes; it has no more, unless it is faulty.
+/// Limit on the bytes of a line of a trace that are printed. Only a faulty line has more.
 const MOST_LINE_BYTES: usize = 255;
 
-/// A reply is told up to this many bytes.
+/// Limit on the bytes of a reply that are printed.
 const MOST_REPLY_BYTES: usize = 200;
 
-/// Writes the line of a finding, on a machine of so many tenants.
+/// Writes the line of a finding on a machine with this number of tenants, and flushes.
 pub fn write_finding<W: Write>(
     out: &mut W,
     finding: &Finding,
@@ -19,9 +19,10 @@ pub fn write_finding<W: Write>(
     tenants: u32,
 ) -> io::Result<()> {
     match finding {
-        Finding::Kept(lines) => write_kept(out, *lines, tenants),
-        Finding::Broken(breach) => write_breach(out, breach, shown),
+        Finding::Kept(lines) => write_kept(out, *lines, tenants)?,
+        Finding::Broken(breach) => write_breach(out, breach, shown)?,
     }
+    out.flush()
 }
 
 fn write_kept<W: Write>(out: &mut W, lines: u128, tenants: u32) -> io::Result<()> {
@@ -36,7 +37,6 @@ fn write_breach<W: Write>(out: &mut W, breach: &Breach, shown: &Shown) -> io::Re
         reply,
         promise,
     } = breach;
-    // Behind the last line none was read.
     let asked = TextShown {
         text: line_read(shown.line.front()),
         most: MOST_LINE_BYTES,
@@ -47,17 +47,26 @@ fn write_breach<W: Write>(out: &mut W, breach: &Breach, shown: &Shown) -> io::Re
         most: MOST_REPLY_BYTES,
         none: "nothing",
     };
-    let words = Reason {
-        promise: *promise,
-        taken: shown.taken,
-    };
-    writeln!(
+    write!(
         out,
-        "line {line}, reply {reply}: {asked}, answered {told}: {promise}: {words}"
-    )
+        "line {line}, reply {reply}: {asked}, answered {told}: {promise}: "
+    )?;
+    match (promise, shown.taken) {
+        (Promise::Blocks, Some(TakenFrame { frame, page })) => {
+            let (order, first) = (page.order(), page.first());
+            writeln!(
+                out,
+                "frame {frame} lies in the block of order {order} at frame {first}"
+            )
+        }
+        _ => {
+            let words = words_of(*promise);
+            writeln!(out, "{words}")
+        }
+    }
 }
 
-/// A line of a trace without its line feed and the carriage return before it; None where nothing was read.
+/// Returns a line of a trace without the line feed and the carriage return at its end. `None` if nothing was read.
 fn line_read(text: &[u8]) -> Option<&[u8]> {
     match text {
         [] => None,
@@ -66,7 +75,7 @@ fn line_read(text: &[u8]) -> Option<&[u8]> {
     }
 }
 
-/// Lines of a reply without the last line feed; None where nothing was read.
+/// Returns the lines of a reply without the last line feed. `None` if nothing was read.
 fn lines_read(text: &[u8]) -> Option<&[u8]> {
     match text {
         [] => None,
@@ -75,7 +84,7 @@ fn lines_read(text: &[u8]) -> Option<&[u8]> {
     }
 }
 
-/// A text as it is told: its lines, joined by ` / `, up to so many bytes, those that are no printable ASCII in hex; or the word
+/// A text as it is printed: its lines, joined by ` / `, up to `most` bytes, those that are no printable ASCII in hex; or the words
 /// for none.
 #[derive(Clone, Copy)]
 struct TextShown<'a> {
@@ -109,34 +118,7 @@ fn write_byte<W: fmt::Write>(byte: u8, f: &mut fmt::Formatter<W>) -> fmt::Result
     }
 }
 
-/// What a promise asks, or which page block is in the way of the one that was told.
-#[derive(Clone, Copy)]
-struct Reason {
-    promise: Promise,
-    taken: Option<TakenFrame>,
-}
-
-impl fmt::Display for Reason {
-    fn fmt<W: fmt::Write>(&self, f: &mut fmt::Formatter<W>) -> fmt::Result {
-        match (self.promise, self.taken) {
-            (Promise::Blocks, Some(taken)) => {
-                let frame = taken.frame;
-                let order = taken.page.order();
-                let first = taken.page.first();
-                write!(
-                    f,
-                    "frame {frame} lies in the block of order {order} at frame {first}"
-                )
-            }
-            (promise, _) => {
-                let words = words_of(promise);
-                write!(f, "{words}")
-            }
-        }
-    }
-}
-
-/// What a promise asks.
+/// Returns what a promise asks.
 fn words_of(promise: Promise) -> &'static str {
     match promise {
         Promise::Form =>
