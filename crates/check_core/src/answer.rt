@@ -13,8 +13,8 @@ use crate::said::said_at;
 use model_core::limits::MOST_BYTES;
 use words_core::{Addressee, Answer};
 
-/// Returns whom the reply of one line is for whose whole text the bytes are, with its line feed, and what it says. The bytes of a
-/// read then lie in `buffer`. `None` if they are the text of no such reply.
+/// Returns to whom the reply of one line goes whose whole text the bytes are, with its line feed, and what it says. The bytes of
+/// a read are then in `buffer`. `None` if the bytes are the text of no such reply.
 pub fn read_answer<'a>(
     text: &'a [u8],
     buffer: &'a mut [u8; MOST_BYTES],
@@ -46,7 +46,7 @@ fn answer_of<'a>(
     }
 }
 
-/// Whom a line is for, as it says at its head, and what follows that.
+/// Returns to whom a line goes, by its front, and what follows the front.
 #[tactic(auto, unfolding(crate::specs::Replies::addressee_at))]
 pub fn addressee_at(text: &[u8]) -> Option<(Addressee, &[u8])>
     ensures { Gives (λ found. (found.0, found.1.now)) result (addressee_at text.now) }

@@ -17,10 +17,10 @@ use judge::Machine;
 use promise_core::promise::Promise;
 use streams::{Feed, Stopped};
 
-/// Reads the replies to a trace beside it, each against what the replies before it told, up to the first that is not allowed.
+/// Checks the replies to a trace, each against what the replies before it said, up to the first that is not allowed.
 ///
-/// From then on `shown` holds the line and what was read as its reply; behind the last line it holds no line, and the reply that
-/// nothing has asked for.
+/// `shown` then holds the line and what was read as its reply. If a reply follows that of the last line, it holds this reply and
+/// no line.
 pub fn check<T: Feed, R: Feed>(
     machine: &mut Machine,
     trace: &mut LineReader<T>,
@@ -31,7 +31,7 @@ pub fn check<T: Feed, R: Feed>(
     requires replies_fine { replies.old.failed ≡ false }
     ensures found { (w : Known) (asked told : List ℕ) → ShowsKnown machine.old w → trace.old.left ≡ Some asked
         → replies.old.left ≡ Some told → IfOk result (λ finding. finding ≡ finding_of w asked told) }
-    // Memory runs out only where something more has to be kept, and no promise was broken before.
+    // Memory runs out only if something more has to be kept and no promise was broken before.
     ensures end { IsEndedBy result trace.new.failed replies.new.failed ((w : Known) (asked told : List ℕ)
         → ShowsKnown machine.old w → trace.old.left ≡ Some asked → replies.old.left ≡ Some told
         → ComesToAdd (readings_of asked) told w) }
@@ -54,7 +54,7 @@ pub fn check<T: Feed, R: Feed>(
     }
 }
 
-/// The promise is broken at this line, behind so many lines of the replies.
+/// Returns that the promise is broken at this line, after this number of lines of replies.
 fn broken(line: u128, replies: u128, promise: Promise) -> Finding
     requires { replies + 1 < 2 ^ 128 }
     ensures { result ≡ Finding.Broken (record { line = line; reply = replies + 1; promise = promise }) }
@@ -66,7 +66,7 @@ fn broken(line: u128, replies: u128, promise: Promise) -> Finding
     })
 }
 
-/// Reads one more line, and answers whether there was none.
+/// Reads one more line. Returns true if there was none.
 fn has_ended<R: Feed>(
     replies: &mut LineReader<R>,
     text: &mut Gathered<MOST_TEXT_BYTES>,

@@ -5,22 +5,22 @@ ghost use Rattle.std.specs.Prelude.{◌≡◌};
 use promise_core::promise::Promise;
 use std::alloc::AllocError;
 
-/// The replies to a trace, as they were found.
+/// What the replies to a trace are found to be.
 #[derive(Clone, Copy, Debug, PartialEq, Eq)]
 pub enum Finding {
-    /// Each is allowed, and there are as many as there have to be: to a trace of so many lines.
+    /// Each is allowed, and none is missing or left over. Has the number of lines of the trace.
     Kept(u128),
-    /// One is not.
+    /// One is not allowed.
     Broken(Breach),
 }
 
 /// The first reply that is not allowed.
 #[derive(Clone, Copy, Debug, PartialEq, Eq)]
 pub struct Breach {
-    /// The number of the line of the trace that it answers, the first one's being 1; of the last line, where replies follow
-    /// that nothing has asked for.
+    /// The number of the line of the trace that it answers, from 1. If a reply follows that of the last line, the number of the
+    /// last line.
     pub line: u128,
-    /// The number of its first line in the replies, the first one's being 1.
+    /// The number of its first line in the replies, from 1.
     pub reply: u128,
     /// The first promise that it breaks.
     pub promise: Promise,

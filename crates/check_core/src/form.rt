@@ -6,10 +6,10 @@ ghost use Rattle.check_core.specs.Forms.{Gives, plain_number, number_at, mark_at
 
 use arrayvec::ArrayVec;
 
-/// A number has at most this many decimal digits.
+/// Limit on the decimal digits of a number.
 const MOST_DIGITS: usize = 10;
 
-/// The number that a word is: decimal digits without leading zeros, with a value below `2^32`.
+/// Returns the number that a word is, in decimal without leading zeros and below `2^32`.
 fn plain_number(word: &[u8]) -> Option<u32>
     ensures { result ≡ plain_number word.now }
 {
@@ -26,7 +26,7 @@ fn plain_number(word: &[u8]) -> Option<u32>
     u32::try_from(value).ok()
 }
 
-/// The number whose digits the text begins with, and what follows them.
+/// Returns the number with which the text begins, and what follows it.
 #[tactic(auto, unfolding(crate::specs::Forms::number_at))]
 fn number_at(text: &[u8]) -> Option<(u32, &[u8])>
     ensures { Gives (λ found. (found.0, found.1.now)) result (number_at text.now) }
@@ -36,7 +36,7 @@ fn number_at(text: &[u8]) -> Option<(u32, &[u8])>
     Some((plain_number(digits)?, rest))
 }
 
-/// How many digits the text begins with.
+/// Returns the number of digits with which the text begins.
 fn digits_len(text: &[u8]) -> usize
     ensures value { result ≡ length (take_while is_ascii_digit text.now) }
     ensures fits { result ≤ length text.now }
@@ -44,7 +44,7 @@ fn digits_len(text: &[u8]) -> usize
     text.iter().take_while(|byte| byte.is_ascii_digit()).count()
 }
 
-/// What stands for this byte of a form: a number for a `#`, else the byte itself.
+/// Returns the number at a `#` of a form, no number at any other byte, which the text has to begin with; and what follows.
 #[tactic(auto, unfolding(crate::specs::Forms::mark_at))]
 fn mark_at(mark: u8, text: &[u8]) -> Option<(Option<u32>, &[u8])>
     ensures { Gives (λ found. (found.0, found.1.now)) result (mark_at mark text.now) }
@@ -62,7 +62,7 @@ fn mark_at(mark: u8, text: &[u8]) -> Option<(Option<u32>, &[u8])>
     Some((None, rest))
 }
 
-/// The numbers that stand in a form at the front of the text, and what follows it.
+/// Returns the numbers in the form with which the text begins, and what follows it.
 pub fn form_at<'a, const N: usize>(form: &[u8], text: &'a [u8]) -> Option<([u32; N], &'a [u8])>
     requires few { N < 2 ^ 32 }
     requires marks { count_by (λ b. b == 35) form.now ≡ N }

@@ -1,4 +1,4 @@
-//! Bytes that come in pieces, as many of the first as there is room for.
+//! Bytes that come in pieces, up to a limit.
 
 ghost use Rattle.std.specs.Prelude.{◌≡◌, ℕ, List, [], ◌++◌, ◌<◌, ◌==◌, length, take};
 ghost use Rattle.check_core.specs.Gathered.{Gathers, whole_of};
@@ -6,7 +6,7 @@ ghost use Rattle.check_core.specs.Forms.{Gives};
 
 use arrayvec::ArrayVec;
 
-/// Of bytes that come in pieces the first `N`, and whether there were more.
+/// The first `N` of bytes that come in pieces, and whether there were more.
 #[derive(Drop)]
 pub struct Gathered<const N: usize> {
     held: ArrayVec<u8, N>,
@@ -14,7 +14,7 @@ pub struct Gathered<const N: usize> {
 }
 
 impl<const N: usize> Gathered<N> {
-    /// No byte has come.
+    /// Holds no byte yet.
     pub fn new() -> Self
         ensures { Gathers N [] result }
     {
@@ -24,7 +24,7 @@ impl<const N: usize> Gathered<N> {
         }
     }
 
-    /// Forgets what has come.
+    /// Removes all bytes.
     pub fn clear(&mut self)
         ensures { Gathers N [] self.new }
     {
@@ -32,7 +32,7 @@ impl<const N: usize> Gathered<N> {
         self.longer = false;
     }
 
-    /// These bytes come.
+    /// Adds these bytes.
     pub fn add(&mut self, bytes: &[u8])
         ensures { (front : List ℕ) → Gathers N front self.old → Gathers N (front ++ bytes.now) self.new }
     {
@@ -47,7 +47,7 @@ impl<const N: usize> Gathered<N> {
         }
     }
 
-    /// No byte has come since.
+    /// Returns true if no byte has come.
     pub fn is_empty(&self) -> bool
         requires { 0 < N }
         ensures { (came : List ℕ) → Gathers N came self.now → result ≡ (length came == 0) }
@@ -55,7 +55,7 @@ impl<const N: usize> Gathered<N> {
         self.held.is_empty()
     }
 
-    /// All that has come, if there was room for it.
+    /// Returns all bytes that have come. `None` if there were more than `N`.
     pub fn whole(&self) -> Option<&[u8]>
         ensures { (came : List ℕ) → Gathers N came self.now → Gives (λ bytes. bytes.now) result (whole_of N came) }
     {
@@ -66,7 +66,7 @@ impl<const N: usize> Gathered<N> {
         }
     }
 
-    /// The first bytes of what has come, at most `N`.
+    /// Returns the first bytes that have come, at most `N`.
     pub fn front(&self) -> &[u8]
         ensures { (came : List ℕ) → Gathers N came self.now → result.now ≡ take N came }
     {

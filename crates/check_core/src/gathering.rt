@@ -13,7 +13,7 @@ use crate::shown::MOST_TEXT_BYTES;
 use streams::{Feed, Stopped};
 use words_core::{Addressee, Answer, LineFault, SHORT_ANSWER_BYTES, write_answer_to};
 
-/// Reads one line, and answers whether it is the reply to a faulty line.
+/// Reads one line. Returns true if it is the reply to a faulty line.
 pub fn reads_fault<F: Feed>(
     fault: LineFault,
     replies: &mut LineReader<F>,
@@ -34,7 +34,7 @@ pub fn reads_fault<F: Feed>(
     Ok(is_text(text, &due[..len]))
 }
 
-/// These bytes were gathered.
+/// Returns true if these bytes were gathered.
 fn is_text(text: &Gathered<MOST_TEXT_BYTES>, due: &[u8]) -> bool
     requires { length due.now ≤ MOST_TEXT_BYTES }
     ensures { (came : List ℕ) → Gathers MOST_TEXT_BYTES came text.now → result ≡ bytes_eq came due.now }
@@ -45,7 +45,7 @@ fn is_text(text: &Gathered<MOST_TEXT_BYTES>, due: &[u8]) -> bool
     }
 }
 
-/// Puts so many lines behind what was gathered, and answers whether there were as many, each with its LF.
+/// Reads this number of lines behind what was gathered. Returns true if there were as many, each with its LF.
 pub fn gather<F: Feed>(
     replies: &mut LineReader<F>,
     lines: u128,

@@ -7,7 +7,7 @@ ghost use Rattle.check_core.specs.Replies.{bytes_of};
 
 use model_core::limits::MOST_BYTES;
 
-/// The bytes that a word is in hex, in lower case, if they fit; they lie in `room` then.
+/// Returns the bytes that a word is in lower case hex, in `room`. `None` if it is no hex or has more than 64 bytes.
 #[tactic(auto, unfolding(crate::specs::Replies::bytes_of))]
 pub fn bytes_of<'a>(word: &[u8], room: &'a mut [u8; MOST_BYTES]) -> Option<&'a [u8]>
     ensures value { Gives (λ bytes. bytes.now) result (bytes_of word.now) }
@@ -30,7 +30,7 @@ pub fn bytes_of<'a>(word: &[u8], room: &'a mut [u8; MOST_BYTES]) -> Option<&'a [
     }
 }
 
-/// The byte that two digits are.
+/// Returns the byte that two digits are.
 #[inline(always)]
 fn byte_of(pair: &[u8; 2]) -> Option<u8>
     ensures found { IfSome result (λ byte. encode_lower (byte ∷ []) ≡ pair.now) }
@@ -39,7 +39,7 @@ fn byte_of(pair: &[u8; 2]) -> Option<u8>
     Some(digit_of(pair[0])? * 16 + digit_of(pair[1])?)
 }
 
-/// The value of a digit.
+/// Returns the value of a digit.
 #[inline(always)]
 fn digit_of(digit: u8) -> Option<u8>
     ensures found { IfSome result (λ value. (value < 16) × (slice_index lower_digits value ≡ digit)) }

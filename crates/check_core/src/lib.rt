@@ -1,8 +1,7 @@
-//! Checks the replies to a trace: what two texts are found to be is a definition, in `specs/`; `check` reads them in step, a line
-//! at a time, and finds it.
+//! Checks the replies to a trace. `specs/` defines what two texts are found to be; `check` reads both in step, a line at a time,
+//! and returns that finding.
 //!
-//! To read a reply is to write it again: what is read is the reply whose text the bytes are, and nothing is read if there is no
-//! such reply.
+//! Bytes are read as the reply whose text they are, and as none if they are the text of no reply.
 #![tactic(auto)]
 
 mod answer;

@@ -14,7 +14,7 @@ use crate::shown::MOST_PART_BYTES;
 use streams::Feed;
 use words_core::{Event, LineFault, read_line};
 
-/// What the next line of a trace says; None where there is none.
+/// Returns what the next line of a trace says. `None` at the end of the trace.
 pub fn next_reading<F: Feed>(
     trace: &mut LineReader<F>,
     line: &mut Gathered<MOST_PART_BYTES>,
@@ -34,7 +34,7 @@ pub fn next_reading<F: Feed>(
     Ok(Some(reading(line)))
 }
 
-/// What a line says that may have its LF.
+/// Returns what a line says, with or without its LF.
 pub(crate) fn reading(line: &Gathered<MOST_PART_BYTES>) -> Result<Option<Event>, LineFault>
     ensures { (part : List ℕ) → Gathers MOST_PART_BYTES part line.now → result ≡ reading_of (without_line_feed part) }
 {

@@ -9,7 +9,7 @@ use crate::gathered::Gathered;
 use std::marker::Model;
 use streams::{Feed, Stopped, line_end};
 
-/// How many bytes are asked for in one pull.
+/// Limit on the bytes of one pull.
 const PIECE_BYTES: usize = 65_536;
 
 /// Reads the lines of what a feed gives.
@@ -39,7 +39,7 @@ impl<F: Feed> Model for LineReader<F> {
 }
 
 impl<F: Feed> LineReader<F> {
-    /// Of what this feed gives.
+    /// Reads what this feed gives.
     pub fn new(feed: F) -> Self
         ensures left { result.left ≡ F.remaining feed }
         ensures room { result.room ≡ F.room_left feed }
@@ -53,7 +53,7 @@ impl<F: Feed> LineReader<F> {
         }
     }
 
-    /// How many bytes it gives at most.
+    /// Returns a limit on the number of bytes that are left.
     pub fn room(&self) -> u128
         ensures value { result ≡ self.now.room }
         ensures most { result < 2 ^ 65 }
@@ -61,8 +61,8 @@ impl<F: Feed> LineReader<F> {
         (self.end - self.start) as u128 + u128::from(self.feed.room())
     }
 
-    /// Puts the next line behind what was gathered, with its LF if it has one, and answers whether it has. What follows the last
-    /// LF, be it nothing, has none, and is all that is left.
+    /// Reads the next line behind what was gathered, with its LF if it has one. Returns true if it has: what follows the last LF
+    /// has none, is read whole, and may be empty.
     pub fn next<const N: usize>(&mut self, into: &mut Gathered<N>) -> Result<bool, Stopped>
         requires fine { self.old.failed ≡ false }
         // What was given.

@@ -11,7 +11,7 @@ use model_core::limits::MOST_BYTES;
 use quick_core::{RequestLine, WINDOW, read_request};
 use words_core::{Command, Event, Request};
 
-/// What a line with its LF says, where it is read the short way; `None` where it isn't, or where that is not sure.
+/// Returns what a line with its LF says. `None` if that is not read the short way.
 pub(crate) fn read_short(part: &[u8]) -> Option<Event>
     ensures { IfSome result (λ event. reading_of (without_line_feed part.now) ≡ Ok (Some event)) }
 {
@@ -24,7 +24,7 @@ pub(crate) fn read_short(part: &[u8]) -> Option<Event>
     Some(Event::Tenant(line.tenant, command_of(line.request)))
 }
 
-/// What a line with its LF says that has as many bytes as the short way needs.
+/// Reads a line with its LF that has as many bytes as the short way needs.
 fn read_whole<'a>(part: &[u8], room: &'a mut [u8; MOST_BYTES]) -> Option<RequestLine<'a>>
     ensures reads { IfSome result (λ line.
         reading_of (without_line_feed part.now) ≡ Ok (Some (Tenant line.tenant (command_of line.request)))) }
@@ -34,7 +34,7 @@ fn read_whole<'a>(part: &[u8], room: &'a mut [u8; MOST_BYTES]) -> Option<Request
     (line.len == part.len()).then_some(line)
 }
 
-/// What a line with its LF says that has fewer: it is read with other bytes behind it.
+/// Reads a line with its LF that has fewer bytes, with other bytes behind it.
 fn read_in_window<'a>(part: &[u8], room: &'a mut [u8; MOST_BYTES]) -> Option<RequestLine<'a>>
     requires { length part.now < WINDOW }
     ensures reads { IfSome result (λ line.
@@ -47,7 +47,7 @@ fn read_in_window<'a>(part: &[u8], room: &'a mut [u8; MOST_BYTES]) -> Option<Req
     (line.len == part.len()).then_some(line)
 }
 
-/// The command that is asked for.
+/// Returns the command that is requested.
 fn command_of(request: Request<'_>) -> Command
     requires { IsAskable request }
     ensures { result ≡ command_of request.entry }
@@ -76,7 +76,7 @@ fn command_of(request: Request<'_>) -> Command
     }
 }
 
-/// The same bytes.
+/// Returns the same bytes.
 fn copy_of<const N: usize>(bytes: &[u8]) -> ArrayVec<u8, N>
     requires { length bytes.now ≤ N }
     ensures { result.items ≡ bytes.now }

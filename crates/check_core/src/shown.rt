@@ -7,10 +7,10 @@ use crate::taken::{TakenFrame, taken_frame};
 use judge::Machine;
 use model_core::limits::MOST_BYTES;
 
-/// A line of a trace has at most 255 bytes, and then may have a carriage return and a line feed.
+/// Limit on the bytes of a line of a trace: 255, a carriage return and a line feed.
 pub const MOST_PART_BYTES: usize = 257;
 
-/// A reply has at most 257 lines of at most 256 bytes each.
+/// Limit on the bytes of a reply: 257 lines of 256 bytes.
 pub const MOST_TEXT_BYTES: usize = 65_792;
 
 /// The line that was read last, and the lines that were read as its reply.
@@ -18,12 +18,12 @@ pub const MOST_TEXT_BYTES: usize = 65_792;
 pub struct Shown {
     pub line: Gathered<MOST_PART_BYTES>,
     pub reply: Gathered<MOST_TEXT_BYTES>,
-    /// What is in the way of the page block that the reply tells, where that was looked for.
+    /// What is in the way of the page block that the reply gives, if that was looked for.
     pub taken: Option<TakenFrame>,
 }
 
 impl Shown {
-    /// No line was read.
+    /// Shows no line yet.
     pub fn new() -> Self {
         Shown {
             line: Gathered::new(),

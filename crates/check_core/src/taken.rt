@@ -1,4 +1,4 @@
-//! What is in the way of a page block that is told.
+//! What is in the way of a page block that a reply gives.
 
 ghost use Rattle.std.specs.Prelude.{◌≡◌, option_map};
 ghost use Rattle.words_core.specs.Requests.{body_of_answer};
@@ -9,15 +9,17 @@ use judge_core::FrameBlock;
 use model_core::limits::MOST_ORDER;
 use words_core::{Answer, Command, Event};
 
-/// A frame of a page block that is told, and the live page block that has it already.
+/// A frame that a reply gives and that a live page block of the tenant has already.
 #[derive(Clone, Copy, Debug)]
 pub struct TakenFrame {
+    /// The first frame that both blocks have.
     pub frame: u32,
+    /// The live page block.
     pub page: FrameBlock,
 }
 
-/// What is in the way of the page block that this answer to the event tells: the first live page block of the tenant
-/// that has a frame of it, if one has.
+/// Returns what is in the way of the page block that this answer gives: the tenant's first live page block that shares a frame
+/// with it. `None` if there is none, or if the answer is another.
 pub fn taken_frame(machine: &Machine, event: &Event, answer: &Answer<'_>) -> Option<TakenFrame>
     ensures { option_map (λ taken. taken.page) result ≡ page_in_way machine.now event.now (body_of_answer answer.now) }
 {

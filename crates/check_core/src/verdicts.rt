@@ -24,10 +24,10 @@ use promise_core::promise::Promise;
 use streams::Feed;
 use words_core::{Addressee, AdminCommand, Answer, Command, Event, LineFault, Refusal};
 
-/// That the reply to a line is allowed, and how many lines it has; or the first promise that it breaks.
+/// The number of lines of an allowed reply, or the first promise that a reply breaks.
 pub(crate) type LineVerdict = Result<u128, Promise>;
 
-/// Reads the reply to a line that reads so, and judges it.
+/// Reads the reply to a line, and judges it.
 pub(crate) fn judge_line<R: Feed>(
     machine: &mut Machine,
     reading: &Result<Option<Event>, LineFault>,
@@ -51,7 +51,7 @@ pub(crate) fn judge_line<R: Feed>(
     }
 }
 
-/// Reads what a faulty line is answered, and judges it.
+/// Reads the reply to a faulty line, and judges it.
 #[inline(never)]
 fn judge_fault<R: Feed>(
     fault: LineFault,
@@ -176,7 +176,7 @@ fn judge_text(
     }
 }
 
-/// The same of a table. Space for one is cleared when this is entered, so nothing else does it.
+/// The same of a table. It needs a large buffer, which is cleared only here.
 #[cold]
 #[inline(never)]
 fn judge_table(machine: &mut Machine, event: &Event, text: &[u8]) -> Option<Verdict>
@@ -186,7 +186,7 @@ fn judge_table(machine: &mut Machine, event: &Event, text: &[u8]) -> Option<Verd
     Some(machine.judge_table(event, &table))
 }
 
-/// The refusal that was gathered, and whom it is for.
+/// Returns the refusal that was gathered, and to whom it goes.
 fn refusal_in(text: &Gathered<MOST_TEXT_BYTES>) -> Option<(Addressee, Refusal)>
     ensures { (came : List ℕ) → Gathers MOST_TEXT_BYTES came text.now → IsRefusalRead result (text_read came) }
 {
@@ -199,7 +199,7 @@ fn refusal_in(text: &Gathered<MOST_TEXT_BYTES>) -> Option<(Addressee, Refusal)>
     }
 }
 
-/// The promise that is broken where the lines are no reply, and the first of them alone is this refusal, or none.
+/// Returns the promise that is broken by lines that are no reply, of which the first alone is this refusal, or none.
 fn broken_by(
     machine: &mut Machine,
     event: &Event,
@@ -218,7 +218,7 @@ fn broken_by(
     }
 }
 
-/// How many lines the reply to an event has behind the first.
+/// Returns the number of lines that the reply to an event has behind the first.
 fn more_lines(machine: &Machine, event: &Event) -> u128
     ensures lines { (w : Known) → ShowsKnown machine.now w → result ≡ more_lines event.now w }
     ensures most { result + 1 < 2 ^ 128 }
