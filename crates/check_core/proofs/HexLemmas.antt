@@ -2,7 +2,6 @@
 use Rattle.std.proofs.Common.{◌≡◌, ℕ, zero, suc, ◌+◌, ◌*◌, ◌/◌, ◌%◌, ◌<◌, ◌≤◌, ◌⊎◌, inl, inr, List, [], ◌∷◌, ◌++◌, length, get_or, map, cond, take, drop, append_assoc, Some, None, Ok, refl, sym, ap, ◌∙◌, arith}
 use Rattle.std.specs.Prelude.{nat_lt}
 use Rattle.std.specs.List.{range_with_len}
-use Rattle.std.proofs.lemmas.Bool.{cases_lt}
 use Rattle.std.proofs.lemmas.Slice.Eq.{bytes_eq-Decides}
 use Rattle.std.proofs.lemmas.List.FromFn.{get_or-map-range_with_len}
 use Rattle.check_core.specs.Replies.{bytes_again, bytes_of}
@@ -20,19 +19,6 @@ digits_are = refl
 
 pub digit_is : (v : ℕ) → v < 16 → get_or lower_digits v 0 ≡ digit_at v
 digit_is v below = ap (λ table. get_or table v 0) digits_are ∙ get_or-map-range_with_len digit_at 0 16 v v 0 below (omega arith)
-
-pub low_digit : (v : ℕ) → v < 10 → get_or lower_digits v 0 ≡ v + 48
-low_digit v h = let e = digit_is v (omega (arith, h)) in grind (arith, e, h)
-
-pub high_digit : (v : ℕ) → v < 6 → get_or lower_digits (v + 10) 0 ≡ v + 97
-high_digit v h = let e = digit_is (v + 10) (omega (arith, h)) in grind (arith, e, h)
-
--- the value of a digit is one of these
-pub value_is : (v digit : ℕ) → v < 16 → get_or lower_digits v 0 ≡ digit → ((v < 10) × (digit ≡ v + 48)) ⊎ ((10 ≤ v) × (digit ≡ v + 87))
-value_is v digit below is = elim (cases_lt v 10) [
-  | inl low ↦ inl (low, sym is ∙ low_digit v low)
-  | inr high ↦ let e = digit_is v below in inr (omega (arith, high), sym is ∙ grind (arith, e, high))
-]
 
 -- ---- a byte
 

@@ -79,9 +79,6 @@ record IsStep (reading : Line) (bytes : List ℕ) (w after : Known) : Type 0 whe
   count : feeds (first_lines (lines_to reading w) bytes) ≡ lines_to reading w
   are_allowed : (later : List Exchange) → all_allowed (exchanges ++ later) (Ok w) ≡ all_allowed later (Ok after)
 
-same_known : (w after : Known) → ◌≡◌ {A = Result Known Promise} (Ok w) (Ok after) → w ≡ after
-same_known w after e = cc
-
 read_text : (text : List ℕ) (reply : Reply) → text_read text ≡ Some reply → text_of reply ≡ text
 read_text text reply is =
     elim (nat_lt MOST_TEXT_BYTES (length text)) as (λ b. ((if b then None else Some text) >>= reply_of_text) ≡ Some reply → text_of reply ≡ text) [

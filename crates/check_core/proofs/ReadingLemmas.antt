@@ -60,12 +60,6 @@ whole_none most came h = elim (nat_lt most (length came)) as (λ b. nat_lt most 
   | false ↦ λ _ none. absurd cc
 ] refl h
 
-pub whole_some : (most : ℕ) (came found : List ℕ) → whole_of most came ≡ Some found → came ≡ found
-whole_some most came found h = elim (nat_lt most (length came)) as (λ b. (if b then None else Some came) ≡ Some found → came ≡ found) [
-  | true ↦ λ none. absurd cc
-  | false ↦ λ some. cc
-] h
-
 -- a longer text is another
 pub longer_differs : (xs ys : List ℕ) → length ys < length xs → bytes_eq xs ys ≡ false
 longer_differs xs ys h = elim (bytes_eq xs ys) as (λ b. bytes_eq xs ys ≡ b → b ≡ false) [

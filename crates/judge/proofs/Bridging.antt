@@ -182,11 +182,6 @@ order_kept event body w y z (Ok u) f = f.order
 order_kept event body w y z (Err (Of.Broken promise)) f = ap (λ (s : Seen). s.left.order) f.1
 order_kept event body w y z (Err (Of.Memory e)) f = ap (λ (s : Seen). s.left.order) f.1
 
-pub as_many_owners : (event : Event) (body : Body) (old new : List (Option Owner)) (result : Result (Unit {0}) Failure)
-    → length (owners_after event body old) ≡ length old → AreOwnersAfter event body old new result → length new ≡ length old
-as_many_owners event body old new (Ok u) many is = ap length is ∙ many
-as_many_owners event body old new (Err e) many is = ap length is
-
 -- The pool
 
 pub unnamed : (event : Event) → named event ≡ None → event ≡ On.Admin Do.Pool

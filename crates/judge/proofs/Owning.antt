@@ -206,11 +206,6 @@ owners_refused (On.Admin (Do.Move t u)) r os (Ok v) = refl
 owners_refused (On.Admin Do.Pool) r os (Ok u) = refl
 owners_refused event r os (Err e) = refl
 
-pub owners_told : (body : Body) (os : List (Option Owner)) (result : Result (Unit {0}) Failure) → AreOwnersAfter (On.Admin Do.Pool) body os os result
-unfolding owners_after
-owners_told body os (Ok u) = refl
-owners_told body os (Err e) = refl
-
 -- a command of a tenant changes none
 pub owners_kept : (t : ℕ) (command : Command) (body : Body) (os : List (Option Owner)) → owners_after (On.Tenant t command) body os ≡ os
 unfolding owners_after

@@ -1,12 +1,9 @@
 -- Bytes that have a holder.
 use Rattle.std.proofs.Common.{◌≡◌, ℕ, ◌+◌, ◌<◌, true, not, Option, Some, None, is_some, refl, ap, sym, ◌∙◌}
-use Rattle.std.specs.Prelude.{is_none, option_map}
 use Rattle.model_core.specs.Machine.{slot_of}
 use Rattle.promise_core.specs.Bytes.{Holder, holder_of}
 use Rattle.promise_core.specs.Holdings.{Holdings}
 use Rattle.promise_core.proofs.Held.{range_held}
-use Rattle.judge_core.specs.Holders.{shown_holder}
-use Rattle.judge_core.specs.declared.holder.RangeHolder.{RangeHolder}
 use Rattle.shadow_memory.specs.Left.{Left, has_place}
 use Rattle.judge.specs.Seen.{LieInSlots}
 
@@ -15,10 +12,6 @@ pub places_held : (h : Holdings) (left : Left) → LieInSlots h left → (place 
     → (j : ℕ) → j < len → has_place left (place + j) ≡ true
 places_held h left sound place len holder is j lt =
     sound.slots (slot_of left.order (place + j)) ∙ range_held left.order h sound.laid sound.gridded place len holder is j lt
-
-pub some_holder : (o : Option RangeHolder) (h : Option Holder) → option_map shown_holder o ≡ h → is_none h ≡ not (is_some o)
-some_holder None h e = ap is_none (sym e)
-some_holder (Some holder) h e = ap is_none (sym e)
 
 pub none_of : {X : Type 0} (o : Option X) → ((x : X) → o ≡ Some x → ⊥) → o ≡ None
 none_of None not = refl

@@ -116,20 +116,6 @@ has_range place len size a p is_a = elim (cases_lt place p) [
   ]
 ]
 
--- the numbers that an object at a place may have
-pub number_from : (i chunk place n e low count : ℕ) → 0 < chunk → low ≡ min ((place + n - e + chunk - 1) / chunk) count
-    → i * chunk ≤ place → place - i * chunk + n ≤ e → low ≤ i
-number_from i chunk place n e low count pos is le inside =
-    let over : place + n - e + chunk - 1 < (i + 1) * chunk = omega arith in
-    let d : (place + n - e + chunk - 1) / chunk < i + 1 = div_below (place + n - e + chunk - 1) chunk (i + 1) pos over in
-    omega (arith, d)
-
-pub number_before : (i chunk place b high count : ℕ) → 0 < chunk → i < count → high ≡ min ((place - b) / chunk + 1) count
-    → i * chunk ≤ place → b ≤ place - i * chunk → i < high
-number_before i chunk place b high count pos lt is le inside =
-    let d : i ≤ (place - b) / chunk = le-div i (place - b) chunk pos (omega arith) in
-    omega (arith, d)
-
 pub grid_tells : (c : KnownCache) (place i : ℕ) (beside : List ℕ)
     → (nat_le (i * c.chunk) place && is_grid c (slab_around c place) (place - i * c.chunk) beside) ≡ true → IsObjectAt c place i
 grid_tells c place i beside e =

@@ -4,10 +4,8 @@ use Rattle.std.specs.Prelude.{if◌then◌else◌, ◌&&◌}
 use Rattle.std.proofs.lemmas.Bool.{cases_lt}
 use Rattle.std.proofs.lemmas.Bool.Decides.{nat_tests}
 use Rattle.std.proofs.lemmas.List.{append-nil, get_or_append_left, get_or-append_right, get_or-replicate, get_or_past, length-append, length-replicate, length-map}
-use Rattle.promise_core.specs.Bytes.{Cell}
 use Rattle.shadow_memory.specs.declared.kept.KeptByte.{KeptByte}
 use Rattle.shadow_memory.specs.declared.kept.KeptByte.TheVariants as Kept
-use Rattle.shadow_memory.specs.declared.summary.Summary.{Summary}
 use Rattle.shadow_memory.specs.Inside.{CellStep, padded, shown_kept, within}
 use Rattle.shadow_memory.specs.Summaries.{IsSummarizedBy, any_summary, cell_in, AreSummarized}
 
@@ -28,10 +26,6 @@ padded_at n k xs = elim (cases_lt k (length xs)) [
 pub padded_len : (n : ℕ) (xs : List KeptByte) → length xs ≤ n → length (padded n xs) ≡ n
 padded_len n xs le = let a = length-append xs (replicate (n - length xs) Kept.Fresh) in
     let b = length-replicate (n - length xs) Kept.Fresh in omega (arith, a, b, le)
-
-pub marked_padded : (size n : ℕ) (summaries : List Summary) (xs ys : List KeptByte) → ys ≡ padded n xs → AreSummarized size summaries xs → AreSummarized size summaries ys
-marked_padded size n summaries xs ys is were k = subst (λ (zs : List KeptByte). IsSummarizedBy (get_or summaries (k / size) any_summary) (cell_in zs k)) (sym is)
-    (subst (λ (x : KeptByte). IsSummarizedBy (get_or summaries (k / size) any_summary) (shown_kept x)) (sym (padded_at n k xs)) (were k))
 
 map_at : (k : ℕ) (xs : List KeptByte) → get_or (map shown_kept xs) k None ≡ shown_kept (get_or xs k Kept.Fresh)
 map_at k [] = refl
@@ -64,14 +58,6 @@ changed_all step first begin end places old mid new len same inside behind k lt 
   | inr past ↦ ap shown_kept (get_or_past new k Kept.Fresh (omega (arith, len, past)))
       ∙ (sym (behind k past lt) ∙ ap (within begin end step (first + k)) (sym (ap shown_kept (get_or_past mid k Kept.Fresh past)) ∙ same k))
 ]
-
--- where nothing is added, and behind all that is
-pub none_added : (step : CellStep) (begin end place : ℕ) → ((p : ℕ) → step p None ≡ None) → within begin end step place None ≡ None
-none_added step begin end place keeps = go (leb begin place && ltb place end)
-  where
-    go : (b : Bool) → ◌≡◌ {A = Option Cell} (if b then step place None else None) None
-    go true = keeps place
-    go false = refl
 
 pub none_behind : (step : CellStep) (begin end place : ℕ) → end ≤ place → within begin end step place None ≡ None
 none_behind step begin end place le = ap (λ (b : Bool). if b then step place None else None) no

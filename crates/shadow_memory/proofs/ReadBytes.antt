@@ -4,18 +4,9 @@ use Rattle.std.specs.Prelude.{if◌then◌else◌, ◌&&◌, not, find, nat_lt}
 use Rattle.std.specs.List.{list_any}
 use Rattle.std.specs.Option.{option_map_or}
 use Rattle.std.proofs.lemmas.Bool.{leb-true}
-use Rattle.std.proofs.lemmas.List.{at_drop_more}
 use Rattle.model_core.specs.Reach.{is_within, within_block}
 use Rattle.promise_core.specs.Holdings.{Holdings, KnownCache}
 use Rattle.promise_core.specs.Bytes.{Holder, Cells, may_be, may_all_be, known_fresh_byte, object_with, holder_of}
-
--- one byte more
-pub read_more : (h : Holdings) (f : Cells) (holder : Holder) (place i : ℕ) (bytes : List ℕ) (byte : ℕ) → i < length bytes → byte ≡ get_or bytes i byte
-    → may_all_be h f holder (place + i) (drop i bytes)
-    ≡ (may_be holder (known_fresh_byte h holder (place + i)) (f (place + i)) byte && may_all_be h f holder (place + (i + 1)) (drop (i + 1) bytes))
-read_more h f holder place i bytes byte lt is = at_drop_more (may_all_be h f holder (place + i)) bytes i byte lt
-    ∙ (ap (λ (b : ℕ). may_be holder (known_fresh_byte h holder (place + i)) (f (place + i)) b && may_all_be h f holder (place + i + 1) (drop (i + 1) bytes)) (sym is)
-    ∙ ap (λ (p : ℕ). may_be holder (known_fresh_byte h holder (place + i)) (f (place + i)) byte && may_all_be h f holder p (drop (i + 1) bytes)) (omega arith))
 
 -- what has a range begins where it does, or before
 found_begins : (place len size : ℕ) (live : List ℕ) (p : ℕ) → find (λ first. is_within place len first size) live ≡ Some p → p ≤ place

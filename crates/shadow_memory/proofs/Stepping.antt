@@ -111,12 +111,6 @@ found_slot order place i ss s lt is here = at_drop_more (λ (xs : List LeftSlot)
     ∙ (ap (λ (x : LeftSlot). left_in order (x ∷ drop (i + 1) ss) place) (sym is)
     ∙ ap (λ (t : Bool). if t then get_or s.cells (place - s.slot * slot_places order) None else left_in order (drop (i + 1) ss) place) here)
 
-pub passed_slot : (order place i : ℕ) (ss : List LeftSlot) (s : LeftSlot) → i < length ss → s ≡ get_or ss i s → (s.slot == slot_of order place) ≡ false
-    → left_in order (drop i ss) place ≡ left_in order (drop (i + 1) ss) place
-passed_slot order place i ss s lt is here = at_drop_more (λ (xs : List LeftSlot). left_in order xs place) ss i s lt
-    ∙ (ap (λ (x : LeftSlot). left_in order (x ∷ drop (i + 1) ss) place) (sym is)
-    ∙ ap (λ (t : Bool). if t then get_or s.cells (place - s.slot * slot_places order) None else left_in order (drop (i + 1) ss) place) here)
-
 -- the places of whole slots are below 2 ^ 32
 pub low_place : (order place : ℕ) (ss : List LeftSlot) → AllByRecursion (IsSlotWhole order) ss
     → list_any (λ u. u == slot_of order place) (slots_in ss) ≡ true → place < 2 ^ 32
