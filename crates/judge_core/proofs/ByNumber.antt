@@ -81,13 +81,9 @@ pub number_stays : {E : Type 0} (r : Result (Unit {0}) E) (change : List ℕ →
 number_stays (Ok u) change old new ok err = ap (λ (c : KnownCache). c.number) ok
 number_stays (Err e) change old new ok err = ap (λ (c : KnownCache). c.number) err
 
-pub if_ok : {A E : Type 0} (r : Result A E) (P Q : A → Type 0) → ((a : A) → P a → Q a) → IfOk r P → IfOk r Q
-if_ok (Ok a) P Q f p = f a p
-if_ok (Err e) P Q f p = tt
-
-pub no_index : (o : Option ℕ) → ((i : ℕ) → o ≡ Some i → ⊥) → o ≡ None
-no_index None none = refl
-no_index (Some i) none = absurd (none i refl)
+pub none_of : {X : Type 0} (o : Option X) → ((x : X) → o ≡ Some x → ⊥) → o ≡ None
+none_of None not = refl
+none_of (Some x) not = absurd (not x refl)
 
 -- where none has the key each has another
 pub all_other : {X : Type 0} (key : X → ℕ) (n : ℕ) (xs : List X) → find (λ x. eqb (key x) n) xs ≡ None

@@ -1,5 +1,5 @@
 -- The tests of the definitions in the order in which they are computed.
-use Rattle.std.proofs.Common.{◌≡◌, ℕ, ◌+◌, ◌*◌, ◌^◌, ◌-◌, ◌<◌, get_or, drop, sym, Bool, true, false, not, ◌||◌, ◌==◌, if◌then◌else◌, List, [], ◌∷◌, ◌++◌, map, find, filter, length, reverse, Some, option_map, refl, ap, ◌∙◌, cond, arith, length-append}
+use Rattle.std.proofs.Common.{◌≡◌, ℕ, zero, suc, replicate, ◌+◌, ◌*◌, ◌^◌, ◌-◌, ◌<◌, get_or, drop, sym, Bool, true, false, not, ◌||◌, ◌==◌, if◌then◌else◌, List, [], ◌∷◌, ◌++◌, map, find, filter, length, reverse, Some, option_map, refl, ap, ◌∙◌, cond, arith, length-append}
 use Rattle.std.specs.List.{list_any, flat_map, sum_by}
 use Rattle.std.specs.Prelude.{MatchOption, nat_le}
 use Rattle.model_core.specs.declared.limits.TheConstants.{FRAME_BYTES}
@@ -10,6 +10,7 @@ use Rattle.std.proofs.lemmas.List.{at_drop_more}
 use Rattle.std.proofs.lemmas.List.Sorted.{list_any-IsPermutation, IsPermutation-reverse}
 use Rattle.std.proofs.lemmas.List.Sums.{sum_by-cons}
 use Rattle.std.proofs.lemmas.List.Concat.{flat_map-cons}
+use Rattle.std.proofs.lemmas.List.Elements.{filter-append}
 use Rattle.std.proofs.lemmas.List.FromFn.{filter_of_map_range_with_len_more}
 use Rattle.model_core.specs.Reach.{is_within}
 use Rattle.promise_core.specs.Bytes.{Holder, object_with}
@@ -35,19 +36,10 @@ order_found f (b ∷ bs) = go (b.first == f) (order_found f bs)
     go true rest = refl
     go false rest = rest
 
-filter_append : {X : Type 0} (p : X → Bool) (xs ys : List X) → filter p (xs ++ ys) ≡ filter p xs ++ filter p ys
-filter_append p [] ys = refl
-filter_append p (x ∷ xs) ys = go (p x) (filter_append p xs ys)
-  where
-    go : (t : Bool) → filter p (xs ++ ys) ≡ filter p xs ++ filter p ys
-        → (if t then x ∷ filter p (xs ++ ys) else filter p (xs ++ ys)) ≡ (if t then x ∷ filter p xs else filter p xs) ++ filter p ys
-    go true rest = ap (λ r. x ∷ r) rest
-    go false rest = rest
-
 passing_flat : {X Y : Type 0} (p : Y → Bool) (f : X → List Y) (xs : List X)
     → length (filter p (flat_map f xs)) ≡ sum_by (λ x. length (filter p (f x))) xs
 passing_flat p f [] = refl
-passing_flat p f (x ∷ xs) = ap (λ ys. length (filter p ys)) (flat_map-cons f x xs) ∙ ap length (filter_append p (f x) (flat_map f xs)) ∙ length-append (filter p (f x)) (filter p (flat_map f xs))
+passing_flat p f (x ∷ xs) = ap (λ ys. length (filter p ys)) (flat_map-cons f x xs) ∙ ap length (filter-append p (f x) (flat_map f xs)) ∙ length-append (filter p (f x)) (filter p (flat_map f xs))
     ∙ ap (λ n. length (filter p (f x)) + n) (passing_flat p f xs) ∙ sym (sum_by-cons (λ x. length (filter p (f x))) x xs)
 
 pub vacant_sum : (order k : ℕ) (h : Holdings)
@@ -93,6 +85,12 @@ inside_slab origin count chunk size first order =
     let objects : origin + ((count - 1) * chunk + size) ≡ origin + (count - 1) * chunk + size = omega arith in
     let frames : FRAME_BYTES * first + FRAME_BYTES * 2 ^ order ≡ FRAME_BYTES * (first + 2 ^ order) = omega arith in
     (λ i. nat_le (objects i) (frames i))
+
+-- at each place of a list of one value, and past it
+pub same_at : {X : Type 0} (n k : ℕ) (x : X) → get_or (replicate n x) k x ≡ x
+same_at zero k x = refl
+same_at (suc n) zero x = refl
+same_at (suc n) (suc k) x = same_at n k x
 
 pub any_reversed : {X : Type 0} (p : X → Bool) (xs : List X) → list_any p (reverse xs) ≡ list_any p xs
 any_reversed p xs = sym (list_any-IsPermutation p xs (reverse xs) (IsPermutation-reverse xs))

@@ -3,6 +3,7 @@ use Rattle.std.proofs.Common.{◌≡◌, ℕ, ◌+◌, ◌*◌, ◌/◌, ◌^◌
 use Rattle.std.specs.Prelude.{◌||◌, nat_lt}
 use Rattle.std.specs.List.{list_any, prefix_len, AllByRecursion as Each}
 use Rattle.std.specs.List.Sorted.{IsNonDecreasing}
+use Rattle.std.proofs.Math.Bool.{or_assoc}
 use Rattle.std.proofs.Math.Nat.{mul-le-mul_right}
 use Rattle.std.proofs.Math.Pow.{shr_mono}
 use Rattle.std.proofs.lemmas.List.Folds.{list_any_none}
@@ -20,14 +21,6 @@ has_over_block x b = overlaps (block x 0) b
 -- whether the slab of the object at a place has the frame
 abbrev pub has_over : KnownCache → ℕ → ℕ → Bool
 has_over c x p = overlaps (block x 0) (slab_around c p)
-
-pub or_false : (p : Bool) → (p || false) ≡ p
-or_false true = refl
-or_false false = refl
-
-or_assoc : (p q r : Bool) → ((p || q) || r) ≡ (p || (q || r))
-or_assoc true q r = refl
-or_assoc false q r = refl
 
 -- objects before the slab that has the slot's first frame have their slabs before the slot
 pub any_from : (c : KnownCache) (first x a : ℕ) (live : List ℕ) → a ≡ 4096 * (first / 2 ^ c.order * 2 ^ c.order) → first ≤ x

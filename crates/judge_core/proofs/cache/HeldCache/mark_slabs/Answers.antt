@@ -6,7 +6,8 @@ use Rattle.std.proofs.lemmas.List.{take_all}
 use Rattle.std.proofs.lemmas.List.Sorted.{IsNonDecreasingBy-drop}
 use Rattle.model_core.specs.Blocks.{Block}
 use Rattle.promise_core.specs.Holdings.{KnownCache, slab_around}
-use Rattle.judge_core.proofs.Marks.{has_over, has_over_block, or_false, any_from, slab_passed, goes_on, none_behind}
+use Rattle.std.proofs.Math.Bool.{or-false}
+use Rattle.judge_core.proofs.Marks.{has_over, has_over_block, any_from, slab_passed, goes_on, none_behind}
 use Rattle.judge_core.proofs.cache.HeldCache.mark_slabs.Goals as goal
 
 pub slabs-init : goal.slabs-init
@@ -63,4 +64,4 @@ returns-then-from-end c = λ f less.
     let x : ℕ = c.args.slot.now.first + f in
     let none = none_behind told c.in-Some.first.now _ c.slabs.rest.now c.slabs.invariant.rise c.in-Some.ensures.item.3.0 c.in-Some.ensures.item.1 refl x
     (omega (arith, less, c.if-from-end.true, c.end.ensures.value, c.from.ensures, c.first-in-Some.ensures, ap (λ (b : Block). b.first) c.slab_around-slab.ensures)) in
-    sym (or_false _) ∙ ap (λ t. get_or c.slabs.taken f false || t) (sym none) ∙ c.slabs.invariant.marked f less
+    sym (or-false _) ∙ ap (λ t. get_or c.slabs.taken f false || t) (sym none) ∙ c.slabs.invariant.marked f less

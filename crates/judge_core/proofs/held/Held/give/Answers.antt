@@ -3,7 +3,7 @@ use Rattle.std.proofs.Math.Seq.{map-set_same}
 use Rattle.std.specs.Prelude.{position, slice_set, if◌then◌else◌}
 use Rattle.model_core.specs.WellFormed.{RisesFrom}
 use Rattle.promise_core.specs.Holdings.{KnownCache}
-use Rattle.judge_core.proofs.ByNumber.{changed_at, changed_none, no_index}
+use Rattle.judge_core.proofs.ByNumber.{changed_at, changed_none, none_of}
 use Rattle.judge_core.proofs.held.Held.give.Goals as goal
 
 pub invariant_of-self : goal.invariant_of-self
@@ -37,7 +37,7 @@ returns-in_default c =
     let change = λ (x : KnownCache). record x { live = filter (λ p. not (p == c.args.place)) x.live } in
     let none : position (λ (x : KnownCache). x.number == c.args.number) caches ≡ None =
     (λ j. position (λ (x : KnownCache). x.number == c.args.number) (sym c.deref.ensures.value j))
-    ∙ (sym c.index_of_cache.ensures.value ∙ no_index c.index_of_cache.result c.in_default.not-Some) in
+    ∙ (sym c.index_of_cache.ensures.value ∙ none_of c.index_of_cache.result c.in_default.not-Some) in
     let e : map {B = KnownCache} (λ (x : KnownCache). if x.number == c.args.number then change x else x) caches ≡ caches =
     changed_none (λ (x : KnownCache). x.number) c.args.number change caches none in
     rw (← c.self.view_is, e)

@@ -4,7 +4,8 @@ use Rattle.std.specs.Prelude.{position, slice_set, if◌then◌else◌}
 use Rattle.model_core.specs.Machine.{put_rising}
 use Rattle.model_core.specs.WellFormed.{RisesFrom}
 use Rattle.promise_core.specs.Holdings.{KnownCache, Holdings, with_live_places}
-use Rattle.judge_core.proofs.ByNumber.{changed_at, changed_none, number_stays, if_ok}
+use Rattle.judge_core.proofs.ByNumber.{changed_at, changed_none, number_stays}
+use Rattle.std.proofs.lemmas.Result.{IfOk-weaker}
 use Rattle.judge_core.proofs.held.Held.take.Goals as goal
 
 pub invariant_of-self : goal.invariant_of-self
@@ -41,7 +42,7 @@ returns-in-Some-clause-taken c =
     ∙ sym (changed_at (λ (x : KnownCache). x.number) c.args.number c.in-Some.i change c.index_mut.result.now caches
     c.self.invariant.0 is) in
     rw (e, ← c.self.view_is)) in
-    if_ok c.take.result (λ u. c.take.new.self ≡ change c.index_mut.result.now) goal_is made c.take.ensures.taken
+    IfOk-weaker c.take.result (λ u. c.take.new.self ≡ change c.index_mut.result.now) goal_is made c.take.ensures.taken
 
 pub returns-in-None-clause-taken : goal.returns-in-None-clause-taken
 returns-in-None-clause-taken c =

@@ -5,14 +5,9 @@ use Rattle.std.proofs.Math.Bool.{not-not}
 use Rattle.model_core.specs.Blocks.{block}
 use Rattle.model_core.specs.Operations.{overlaps}
 use Rattle.promise_core.specs.Holdings.{Holdings, KnownCache, slab_around}
-use Rattle.judge_core.proofs.Lists.{vacant_is}
+use Rattle.judge_core.proofs.Lists.{same_at, vacant_is}
 use Rattle.judge_core.proofs.Pages.{overlap_near}
 use Rattle.judge_core.proofs.held.Held.taken_in.Goals as goal
-
-none_marked : (n f : ℕ) → get_or (replicate n false) f false ≡ false
-none_marked zero f = refl
-none_marked (suc n) zero = refl
-none_marked (suc n) (suc f) = none_marked n f
 
 pub returns-clause-taken : goal.returns-clause-taken
 returns-clause-taken c = λ f less.
@@ -25,6 +20,6 @@ returns-clause-taken c = λ f less.
     let caches : c.deref.result.now ≡ told.caches = c.deref.ensures.value ∙ ap (λ (h : Holdings). h.caches) c.self.view_is in
     let slabs = λ (cs : List KnownCache). list_any (λ y. list_any (λ p. overlaps (block x 0) (slab_around y p)) y.live) cs in
     c.mark_caches.ensures f less
-    ∙ ap (λ v. v || slabs c.deref.result.now) (c.mark_blocks.ensures f less ∙ ap (λ v. v || list_any (overlaps (block x 0)) c.pages_near-pages.result.now) (none_marked 256 f) ∙ sym near)
+    ∙ ap (λ v. v || slabs c.deref.result.now) (c.mark_blocks.ensures f less ∙ ap (λ v. v || list_any (overlaps (block x 0)) c.pages_near-pages.result.now) (same_at 256 f false) ∙ sym near)
     ∙ ap (λ (cs : List KnownCache). list_any (overlaps (block x 0)) told.pages || slabs cs) caches
     ∙ sym (ap not (vacant_is told (block x 0)) ∙ not-not _)
