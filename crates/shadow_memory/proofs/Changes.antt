@@ -2,6 +2,7 @@
 use Rattle.std.proofs.Common.{◌≡◌, ℕ, ◌+◌, ◌-◌, ◌*◌, ◌^◌, ◌<◌, ◌≤◌, Bool, true, false, not, leb, ltb, List, length, get_or, min, max, Option, Some, None, option_map, inl, inr, refl, sym, ap, ◌∙◌, subst, arith}
 use Rattle.std.specs.Prelude.{if◌then◌else◌, ◌&&◌, ◌||◌, ◌==◌, nat_le, nat_lt, slice_index}
 use Rattle.std.specs.Option.{option_and_then}
+use Rattle.std.proofs.Math.Bool.{and-true, or-true}
 use Rattle.std.proofs.lemmas.Bool.Decides.{nat_tests}
 use Rattle.std.proofs.lemmas.Bool.{eqb-true, false≢true, and_parts, le-leb, lt-ltb, leb-true, ltb-true, cases_lt}
 use Rattle.model_core.specs.Blocks.{Block}
@@ -38,15 +39,11 @@ pub object_none : (first : ℕ) (c : KnownCache) (place : ℕ) (cells : Cells) �
 object_none first c = without_none (λ place holder. in_block place (slab_around c first)
     && not (is_object (λ n p. n == c.number && (p == first || are_apart c first p)) holder))
 
-and_true : (b : Bool) → (b && true) ≡ b
-and_true true = refl
-and_true false = refl
-
 doubted_part : (b : Bool) (test : Holder → Bool) (place : ℕ) (x : Option Cell)
     → (if b then doubted_of test place x else x) ≡ option_map (λ (cell : Cell). record cell { sure = cell.sure && not (b && test cell.holder) }) x
 doubted_part true test place x = refl
 doubted_part false test place None = refl
-doubted_part false test place (Some cell) = ap (λ (sure : Bool). Some (record cell { sure = sure })) (sym (and_true cell.sure))
+doubted_part false test place (Some cell) = ap (λ (sure : Bool). Some (record cell { sure = sure })) (sym (and-true cell.sure))
 
 removed_part : (b : Bool) (test : Holder → Bool) (place : ℕ) (x : Option Cell)
     → (if b then removed_of test place x else x) ≡ option_and_then (λ (cell : Cell). if b && test cell.holder then None else Some cell) x
@@ -109,7 +106,7 @@ doubted_object reach number first end place cells near far = go (leb first place
     go true is x near = refl
     go false off None near = refl
     go false off (Some cell) near = ap (λ (sure : Bool). Some (record cell { sure = sure }))
-        (sym (ap (λ (t : Bool). cell.sure && not t) (not_there reach number first end place cell.holder near far off) ∙ and_true cell.sure))
+        (sym (ap (λ (t : Bool). cell.sure && not t) (not_there reach number first end place cell.holder near far off) ∙ and-true cell.sure))
 
 -- so it is of an object that is given back
 pub given : (old new : Left) (reach : List ℕ) (number first begin end : ℕ) → AreSlots old.order old.slots reach → begin ≡ first
@@ -218,18 +215,14 @@ not_beside_else number first size (Holder.Object n p) is = go (n == number) is
     go true is = absurd (false≢true is)
     go false is = refl
 
-or_true : (b : Bool) → (b || true) ≡ true
-or_true true = refl
-or_true false = refl
-
 -- an object beside another, or not
 is_beside : (first size p : ℕ) → (p < first + size → first < p + size → ⊥) → (p == first || (leb (first + size) p || leb (p + size) first)) ≡ true
 is_beside first size p apart = elim (cases_lt p (first + size)) [
-  | inr ge ↦ ap (λ (t : Bool). p == first || (t || leb (p + size) first)) (le-leb (first + size) p ge) ∙ or_true (p == first)
+  | inr ge ↦ ap (λ (t : Bool). p == first || (t || leb (p + size) first)) (le-leb (first + size) p ge) ∙ or-true (p == first)
   | inl lt ↦ elim (cases_lt first (p + size)) [
     | inl over ↦ absurd (apart lt over)
     | inr ge ↦ ap (λ (t : Bool). p == first || (leb (first + size) p || t)) (le-leb (p + size) first ge)
-        ∙ (ap (λ (t : Bool). p == first || t) (or_true (leb (first + size) p)) ∙ or_true (p == first))
+        ∙ (ap (λ (t : Bool). p == first || t) (or-true (leb (first + size) p)) ∙ or-true (p == first))
   ]
 ]
 

@@ -4,23 +4,18 @@ use Rattle.std.specs.Prelude.{if◌then◌else◌, ◌&&◌}
 use Rattle.std.proofs.lemmas.Bool.{cases_lt}
 use Rattle.std.proofs.lemmas.Bool.Decides.{nat_tests}
 use Rattle.std.proofs.lemmas.List.{append-nil, get_or_append_left, get_or-append_right, get_or-replicate, get_or_past, length-append, length-replicate, length-map}
+use Rattle.judge_core.proofs.Lists.{same_at}
 use Rattle.shadow_memory.specs.declared.kept.KeptByte.{KeptByte}
 use Rattle.shadow_memory.specs.declared.kept.KeptByte.TheVariants as Kept
 use Rattle.shadow_memory.specs.Inside.{CellStep, padded, shown_kept, within}
 use Rattle.shadow_memory.specs.Summaries.{IsSummarizedBy, any_summary, cell_in, AreSummarized}
-
-fresh_at : (n k : ℕ) → get_or (replicate n Kept.Fresh) k Kept.Fresh ≡ Kept.Fresh
-fresh_at n k = elim (cases_lt k n) [
-  | inl lt ↦ get_or-replicate n k Kept.Fresh Kept.Fresh lt
-  | inr ge ↦ (let len = length-replicate n Kept.Fresh in get_or_past (replicate n Kept.Fresh) k Kept.Fresh (omega (arith, len, ge)))
-]
 
 -- what is stored at a place is the same
 pub padded_at : (n k : ℕ) (xs : List KeptByte) → get_or (padded n xs) k Kept.Fresh ≡ get_or xs k Kept.Fresh
 padded_at n k xs = elim (cases_lt k (length xs)) [
   | inl lt ↦ get_or_append_left xs (replicate (n - length xs) Kept.Fresh) Kept.Fresh k lt
   | inr ge ↦ get_or-append_right xs (replicate (n - length xs) Kept.Fresh) (length xs) k Kept.Fresh refl ge
-      ∙ (fresh_at (n - length xs) (k - length xs) ∙ sym (get_or_past xs k Kept.Fresh ge))
+      ∙ (same_at (n - length xs) (k - length xs) Kept.Fresh ∙ sym (get_or_past xs k Kept.Fresh ge))
 ]
 
 pub padded_len : (n : ℕ) (xs : List KeptByte) → length xs ≤ n → length (padded n xs) ≡ n

@@ -7,6 +7,7 @@ use Rattle.std.proofs.lemmas.Bool.{eqb-true, eqb-false, cases_lt}
 use Rattle.std.proofs.lemmas.List.{get_or-replicate, get_or_past, length-replicate}
 use Rattle.model_core.specs.Machine.{slot_of}
 use Rattle.promise_core.specs.Bytes.{Cell, without}
+use Rattle.judge_core.proofs.Lists.{same_at}
 use Rattle.shadow_memory.specs.Left.{LeftSlot, Left, slot_places, left_in, slots_in, left_slots, Becomes, left_at}
 use Rattle.shadow_memory.specs.Inside.{IsNear, IsSlotWhole, AreSlots}
 use Rattle.shadow_memory.proofs.Stepping.{none_left}
@@ -78,15 +79,6 @@ taken_back old u = record {
 }
 
 -- a slot at which nothing was left
-same_at : {X : Type 0} (n k : ℕ) (x : X) → get_or (replicate n x) k x ≡ x
-same_at n k x = elim (cases_lt k n) [
-  | inl h ↦ get_or-replicate n k x x h
-  | inr h ↦ (let len = length-replicate n x in get_or_past (replicate n x) k x (omega (arith, len, h)))
-]
-
-fresh_at : (n k : ℕ) → get_or {A = Option Cell} (replicate n None) k None ≡ None
-fresh_at n k = same_at n k None
-
 pub slots_granted : (order u : ℕ) (ss : List LeftSlot) (reach : List ℕ) → AreSlots order ss reach → (u + 1) * 2 ^ order * 4096 ≤ 2 ^ 32
     → AreSlots order (record { slot = u; cells = replicate (slot_places order) None } ∷ ss) reach
 slots_granted order u ss reach are low = record {
@@ -96,7 +88,7 @@ slots_granted order u ss reach are low = record {
   where
     go : (place : ℕ) (b : Bool)
         → IsNear reach place (if b then get_or (replicate (slot_places order) None) (place - u * slot_places order) None else left_in order ss place)
-    go place true = subst (IsNear reach place) (sym (fresh_at (slot_places order) (place - u * slot_places order))) tt
+    go place true = subst (IsNear reach place) (sym (same_at {X = Option Cell} (slot_places order) (place - u * slot_places order) None)) tt
     go place false = are.near place
 
 pub granted : (old : Left) (u : ℕ) → list_any (λ v. v == u) (left_slots old) ≡ false → Becomes old (u ∷ left_slots old) (λ cells. cells)
@@ -109,6 +101,6 @@ granted old u new = record {
   where
     go : (place : ℕ) (b : Bool) → (u == slot_of old.order place) ≡ b
         → (if b then get_or (replicate (slot_places old.order) None) (place - u * slot_places old.order) None else left_in old.order old.slots place) ≡ left_at old place
-    go place true is = fresh_at (slot_places old.order) (place - u * slot_places old.order)
+    go place true is = same_at (slot_places old.order) (place - u * slot_places old.order) None
         ∙ sym (none_left old.order place old.slots (subst (λ n. list_any (λ v. v == n) (left_slots old) ≡ false) (eqb-true u (slot_of old.order place) is) new))
     go place false is = refl

@@ -6,9 +6,16 @@ use Rattle.std.proofs.lemmas.Bool.{eqb-true, eq-eqb, false≢true}
 use Rattle.model_core.specs.Machine.{slot_of}
 use Rattle.promise_core.specs.Bytes.{Cell, Cells}
 use Rattle.shadow_memory.specs.Left.{LeftSlot, Left, slot_places, left_in, slots_in, left_slots, has_place, Becomes, left_at}
-use Rattle.shadow_memory.specs.Inside.{CellStep, IsNear, StaysNear, IsSlotWhole, AreSlots, IsStepped, AreStepped, within}
+use Rattle.shadow_memory.specs.Inside.{CellStep, IsNear, StaysNear, IsSlotWhole, AreSlots, AreStepped, within}
 use Rattle.std.proofs.lemmas.List.{at_drop_more}
 use Rattle.shadow_memory.proofs.Places.{inside_slot, inside_behind}
+
+-- the slot after a step at each of its places
+pub record IsStepped (order : ℕ) (step : CellStep) (old new : LeftSlot) : Type 0 where
+  pub slot : new.slot ≡ old.slot
+  pub len : length new.cells ≡ length old.cells
+  pub cells : (k : ℕ) → k < length old.cells
+      → get_or new.cells k None ≡ step (old.slot * slot_places order + k) (get_or old.cells k None)
 
 stepped_at : (order : ℕ) (step : CellStep) (s t : LeftSlot) (x y : Option Cell) (place : ℕ) (b more : Bool) → (s.slot == slot_of order place) ≡ b
     → IsSlotWhole order s → IsStepped order step s t → (b || more) ≡ true → (more ≡ true → (place < 2 ^ 32) × (y ≡ step place x))

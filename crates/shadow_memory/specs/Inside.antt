@@ -70,14 +70,7 @@ pub record AreSlots (order : ℕ) (slots : List LeftSlot) (reach : List ℕ) : T
   pub whole : AllByRecursion (IsSlotWhole order) slots
   pub near : (place : ℕ) → IsNear reach place (left_in order slots place)
 
--- the slot after a step at each of its places
-pub record IsStepped (order : ℕ) (step : CellStep) (old new : LeftSlot) : Type 0 where
-  pub slot : new.slot ≡ old.slot
-  pub len : length new.cells ≡ length old.cells
-  pub cells : (k : ℕ) → k < length old.cells
-      → slice_index_or new.cells k None ≡ step (old.slot * slot_places order + k) (slice_index_or old.cells k None)
-
--- the slots after it
+-- the slots after a step at each of their places
 pub record AreStepped (order : ℕ) (step : CellStep) (old new : List LeftSlot) : Type 0 where
   pub slots : slots_in new ≡ slots_in old
   pub whole : AllByRecursion (IsSlotWhole order) new
