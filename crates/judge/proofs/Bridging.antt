@@ -34,7 +34,7 @@ set_is (z ∷ zs) (suc i) x y e = set_is zs i x y e
 -- Verdicts
 
 -- the verdict, with what is known after a reply that is allowed
-abbrev pub turn : Result (Unit {0}) Promise → Known → Result Known Promise
+abbrev turn : Result (Unit {0}) Promise → Known → Result Known Promise
 turn (Ok u) after = Ok after
 turn (Err promise) after = Err promise
 
@@ -66,18 +66,18 @@ module _ (event : Event) (reply : Reply) (w : Known) where
       ∙ ap (λ b. turn (broken ((Promise.Form, b && is_some (state_after w.order event reply.body s)) ∷ drop 1 (kept event reply w s))) after) right
 
 -- where nothing is changed
-pub unchanged : (event : Event) (reply : Reply) (x : SeenMachine) (v : Result (Unit {0}) Promise) → allowed event reply (known_of x) ≡ turn v (known_of x)
+unchanged : (event : Event) (reply : Reply) (x : SeenMachine) (v : Result (Unit {0}) Promise) → allowed event reply (known_of x) ≡ turn v (known_of x)
     → IsJudged event reply x x (failing v)
 unchanged event reply x (Ok u) is = (is, record { order = refl; superblocks = refl; tenants = refl })
 unchanged event reply x (Err promise) is = (is, refl)
 
 -- A tenant that does not exist
 
-pub stranger : (event : Event) (reply : Reply) (x : SeenMachine) (t : ℕ) → named event ≡ Some t → slice_get x.tenants t ≡ None
-    → allowed event reply (known_of x)
-    ≡ turn (broken ((Promise.Form, is_for event false reply.addressee) ∷ (Promise.Refusals, is_no_tenant reply.body) ∷ [])) (known_of x)
-stranger event reply x t name none = found event reply (known_of x) t None name (slice_get-map state_of x.tenants t ∙ ap (option_map state_of) none)
-    ∙ verdict_is ((Promise.Form, is_for event false reply.addressee) ∷ (Promise.Refusals, is_no_tenant reply.body) ∷ []) (known_of x)
+pub stranger : (event : Event) (reply : Reply) (x : SeenMachine) (t : ℕ) (v : Result (Unit {0}) Promise) → named event ≡ Some t → slice_get x.tenants t ≡ None
+    → v ≡ broken ((Promise.Form, is_for event false reply.addressee) ∷ (Promise.Refusals, is_no_tenant reply.body) ∷ []) → IsJudged event reply x x (failing v)
+stranger event reply x t v name none is =
+    unchanged event reply x v (found event reply (known_of x) t None name (slice_get-map state_of x.tenants t ∙ ap (option_map state_of) none)
+    ∙ verdict_is ((Promise.Form, is_for event false reply.addressee) ∷ (Promise.Refusals, is_no_tenant reply.body) ∷ []) (known_of x) ∙ ap (λ v. turn v (known_of x)) (sym is))
 
 -- A tenant that does
 

@@ -1,5 +1,5 @@
 -- What a verdict without a broken promise says, and that what is kept of a tenant stays sound.
-use Rattle.std.proofs.Common.{◌≡◌, ℕ, ◌<◌, ◌≤◌, Bool, true, false, List, [], ◌∷◌, Some, Ok, Err, refl, ap, sym, subst, ◌∙◌, inl, inr}
+use Rattle.std.proofs.Common.{◌≡◌, ℕ, ◌<◌, ◌≤◌, Bool, true, false, List, [], ◌∷◌, drop, is_some, Some, Ok, Err, refl, ap, sym, subst, ◌∙◌, inl, inr}
 use Rattle.std.specs.Prelude.{Result, OnOk, ◌==◌, if◌then◌else◌}
 use Rattle.std.specs.List.{list_any}
 use Rattle.std.proofs.lemmas.Bool.{and_parts, ltb-true}
@@ -11,22 +11,23 @@ use Rattle.words_core.specs.declared.event.Event.{Event}
 use Rattle.words_core.specs.declared.event.Event.TheVariants as On
 use Rattle.words_core.specs.declared.event.AdminCommand.TheVariants as Do
 use Rattle.words_core.specs.declared.event.Command.TheVariants as Command
+use Rattle.words_core.specs.declared.reply.Addressee.TheVariants as To
 use Rattle.words_core.specs.declared.reply.Body.{Body}
 use Rattle.words_core.specs.declared.reply.Body.TheVariants as Say
 use Rattle.promise_core.specs.declared.promise.Promise.{Promise}
 use Rattle.promise_core.specs.Bytes.{Cells}
 use Rattle.promise_core.specs.Holdings.{KnownCache, Holdings, has_slot, with_live_places}
 use Rattle.promise_core.specs.Lying.{IsLaid, AllGridded}
-use Rattle.promise_core.specs.Promises.{refusals, blocks, objects, new_layout, owners}
+use Rattle.promise_core.specs.Promises.{kept, refusals, blocks, objects, new_layout, owners}
 use Rattle.promise_core.specs.State.{State, Known, opening_state, state_after}
 use Rattle.promise_core.proofs.Steps.{in_put, some_state}
 use Rattle.promise_core.proofs.Laid.{step, grid_step}
 use Rattle.shadow_memory.specs.Left.{left_slots, Becomes}
-use Rattle.judge.specs.Judged.{broken, kept_by, known_at, tenant_verdict, IsFollowed}
+use Rattle.judge.specs.Judged.{broken, known_at, tenant_verdict, IsFollowed}
 use Rattle.judge.specs.Seen.{Seen, state_of, AreNumbered, LieInSlots}
 
 -- each promise is kept
-pub all_kept : (ps : List (Promise × Bool)) → broken ps ≡ Ok tt → Each (λ p. p.1 ≡ true) ps
+all_kept : (ps : List (Promise × Bool)) → broken ps ≡ Ok tt → Each (λ p. p.1 ≡ true) ps
 all_kept [] ok = tt
 all_kept ((promise, kept) ∷ rest) ok = go kept refl ok (all_kept rest)
   where
@@ -46,7 +47,9 @@ pub record AreKept (event : Event) (body : Body) (w : Known) (s : State) : Type 
 
 pub kept_all : (event : Event) (body : Body) (w : Known) (x : Seen) → tenant_verdict event body w x ≡ Ok tt → AreKept event body (known_at x w) (state_of x)
 kept_all event body w x ok =
-    let k = all_kept (kept_by event body (known_at x w) (state_of x)) ok in
+    let v = known_at x w in
+    let k = all_kept ((Promise.Form, is_some (state_after v.order event body (state_of x)))
+    ∷ drop 1 (kept event (record { addressee = To.Nobody; body = body }) v (state_of x))) ok in
     record {
       refusals = k.1.0;
       blocks = k.1.1.1.1.0;

@@ -13,10 +13,10 @@ use Rattle.promise_core.specs.Holdings.{known_cache}
 use Rattle.promise_core.specs.State.{Known}
 use Rattle.promise_core.specs.Promises.{first_due, due, new_layout}
 use Rattle.judge_core.specs.Inside.{IsKnownLayout}
-use Rattle.judge.specs.Judged.{kept_by, known_at, tenant_verdict}
+use Rattle.judge.specs.Judged.{known_at, tenant_verdict}
 use Rattle.model_core.specs.declared.limits.TheConstants.{MOST_CACHES}
 use Rattle.judge.specs.Seen.{Seen, state_of}
-use Rattle.judge.proofs.Keeping.{all_kept}
+use Rattle.judge.proofs.Keeping.{kept_all}
 
 none_is : {X : Type 0} (o : Option X) → is_none o ≡ true → o ≡ None
 none_is None e = refl
@@ -31,8 +31,7 @@ module _ (size align t number chunk q n colours : ℕ) (p : ArrayVec ℕ) (w : K
   kept : tenant_verdict (On.Tenant t (Command.Cache size align p)) (Say.Cache number chunk q n colours) w x ≡ Ok tt
       → (is_none (due (On.Tenant t (Command.Cache size align p)) (known_at x w) (state_of x)) ≡ true)
       × (new_layout (On.Tenant t (Command.Cache size align p)) (Say.Cache number chunk q n colours) (known_at x w) (state_of x) ≡ true)
-  kept ok = let all = all_kept (kept_by (On.Tenant t (Command.Cache size align p)) (Say.Cache number chunk q n colours) (known_at x w) (state_of x)) ok in
-      (all.1.0, all.1.1.1.1.1.1.0)
+  kept ok = let all = kept_all (On.Tenant t (Command.Cache size align p)) (Say.Cache number chunk q n colours) w x ok in (all.refusals, all.layout)
 
   abbrev new : Bool
   new = nat_lt number MOST_CACHES && is_none (known_cache x.has number)

@@ -5,119 +5,53 @@ use Rattle.words_core.specs.declared.event.Event.{Event}
 use Rattle.words_core.specs.declared.report.Report.{Report}
 use Rattle.promise_core.specs.Promises.{named, is_no_tenant}
 use Rattle.arrayvec.specs.ArrayVec.{ArrayVec}
-use Rattle.words_core.specs.Requests.{body_of_answer, is_table}
+use Rattle.words_core.specs.Requests.{is_table}
 use Rattle.words_core.specs.declared.answer.Answer.{Answer}
 use Rattle.words_core.specs.declared.event.Event.TheVariants as On
 use Rattle.words_core.specs.declared.event.AdminCommand.TheVariants as Do
 use Rattle.words_core.specs.declared.reply.Body.{Body}
 use Rattle.words_core.specs.declared.reply.Body.TheVariants as Say
-use Rattle.words_core.specs.declared.reply.Refusal.{Refusal}
 use Rattle.model_core.specs.declared.owner.Owner.{Owner}
 use Rattle.promise_core.specs.State.{State, state_after}
+use Rattle.judge.specs.Judged.{IsUnfit}
 
-module _ (t order : ℕ) (s : State) where
-  pub no_alloc : (k : ℕ) (a : Answer) → ((f : ℕ) → a ≡ Answer.Frame f → ⊥) → ((r : Refusal) → a ≡ Answer.Refused r → ⊥)
-      → state_after order (On.Tenant t (Command.Alloc k)) (body_of_answer a) s ≡ None
-  unfolding state_after
-  no_alloc k (Answer.Frame f) not_answer not_refused = absurd (not_answer f refl)
-  no_alloc k (Answer.Refused r) not_answer not_refused = absurd (not_refused r refl)
-  no_alloc k a not_answer not_refused = refl
+-- the answer is of the kind that the event has; a table is none
+abbrev pub IsKindOf : Event → Answer → Type 0
+IsKindOf (On.Tenant t (Command.Alloc k)) a = (f : ℕ) × (a ≡ Answer.Frame f)
+IsKindOf (On.Tenant t (Command.Free f)) a = (k : ℕ) × (a ≡ Answer.Freed k)
+IsKindOf (On.Tenant t (Command.Read place len)) a = (bytes : _) × (a ≡ Answer.Bytes bytes)
+IsKindOf (On.Tenant t (Command.Write place new)) a = (n : ℕ) × (a ≡ Answer.Written n)
+IsKindOf (On.Tenant t (Command.Cache size align new)) a =
+    (number : ℕ) × (chunk : ℕ) × (q : ℕ) × (n : ℕ) × (colours : ℕ) × (a ≡ Answer.Cache number chunk q n colours)
+IsKindOf (On.Tenant t (Command.Destroy number)) a = (n : ℕ) × (a ≡ Answer.Destroyed n)
+IsKindOf (On.Tenant t (Command.Take number)) a = (p : ℕ) × (a ≡ Answer.Object p)
+IsKindOf (On.Tenant t (Command.Give number place)) a = a ≡ Answer.Given
+IsKindOf (On.Tenant t Command.Reap) a = (n : ℕ) × (a ≡ Answer.Reaped n)
+IsKindOf (On.Tenant t Command.Report) a = ⊥
+IsKindOf (On.Admin (Do.Grant t)) a = (named : ℕ) × (u : ℕ) × (m : ℕ) × (a ≡ Answer.Granted named u m)
+IsKindOf (On.Admin (Do.TakeBack t u)) a = (m : ℕ) × (a ≡ Answer.TakenBack m)
+IsKindOf (On.Admin (Do.Reset t)) a = (named : ℕ) × (m : ℕ) × (a ≡ Answer.WasReset named m)
+IsKindOf (On.Admin (Do.Move t u)) a = (named : ℕ) × (told : ℕ) × (m : ℕ) × (a ≡ Answer.Moved named told m)
+IsKindOf (On.Admin Do.Pool) a = ⊥
 
-  pub no_free : (f : ℕ) (a : Answer) → ((k : ℕ) → a ≡ Answer.Freed k → ⊥) → ((r : Refusal) → a ≡ Answer.Refused r → ⊥)
-      → state_after order (On.Tenant t (Command.Free f)) (body_of_answer a) s ≡ None
-  unfolding state_after
-  no_free f (Answer.Freed k) not_answer not_refused = absurd (not_answer k refl)
-  no_free f (Answer.Refused r) not_answer not_refused = absurd (not_refused r refl)
-  no_free f a not_answer not_refused = refl
-
-  pub no_read : (place len : ℕ) (a : Answer) → ((bytes : _) → a ≡ Answer.Bytes bytes → ⊥) → ((r : Refusal) → a ≡ Answer.Refused r → ⊥)
-      → state_after order (On.Tenant t (Command.Read place len)) (body_of_answer a) s ≡ None
-  unfolding state_after
-  no_read place len (Answer.Bytes bytes) not_answer not_refused = absurd (not_answer bytes refl)
-  no_read place len (Answer.Refused r) not_answer not_refused = absurd (not_refused r refl)
-  no_read place len a not_answer not_refused = refl
-
-  pub no_write : (place : ℕ) (new : ArrayVec ℕ) (a : Answer) → ((n : ℕ) → a ≡ Answer.Written n → ⊥) → ((r : Refusal) → a ≡ Answer.Refused r → ⊥)
-      → state_after order (On.Tenant t (Command.Write place new)) (body_of_answer a) s ≡ None
-  unfolding state_after
-  no_write place new (Answer.Written n) not_answer not_refused = absurd (not_answer n refl)
-  no_write place new (Answer.Refused r) not_answer not_refused = absurd (not_refused r refl)
-  no_write place new a not_answer not_refused = refl
-
-  pub no_cache : (size align : ℕ) (new : ArrayVec ℕ) (a : Answer) → ((number chunk q n colours : ℕ) → a ≡ Answer.Cache number chunk q n colours → ⊥) → ((r : Refusal) → a ≡ Answer.Refused r → ⊥)
-      → state_after order (On.Tenant t (Command.Cache size align new)) (body_of_answer a) s ≡ None
-  unfolding state_after
-  no_cache size align new (Answer.Cache number chunk q n colours) not_answer not_refused = absurd (not_answer number chunk q n colours refl)
-  no_cache size align new (Answer.Refused r) not_answer not_refused = absurd (not_refused r refl)
-  no_cache size align new a not_answer not_refused = refl
-
-  pub no_destroy : (number : ℕ) (a : Answer) → ((n : ℕ) → a ≡ Answer.Destroyed n → ⊥) → ((r : Refusal) → a ≡ Answer.Refused r → ⊥)
-      → state_after order (On.Tenant t (Command.Destroy number)) (body_of_answer a) s ≡ None
-  unfolding state_after
-  no_destroy number (Answer.Destroyed n) not_answer not_refused = absurd (not_answer n refl)
-  no_destroy number (Answer.Refused r) not_answer not_refused = absurd (not_refused r refl)
-  no_destroy number a not_answer not_refused = refl
-
-  pub no_take : (number : ℕ) (a : Answer) → ((p : ℕ) → a ≡ Answer.Object p → ⊥) → ((r : Refusal) → a ≡ Answer.Refused r → ⊥)
-      → state_after order (On.Tenant t (Command.Take number)) (body_of_answer a) s ≡ None
-  unfolding state_after
-  no_take number (Answer.Object p) not_answer not_refused = absurd (not_answer p refl)
-  no_take number (Answer.Refused r) not_answer not_refused = absurd (not_refused r refl)
-  no_take number a not_answer not_refused = refl
-
-  pub no_give : (number place : ℕ) (a : Answer) → (a ≡ Answer.Given → ⊥) → ((r : Refusal) → a ≡ Answer.Refused r → ⊥)
-      → state_after order (On.Tenant t (Command.Give number place)) (body_of_answer a) s ≡ None
-  unfolding state_after
-  no_give number place Answer.Given not_answer not_refused = absurd (not_answer refl)
-  no_give number place (Answer.Refused r) not_answer not_refused = absurd (not_refused r refl)
-  no_give number place a not_answer not_refused = refl
-
-  pub no_reap : (a : Answer) → ((n : ℕ) → a ≡ Answer.Reaped n → ⊥) → ((r : Refusal) → a ≡ Answer.Refused r → ⊥)
-      → state_after order (On.Tenant t Command.Reap) (body_of_answer a) s ≡ None
-  unfolding state_after
-  no_reap (Answer.Reaped n) not_answer not_refused = absurd (not_answer n refl)
-  no_reap (Answer.Refused r) not_answer not_refused = absurd (not_refused r refl)
-  no_reap a not_answer not_refused = refl
-
-  pub no_grant : (a : Answer) → ((named u m : ℕ) → a ≡ Answer.Granted named u m → ⊥) → ((r : Refusal) → a ≡ Answer.Refused r → ⊥)
-      → state_after order (On.Admin (Do.Grant t)) (body_of_answer a) s ≡ None
-  unfolding state_after
-  no_grant (Answer.Granted named u m) not_answer not_refused = absurd (not_answer named u m refl)
-  no_grant (Answer.Refused r) not_answer not_refused = absurd (not_refused r refl)
-  no_grant a not_answer not_refused = refl
-
-  pub no_take_back : (slot : ℕ) (a : Answer) → ((m : ℕ) → a ≡ Answer.TakenBack m → ⊥) → ((r : Refusal) → a ≡ Answer.Refused r → ⊥)
-      → state_after order (On.Admin (Do.TakeBack t slot)) (body_of_answer a) s ≡ None
-  unfolding state_after
-  no_take_back slot (Answer.TakenBack m) not_answer not_refused = absurd (not_answer m refl)
-  no_take_back slot (Answer.Refused r) not_answer not_refused = absurd (not_refused r refl)
-  no_take_back slot a not_answer not_refused = refl
-
-  pub no_reset : (a : Answer) → ((named m : ℕ) → a ≡ Answer.WasReset named m → ⊥) → ((r : Refusal) → a ≡ Answer.Refused r → ⊥)
-      → state_after order (On.Admin (Do.Reset t)) (body_of_answer a) s ≡ None
-  unfolding state_after
-  no_reset (Answer.WasReset named m) not_answer not_refused = absurd (not_answer named m refl)
-  no_reset (Answer.Refused r) not_answer not_refused = absurd (not_refused r refl)
-  no_reset a not_answer not_refused = refl
-
-  pub no_move : (slot : ℕ) (a : Answer) → ((named u m : ℕ) → a ≡ Answer.Moved named u m → ⊥) → ((r : Refusal) → a ≡ Answer.Refused r → ⊥)
-      → state_after order (On.Admin (Do.Move t slot)) (body_of_answer a) s ≡ None
-  unfolding state_after
-  no_move slot (Answer.Moved named u m) not_answer not_refused = absurd (not_answer named u m refl)
-  no_move slot (Answer.Refused r) not_answer not_refused = absurd (not_refused r refl)
-  no_move slot a not_answer not_refused = refl
-
--- where a table has to come
-
-pub no_report : (t order : ℕ) (s : State) (a : Answer) → ((r : Refusal) → a ≡ Answer.Refused r → ⊥) → state_after order (On.Tenant t Command.Report) (body_of_answer a) s ≡ None
+pub unfit : (e : Event) (a : Answer) → (IsKindOf e a → ⊥) → IsUnfit e a
 unfolding state_after
-no_report t order s (Answer.Refused r) not_refused = absurd (not_refused r refl)
-no_report t order s a not_refused = refl
-
-pub no_pool : (order : ℕ) (s : State) (a : Answer) → ((r : Refusal) → a ≡ Answer.Refused r → ⊥) → state_after order (On.Admin Do.Pool) (body_of_answer a) s ≡ None
-unfolding state_after
-no_pool order s (Answer.Refused r) not_refused = absurd (not_refused r refl)
-no_pool order s a not_refused = refl
+unfit e (Answer.Refused r) other order s not_refused = absurd (not_refused r refl)
+unfit (On.Tenant t (Command.Alloc k)) (Answer.Frame f) other order s not_refused = absurd (other (f, refl))
+unfit (On.Tenant t (Command.Free f)) (Answer.Freed k) other order s not_refused = absurd (other (k, refl))
+unfit (On.Tenant t (Command.Read place len)) (Answer.Bytes bytes) other order s not_refused = absurd (other (bytes, refl))
+unfit (On.Tenant t (Command.Write place new)) (Answer.Written n) other order s not_refused = absurd (other (n, refl))
+unfit (On.Tenant t (Command.Cache size align new)) (Answer.Cache number chunk q n colours) other order s not_refused =
+    absurd (other (number, chunk, q, n, colours, refl))
+unfit (On.Tenant t (Command.Destroy number)) (Answer.Destroyed n) other order s not_refused = absurd (other (n, refl))
+unfit (On.Tenant t (Command.Take number)) (Answer.Object p) other order s not_refused = absurd (other (p, refl))
+unfit (On.Tenant t (Command.Give number place)) Answer.Given other order s not_refused = absurd (other refl)
+unfit (On.Tenant t Command.Reap) (Answer.Reaped n) other order s not_refused = absurd (other (n, refl))
+unfit (On.Admin (Do.Grant t)) (Answer.Granted named u m) other order s not_refused = absurd (other (named, u, m, refl))
+unfit (On.Admin (Do.TakeBack t u)) (Answer.TakenBack m) other order s not_refused = absurd (other (m, refl))
+unfit (On.Admin (Do.Reset t)) (Answer.WasReset named m) other order s not_refused = absurd (other (named, m, refl))
+unfit (On.Admin (Do.Move t u)) (Answer.Moved named told m) other order s not_refused = absurd (other (named, told, m, refl))
+unfit e a other order s not_refused = refl
 
 -- a table that is none to what was asked
 

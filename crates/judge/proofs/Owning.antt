@@ -30,9 +30,6 @@ use Rattle.judge.proofs.Following.{changed}
 
 -- Nothing
 
-pub none_marked : (n k : ℕ) → slice_index_or (replicate k false) n false ≡ false
-none_marked n k = grind (arith, common_steps)
-
 pub opened : (x : Seen) (order : ℕ) → x.has ≡ record { slots = []; pages = []; caches = [] } → x.left ≡ record { order = order; slots = [] }
     → ((n : ℕ) → slice_index_or x.may_have_empty n false ≡ false) → x.told ≡ None → state_of x ≡ opening_state
 unfolding opening_state

@@ -12,7 +12,3 @@ pub places_held : (h : Holdings) (left : Left) → LieInSlots h left → (place 
     → (j : ℕ) → j < len → has_place left (place + j) ≡ true
 places_held h left sound place len holder is j lt =
     sound.slots (slot_of left.order (place + j)) ∙ range_held left.order h sound.laid sound.gridded place len holder is j lt
-
-pub none_of : {X : Type 0} (o : Option X) → ((x : X) → o ≡ Some x → ⊥) → o ≡ None
-none_of None not = refl
-none_of (Some x) not = absurd (not x refl)

@@ -24,14 +24,10 @@ abbrev pub broken : List (Promise × Bool) → Result (Unit {0}) Promise
 broken [] = Ok tt
 broken ((promise, kept) ∷ rest) = if kept then broken rest else Err promise
 
--- each promise, and whether a reply of this body keeps it that is for whom it has to be
-abbrev pub kept_by : Event → Body → Known → State → List (Promise × Bool)
-kept_by event body w s = (Promise.Form, is_some (state_after w.order event body s))
-    ∷ drop 1 (kept event (record { addressee = To.Nobody; body = body }) w s)
-
--- the verdict on such a reply
+-- the verdict on a reply of this body that is for whom it has to be
 abbrev pub verdict_on : Event → Body → Known → State → Result (Unit {0}) Promise
-verdict_on event body w s = broken (kept_by event body w s)
+verdict_on event body w s = broken ((Promise.Form, is_some (state_after w.order event body s))
+    ∷ drop 1 (kept event (record { addressee = To.Nobody; body = body }) w s))
 
 -- the verdict on a refusal where `due` has to come, if one has; `full` and `busy` are whether it may be said for want of frames,
 -- and that a slot is busy

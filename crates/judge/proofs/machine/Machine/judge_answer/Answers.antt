@@ -1,4 +1,4 @@
-use Rattle.std.proofs.Common.{◌≡◌, ◌<◌, ◌≤◌, ℕ, false, [], ◌∷◌, length, Some, None, refl, ap, sym, subst, ◌∙◌, rules, arith, slice_get}
+use Rattle.std.proofs.Common.{◌≡◌, ℕ, false, [], ◌∷◌, length, Some, None, refl, ap, sym, subst, ◌∙◌, rules, arith, slice_get}
 use Rattle.std.specs.Vec.{with_items}
 use Rattle.std.proofs.lemmas.List.{with_items_is, places}
 use Rattle.std.proofs.lemmas.Option.{slice_get_past, slice_get_read}
@@ -10,19 +10,17 @@ use Rattle.promise_core.specs.State.{owners_after}
 use Rattle.judge.specs.Judged.{broken, AreOwnersAfter, IsJudged, IsVerdictFor}
 use Rattle.judge.specs.Seen.{Seen}
 use Rattle.judge.specs.Machine.{SeenMachine, known_of}
-use Rattle.judge.proofs.Bridging.{turn, unchanged, stranger, misled, with_tenant, still_fits, tenant_judged, order_kept}
+use Rattle.judge.proofs.Bridging.{stranger, misled, with_tenant, still_fits, tenant_judged, order_kept}
 use Rattle.judge.proofs.Owning.{owners_kept, are_kept, as_many}
 use Rattle.judge.proofs.machine.Machine.judge_answer.Goals as goal
 
 pub returns-then-t-len : goal.returns-then-t-len
 returns-then-t-len c =
     let name : named c.args.event.now ≡ Some c.in-Some.t = sym c.tenant_named.ensures ∙ c.in-Some.is in
-    let past : length c.self.inside.tenants.items ≤ c.in-Some.t = omega (arith, c.len.ensures, c.if-t-len.true) in
     let none : slice_get c.args.self.now.tenants c.in-Some.t ≡ None =
-    ap (λ (m : SeenMachine). slice_get m.tenants c.in-Some.t) (sym c.self.view_is) ∙ slice_get_past c.self.inside.tenants.items c.in-Some.t past in
-    subst (IsJudged c.args.event.now (reply_to c.args.addressee c.args.answer.now) c.args.self.now c.args.self.now) (sym c.followed.ensures) (unchanged c.args.event.now (reply_to c.args.addressee c.args.answer.now) c.args.self.now c.judge_stranger.result
-    (stranger c.args.event.now (reply_to c.args.addressee c.args.answer.now) c.args.self.now c.in-Some.t name none ∙ ap (λ v. turn v (known_of c.args.self.now)) (sym (c.judge_stranger.ensures
-    ∙ (λ i. broken ((Promise.Form, is_for c.args.event.now false c.args.addressee) ∷ (Promise.Refusals, c.says_no_tenant.ensures i) ∷ []))))))
+    ap (λ (m : SeenMachine). slice_get m.tenants c.in-Some.t) (sym c.self.view_is) ∙ slice_get_past c.self.inside.tenants.items c.in-Some.t (omega (arith, c.len.ensures, c.if-t-len.true)) in
+    rw c.followed.ensures (stranger c.args.event.now (reply_to c.args.addressee c.args.answer.now) c.args.self.now c.in-Some.t c.judge_stranger.result name none
+    (c.judge_stranger.ensures ∙ (λ i. broken ((Promise.Form, is_for c.args.event.now false c.args.addressee) ∷ (Promise.Refusals, c.says_no_tenant.ensures i) ∷ []))))
 
 pub returns-then-not-is_for : goal.returns-then-not-is_for
 returns-then-not-is_for c = (misled c.args.event.now (reply_to c.args.addressee c.args.answer.now) c.args.self.now c.in-Some.t (sym c.tenant_named.ensures ∙ c.in-Some.is) (omega (arith, c.len.ensures, c.if-t-len.false, ap (λ (m : SeenMachine). length m.tenants) c.self.view_is)) (sym c.is_for.ensures ∙ c.if-not-is_for.true), refl)
@@ -31,10 +29,8 @@ pub invariant_of-self : goal.invariant_of-self
 invariant_of-self c =
     let x : SeenMachine = record { order = c.self.inside.order; owners = c.self.inside.owners.items; tenants = c.self.inside.tenants.items } in
     let t : ℕ = c.in-Some.t in
-    let many : length x.tenants ≡ length c.args.self.now.tenants = ap (λ (m : SeenMachine). length m.tenants) c.self.view_is in
-    let within : t < length c.args.self.now.tenants = omega (arith, c.len.ensures, c.if-t-len.false, many) in
     let y : Seen = c.index_mut.result.now in
-    let here : slice_get x.tenants t ≡ Some y = slice_get_read x.tenants (length c.args.self.now.tenants) t y (sym many) within c.index_mut.ensures.value in
+    let here : slice_get x.tenants t ≡ Some y = slice_get_read x.tenants (length x.tenants) t y refl (omega (arith, c.len.ensures, c.if-t-len.false)) c.index_mut.ensures.value in
     let z : Seen = c.judge.new.self in
     let judged : IsVerdictFor c.args.event.now (body_of_answer c.args.answer.now) (known_of x) y z c.judge.result = rw c.in-Tenant.is (c.judge.ensures _ (known_of x)) in
     still_fits x x.owners t y z c.self.invariant refl here (order_kept c.args.event.now (body_of_answer c.args.answer.now) (known_of x) y z c.judge.result judged)
@@ -43,10 +39,8 @@ pub returns-in-Tenant : goal.returns-in-Tenant
 returns-in-Tenant c =
     let x : SeenMachine = record { order = c.self.inside.order; owners = c.self.inside.owners.items; tenants = c.self.inside.tenants.items } in
     let t : ℕ = c.in-Some.t in
-    let many : length x.tenants ≡ length c.args.self.now.tenants = ap (λ (m : SeenMachine). length m.tenants) c.self.view_is in
-    let within : t < length c.args.self.now.tenants = omega (arith, c.len.ensures, c.if-t-len.false, many) in
     let y : Seen = c.index_mut.result.now in
-    let here : slice_get x.tenants t ≡ Some y = slice_get_read x.tenants (length c.args.self.now.tenants) t y (sym many) within c.index_mut.ensures.value in
+    let here : slice_get x.tenants t ≡ Some y = slice_get_read x.tenants (length x.tenants) t y refl (omega (arith, c.len.ensures, c.if-t-len.false)) c.index_mut.ensures.value in
     let z : Seen = c.judge.new.self in
     let judged : IsVerdictFor c.args.event.now (body_of_answer c.args.answer.now) (known_of x) y z c.judge.result = rw c.in-Tenant.is (c.judge.ensures _ (known_of x)) in
     let reply = reply_to c.args.addressee c.args.answer.now in
@@ -60,10 +54,8 @@ pub invariant_of-self-in-Admin : goal.invariant_of-self-in-Admin
 invariant_of-self-in-Admin c =
     let x : SeenMachine = record { order = c.self.inside.order; owners = c.self.inside.owners.items; tenants = c.self.inside.tenants.items } in
     let t : ℕ = c.in-Some.t in
-    let many : length x.tenants ≡ length c.args.self.now.tenants = ap (λ (m : SeenMachine). length m.tenants) c.self.view_is in
-    let within : t < length c.args.self.now.tenants = omega (arith, c.len.ensures, c.if-t-len.false, many) in
     let y : Seen = c.index_mut-in-Admin.result.now in
-    let here : slice_get x.tenants t ≡ Some y = slice_get_read x.tenants (length c.args.self.now.tenants) t y (sym many) within c.index_mut-in-Admin.ensures.value in
+    let here : slice_get x.tenants t ≡ Some y = slice_get_read x.tenants (length x.tenants) t y refl (omega (arith, c.len.ensures, c.if-t-len.false)) c.index_mut-in-Admin.ensures.value in
     let z : Seen = c.judge_admin.new.self in
     let items = with_items_is c.self.inside.owners c.judge_admin.new.owners (search (rules, places)) in
     let os = c.judge_admin.new.owners in
@@ -76,10 +68,8 @@ pub returns-in-Admin : goal.returns-in-Admin
 returns-in-Admin c =
     let x : SeenMachine = record { order = c.self.inside.order; owners = c.self.inside.owners.items; tenants = c.self.inside.tenants.items } in
     let t : ℕ = c.in-Some.t in
-    let many : length x.tenants ≡ length c.args.self.now.tenants = ap (λ (m : SeenMachine). length m.tenants) c.self.view_is in
-    let within : t < length c.args.self.now.tenants = omega (arith, c.len.ensures, c.if-t-len.false, many) in
     let y : Seen = c.index_mut-in-Admin.result.now in
-    let here : slice_get x.tenants t ≡ Some y = slice_get_read x.tenants (length c.args.self.now.tenants) t y (sym many) within c.index_mut-in-Admin.ensures.value in
+    let here : slice_get x.tenants t ≡ Some y = slice_get_read x.tenants (length x.tenants) t y refl (omega (arith, c.len.ensures, c.if-t-len.false)) c.index_mut-in-Admin.ensures.value in
     let z : Seen = c.judge_admin.new.self in
     let items = with_items_is c.self.inside.owners c.judge_admin.new.owners (search (rules, places)) in
     let os = c.judge_admin.new.owners in

@@ -1,4 +1,4 @@
-use Rattle.std.proofs.Common.{◌≡◌, ℕ, ◌<◌, ◌≤◌, false, [], ◌∷◌, length, Some, None, refl, ap, sym, subst, ◌∙◌, arith, slice_get}
+use Rattle.std.proofs.Common.{◌≡◌, ℕ, false, [], ◌∷◌, length, Some, None, refl, ap, sym, subst, ◌∙◌, arith, slice_get}
 use Rattle.std.proofs.lemmas.Option.{slice_get_past, slice_get_read}
 use Rattle.promise_core.specs.declared.promise.Promise.{Promise}
 use Rattle.promise_core.specs.Promises.{is_for, named}
@@ -6,7 +6,7 @@ use Rattle.promise_core.specs.State.{owners_after}
 use Rattle.judge.specs.Judged.{broken, failing, AreOwnersAfter, IsJudged, IsVerdictFor}
 use Rattle.judge.specs.Seen.{Seen}
 use Rattle.judge.specs.Machine.{SeenMachine, known_of}
-use Rattle.judge.proofs.Bridging.{turn, unchanged, stranger, misled, misjudged, with_tenant, still_fits, tenant_judged, order_kept}
+use Rattle.judge.proofs.Bridging.{stranger, misled, misjudged, with_tenant, still_fits, tenant_judged, order_kept}
 use Rattle.judge.proofs.Misfits.{no_row, no_table}
 use Rattle.judge.proofs.Owning.{owners_kept, are_kept}
 use Rattle.judge.proofs.machine.Machine.judge_rows.Goals as goal
@@ -14,12 +14,10 @@ use Rattle.judge.proofs.machine.Machine.judge_rows.Goals as goal
 pub returns-then-t-len : goal.returns-then-t-len
 returns-then-t-len c =
     let name : named c.args.event.now ≡ Some c.in-Some.t = sym c.tenant_named.ensures ∙ c.in-Some.is in
-    let past : length c.self.inside.tenants.items ≤ c.in-Some.t = omega (arith, c.len.ensures, c.if-t-len.true) in
     let none : slice_get c.args.self.now.tenants c.in-Some.t ≡ None =
-    ap (λ (m : SeenMachine). slice_get m.tenants c.in-Some.t) (sym c.self.view_is) ∙ slice_get_past c.self.inside.tenants.items c.in-Some.t past in
-    unchanged c.args.event.now c.args.reply.now c.args.self.now c.judge_stranger.result
-    (stranger c.args.event.now c.args.reply.now c.args.self.now c.in-Some.t name none ∙ ap (λ v. turn v (known_of c.args.self.now)) (sym (c.judge_stranger.ensures
-    ∙ (λ i. broken ((Promise.Form, is_for c.args.event.now false c.args.reply.now.addressee) ∷ (Promise.Refusals, no_row c.args.reply.now.body c.requires i) ∷ [])))))
+    ap (λ (m : SeenMachine). slice_get m.tenants c.in-Some.t) (sym c.self.view_is) ∙ slice_get_past c.self.inside.tenants.items c.in-Some.t (omega (arith, c.len.ensures, c.if-t-len.true)) in
+    stranger c.args.event.now c.args.reply.now c.args.self.now c.in-Some.t c.judge_stranger.result name none
+    (c.judge_stranger.ensures ∙ (λ i. broken ((Promise.Form, is_for c.args.event.now false c.args.reply.now.addressee) ∷ (Promise.Refusals, no_row c.args.reply.now.body c.requires i) ∷ [])))
 
 pub returns-then-not-is_for : goal.returns-then-not-is_for
 returns-then-not-is_for c = (misled c.args.event.now c.args.reply.now c.args.self.now c.in-Some.t (sym c.tenant_named.ensures ∙ c.in-Some.is) (omega (arith, c.len.ensures, c.if-t-len.false, ap (λ (m : SeenMachine). length m.tenants) c.self.view_is)) (sym c.is_for.ensures ∙ c.if-not-is_for.true), refl)
@@ -28,10 +26,8 @@ pub invariant_of-self : goal.invariant_of-self
 invariant_of-self c =
     let x : SeenMachine = record { order = c.self.inside.order; owners = c.self.inside.owners.items; tenants = c.self.inside.tenants.items } in
     let t : ℕ = c.in-Some.t in
-    let many : length x.tenants ≡ length c.args.self.now.tenants = ap (λ (m : SeenMachine). length m.tenants) c.self.view_is in
-    let within : t < length c.args.self.now.tenants = omega (arith, c.len.ensures, c.if-t-len.false, many) in
     let y : Seen = c.index_mut.result.now in
-    let here : slice_get x.tenants t ≡ Some y = slice_get_read x.tenants (length c.args.self.now.tenants) t y (sym many) within c.index_mut.ensures.value in
+    let here : slice_get x.tenants t ≡ Some y = slice_get_read x.tenants (length x.tenants) t y refl (omega (arith, c.len.ensures, c.if-t-len.false)) c.index_mut.ensures.value in
     let z : Seen = c.judge_rows.new.self in
     let verdict = failing c.judge_rows.result in
     let judged : IsVerdictFor c.args.event.now c.args.reply.now.body (known_of x) y z verdict = rw (c.in-Tenant.is, c.in-Report.is) (c.judge_rows.ensures _ (known_of x)) in
@@ -41,10 +37,8 @@ pub returns-in-Report : goal.returns-in-Report
 returns-in-Report c =
     let x : SeenMachine = record { order = c.self.inside.order; owners = c.self.inside.owners.items; tenants = c.self.inside.tenants.items } in
     let t : ℕ = c.in-Some.t in
-    let many : length x.tenants ≡ length c.args.self.now.tenants = ap (λ (m : SeenMachine). length m.tenants) c.self.view_is in
-    let within : t < length c.args.self.now.tenants = omega (arith, c.len.ensures, c.if-t-len.false, many) in
     let y : Seen = c.index_mut.result.now in
-    let here : slice_get x.tenants t ≡ Some y = slice_get_read x.tenants (length c.args.self.now.tenants) t y (sym many) within c.index_mut.ensures.value in
+    let here : slice_get x.tenants t ≡ Some y = slice_get_read x.tenants (length x.tenants) t y refl (omega (arith, c.len.ensures, c.if-t-len.false)) c.index_mut.ensures.value in
     let z : Seen = c.judge_rows.new.self in
     let verdict = failing c.judge_rows.result in
     let judged : IsVerdictFor c.args.event.now c.args.reply.now.body (known_of x) y z verdict = rw (c.in-Tenant.is, c.in-Report.is) (c.judge_rows.ensures _ (known_of x)) in

@@ -10,7 +10,7 @@ use Rattle.judge.specs.Judged.{IsJudged, IsVerdictFor}
 use Rattle.judge.specs.declared.verdict.Failure.TheVariants as Of
 use Rattle.judge.proofs.Bridging.{unnamed, pool_astray, pool_answered}
 use Rattle.judge.proofs.Verdicts.{refused, misfit}
-use Rattle.judge.proofs.Misfits.{no_pool}
+use Rattle.judge.proofs.Misfits.{unfit}
 use Rattle.judge.proofs.machine.Machine.judge_unnamed.Goals as goal
 
 pub returns-then-not-is_for : goal.returns-then-not-is_for
@@ -35,4 +35,4 @@ returns-in_default c =
     let is = unnamed c.args.event.now c.requires in
     subst (λ e. IsJudged e (reply_to c.args.addressee c.args.answer.now) c.args.self.now c.args.self.now (Err (Of.Broken Promise.Form))) (sym is) (pool_answered (reply_to c.args.addressee c.args.answer.now) c.args.self.now (Err (Of.Broken Promise.Form))
     (subst (λ e. is_for e true c.args.addressee ≡ true) is (sym c.is_for.ensures ∙ c.if-not-is_for.false))
-    (λ w x. misfit (On.Admin Do.Pool) (body_of_answer c.args.answer.now) w x (no_pool x.left.order (state_of x) c.args.answer.now c.in_default.not-Refused)))
+    (λ w x. misfit (On.Admin Do.Pool) (body_of_answer c.args.answer.now) w x (unfit (On.Admin Do.Pool) c.args.answer.now (λ x. x) x.left.order (state_of x) c.in_default.not-Refused)))

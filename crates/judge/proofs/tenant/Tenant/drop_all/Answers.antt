@@ -9,7 +9,8 @@ use Rattle.judge.proofs.Verdicts.{broken_off}
 use Rattle.promise_core.specs.Promises.{due}
 use Rattle.judge.specs.Seen.{Seen}
 use Rattle.judge.proofs.Keeping.{followed}
-use Rattle.judge.proofs.Owning.{emptied, none_marked, owners_emptied}
+use Rattle.judge_core.proofs.Lists.{same_at}
+use Rattle.judge.proofs.Owning.{emptied, owners_emptied}
 use Rattle.judge.proofs.tenant.Tenant.drop_all.Goals as goal
 
 pub returns-in_err-on_answer-clause-judged : goal.returns-in_err-on_answer-clause-judged
@@ -22,7 +23,7 @@ returns-clause-judged c w =
     let x : Seen = record { has = c.self.inside.held; left = c.self.inside.left; may_have_empty = c.self.inside.may_have_empty; told = c.self.inside.told } in
     let new : Seen = record { has = c.reset.new.self; left = c.reset-2.new.self; may_have_empty = replicate 32 false; told = None } in
     followed (On.Admin (Do.Reset c.args.t)) (Say.WasReset c.args.tenant c.args.superblocks) (record w { owners = c.args.owners.now }) x c.args.self.now new c.self.view_is (c.in_ok-on_answer.ensures ∙ (λ i. broken ((Promise.Refusals, true) ∷ (Promise.Owners, c.are_counted-is_counted.ensures i) ∷ [])))
-    (λ kept. emptied c.args.t c.args.tenant c.args.superblocks (record w { owners = c.args.owners.now }) x new kept c.reset.ensures c.reset-2.ensures (λ n. none_marked n 32) refl)
+    (λ kept. emptied c.args.t c.args.tenant c.args.superblocks (record w { owners = c.args.owners.now }) x new kept c.reset.ensures c.reset-2.ensures (λ n. same_at 32 n false) refl)
 
 pub returns-clause-owners : goal.returns-clause-owners
 unfolding due state_after

@@ -15,7 +15,7 @@ use Rattle.judge.specs.Judged.{broken, tenant_verdict}
 use Rattle.judge.specs.Seen.{Seen}
 use Rattle.judge.proofs.Deciding.{read_if}
 use Rattle.judge.proofs.Reading.{places_held}
-use Rattle.judge.proofs.Reading.{none_of}
+use Rattle.judge_core.proofs.ByNumber.{none_of}
 use Rattle.std.proofs.lemmas.Bool.{ne_eqb, eq-eqb}
 use Rattle.judge.proofs.Deciding.{unread}
 use Rattle.judge.proofs.tenant.Tenant.holder_read.Goals as goal

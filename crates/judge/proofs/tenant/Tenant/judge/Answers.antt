@@ -1,4 +1,5 @@
-use Rattle.judge.proofs.Misfits.{no_alloc, no_free, no_read, no_write, no_cache, no_destroy, no_take, no_give, no_reap, no_report}
+use Rattle.words_core.specs.declared.event.Event.TheVariants as On
+use Rattle.judge.proofs.Misfits.{unfit}
 use Rattle.judge.proofs.tenant.Tenant.judge.Goals as goal
 use Rattle.judge.proofs.tenant.Tenant.judge.Goals.{in_default-via-in-Alloc+in_default, in_default-via-in-Free+in_default, in_default-via-in-Read+in_default, in_default-via-in-Write+in_default, in_default-via-in-Cache+in_default, in_default-via-in-Destroy+in_default, in_default-via-in-Take+in_default, in_default-via-in-Give+in_default, in_default-via-in-Reap+in_default, in_default-via-in_default}
 
@@ -30,15 +31,15 @@ pub returns-in-Reap-Reaped : goal.returns-in-Reap-Reaped
 returns-in-Reap-Reaped c t w = rw (c.in-Reap-Reaped.is-0, c.in-Reap-Reaped.is-1) (c.drop_empty_slabs.ensures t w)
 
 pub judge_refusal-requires : goal.judge_refusal-requires
-judge_refusal-requires c t order s none = let a = c.args.answer.now in elim c.in_default.branch [
-  | in_default-via-in-Alloc+in_default w ↦ rw w.in_default.is-0 (no_alloc t order s _ a w.in_default.not-Frame-1 none)
-  | in_default-via-in-Free+in_default w ↦ rw w.in_default.is-0 (no_free t order s _ a w.in_default.not-Freed-1 none)
-  | in_default-via-in-Read+in_default w ↦ rw w.in_default.is-0 (no_read t order s _ _ a w.in_default.not-Bytes-1 none)
-  | in_default-via-in-Write+in_default w ↦ rw w.in_default.is-0 (no_write t order s _ _ a w.in_default.not-Written-1 none)
-  | in_default-via-in-Cache+in_default w ↦ rw w.in_default.is-0 (no_cache t order s _ _ _ a w.in_default.not-Cache-1 none)
-  | in_default-via-in-Destroy+in_default w ↦ rw w.in_default.is-0 (no_destroy t order s _ a w.in_default.not-Destroyed-1 none)
-  | in_default-via-in-Take+in_default w ↦ rw w.in_default.is-0 (no_take t order s _ a w.in_default.not-Object-1 none)
-  | in_default-via-in-Give+in_default w ↦ rw w.in_default.is-0 (no_give t order s _ _ a w.in_default.not-Given-1 none)
-  | in_default-via-in-Reap+in_default w ↦ rw w.in_default.is-0 (no_reap t order s a w.in_default.not-Reaped-1 none)
-  | in_default-via-in_default w ↦ rw w.in_default.is-0 (no_report t order s a none)
-]
+judge_refusal-requires c t = unfit (On.Tenant t c.args.command.now) c.args.answer.now (elim c.in_default.branch [
+  | in_default-via-in-Alloc+in_default w ↦ rw w.in_default.is-0 (λ x. w.in_default.not-Frame-1 x.0 x.1)
+  | in_default-via-in-Free+in_default w ↦ rw w.in_default.is-0 (λ x. w.in_default.not-Freed-1 x.0 x.1)
+  | in_default-via-in-Read+in_default w ↦ rw w.in_default.is-0 (λ x. w.in_default.not-Bytes-1 x.0 x.1)
+  | in_default-via-in-Write+in_default w ↦ rw w.in_default.is-0 (λ x. w.in_default.not-Written-1 x.0 x.1)
+  | in_default-via-in-Cache+in_default w ↦ rw w.in_default.is-0 (λ x. w.in_default.not-Cache-1 x.0 x.1 x.2 x.3 x.4 x.5)
+  | in_default-via-in-Destroy+in_default w ↦ rw w.in_default.is-0 (λ x. w.in_default.not-Destroyed-1 x.0 x.1)
+  | in_default-via-in-Take+in_default w ↦ rw w.in_default.is-0 (λ x. w.in_default.not-Object-1 x.0 x.1)
+  | in_default-via-in-Give+in_default w ↦ rw w.in_default.is-0 (λ x. w.in_default.not-Given-1 x)
+  | in_default-via-in-Reap+in_default w ↦ rw w.in_default.is-0 (λ x. w.in_default.not-Reaped-1 x.0 x.1)
+  | in_default-via-in_default w ↦ rw w.in_default.is-0 (λ x. x)
+])

@@ -1,4 +1,5 @@
-use Rattle.judge.proofs.Misfits.{no_grant, no_take_back, no_reset, no_move, no_pool}
+use Rattle.words_core.specs.declared.event.Event.TheVariants as On
+use Rattle.judge.proofs.Misfits.{unfit}
 use Rattle.judge.proofs.tenant.Tenant.judge_admin.Goals as goal
 use Rattle.judge.proofs.tenant.Tenant.judge_admin.Goals.{in_default-via-in-Grant+in_default, in_default-via-in-TakeBack+in_default, in_default-via-in-Reset+in_default, in_default-via-in-Move+in_default, in_default-via-in_default}
 
@@ -15,10 +16,10 @@ pub returns-in-Move-Moved-clause-judged : goal.returns-in-Move-Moved-clause-judg
 returns-in-Move-Moved-clause-judged c w = rw (c.in-Move-Moved.is-0, c.in-Move-Moved.is-1) (c.put_over.ensures.judged w)
 
 pub judge_admin_refusal-requires : goal.judge_admin_refusal-requires
-judge_admin_refusal-requires c order s none = let a = c.args.answer.now in elim c.in_default.branch [
-  | in_default-via-in-Grant+in_default w ↦ rw w.in_default.is-0 (no_grant _ order s a w.in_default.not-Granted-1 none)
-  | in_default-via-in-TakeBack+in_default w ↦ rw w.in_default.is-0 (no_take_back _ order s _ a w.in_default.not-TakenBack-1 none)
-  | in_default-via-in-Reset+in_default w ↦ rw w.in_default.is-0 (no_reset _ order s a w.in_default.not-WasReset-1 none)
-  | in_default-via-in-Move+in_default w ↦ rw w.in_default.is-0 (no_move _ order s _ a w.in_default.not-Moved-1 none)
-  | in_default-via-in_default w ↦ rw w.in_default.is-0 (no_pool order s a none)
-]
+judge_admin_refusal-requires c = unfit (On.Admin c.args.command.now) c.args.answer.now (elim c.in_default.branch [
+  | in_default-via-in-Grant+in_default w ↦ rw w.in_default.is-0 (λ x. w.in_default.not-Granted-1 x.0 x.1 x.2 x.3)
+  | in_default-via-in-TakeBack+in_default w ↦ rw w.in_default.is-0 (λ x. w.in_default.not-TakenBack-1 x.0 x.1)
+  | in_default-via-in-Reset+in_default w ↦ rw w.in_default.is-0 (λ x. w.in_default.not-WasReset-1 x.0 x.1 x.2)
+  | in_default-via-in-Move+in_default w ↦ rw w.in_default.is-0 (λ x. w.in_default.not-Moved-1 x.0 x.1 x.2 x.3)
+  | in_default-via-in_default w ↦ rw w.in_default.is-0 (λ x. x)
+])
