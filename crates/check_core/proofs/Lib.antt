@@ -6,9 +6,9 @@ pub mod HexLemmas
 pub mod AnswerLemmas
 pub mod RowLoop
 pub mod RowLemmas
+pub mod TableSteps
 pub mod TableLemmas
 pub mod ReplyLemmas
-pub mod TableSteps
 pub mod ReadingLemmas
 pub mod Ending
 pub mod CheckLemmas

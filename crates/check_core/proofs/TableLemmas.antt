@@ -22,6 +22,7 @@ use Rattle.check_core.specs.Replies.{◌or_else◌, addressee_at, whole}
 use Rattle.check_core.specs.Tables.{after_front, rows_from, order_at, cache_row_at, top_at, no_top_at, some_top_at, report_at, owner_of, owner_at, pool_at, table_of}
 use Rattle.check_core.proofs.FormLemmas.{bind_some, both, same_byte, itself, form_text, form_takes, form_again}
 use Rattle.check_core.proofs.KindLemmas.{text_takes, kind_again, either, two, three, small_one, small_more, below}
+use Rattle.check_core.proofs.TableSteps.{pool_read, report_is, report_made, with_owners, with_top}
 use Rattle.check_core.proofs.AnswerLemmas.{addressee_takes, addressee_again, alone_of, whole_is, line_is}
 use Rattle.check_core.proofs.RowLemmas.{shown, rows_take, rows_again, front_again, nothing_again, order_line, order_takes, order_again, cache_line, cache_takes, cache_again, owner_said, owner_line, owner_takes, owner_again}
 
@@ -132,23 +133,8 @@ top_again (Some top) split rest fits small =
     (kind_again (codes "# split #\n") (λ ns. nat_lt (get_or ns 0 0) (2 ^ 8)) some_top (top ∷ split ∷ []) rest refl refl
     (small_more top (split ∷ []) (omega (arith, fits)) (small_one split small)) (below top (2 ^ 8) fits))
 
-abbrev report_of : List ℕ → List ℕ → (Option ℕ × ℕ) × List ℕ → Option (Body × List ℕ)
-report_of front ns top =
-    let orders = rows_from order_at front 9 0 top.1 in
-    let caches = rows_from cache_row_at front 32 0 orders.1 in
-    let report : Report = record {
-      frames = get_or ns 0 0;
-      live = get_or ns 1 0;
-      free = get_or ns 2 0;
-      top = top.0.0;
-      split = top.0.1;
-      orders = record { items = orders.0 };
-      caches = record { items = caches.0 };
-    } in
-    Some (Say.Report report, caches.1)
-
 abbrev after_head : List ℕ → List ℕ × List ℕ → Option (Body × List ℕ)
-after_head front head = some_top_at head.1 >>= report_of front head.0
+after_head front head = some_top_at head.1 >>= with_top front head.0
 
 -- this table, and what follows it, stand behind the front
 abbrev Takes : List ℕ → List ℕ → Body → List ℕ → Type 0
@@ -158,18 +144,10 @@ report_takes : (front text : List ℕ) (body : Body) (rest : List ℕ) → repor
 unfolding report_at
 report_takes front text body rest e =
     let (head, head_is, next) = bind_some (form_at (codes "frames # live # free # top ") text) (after_head front) (body, rest) e in
-    let (top, top_is, last) = bind_some (some_top_at head.1) (report_of front head.0) (body, rest) next in
+    let (top, top_is, last) = bind_some (some_top_at head.1) (with_top front head.0) (body, rest) next in
     let orders = rows_from order_at front 9 0 top.1 in
     let caches = rows_from cache_row_at front 32 0 orders.1 in
-    let report : Report = record {
-      frames = get_or head.0 0 0;
-      live = get_or head.0 1 0;
-      free = get_or head.0 2 0;
-      top = top.0.0;
-      split = top.0.1;
-      orders = record { items = orders.0 };
-      caches = record { items = caches.0 };
-    } in
+    let report = report_made head.0 top.0.0 top.0.1 orders.0 caches.0 in
     let (body_is, rest_is) = some_pair_parts (Say.Report report) body caches.1 rest last in
     let (text_is, count) = form_takes (codes "frames # live # free # top ") text head.0 head.1 head_is in
     let label = form_text (codes "frames # live # free # top ") (report.frames ∷ report.live ∷ report.free ∷ []) in
@@ -211,33 +189,22 @@ no_owner : (front : List ℕ) (superblock : ℕ) → (after_front front [] >>= o
 unfolding owner_at form_at mark_at
 no_owner front superblock = nothing_again front (owner_at superblock) refl
 
-abbrev with_both : Report → List CacheRow × List ℕ → Option (Body × List ℕ)
-with_both report caches = Some (Say.Report (record report { caches = record { items = caches.0 } }), caches.1)
-
-abbrev with_caches : List ℕ → Report → List OrderRow × List ℕ → Option (Body × List ℕ)
-with_caches front report orders =
-    let caches = rows_from cache_row_at front 32 0 orders.1 in
-    let whole : Report = record report { orders = record { items = orders.0 }; caches = record { items = caches.0 } } in
-    Some (Say.Report whole, caches.1)
-
 report_again : (front : List ℕ) (report : Report) → ReportFits report → report_at front (report_lines front report) ≡ Some (Say.Report report, [])
-unfolding report_at
 report_again front report fits =
     let form = codes "frames # live # free # top " in
     let ns = report.frames ∷ report.live ∷ report.free ∷ [] in
     let order_lines = shown order_line front 0 report.orders.items in
     let cache_lines = shown cache_line front 0 report.caches.items in
-    let rows = order_lines ++ cache_lines in
-    ap (report_at front) (append_assoc (form_text form ns) (top_line report.top report.split) rows)
-    ∙ ap (λ found. found >>= after_head front)
-    (form_again form ns (top_line report.top report.split ++ rows) refl refl
+    let later = cache_lines ++ [] in
+    let line = top_line report.top report.split ++ (order_lines ++ later) in
+    ap (report_at front) (append_assoc (form_text form ns) (top_line report.top report.split) (order_lines ++ cache_lines)
+    ∙ ap (λ t. form_text form ns ++ (top_line report.top report.split ++ (order_lines ++ t))) (sym (append-nil cache_lines)))
+    ∙ report_is front (form_text form ns ++ line) ns line report.top report.split (order_lines ++ later) report.orders.items later report.caches.items []
+    (form_again form ns line refl refl
     (small_more report.frames (report.live ∷ report.free ∷ []) fits.frames (small_more report.live (report.free ∷ []) fits.live (small_one report.free fits.free))))
-    ∙ ap (λ found. found >>= report_of front ns) (top_again report.top report.split rows fits.top fits.split)
-    ∙ ap (λ t. report_of front ns ((report.top, report.split), order_lines ++ t)) (sym (append-nil cache_lines))
-    ∙ ap (with_caches front report)
-    (rows_again order_at order_line front OrderFits order_again 9 0 report.orders.items (cache_lines ++ []) fits.few_orders (omega arith) fits.orders
+    (top_again report.top report.split (order_lines ++ later) fits.top fits.split)
+    (rows_again order_at order_line front OrderFits order_again 9 0 report.orders.items later fits.few_orders (omega arith) fits.orders
     (λ order. no_order front order report.caches.items))
-    ∙ ap (with_both report)
     (rows_again cache_row_at cache_line front CacheFits cache_again 32 0 report.caches.items [] fits.few_caches (omega arith) fits.caches (no_cache front))
 
 -- ---- the table of owners
@@ -252,12 +219,8 @@ pool_text front owners =
     let first = line_is front (codes "pool free " ∷ decimal (count_by is_none owners) ∷ codes " of " ∷ decimal (length owners) ∷ []) in
     (λ i. first i ++ owners_text front 0 owners i) ∙ append_assoc front counts (shown owner_line front 0 owners)
 
-abbrev pool_of : List ℕ → List (Option Owner) × List ℕ → Option (Body × List ℕ)
-pool_of ns owners =
-    cond (count_by is_none owners.0 == get_or ns 0 0 && length owners.0 == get_or ns 1 0) (Some (Say.Owners (record { items = owners.0 }), owners.1)) None
-
 abbrev after_pool : List ℕ → List ℕ × List ℕ → Option (Body × List ℕ)
-after_pool front head = pool_of head.0 (rows_from owner_at front 256 0 head.1)
+after_pool front head = with_owners head.0 (rows_from owner_at front 256 0 head.1)
 
 pool_takes : (front text : List ℕ) (body : Body) (rest : List ℕ) → pool_at front text ≡ Some (body, rest) → Takes front text body rest
 unfolding pool_at
@@ -286,17 +249,16 @@ pool_takes front text body rest e =
 
 pool_again : (front : List ℕ) (owners : List (Option Owner)) → AllByRecursion OwnerFits owners → length owners ≤ 256
     → pool_at front (pool_lines front owners) ≡ Some (Say.Owners (record { items = owners }), [])
-unfolding pool_at
 pool_again front owners fits few =
     let form = codes "pool free # of #\n" in
     let free = count_by is_none owners in
     let ns = free ∷ length owners ∷ [] in
     let rows = shown owner_line front 0 owners in
-    ap (λ found. found >>= after_pool front)
-    (form_again form ns rows refl refl
+    ap (λ t. pool_at front (form_text form ns ++ t)) (sym (append-nil rows))
+    ∙ pool_read front (form_text form ns ++ (rows ++ [])) ns (rows ++ []) owners []
+    (form_again form ns (rows ++ []) refl refl
     (small_more free (length owners ∷ []) (omega (arith, few, count_by-le-length is_none owners)) (small_one (length owners) (omega (arith, few)))))
-    ∙ ap (λ t. pool_of ns (rows_from owner_at front 256 0 t)) (sym (append-nil rows))
-    ∙ ap (pool_of ns) (rows_again owner_at owner_line front OwnerFits owner_again 256 0 owners [] few (omega arith) fits (no_owner front))
+    (rows_again owner_at owner_line front OwnerFits owner_again 256 0 owners [] few (omega arith) fits (no_owner front))
     ∙ (λ i. cond (itself free i && itself (length owners) i) (Some (Say.Owners (record { items = owners }), [])) None)
 
 -- ---- the whole text

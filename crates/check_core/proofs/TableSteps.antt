@@ -10,7 +10,7 @@ use Rattle.words_core.specs.declared.reply.Body.TheVariants as Say
 use Rattle.check_core.specs.Forms.{◌>>=◌, form_at}
 use Rattle.check_core.specs.Tables.{rows_from, order_at, cache_row_at, some_top_at, report_at, owner_at, pool_at}
 
-abbrev report_made : List ℕ → Option ℕ → ℕ → List OrderRow → List CacheRow → Report
+abbrev pub report_made : List ℕ → Option ℕ → ℕ → List OrderRow → List CacheRow → Report
 report_made ns top split orders caches = record {
   frames = get_or ns 0 0;
   live = get_or ns 1 0;
@@ -28,7 +28,7 @@ abbrev with_orders : List ℕ → List ℕ → Option ℕ → ℕ → List Order
 with_orders front ns top split orders =
     with_caches ns top split orders.0 (rows_from cache_row_at front 32 0 orders.1)
 
-abbrev with_top : List ℕ → List ℕ → (Option ℕ × ℕ) × List ℕ → Option (Body × List ℕ)
+abbrev pub with_top : List ℕ → List ℕ → (Option ℕ × ℕ) × List ℕ → Option (Body × List ℕ)
 with_top front ns top = with_orders front ns top.0.0 top.0.1 (rows_from order_at front 9 0 top.1)
 
 pub report_is : (front text ns line : List ℕ) (top : Option ℕ) (split : ℕ) (rows : List ℕ) (orders : List OrderRow) (later : List ℕ)
@@ -43,11 +43,11 @@ report_is front text ns line top split rows orders later caches rest head tops o
     ∙ ap (with_orders front ns top split) order_rows
     ∙ ap (with_caches ns top split orders) cache_rows
 
-abbrev with_owners : List ℕ → List (Option Owner) × List ℕ → Option (Body × List ℕ)
+abbrev pub with_owners : List ℕ → List (Option Owner) × List ℕ → Option (Body × List ℕ)
 with_owners ns owners =
     cond (count_by is_none owners.0 == get_or ns 0 0 && length owners.0 == get_or ns 1 0) (Some (Say.Owners (record { items = owners.0 }), owners.1)) None
 
-pool_read : (front text ns rows : List ℕ) (owners : List (Option Owner)) (rest : List ℕ) → form_at (codes "pool free # of #\n") text ≡ Some (ns, rows)
+pub pool_read : (front text ns rows : List ℕ) (owners : List (Option Owner)) (rest : List ℕ) → form_at (codes "pool free # of #\n") text ≡ Some (ns, rows)
     → rows_from owner_at front 256 0 rows ≡ (owners, rest) → pool_at front text ≡ with_owners ns (owners, rest)
 unfolding pool_at
 pool_read front text ns rows owners rest head owner_rows =
