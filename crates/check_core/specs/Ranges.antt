@@ -1,5 +1,5 @@
 -- What the types of a reply have room for.
-use Rattle.std.specs.Prelude.{◌^◌, ◌<◌, ◌≤◌, length, Option, Some, None, IfSome}
+use Rattle.std.specs.Prelude.{◌^◌, ◌<◌, ◌≤◌, length, Option, IfSome}
 use Rattle.std.specs.List.{AllByRecursion}
 use Rattle.model_core.specs.declared.limits.TheConstants.{MOST_BYTES}
 use Rattle.model_core.specs.declared.owner.Owner.{Owner}
@@ -10,18 +10,16 @@ use Rattle.words_core.specs.declared.report.TheConstants.{ORDERS, CACHES}
 use Rattle.words_core.specs.declared.report.Report.{Report}
 use Rattle.words_core.specs.declared.reply.Reply.{Reply}
 use Rattle.words_core.specs.declared.reply.Addressee.{Addressee}
-use Rattle.words_core.specs.declared.reply.Addressee.TheVariants.{Admin, Nobody, Tenant}
+use Rattle.words_core.specs.declared.reply.Addressee.TheVariants.{Tenant}
 use Rattle.words_core.specs.declared.reply.Body.{Body}
 use Rattle.words_core.specs.declared.reply.Body.TheVariants as Say
 
 abbrev pub AddresseeFits : Addressee → Type 0
-AddresseeFits Admin = Unit {0}
-AddresseeFits Nobody = Unit {0}
 AddresseeFits (Tenant tenant) = tenant < 2 ^ 8
+AddresseeFits who = Unit {0}
 
 abbrev pub OwnerFits : Option Owner → Type 0
-OwnerFits None = Unit {0}
-OwnerFits (Some owner) = (owner.tenant < 2 ^ 8) × (owner.slot < 2 ^ 16)
+OwnerFits told = IfSome told (λ owner. (owner.tenant < 2 ^ 8) × (owner.slot < 2 ^ 16))
 
 abbrev pub OrderFits : OrderRow → Type 0
 OrderFits row = (row.free < 2 ^ 32) × (row.taken < 2 ^ 32)
@@ -54,11 +52,9 @@ BodyFits (Say.Cache cache chunk order objects colours) =
     (cache < 2 ^ 8) × (chunk < 2 ^ 32) × (order < 2 ^ 8) × (objects < 2 ^ 32) × (colours < 2 ^ 32)
 BodyFits (Say.Destroyed frames) = frames < 2 ^ 32
 BodyFits (Say.Object place) = place < 2 ^ 32
-BodyFits Say.Given = Unit {0}
 BodyFits (Say.Reaped frames) = frames < 2 ^ 32
 BodyFits (Say.Report report) = ReportFits report
-BodyFits (Say.Refused refusal) = Unit {0}
-BodyFits (Say.Fault fault) = Unit {0}
+BodyFits body = Unit {0}
 
 -- each number and each list of the reply fits its type
 abbrev pub Fits : Reply → Type 0
