@@ -9,7 +9,7 @@ use Rattle.judge.specs.Adding.{IsAllowedAddition}
 use Rattle.judge.specs.Machine.{SeenMachine, ShowsKnown}
 use Rattle.check_core.specs.declared.finding.Unchecked.{Unchecked}
 use Rattle.check_core.specs.declared.finding.Unchecked.TheVariants as Not
-use Rattle.check_core.specs.Ending.{AddsAt, ComesToAdd, IsEndedBy, IsStoppedBy}
+use Rattle.check_core.specs.Checking.{AddsAt, ComesToAdd, IsEndedBy, IsStoppedBy}
 use Rattle.check_core.specs.Finding.{after_lines, lines_to, more_lines, reply_in, verdict_at}
 
 pub stopped_so : (why : Unchecked) (u v : Bool) (S T : Type 0) → (S → T) → IsStoppedBy why u v S → IsStoppedBy why u v T
@@ -27,11 +27,9 @@ pub stopped_on : {A : Type 0} (why : Unchecked) (r : Result A Unchecked) (u v : 
 stopped_on why (Ok done) u v S same is = absurd same
 stopped_on why (Err e) u v S same is = subst (λ x. IsStoppedBy x u v S) (sym same) is
 
--- .. of a call that reads nothing, where the reader had not failed
-pub stopped_where : {A : Type 0} (why : Unchecked) (r : Result A Unchecked) (v : Bool) (S T : Type 0) → IsErrAnd r (λ e. e ≡ why)
-    → v ≡ false → (S → T) → IsStoppedBy why false false S → IsEndedBy r false v T
-stopped_where why r v S T same fine f is = stopped_on why r false v T same
-    (subst (λ untold. IsStoppedBy why false untold T) (sym fine) (stopped_so why false false S T f is))
+-- a call that reads nothing, where the reader had not failed
+pub ended_where : {A : Type 0} (r : Result A Unchecked) (v : Bool) (S T : Type 0) → v ≡ false → (S → T) → IsEndedBy r false false S → IsEndedBy r false v T
+ended_where r v S T fine f is = subst (λ untold. IsEndedBy r false untold T) (sym fine) (ended_so r false false S T f is)
 
 -- .. of one reader, where the other had not failed
 pub stopped_reading : {A : Type 0} (why : Unchecked) (r : Result A Unchecked) (u v : Bool) (S : Type 0) → IsErrAnd r (λ e. e ≡ why)

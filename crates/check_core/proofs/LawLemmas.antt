@@ -1,8 +1,11 @@
 -- What a finding tells: the lines before its end have allowed replies, and where it is broken the next line has none.
-use Rattle.std.proofs.Common.{◌≡◌, ℕ, zero, suc, ◌+◌, ◌==◌, Bool, true, false, cond, List, [], ◌∷◌, ◌++◌, map, take, Option, Some, None, Result, Ok, Err, length, refl, sym, ap, ◌∙◌, arith, append_assoc, append-nil}
-use Rattle.std.specs.Prelude.{nat_lt, if◌then◌else◌, ◌&&◌, count_by}
+use Rattle.std.proofs.Common.{◌≡◌, ℕ, zero, suc, ◌+◌, ◌==◌, Bool, true, false, cond, List, [], ◌∷◌, ◌++◌, map, take, Option, Some, None, Ok, Err, length, refl, sym, ap, subst, ◌∙◌, arith, append_assoc, append-nil}
+use Rattle.std.specs.Prelude.{nat_lt, if◌then◌else◌, count_by}
+use Rattle.std.specs.Option.{option_map_or}
 use Rattle.std.specs.Str.{bytes_eq}
-use Rattle.std.proofs.lemmas.Bool.{and_parts, le-ltb}
+use Rattle.std.proofs.lemmas.Bool.{le-ltb}
+use Rattle.std.proofs.lemmas.Option.{same_Some}
+use Rattle.std.proofs.lemmas.List.{map-append}
 use Rattle.std.proofs.lemmas.List.Sums.{sum_by-cons, sum_by-append}
 use Rattle.std.proofs.lemmas.Slice.Eq.{bytes_eq-Decides}
 use Rattle.words_core.specs.declared.event.Event.{Event}
@@ -22,29 +25,17 @@ use Rattle.check_core.specs.declared.finding.Finding.{Finding}
 use Rattle.check_core.specs.declared.finding.Finding.TheVariants.{Kept, Broken}
 use Rattle.check_core.specs.declared.shown.TheConstants.{MOST_TEXT_BYTES}
 use Rattle.check_core.specs.Forms.{◌>>=◌}
-use Rattle.check_core.specs.Finding.{first_line, after_line, has_end, first_lines, after_lines, are_ended, text_read, reply_in, more_lines, lines_to, verdict_of, verdict_at, fault_reply, reports_fault, finding}
+use Rattle.check_core.specs.Finding.{line_at, lines_at, after_lines, text_read, reply_in, more_lines, lines_to, broken_by, refusal_read, verdict_at, fault_reply, finding}
 use Rattle.check_core.specs.Laws.{KeptIsAllowed, HasNoReply, IsWrong, BrokenIsNotAllowed}
 use Rattle.check_core.specs.Ranges.{Fits}
 use Rattle.check_core.specs.Tables.{reply_of_text}
-use Rattle.check_core.proofs.CheckLemmas.{Line, breaks, by_reply, goes_on, text_here}
+use Rattle.check_core.proofs.CheckLemmas.{Line, breaks, by_reply, goes_on}
 use Rattle.check_core.proofs.CountLemmas.{as_many_lines}
+use Rattle.check_core.proofs.FormLemmas.{bind_some}
 use Rattle.check_core.proofs.ReplyLemmas.{reply_takes, reply_again}
 use Rattle.check_core.proofs.TextLemmas.{lines_in, text_first, text_fits}
 
 -- ---- the first lines, and what follows them
-
-line_split : (bytes : List ℕ) → bytes ≡ first_line bytes ++ after_line bytes
-line_split [] = refl
-line_split (b ∷ bytes) = elim (b == 10) as (λ t. b ∷ bytes ≡ (if t then b ∷ [] else b ∷ first_line bytes) ++ (if t then bytes else after_line bytes)) [
-  | true ↦ refl
-  | false ↦ ap (λ more. b ∷ more) (line_split bytes)
-]
-
-lines_split : (k : ℕ) (bytes : List ℕ) → bytes ≡ first_lines k bytes ++ after_lines k bytes
-lines_split zero bytes = refl
-lines_split (suc k) bytes =
-    line_split bytes ∙ ap (λ more. first_line bytes ++ more) (lines_split k (after_line bytes))
-    ∙ sym (append_assoc (first_line bytes) (first_lines k (after_line bytes)) (after_lines k (after_line bytes)))
 
 abbrev feeds : List ℕ → ℕ
 feeds text = count_by (λ b. b == 10) text
@@ -55,18 +46,34 @@ feeds-append front rest = sum_by-append (λ b. cond (b == 10) 1 0) front rest
 byte_feeds : (b : ℕ) (text : List ℕ) (is : Bool) → (b == 10) ≡ is → feeds (b ∷ text) ≡ cond is 1 0 + feeds text
 byte_feeds b text is test = sum_by-cons (λ b. cond (b == 10) 1 0) b text ∙ ap (λ is. cond is 1 0 + feeds text) test
 
-line_feeds : (bytes : List ℕ) → has_end bytes ≡ true → feeds (first_line bytes) ≡ 1
-line_feeds [] ended = absurd cc
-line_feeds (b ∷ bytes) ended = elim (b == 10) as (λ t. (b == 10) ≡ t → (if t then true else has_end bytes) ≡ true → feeds (if t then b ∷ [] else b ∷ first_line bytes) ≡ 1) [
-  | true ↦ λ is _. byte_feeds b [] true is
-  | false ↦ λ is more. omega (arith, byte_feeds b (first_line bytes) false is, line_feeds bytes more)
-] refl ended
+-- these are so many whole lines at the front of the bytes
+record AreLines (k : ℕ) (bytes : List ℕ) (found : List ℕ × List ℕ) : Type 0 where
+  parts : bytes ≡ found.0 ++ found.1
+  count : feeds found.0 ≡ k
 
-lines_feeds : (k : ℕ) (bytes : List ℕ) → are_ended k bytes ≡ true → feeds (first_lines k bytes) ≡ k
-lines_feeds zero bytes ended = refl
-lines_feeds (suc k) bytes ended =
-    let parts = and_parts (has_end bytes) (are_ended k (after_line bytes)) ended in
-    omega (arith, feeds-append (first_line bytes) (first_lines k (after_line bytes)), line_feeds bytes parts.0, lines_feeds k (after_line bytes) parts.1)
+line_is : (bytes : List ℕ) (found : List ℕ × List ℕ) → line_at bytes ≡ Some found → AreLines 1 bytes found
+line_is [] found is = absurd cc
+line_is (b ∷ bytes) found is =
+    elim (b == 10) as (λ t. (b == 10) ≡ t → (if t then Some (b ∷ [], bytes) else (line_at bytes >>= (λ found. Some (b ∷ found.0, found.1)))) ≡ Some found → AreLines 1 (b ∷ bytes) found) [
+      | true ↦ λ feed same. subst (AreLines 1 (b ∷ bytes)) (same_Some (b ∷ [], bytes) found same) (record { parts = refl; count = byte_feeds b [] true feed })
+      | false ↦ λ other same.
+          let (more, more_is, last) = bind_some (line_at bytes) (λ found. Some (b ∷ found.0, found.1)) found same in
+          let line = line_is bytes more more_is in
+          subst (AreLines 1 (b ∷ bytes)) (same_Some (b ∷ more.0, more.1) found last)
+          (record { parts = ap (λ more. b ∷ more) line.parts; count = omega (arith, byte_feeds b more.0 false other, line.count) })
+    ] refl is
+
+lines_are : (k : ℕ) (bytes : List ℕ) (found : List ℕ × List ℕ) → lines_at k bytes ≡ Some found → AreLines k bytes found
+lines_are zero bytes found is = subst (AreLines 0 bytes) (same_Some ([], bytes) found is) (record { parts = refl; count = refl })
+lines_are (suc k) bytes found is =
+    let (front, front_is, next) = bind_some (lines_at k bytes) (λ front. line_at front.1 >>= (λ last. Some (front.0 ++ last.0, last.1))) found is in
+    let (last, last_is, end) = bind_some (line_at front.1) (λ last. Some (front.0 ++ last.0, last.1)) found next in
+    let before = lines_are k bytes front front_is in
+    let line = line_is front.1 last last_is in
+    subst (AreLines (suc k) bytes) (same_Some (front.0 ++ last.0, last.1) found end) (record {
+      parts = before.parts ∙ ap (λ more. front.0 ++ more) line.parts ∙ sym (append_assoc front.0 last.0 last.1);
+      count = omega (arith, feeds-append front.0 last.0, before.count, line.count);
+    })
 
 -- ---- one line
 
@@ -74,9 +81,9 @@ lines_feeds (suc k) bytes ended =
 record IsStep (reading : Line) (bytes : List ℕ) (w after : Known) : Type 0 where
   exchanges : List Exchange
   asked : map (λ e. e.event) exchanges ≡ event_in reading
-  told : (readings : List Line) (later : List Exchange)
-      → text_of_replies None (reading ∷ readings) (exchanges ++ later) ≡ first_lines (lines_to reading w) bytes ++ text_of_replies None readings later
-  count : feeds (first_lines (lines_to reading w) bytes) ≡ lines_to reading w
+  text : List ℕ
+  lines : AreLines (lines_to reading w) bytes (text, after_lines (lines_to reading w) bytes)
+  told : (readings : List Line) (later : List Exchange) → text_of_replies None (reading ∷ readings) (exchanges ++ later) ≡ text ++ text_of_replies None readings later
   are_allowed : (later : List Exchange) → all_allowed (exchanges ++ later) (Ok w) ≡ all_allowed later (Ok after)
 
 read_text : (text : List ℕ) (reply : Reply) → text_read text ≡ Some reply → text_of reply ≡ text
@@ -86,51 +93,51 @@ read_text text reply is =
       | false ↦ λ found. reply_takes text reply found
     ] is
 
--- of lines that were read as a reply
-reply_text : (k : ℕ) (bytes : List ℕ) (reply : Reply) → reply_in k bytes ≡ Some reply → (text_of reply ≡ first_lines k bytes) × (are_ended k bytes ≡ true)
-reply_text k bytes reply is =
-    elim (are_ended k bytes) as (λ b. (if b then text_read (first_lines k bytes) else None) ≡ Some reply → (text_of reply ≡ first_lines k bytes) × (b ≡ true)) [
-      | true ↦ λ found. (read_text (first_lines k bytes) reply found, refl)
-      | false ↦ λ none. absurd cc
-    ] is
+-- the lines that were found, and what follows them
+found_lines : (k : ℕ) (bytes : List ℕ) (found : List ℕ × List ℕ) → lines_at k bytes ≡ Some found → AreLines k bytes (found.0, after_lines k bytes)
+found_lines k bytes found is = rw is (lines_are k bytes found is)
 
-event_step : (event : Event) (bytes : List ℕ) (w after : Known) (found first : Option Reply) → reply_in (suc (more_lines event w)) bytes ≡ found
-    → verdict_of event found first w ≡ Ok after → IsStep (Ok (Some event)) bytes w after
-event_step event bytes w after None first is verdict = absurd cc
-event_step event bytes w after (Some reply) first is verdict =
-    let text = reply_text (suc (more_lines event w)) bytes reply is in
+event_step : (event : Event) (bytes : List ℕ) (w after : Known) (found : Option Reply) → reply_in (suc (more_lines event w)) bytes ≡ found
+    → option_map_or (λ reply. allowed event reply w) found (Err (broken_by event (refusal_read (reply_in 1 bytes)) w)) ≡ Ok after → IsStep (Ok (Some event)) bytes w after
+event_step event bytes w after None is verdict = absurd cc
+event_step event bytes w after (Some reply) is verdict =
+    let (found, lines, read) = bind_some (lines_at (suc (more_lines event w)) bytes) (λ found. text_read found.0) reply is in
     record {
       exchanges = record { event = event; reply = reply } ∷ [];
       asked = refl;
-      told = λ readings later. ap (λ front. front ++ text_of_replies None readings later) text.0;
-      count = lines_feeds (suc (more_lines event w)) bytes text.1;
+      text = found.0;
+      lines = found_lines (suc (more_lines event w)) bytes found lines;
+      told = λ readings later. ap (λ front. front ++ text_of_replies None readings later) (read_text found.0 reply read);
       are_allowed = λ later. ap (all_allowed later) verdict;
     }
 
-fault_step : (fault : LineFault) (bytes : List ℕ) (w after : Known) (told : Bool) → reports_fault fault bytes ≡ told
-    → (if told then Ok w else Err Promise.Form) ≡ Ok after → IsStep (Err fault) bytes w after
-fault_step fault bytes w after false is verdict = absurd cc
-fault_step fault bytes w after true is verdict =
-    let parts = and_parts (are_ended 1 bytes) (bytes_eq (first_lines 1 bytes) (text_of (fault_reply fault))) is in
-    record {
-      exchanges = [];
-      asked = refl;
-      told = λ readings later. ap (λ front. front ++ text_of_replies None readings later) (sym ((bytes_eq-Decides (first_lines 1 bytes) (text_of (fault_reply fault))).0 parts.1));
-      count = lines_feeds 1 bytes parts.0;
-      are_allowed = λ later. ap (all_allowed later) verdict;
-    }
+fault_step : (fault : LineFault) (bytes : List ℕ) (w after : Known) (first : Option (List ℕ × List ℕ)) → lines_at 1 bytes ≡ first
+    → (if option_map_or (λ found. bytes_eq found.0 (text_of (fault_reply fault))) first false then Ok w else Err Promise.Form) ≡ Ok after → IsStep (Err fault) bytes w after
+fault_step fault bytes w after None is verdict = absurd cc
+fault_step fault bytes w after (Some found) is verdict =
+    elim (bytes_eq found.0 (text_of (fault_reply fault))) as (λ b. bytes_eq found.0 (text_of (fault_reply fault)) ≡ b → (if b then Ok w else Err Promise.Form) ≡ Ok after → IsStep (Err fault) bytes w after) [
+      | true ↦ λ same verdict. record {
+        exchanges = [];
+        asked = refl;
+        text = found.0;
+        lines = found_lines 1 bytes found is;
+        told = λ readings later. ap (λ front. front ++ text_of_replies None readings later) (sym ((bytes_eq-Decides found.0 (text_of (fault_reply fault))).0 same));
+        are_allowed = λ later. ap (all_allowed later) verdict;
+      }
+      | false ↦ λ _ broken. absurd cc
+    ] refl verdict
 
 line_step : (reading : Line) (bytes : List ℕ) (w after : Known) → verdict_at reading bytes w ≡ Ok after → IsStep reading bytes w after
 line_step (Ok None) bytes w after verdict = record {
   exchanges = [];
   asked = refl;
+  text = [];
+  lines = record { parts = refl; count = refl };
   told = λ readings later. refl;
-  count = refl;
   are_allowed = λ later. ap (all_allowed later) verdict;
 }
-line_step (Err fault) bytes w after verdict = fault_step fault bytes w after (reports_fault fault bytes) refl verdict
-line_step (Ok (Some event)) bytes w after verdict =
-    event_step event bytes w after (reply_in (suc (more_lines event w)) bytes) (reply_in 1 bytes) refl verdict
+line_step (Err fault) bytes w after verdict = fault_step fault bytes w after (lines_at 1 bytes) refl verdict
+line_step (Ok (Some event)) bytes w after verdict = event_step event bytes w after (reply_in (suc (more_lines event w)) bytes) refl verdict
 
 -- ---- all lines
 
@@ -154,10 +161,6 @@ record IsWalk (lines : List (List ℕ)) (bytes : List ℕ) (w : Known) : Type 0 
   finds : (line at : ℕ) → finding line at (map reading_of lines) bytes w
       ≡ finding (line + length before) (at + feeds (text_of_replies None (map reading_of before) exchanges)) (map reading_of left) rest after
 
-map-append : (es later : List Exchange) → map (λ e. e.event) (es ++ later) ≡ map (λ e. e.event) es ++ map (λ e. e.event) later
-map-append [] later = refl
-map-append (e ∷ es) later = ap (λ events. e.event ∷ events) (map-append es later)
-
 at_once : (lines : List (List ℕ)) (bytes : List ℕ) (w : Known) → Stops lines bytes w → IsWalk lines bytes w
 at_once lines bytes w stops = record {
   before = [];
@@ -180,24 +183,23 @@ goes_further l lines bytes w after verdict more =
     let k = lines_to reading w in
     let step = line_step reading bytes w after verdict in
     let later = text_of_replies None (map reading_of more.before) more.exchanges in
-    let told : text_of_replies None (map reading_of (l ∷ more.before)) (step.exchanges ++ more.exchanges) ≡ first_lines k bytes ++ later =
+    let told : text_of_replies None (map reading_of (l ∷ more.before)) (step.exchanges ++ more.exchanges) ≡ step.text ++ later =
     step.told (map reading_of more.before) more.exchanges in
     record {
       before = l ∷ more.before;
       left = more.left;
       lines_are = ap (λ lines. l ∷ lines) more.lines_are;
       exchanges = step.exchanges ++ more.exchanges;
-      asked = map-append step.exchanges more.exchanges ∙ (λ i. step.asked i ++ more.asked i);
+      asked = map-append (λ e. e.event) step.exchanges more.exchanges ∙ (λ i. step.asked i ++ more.asked i);
       rest = more.rest;
-      bytes_are = lines_split k bytes ∙ ap (λ t. first_lines k bytes ++ t) more.bytes_are
-          ∙ sym (append_assoc (first_lines k bytes) later more.rest) ∙ ap (λ t. t ++ more.rest) (sym told);
+      bytes_are = step.lines.parts ∙ ap (λ t. step.text ++ t) more.bytes_are ∙ sym (append_assoc step.text later more.rest) ∙ ap (λ t. t ++ more.rest) (sym told);
       after = more.after;
       are_allowed = step.are_allowed more.exchanges ∙ more.are_allowed;
       stops = more.stops;
       finds = λ line at.
           let lines_so : (line + 1) + length more.before ≡ line + length (l ∷ more.before) = omega arith in
           let replies_so : (at + k) + feeds later ≡ at + feeds (text_of_replies None (map reading_of (l ∷ more.before)) (step.exchanges ++ more.exchanges)) =
-          omega (arith, ap feeds told, feeds-append (first_lines k bytes) later, step.count) in
+          omega (arith, ap feeds told, feeds-append step.text later, step.lines.count) in
           goes_on line at k reading (map reading_of lines) bytes w after verdict refl ∙ more.finds (line + 1) (at + k)
           ∙ (λ i. finding (lines_so i) (replies_so i) (map reading_of more.left) more.rest more.after);
     }
@@ -239,23 +241,20 @@ kept_is_allowed limit order superblocks tenants n trace replies kept =
 reads_again : (event : Event) (reply : Reply) (w after : Known) (bytes rest : List ℕ) → Fits reply → bytes ≡ text_of reply ++ rest → allowed event reply w ≡ Ok after
     → reply_in (suc (more_lines event w)) bytes ≡ Some reply
 reads_again event reply w after bytes rest fits is allowed =
-    let k = suc (more_lines event w) in
-    let first = text_first reply rest in
-    let count : lines_in reply ≡ k = as_many_lines event reply w after allowed in
-    let ended : are_ended k bytes ≡ true = (λ i. are_ended (sym count i) (is i)) ∙ first.ended in
-    let lines : first_lines k bytes ≡ text_of reply = (λ i. first_lines (sym count i) (is i)) ∙ first.lines in
-    let short : nat_lt MOST_TEXT_BYTES (length (text_of reply)) ≡ false = le-ltb MOST_TEXT_BYTES (length (text_of reply)) (text_fits reply fits) in
-    text_here k bytes ended ∙ ap text_read lines
-    ∙ ap (λ longer. (if longer then None else Some (text_of reply)) >>= reply_of_text) short ∙ reply_again (text_of reply) reply fits refl
+    let text = text_of reply in
+    let lines : lines_at (suc (more_lines event w)) bytes ≡ Some (text, rest) =
+    (λ i. lines_at (sym (as_many_lines event reply w after allowed) i) (is i)) ∙ text_first reply rest in
+    let short : nat_lt MOST_TEXT_BYTES (length text) ≡ false = le-ltb MOST_TEXT_BYTES (length text) (text_fits reply fits) in
+    ap (λ found. found >>= (λ parts. text_read parts.0)) lines
+    ∙ ap (λ longer. (if longer then None else Some text) >>= reply_of_text) short ∙ reply_again text reply fits refl
 
 no_reply : (reading : Line) (bytes : List ℕ) (w : Known) (promise : Promise) → verdict_at reading bytes w ≡ Err promise → HasNoReply reading bytes w
 no_reply (Ok None) bytes w promise broken = absurd cc
 no_reply (Err fault) bytes w promise broken = λ rest is.
-    let first = text_first (fault_reply fault) rest in
-    let ended : are_ended 1 bytes ≡ true = ap (are_ended 1) is ∙ first.ended in
-    let text : bytes_eq (first_lines 1 bytes) (text_of (fault_reply fault)) ≡ true =
-    (bytes_eq-Decides (first_lines 1 bytes) (text_of (fault_reply fault))).1 (ap (first_lines 1) is ∙ first.lines) in
-    let kept : verdict_at (Err fault) bytes w ≡ Ok w = (λ i. if ended i && text i then Ok w else Err Promise.Form) in absurd cc
+    let due = text_of (fault_reply fault) in
+    let kept : verdict_at (Err fault) bytes w ≡ Ok w =
+    ap (λ found. if option_map_or (λ parts. bytes_eq parts.0 due) found false then Ok w else Err Promise.Form) (ap (lines_at 1) is ∙ text_first (fault_reply fault) rest)
+    ∙ ap (λ b. if b then Ok w else Err Promise.Form) ((bytes_eq-Decides due due).1 refl) in absurd cc
 no_reply (Ok (Some event)) bytes w promise broken = λ reply rest after fits is allowed.
     let kept : verdict_at (Ok (Some event)) bytes w ≡ Ok after =
     by_reply event bytes w (Some reply) (reads_again event reply w after bytes rest fits is allowed) ∙ allowed in absurd cc

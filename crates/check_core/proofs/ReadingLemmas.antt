@@ -1,6 +1,6 @@
 -- Bytes that are pulled, and lines that are taken from them.
 use Rattle.std.proofs.Common.{◌≡◌, ℕ, zero, suc, ◌+◌, ◌-◌, ◌<◌, ◌==◌, Bool, true, false, List, [], ◌∷◌, ◌++◌, Option, Some, None, Result, Ok, Err, length, take, map, refl, sym, ap, subst, ◌∙◌, arith, append_assoc, length-append}
-use Rattle.std.specs.Prelude.{is_err, ◌&&◌, nat_lt, slice_index, if◌then◌else◌}
+use Rattle.std.specs.Prelude.{is_err, nat_lt, slice_index, if◌then◌else◌}
 use Rattle.std.specs.List.{onto_first}
 use Rattle.std.specs.Io.KnownBytes.{Consumes, IsAtEnd, Keeps, prepend_known}
 use Rattle.std.specs.Result.{IsErr}
@@ -14,9 +14,13 @@ use Rattle.words_core.specs.declared.event.LineFault.{LineFault}
 use Rattle.words_core.specs.Cutting.{lines_of_trace}
 use Rattle.words_core.specs.Grammar.{reading_of}
 use Rattle.streams.specs.Lines.{IsOneLine}
-use Rattle.check_core.specs.Finding.{first_line, after_line, has_end, first_lines, after_lines, are_ended}
-use Rattle.check_core.specs.Gathered.{whole_of}
-use Rattle.check_core.specs.Reading.{IsPart, IsPartAtOk, IsNextReading, without_line_feed}
+use Rattle.check_core.specs.declared.gathered.Gathered.{Gathered}
+use Rattle.check_core.specs.declared.shown.TheConstants.{MOST_TEXT_BYTES}
+use Rattle.check_core.specs.Checking.{HasCome}
+use Rattle.check_core.specs.Finding.{line_at, lines_at}
+use Rattle.check_core.specs.Forms.{◌>>=◌}
+use Rattle.check_core.specs.Gathered.{Gathers, whole_of}
+use Rattle.check_core.specs.Reading.{IsPartAtOk, IsNextReading, without_line_feed}
 
 -- the held bytes are given in turn
 pub gives_front : (front behind : List ℕ) (known : Option (List ℕ)) → Consumes (prepend_known (front ++ behind) known) (prepend_known behind known) front
@@ -69,17 +73,9 @@ longer_differs xs ys h = elim (bytes_eq xs ys) as (λ b. bytes_eq xs ys ≡ b �
 
 -- a line with its LF
 
-pub ended_first : (line rest : List ℕ) → IsOneLine line → first_line ((line ++ 10 ∷ []) ++ rest) ≡ line ++ 10 ∷ []
-ended_first [] rest h = refl
-ended_first (b ∷ line) rest h = rw h.0 (ap (λ more. b ∷ more) (ended_first line rest h.1))
-
-pub ended_after : (line rest : List ℕ) → IsOneLine line → after_line ((line ++ 10 ∷ []) ++ rest) ≡ rest
-ended_after [] rest h = refl
-ended_after (b ∷ line) rest h = rw h.0 (ended_after line rest h.1)
-
-pub ended_has_end : (line rest : List ℕ) → IsOneLine line → has_end ((line ++ 10 ∷ []) ++ rest) ≡ true
-ended_has_end [] rest h = refl
-ended_has_end (b ∷ line) rest h = rw h.0 (ended_has_end line rest h.1)
+pub line_again : (line rest : List ℕ) → IsOneLine line → line_at ((line ++ 10 ∷ []) ++ rest) ≡ Some (line ++ 10 ∷ [], rest)
+line_again [] rest h = refl
+line_again (b ∷ line) rest h = rw h.0 (ap (λ (found : Option (List ℕ × List ℕ)). found >>= (λ more. Some (b ∷ more.0, more.1))) (line_again line rest h.1))
 
 ended_lines : (line rest : List ℕ) → IsOneLine line → lines_of_trace ((line ++ 10 ∷ []) ++ rest) ≡ line ∷ lines_of_trace rest
 ended_lines [] rest h = refl
@@ -91,9 +87,9 @@ last_line : (b : ℕ) (line : List ℕ) → IsOneLine (b ∷ line) → lines_of_
 last_line b [] h = rw h.0 refl
 last_line b (c ∷ line) h = rw h.0 (ap (onto_first b) (last_line c line h.1))
 
-pub unended_has_end : (line : List ℕ) → IsOneLine line → has_end line ≡ false
-unended_has_end [] h = refl
-unended_has_end (b ∷ line) h = rw h.0 (unended_has_end line h.1)
+no_line : (line : List ℕ) → IsOneLine line → line_at line ≡ None
+no_line [] h = refl
+no_line (b ∷ line) h = rw h.0 (ap (λ (found : Option (List ℕ × List ℕ)). found >>= (λ more. Some (b ∷ more.0, more.1))) (no_line line h.1))
 
 no_feed_at : (line : List ℕ) (i : ℕ) → IsOneLine line → (slice_index line i == 10) ≡ false
 no_feed_at [] i h = refl
@@ -121,102 +117,79 @@ none_off line h = ap (λ b. if b then take (length line - 1) line else line) (no
 
 -- what becomes of known bytes when a line is taken
 
-pub record IsTaken (bytes part : List ℕ) (left : Option (List ℕ)) : Type 0 where
-  pub rest : List ℕ
-  pub known : left ≡ Some rest
-  pub first : first_line bytes ≡ part
-  pub after : after_line bytes ≡ rest
-  pub ended : has_end bytes ≡ true
-  pub lines : lines_of_trace bytes ≡ without_line_feed part ∷ lines_of_trace rest
+record IsTaken (bytes part : List ℕ) (left : Option (List ℕ)) : Type 0 where
+  rest : List ℕ
+  known : left ≡ Some rest
+  line : line_at bytes ≡ Some (part, rest)
+  lines : lines_of_trace bytes ≡ without_line_feed part ∷ lines_of_trace rest
 
-pub taken_ended : (bytes part : List ℕ) (left : Option (List ℕ)) → Consumes (Some bytes) left part → IsPart true part left → IsTaken bytes part left
-taken_ended bytes part None consumed is = absurd consumed
-taken_ended bytes part (Some rest) consumed is =
-    let e : bytes ≡ (is.0 ++ 10 ∷ []) ++ rest = consumed ∙ ap (λ xs. xs ++ rest) is.2 in
+taken_ended : (bytes part line : List ℕ) (left : Option (List ℕ)) → Consumes (Some bytes) left part → IsOneLine line → part ≡ line ++ 10 ∷ [] → IsTaken bytes part left
+taken_ended bytes part line None consumed one is = absurd consumed
+taken_ended bytes part line (Some rest) consumed one is =
+    let e : bytes ≡ (line ++ 10 ∷ []) ++ rest = consumed ∙ ap (λ xs. xs ++ rest) is in
     record {
       rest = rest;
       known = refl;
-      first = ap first_line e ∙ ended_first is.0 rest is.1 ∙ sym is.2;
-      after = ap after_line e ∙ ended_after is.0 rest is.1;
-      ended = ap has_end e ∙ ended_has_end is.0 rest is.1;
-      lines = ap lines_of_trace e ∙ ended_lines is.0 rest is.1 ∙ ap (λ line. line ∷ lines_of_trace rest) (sym (ap without_line_feed is.2 ∙ taken_off is.0));
+      line = ap line_at e ∙ line_again line rest one ∙ ap (λ xs. Some (xs, rest)) (sym is);
+      lines = ap lines_of_trace e ∙ ended_lines line rest one ∙ ap (λ line. line ∷ lines_of_trace rest) (sym (ap without_line_feed is ∙ taken_off line));
     }
 
 -- all that is left, without LF
-pub taken_last : (bytes part : List ℕ) (left : Option (List ℕ)) → Consumes (Some bytes) left part → IsPart false part left
-    → (left ≡ Some []) × (bytes ≡ part)
-taken_last bytes part None consumed is = absurd consumed
-taken_last bytes part (Some rest) consumed is = (ap (λ xs. Some xs) is.1, consumed ∙ ap (λ xs. part ++ xs) is.1 ∙ append-nil part)
+taken_last : (bytes part : List ℕ) (left : Option (List ℕ)) → Consumes (Some bytes) left part → IsAtEnd left → (left ≡ Some []) × (bytes ≡ part)
+taken_last bytes part None consumed ends = absurd consumed
+taken_last bytes part (Some rest) consumed ends = (ap (λ xs. Some xs) ends, consumed ∙ ap (λ xs. part ++ xs) ends ∙ append-nil part)
 
--- the reading of a line that was taken
-pub next_taken : (ended : Bool) (bytes part : List ℕ) (left : Option (List ℕ)) → 0 < length part → Consumes (Some bytes) left part → IsPart ended part left
-    → IsNextReading bytes (Some (reading_of (without_line_feed part))) left
-next_taken true bytes part left some consumed is =
-    let taken = taken_ended bytes part left consumed is in
+-- the reading of the line that was taken, if one was
+abbrev pub reading_in : List ℕ → Option (Result (Option Event) LineFault)
+reading_in [] = None
+reading_in (b ∷ part) = Some (reading_of (without_line_feed (b ∷ part)))
+
+pub next_taken : {E : Type 0} (r : Result Bool E) (bytes part : List ℕ) (left : Option (List ℕ)) → is_err r ≡ false → Consumes (Some bytes) left part
+    → IsPartAtOk r part left → IsNextReading bytes (reading_in part) left
+next_taken (Ok true) bytes [] left fine consumed (line, one, is) = absurd (omega (arith, ap length is, length-append line (10 ∷ [])))
+next_taken (Ok true) bytes (b ∷ part) left fine consumed (line, one, is) =
+    let taken = taken_ended bytes (b ∷ part) line left consumed one is in
     (taken.rest, taken.known, ap (λ lines. map reading_of lines) taken.lines)
-next_taken false bytes [] left some consumed is = absurd (omega arith)
-next_taken false bytes (b ∷ line) left some consumed is =
-    let part = b ∷ line in
-    let last = taken_last bytes part left consumed is in (
+next_taken (Ok false) bytes [] left fine consumed is = (taken_last bytes [] left consumed is.1).1
+next_taken (Ok false) bytes (b ∷ part) left fine consumed is =
+    let last = taken_last bytes (b ∷ part) left consumed is.1 in (
       [],
       last.0,
-      ap (λ lines. map reading_of lines) (ap lines_of_trace last.1 ∙ last_line b line is.0 ∙ ap (λ line. line ∷ []) (sym (none_off part is.0))),
+      ap (λ lines. map reading_of lines) (ap lines_of_trace last.1 ∙ last_line b part is.0 ∙ ap (λ line. line ∷ []) (sym (none_off (b ∷ part) is.0))),
     )
+next_taken (Err error) bytes part left fine consumed is = absurd cc
 
--- nothing was taken
-pub none_taken : (ended : Bool) (bytes part : List ℕ) (left : Option (List ℕ)) → length part ≡ 0 → Consumes (Some bytes) left part → IsPart ended part left
-    → bytes ≡ []
-none_taken true bytes part left none consumed is = absurd (omega (arith, none, ap length is.2, length-append is.0 (10 ∷ [])))
-none_taken false bytes [] left none consumed is = (taken_last bytes [] left consumed is).1
-none_taken false bytes (b ∷ part) left none consumed is = absurd (omega (arith, none))
+-- by whether anything was taken
+pub next_none : (bytes part : List ℕ) (left : Option (List ℕ)) → (length part == 0) ≡ true → IsNextReading bytes (reading_in part) left → bytes ≡ []
+next_none bytes [] left none is = is
+next_none bytes (b ∷ part) left none is = absurd (omega (arith, eqb-true (length (b ∷ part)) 0 none))
 
--- the same of a call that did not fail
-pub none_at_ok : {E : Type 0} (r : Result Bool E) (known : Option (List ℕ)) (bytes part : List ℕ) (left : Option (List ℕ)) → is_err r ≡ false → known ≡ Some bytes
-    → (length part == 0) ≡ true → Consumes known left part → IsPartAtOk r part left → bytes ≡ []
-none_at_ok (Ok ended) known bytes part left fine e none consumed is =
-    none_taken ended bytes part left (eqb-true (length part) 0 none) (subst (λ now. Consumes now left part) e consumed) is
-none_at_ok (Err error) known bytes part left fine e none consumed is = absurd cc
+pub next_some : (bytes part : List ℕ) (left : Option (List ℕ)) → (length part == 0) ≡ false → IsNextReading bytes (reading_in part) left
+    → IsNextReading bytes (Some (reading_of (without_line_feed part))) left
+next_some bytes [] left some is = absurd cc
+next_some bytes (b ∷ part) left some is = is
 
-pub next_at_ok : {E : Type 0} (r : Result Bool E) (known : Option (List ℕ)) (bytes part : List ℕ) (left : Option (List ℕ)) (reading : Result (Option Event) LineFault)
-    → is_err r ≡ false → known ≡ Some bytes → (length part == 0) ≡ false → Consumes known left part → IsPartAtOk r part left
-    → reading ≡ reading_of (without_line_feed part) → IsNextReading bytes (Some reading) left
-next_at_ok (Ok ended) known bytes [] left reading fine e some consumed is same = absurd cc
-next_at_ok (Ok ended) known bytes (b ∷ part) left reading fine e some consumed is same =
-    subst (λ (said : Result (Option Event) LineFault). IsNextReading bytes (Some said) left) (sym same)
-    (next_taken ended bytes (b ∷ part) left (omega arith) (subst (λ now. Consumes now left (b ∷ part)) e consumed) is)
-next_at_ok (Err error) known bytes part left reading fine e some consumed is same = absurd cc
+pub end_taken : (bytes part : List ℕ) (left : Option (List ℕ)) → IsNextReading bytes (reading_in part) left → (length part == 0) ≡ (length bytes == 0)
+end_taken bytes [] left is = ap (λ (xs : List ℕ). length xs == 0) (sym is)
+end_taken [] (b ∷ part) left (rest, known, lines) = absurd cc
+end_taken (x ∷ bytes) (b ∷ part) left is = eqb-suc-zero (length part) ∙ sym (eqb-suc-zero (length bytes))
 
--- so many lines, one taken
+-- lines that are gathered: one more
 
-pub record AreOn (more : ℕ) (bytes part rest : List ℕ) : Type 0 where
-  pub after : after_lines more bytes ≡ after_lines (more - 1) rest
-  pub ended : are_ended more bytes ≡ are_ended (more - 1) rest
-  pub first : first_lines more bytes ≡ part ++ first_lines (more - 1) rest
-
-pub lines_on : (more : ℕ) (bytes part : List ℕ) (left : Option (List ℕ)) → 0 < more → (taken : IsTaken bytes part left) → AreOn more bytes part taken.rest
-lines_on more bytes part left some taken =
-    let k : ℕ = more - 1 in
-    let e : more ≡ suc k = omega arith in
-    record {
-      after = ap (λ n. after_lines n bytes) e ∙ ap (λ xs. after_lines k xs) taken.after;
-      ended = ap (λ n. are_ended n bytes) e ∙ ap (λ b. b && are_ended k (after_line bytes)) taken.ended ∙ ap (λ xs. are_ended k xs) taken.after;
-      first = ap (λ n. first_lines n bytes) e ∙ ap (λ xs. xs ++ first_lines k (after_line bytes)) taken.first ∙ ap (λ xs. part ++ first_lines k xs) taken.after;
-    }
+pub come_more : {k : ℕ} {bytes : List ℕ} {old new : Gathered MOST_TEXT_BYTES} {left now : Option (List ℕ)} (part line : List ℕ) → HasCome k bytes old left
+    → Consumes left now part → IsOneLine line → part ≡ line ++ 10 ∷ []
+    → ((front : List ℕ) → Gathers MOST_TEXT_BYTES front old → Gathers MOST_TEXT_BYTES (front ++ part) new) → HasCome (suc k) bytes new now
+come_more {now = now} part line come consumed one is add =
+    let taken = taken_ended come.rest part line now (subst (λ from. Consumes from now part) come.known consumed) one is in
+    record { came = come.came ++ part; rest = taken.rest; are = rw (come.are, taken.line); gathers = add come.came come.gathers; known = taken.known }
 
 -- and none that ended
-pub none_ended : (more : ℕ) (bytes part : List ℕ) (left : Option (List ℕ)) → 0 < more → Consumes (Some bytes) left part → IsPart false part left
-    → are_ended more bytes ≡ false
-none_ended more bytes part left some consumed is =
-    let k : ℕ = more - 1 in
-    let e : more ≡ suc k = omega arith in
-    ap (λ n. are_ended n bytes) e ∙ ap (λ b. b && are_ended k (after_line bytes)) (ap has_end (taken_last bytes part left consumed is).1 ∙ unended_has_end part is.0)
+pub none_later : (j k n : ℕ) (bytes : List ℕ) → j + k ≡ n → lines_at k bytes ≡ None → lines_at n bytes ≡ None
+none_later zero k n bytes sum none = let e : n ≡ k = omega arith in ap (λ m. lines_at m bytes) e ∙ none
+none_later (suc j) k n bytes sum none = none_later j (suc k) n bytes (omega (arith, sum)) (rw none refl)
 
--- whether anything is left, by whether anything was taken
-pub end_at_ok : (ended : Bool) (known : Option (List ℕ)) (bytes part : List ℕ) (left : Option (List ℕ)) → known ≡ Some bytes → Consumes known left part
-    → IsPart ended part left → (length part == 0) ≡ (length bytes == 0)
-end_at_ok ended known bytes [] left e consumed is =
-    ap (λ (xs : List ℕ). length xs == 0) (sym (none_taken ended bytes [] left refl (subst (λ now. Consumes now left []) e consumed) is))
-end_at_ok ended known bytes (b ∷ part) None e consumed is = absurd (subst (λ (now : Option (List ℕ)). Consumes now None (b ∷ part)) e consumed)
-end_at_ok ended known [] (b ∷ part) (Some rest) e consumed is =
-    let whole : [] ≡ (b ∷ part) ++ rest = subst (λ (now : Option (List ℕ)). Consumes now (Some rest) (b ∷ part)) e consumed in absurd cc
-end_at_ok ended known (x ∷ bytes) (b ∷ part) (Some rest) e consumed is = eqb-suc-zero (length part) ∙ sym (eqb-suc-zero (length bytes))
+pub none_more : {k : ℕ} {bytes : List ℕ} {text : Gathered MOST_TEXT_BYTES} {left : Option (List ℕ)} (n : ℕ) (part : List ℕ) (now : Option (List ℕ))
+    → HasCome k bytes text left → Consumes left now part → IsOneLine part → IsAtEnd now → k < n → lines_at n bytes ≡ None
+none_more {k = k} {bytes = bytes} n part now come consumed one ends more =
+    let all = (taken_last come.rest part now (subst (λ from. Consumes from now part) come.known consumed) ends).1 in
+    none_later (n - suc k) (suc k) n bytes (omega (arith, more)) (rw (come.are, all, no_line part one))

@@ -1,6 +1,6 @@
 -- The text of a reply: its lines are the first of the bytes that it begins, and it is no longer than a text that is read.
-use Rattle.std.proofs.Common.{◌≡◌, ℕ, zero, suc, ◌+◌, ◌*◌, ◌/◌, ◌%◌, ◌≤◌, Bool, true, false, cond, not, List, [], ◌∷◌, ◌++◌, length, get_or, drop, Option, Some, None, refl, ap, ◌∙◌, arith, append_assoc, length-append}
-use Rattle.std.specs.Prelude.{codes, decimal, ◌==◌, ◌&&◌, nat_le, if◌then◌else◌, count_by, is_none}
+use Rattle.std.proofs.Common.{◌≡◌, ℕ, zero, suc, ◌+◌, ◌*◌, ◌/◌, ◌%◌, ◌≤◌, Bool, true, false, cond, not, List, [], ◌∷◌, ◌++◌, length, get_or, drop, Option, Some, None, refl, sym, ap, ◌∙◌, arith, append_assoc, append-nil, length-append}
+use Rattle.std.specs.Prelude.{codes, decimal, ◌==◌, nat_le, if◌then◌else◌, count_by, is_none}
 use Rattle.std.specs.List.{list_all}
 use Rattle.std.specs.Fmt.{digits, digits_onto, digit_glyph}
 use Rattle.std.proofs.lemmas.Bool.{leb-true, and_parts}
@@ -22,7 +22,7 @@ use Rattle.words_core.specs.declared.reply.Refusal.TheVariants.{NoFrames}
 use Rattle.words_core.specs.declared.reply.Reply.{Reply}
 use Rattle.words_core.specs.Texts.{number_of_refusal, name_of_refusal, name_of_fault, addressee_text, body_texts, text_of}
 use Rattle.world_core.proofs.TextLines.{AreTexts, addressee_is_text, body_text}
-use Rattle.check_core.specs.Finding.{first_lines, are_ended}
+use Rattle.check_core.specs.Finding.{lines_at}
 use Rattle.check_core.specs.Ranges.{AddresseeFits, BodyFits, ReportFits, Fits}
 use Rattle.check_core.specs.declared.shown.TheConstants.{MOST_TEXT_BYTES}
 use Rattle.check_core.proofs.FormLoop.{marks, first_mark}
@@ -31,14 +31,9 @@ use Rattle.check_core.proofs.SaidLemmas.{spelled, IsAnswer}
 use Rattle.check_core.proofs.AnswerLemmas.{answer_text}
 use Rattle.check_core.proofs.RowLemmas.{shown, order_line, cache_line, owner_said, owner_line}
 use Rattle.check_core.proofs.TableLemmas.{with_end, top_line, head_line, report_lines, report_text, pool_lines, pool_text}
-use Rattle.check_core.proofs.ReadingLemmas.{ended_first, ended_after, ended_has_end}
+use Rattle.check_core.proofs.ReadingLemmas.{line_again}
 
 -- ---- lines
-
--- the first lines of these bytes are the text
-pub record AreFirst (k : ℕ) (text bytes : List ℕ) : Type 0 where
-  pub ended : are_ended k bytes ≡ true
-  pub lines : first_lines k bytes ≡ text
 
 no_feed : (b : Bool) → not b ≡ true → b ≡ false
 no_feed true h = absurd cc
@@ -48,26 +43,26 @@ one_line : (row : List ℕ) → list_all (λ b. not (b == 10)) row ≡ true → 
 one_line [] h = tt
 one_line (b ∷ row) h = let parts = and_parts (not (b == 10)) (list_all (λ b. not (b == 10)) row) h in (no_feed (b == 10) parts.0, one_line row parts.1)
 
-rows_first : (rows : List (List ℕ)) (rest : List ℕ) → AreTexts rows → AreFirst (length rows) (with_end rows) (with_end rows ++ rest)
-rows_first [] rest are = record { ended = refl; lines = refl }
-rows_first (row ∷ rows) rest are =
-    let behind = with_end rows ++ rest in
-    let line = one_line row are.0.all in
-    let more = rows_first rows rest are.1 in
-    let cut : with_end (row ∷ rows) ++ rest ≡ (row ++ 10 ∷ []) ++ behind = append_assoc (row ++ 10 ∷ []) (with_end rows) rest in
-    record {
-      ended = ap (are_ended (suc (length rows))) cut
-          ∙ (λ i. ended_has_end row behind line i && are_ended (length rows) (ended_after row behind line i)) ∙ more.ended;
-      lines = ap (first_lines (suc (length rows))) cut
-          ∙ (λ i. ended_first row behind line i ++ first_lines (length rows) (ended_after row behind line i)) ∙ ap (λ t. (row ++ 10 ∷ []) ++ t) more.lines;
-    }
+-- behind so many lines of the bytes these follow
+rows_first : (rows : List (List ℕ)) (k n : ℕ) (bytes front rest : List ℕ) → k + length rows ≡ n → lines_at k bytes ≡ Some (front, with_end rows ++ rest)
+    → AreTexts rows → lines_at n bytes ≡ Some (front ++ with_end rows, rest)
+rows_first [] k n bytes front rest sum lines are =
+    let e : n ≡ k = omega (arith, sum) in ap (λ m. lines_at m bytes) e ∙ lines ∙ ap (λ t. Some (t, rest)) (sym (append-nil front))
+rows_first (row ∷ rows) k n bytes front rest sum lines are =
+    let line = row ++ 10 ∷ [] in
+    let cut = line_again row (with_end rows ++ rest) (one_line row are.0.all) in
+    let more : lines_at (suc k) bytes ≡ Some (front ++ line, with_end rows ++ rest) = rw (lines, append_assoc line (with_end rows) rest, cut) refl in
+    rows_first rows (suc k) n bytes (front ++ line) rest (omega (arith, sum)) more are.1 ∙ ap (λ t. Some (t, rest)) (append_assoc front line (with_end rows))
 
 -- how many lines a reply has
 abbrev pub lines_in : Reply → ℕ
 lines_in reply = length (body_texts (addressee_text reply.addressee) reply.body)
 
-pub text_first : (reply : Reply) (rest : List ℕ) → AreFirst (lines_in reply) (text_of reply) (text_of reply ++ rest)
-text_first reply rest = rows_first _ rest (body_text (addressee_text reply.addressee) reply.body (addressee_is_text reply.addressee))
+pub text_first : (reply : Reply) (rest : List ℕ) → lines_at (lines_in reply) (text_of reply ++ rest) ≡ Some (text_of reply, rest)
+text_first reply rest =
+    let front = addressee_text reply.addressee in
+    let rows = body_texts front reply.body in
+    rows_first rows 0 (length rows) (text_of reply ++ rest) [] rest (omega arith) refl (body_text front reply.body (addressee_is_text reply.addressee))
 
 -- ---- bytes
 

@@ -1,16 +1,27 @@
--- Verdicts on the replies to the lines of a trace, in turn.
-use Rattle.std.specs.Prelude.{◌≡◌, ℕ, true, false, List, Option, Some, None, Result, Ok, Err, IfSome}
+-- Verdicts on the replies to the lines of a trace, in turn, how a check ends, and where memory runs out.
+use Rattle.std.specs.Prelude.{◌≡◌, ℕ, suc, Bool, true, false, List, [], ◌∷◌, Option, Some, None, Result, Ok, Err, ◌⊎◌}
 use Rattle.words_core.specs.declared.event.Event.{Event}
 use Rattle.words_core.specs.declared.event.LineFault.{LineFault}
 use Rattle.promise_core.specs.declared.promise.Promise.{Promise}
-use Rattle.words_core.specs.declared.reply.Addressee.{Addressee}
-use Rattle.words_core.specs.declared.reply.Body.TheVariants.{Refused}
-use Rattle.words_core.specs.declared.reply.Refusal.{Refusal}
 use Rattle.words_core.specs.declared.reply.Reply.{Reply}
 use Rattle.promise_core.specs.Promises.{allowed}
 use Rattle.promise_core.specs.State.{Known}
+use Rattle.judge.specs.Adding.{is_addition}
 use Rattle.judge.specs.Machine.{SeenMachine, ShowsKnown, IsVerdict}
-use Rattle.check_core.specs.Finding.{after_lines, is_refusal, lines_to, reports_fault, verdict_at}
+use Rattle.check_core.specs.declared.finding.Unchecked.{Unchecked}
+use Rattle.check_core.specs.declared.finding.Unchecked.TheVariants as Not
+use Rattle.check_core.specs.declared.gathered.Gathered.{Gathered}
+use Rattle.check_core.specs.declared.shown.TheConstants.{MOST_TEXT_BYTES}
+use Rattle.check_core.specs.Finding.{after_lines, lines_at, lines_to, more_lines, reply_in, verdict_at}
+use Rattle.check_core.specs.Gathered.{Gathers}
+
+-- so many lines of the bytes have come, and the others are left
+pub record HasCome (lines : ℕ) (bytes : List ℕ) (text : Gathered MOST_TEXT_BYTES) (left : Option (List ℕ)) : Type 0 where
+  pub came : List ℕ
+  pub rest : List ℕ
+  pub are : lines_at lines bytes ≡ Some (came, rest)
+  pub gathers : Gathers MOST_TEXT_BYTES came text
+  pub known : left ≡ Some rest
 
 -- The verdict on the reply to a line that reads so: how many lines it has, which are not left after it, where it is allowed, and
 -- then what is known after it is shown; or the first promise that it breaks.
@@ -20,17 +31,32 @@ IsLineVerdict (Ok lines) reading bytes w new left = (lines ≡ lines_to reading 
     × ((after : Known) × (verdict_at reading bytes w ≡ Ok after) × ShowsKnown new after)
 IsLineVerdict (Err promise) reading bytes w new left = verdict_at reading bytes w ≡ Err promise
 
--- the same where the line is faulty
-abbrev pub IsFaultVerdict : Result ℕ Promise → LineFault → List ℕ → Option (List ℕ) → Type 0
-IsFaultVerdict (Ok lines) fault bytes left = (lines ≡ 1) × (reports_fault fault bytes ≡ true) × (left ≡ Some (after_lines 1 bytes))
-IsFaultVerdict (Err promise) fault bytes left = (promise ≡ Promise.Form) × (reports_fault fault bytes ≡ false)
-
--- and where this was gathered as its reply, of which nothing is known that was not before if it is none
+-- the same where this was gathered as its reply, of which nothing is known that was not before if it is none
 abbrev pub IsTextVerdict : Option (Result (Unit {0}) Promise) → Event → Option Reply → Known → SeenMachine → Type 0
 IsTextVerdict (Some verdict) event found w new = (reply : Reply) × (found ≡ Some reply) × IsVerdict verdict (allowed event reply w) new
 IsTextVerdict None event found w new = (found ≡ None) × ShowsKnown new w
 
--- the refusal that was read, if this is one
-abbrev pub IsRefusalRead : Option (Addressee × Refusal) → Option Reply → Type 0
-IsRefusalRead (Some read) found = found ≡ Some (record { addressee = read.0; body = Refused read.1 })
-IsRefusalRead None found = IfSome found (λ reply. is_refusal reply.body ≡ false)
+-- Which reader had failed where there is no finding, the trace's or the replies'. Neither had where memory ran out, and then
+-- `short` says on what.
+abbrev pub IsStoppedBy : Unchecked → (unread untold : Bool) → (short : Type 0) → Type 0
+IsStoppedBy Not.Trace unread untold short = (unread ≡ true) × (untold ≡ false)
+IsStoppedBy Not.Replies unread untold short = (unread ≡ false) × (untold ≡ true)
+IsStoppedBy Not.Memory unread untold short = (unread ≡ false) × (untold ≡ false) × short
+
+-- how a call ended: neither had failed, or it was stopped by that
+abbrev pub IsEndedBy : {A : Type 0} → Result A Unchecked → (unread untold : Bool) → (short : Type 0) → Type 0
+IsEndedBy (Ok done) unread untold short = (unread ≡ false) × (untold ≡ false)
+IsEndedBy (Err why) unread untold short = IsStoppedBy why unread untold short
+
+-- the reply to a line that reads so is allowed, and adds something to what is kept
+abbrev pub AddsAt : Result (Option Event) LineFault → List ℕ → Known → Type 0
+AddsAt (Ok (Some event)) bytes w = (reply : Reply) × (after : Known) × (reply_in (suc (more_lines event w)) bytes ≡ Some reply)
+    × (allowed event reply w ≡ Ok after) × (is_addition reply.body ≡ true)
+AddsAt reading bytes w = ⊥
+
+-- that is so of the first of these lines, or of a later one, behind replies that are allowed
+abbrev pub ComesToAdd : List (Result (Option Event) LineFault) → List ℕ → Known → Type 0
+ComesToAdd [] bytes w = ⊥
+ComesToAdd (reading ∷ readings) bytes w = AddsAt reading bytes w
+    ⊎ ((after : Known) × (verdict_at reading bytes w ≡ Ok after)
+    × ComesToAdd readings (after_lines (lines_to reading w) bytes) after)

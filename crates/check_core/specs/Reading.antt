@@ -13,14 +13,10 @@ pub record Source : Type 0 where
   pub room : ℕ
   pub failed : Bool
 
--- a line up to and with its LF, or what follows the last one
-abbrev pub IsPart : Bool → List ℕ → Option (List ℕ) → Type 0
-IsPart true part left = (line : List ℕ) × IsOneLine line × (part ≡ line ++ 10 ∷ [])
-IsPart false part left = IsOneLine part × IsAtEnd left
-
--- what was given of a line, all of it unless the source failed
+-- what was given of a line, unless the source failed: all of it up to and with its LF, or what follows the last LF
 abbrev pub IsPartAtOk : {E : Type 0} → Result Bool E → List ℕ → Option (List ℕ) → Type 0
-IsPartAtOk (Ok ended) part left = IsPart ended part left
+IsPartAtOk (Ok true) part left = (line : List ℕ) × IsOneLine line × (part ≡ line ++ 10 ∷ [])
+IsPartAtOk (Ok false) part left = IsOneLine part × IsAtEnd left
 IsPartAtOk (Err e) part left = Unit {0}
 
 -- a line without the LF at its end

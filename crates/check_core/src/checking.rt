@@ -3,7 +3,7 @@
 ghost use Rattle.std.specs.Prelude.{◌≡◌, ℕ, ◌+◌, ◌^◌, ◌<◌, ◌==◌, List, Some, IfOk, false, length};
 ghost use Rattle.promise_core.specs.State.{Known};
 ghost use Rattle.judge.specs.Machine.{ShowsKnown};
-ghost use Rattle.check_core.specs.Ending.{ComesToAdd, IsEndedBy};
+ghost use Rattle.check_core.specs.Checking.{ComesToAdd, IsEndedBy};
 ghost use Rattle.check_core.specs.Finding.{finding_of};
 ghost use Rattle.check_core.specs.Reading.{readings_of};
 

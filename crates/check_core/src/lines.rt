@@ -2,7 +2,7 @@
 
 ghost use Rattle.std.specs.Prelude.{◌≡◌, ℕ, ◌<◌, ◌≤◌, List, Some, IfOk, IfSome, false, is_err, is_ok};
 ghost use Rattle.words_core.specs.Grammar.{reading_of};
-ghost use Rattle.check_core.specs.Ending.{IsEndedBy};
+ghost use Rattle.check_core.specs.Checking.{IsEndedBy};
 ghost use Rattle.check_core.specs.Gathered.{Gathers};
 ghost use Rattle.check_core.specs.Reading.{IsNextReading, without_line_feed};
 

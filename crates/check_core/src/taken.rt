@@ -2,7 +2,7 @@
 
 ghost use Rattle.std.specs.Prelude.{◌≡◌, option_map};
 ghost use Rattle.words_core.specs.Requests.{body_of_answer};
-ghost use Rattle.check_core.specs.Taken.{page_in_way};
+ghost use Rattle.check_core.specs.Finding.{page_in_way};
 
 use judge::Machine;
 use judge_core::FrameBlock;

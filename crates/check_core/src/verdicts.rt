@@ -1,20 +1,19 @@
 //! Verdicts on the reply to one line.
 
-ghost use Rattle.std.specs.Prelude.{◌≡◌, ℕ, ◌+◌, ◌<◌, ◌≤◌, ◌^◌, List, [], Option, Some, Ok, IfOk, false};
+ghost use Rattle.std.specs.Prelude.{◌≡◌, ℕ, ◌+◌, ◌<◌, ◌≤◌, ◌^◌, List, Option, Some, None, Ok, IfOk, false};
 ghost use Rattle.words_core.specs.declared.reply.Reply.{Reply};
 ghost use Rattle.promise_core.specs.State.{Known};
 ghost use Rattle.judge.specs.Adding.{IsAllowedAddition};
-ghost use Rattle.judge.specs.Machine.{ShowsKnown};
-ghost use Rattle.check_core.specs.Checking.{IsFaultVerdict, IsLineVerdict, IsRefusalRead, IsTextVerdict};
-ghost use Rattle.check_core.specs.Ending.{AddsAt, IsEndedBy};
-ghost use Rattle.check_core.specs.Finding.{broken_by, more_lines, text_read};
+ghost use Rattle.judge.specs.Machine.{SeenMachine, ShowsKnown};
+ghost use Rattle.check_core.specs.Checking.{AddsAt, HasCome, IsEndedBy, IsLineVerdict, IsTextVerdict};
+ghost use Rattle.check_core.specs.Finding.{broken_by, lines_to, more_lines, refusal_read, reply_in, text_read};
 ghost use Rattle.check_core.specs.Gathered.{Gathers};
 ghost use Rattle.check_core.specs.Tables.{table_of};
 
 use crate::answer::read_answer;
 use crate::finding::Unchecked;
 use crate::gathered::Gathered;
-use crate::gathering::{gather, reads_fault};
+use crate::gathering::{gather, is_text};
 use crate::reader::LineReader;
 use crate::shown::MOST_TEXT_BYTES;
 use crate::table::read_table;
@@ -22,7 +21,10 @@ use judge::{Machine, Verdict};
 use model_core::limits::MOST_BYTES;
 use promise_core::promise::Promise;
 use streams::Feed;
-use words_core::{Addressee, AdminCommand, Answer, Command, Event, LineFault, Refusal};
+use words_core::{
+    Addressee, AdminCommand, Answer, Command, Event, LineFault, Refusal, SHORT_ANSWER_BYTES,
+    write_answer_to,
+};
 
 /// The number of lines of an allowed reply, or the first promise that a reply breaks.
 pub(crate) type LineVerdict = Result<u128, Promise>;
@@ -59,13 +61,17 @@ fn judge_fault<R: Feed>(
     text: &mut Gathered<MOST_TEXT_BYTES>,
 ) -> Result<LineVerdict, Unchecked>
     requires fine { replies.old.failed ≡ false }
-    requires empty { Gathers MOST_TEXT_BYTES [] text.old }
-    ensures told { (bytes : List ℕ) → replies.old.left ≡ Some bytes
-        → IfOk result (λ verdict. IsFaultVerdict verdict fault bytes replies.new.left) }
+    ensures judged { (w : Known) (kept : SeenMachine) (bytes : List ℕ) → ShowsKnown kept w → HasCome 0 bytes text.old replies.old.left
+        → IfOk result (λ verdict. IsLineVerdict verdict (Err fault) bytes w kept replies.new.left) }
     ensures room { IfOk result (λ verdict. IfOk verdict (λ lines. replies.new.room + lines ≤ replies.old.room)) }
     ensures end { IsEndedBy result false replies.new.failed ⊥ }
 {
-    if reads_fault(fault, replies, text)? {
+    if !gather(replies, 1, text)? {
+        return Ok(Err(Promise::Form));
+    }
+    let mut due = [0; SHORT_ANSWER_BYTES];
+    let len = write_answer_to(Addressee::Nobody, Answer::Fault(fault), &mut due);
+    if is_text(text, &due[..len]) {
         Ok(Ok(1))
     } else {
         Ok(Err(Promise::Form))
@@ -80,48 +86,24 @@ fn judge_event<R: Feed>(
     text: &mut Gathered<MOST_TEXT_BYTES>,
 ) -> Result<LineVerdict, Unchecked>
     requires fine { replies.old.failed ≡ false }
-    requires empty { Gathers MOST_TEXT_BYTES [] text.old }
-    ensures judged { (w : Known) (bytes : List ℕ) → ShowsKnown machine.old w → replies.old.left ≡ Some bytes
+    ensures judged { (w : Known) (bytes : List ℕ) → ShowsKnown machine.old w → HasCome 0 bytes text.old replies.old.left
         → IfOk result (λ verdict. IsLineVerdict verdict (Ok (Some event.now)) bytes w machine.new replies.new.left) }
     ensures room { IfOk result (λ verdict. IfOk verdict (λ lines. replies.new.room + lines ≤ replies.old.room)) }
     ensures end { IsEndedBy result false replies.new.failed ((w : Known) (bytes : List ℕ) → ShowsKnown machine.old w
-        → replies.old.left ≡ Some bytes → AddsAt (Ok (Some event.now)) bytes w) }
+        → HasCome 0 bytes text.old replies.old.left → AddsAt (Ok (Some event.now)) bytes w) }
 {
+    if !gather(replies, 1, text)? {
+        return Ok(Err(Promise::Form));
+    }
     let more = more_lines(machine, event);
     if more == 0 {
-        judge_single(machine, event, replies, text)
+        judge_gathered(machine, event, 1, None, text)
     } else {
         judge_lines(machine, event, more, replies, text)
     }
 }
 
-/// Reads the reply to an event that has one line, and judges it.
-fn judge_single<R: Feed>(
-    machine: &mut Machine,
-    event: &Event,
-    replies: &mut LineReader<R>,
-    text: &mut Gathered<MOST_TEXT_BYTES>,
-) -> Result<LineVerdict, Unchecked>
-    requires fine { replies.old.failed ≡ false }
-    requires empty { Gathers MOST_TEXT_BYTES [] text.old }
-    ensures judged { (w : Known) (bytes : List ℕ) → ShowsKnown machine.old w → more_lines event.now w ≡ 0
-        → replies.old.left ≡ Some bytes
-        → IfOk result (λ verdict. IsLineVerdict verdict (Ok (Some event.now)) bytes w machine.new replies.new.left) }
-    ensures room { IfOk result (λ verdict. IfOk verdict (λ lines. replies.new.room + lines ≤ replies.old.room)) }
-    ensures end { IsEndedBy result false replies.new.failed ((w : Known) (bytes : List ℕ) → ShowsKnown machine.old w
-        → more_lines event.now w ≡ 0 → replies.old.left ≡ Some bytes → AddsAt (Ok (Some event.now)) bytes w) }
-{
-    if !gather(replies, 1, text)? {
-        return Ok(Err(Promise::Form));
-    }
-    match judge_text(machine, event, text)? {
-        Some(Ok(())) => Ok(Ok(1)),
-        Some(Err(promise)) => Ok(Err(promise)),
-        None => Ok(Err(Promise::Form)),
-    }
-}
-
-/// Reads the reply to an event that has `more` lines behind the first, and judges it.
+/// Reads the `more` lines that follow the first of the reply to an event, and judges it.
 #[inline(never)]
 fn judge_lines<R: Feed>(
     machine: &mut Machine,
@@ -131,24 +113,40 @@ fn judge_lines<R: Feed>(
     text: &mut Gathered<MOST_TEXT_BYTES>,
 ) -> Result<LineVerdict, Unchecked>
     requires fine { replies.old.failed ≡ false }
-    requires empty { Gathers MOST_TEXT_BYTES [] text.old }
     requires some { more + 1 < 2 ^ 128 }
     ensures judged { (w : Known) (bytes : List ℕ) → ShowsKnown machine.old w → more_lines event.now w ≡ more
-        → replies.old.left ≡ Some bytes
+        → HasCome 1 bytes text.old replies.old.left
         → IfOk result (λ verdict. IsLineVerdict verdict (Ok (Some event.now)) bytes w machine.new replies.new.left) }
-    ensures room { IfOk result (λ verdict. IfOk verdict (λ lines. replies.new.room + lines ≤ replies.old.room)) }
+    ensures room { IfOk result (λ verdict. IfOk verdict (λ lines. replies.new.room + lines ≤ replies.old.room + 1)) }
     ensures end { IsEndedBy result false replies.new.failed ((w : Known) (bytes : List ℕ) → ShowsKnown machine.old w
-        → more_lines event.now w ≡ more → replies.old.left ≡ Some bytes → AddsAt (Ok (Some event.now)) bytes w) }
+        → more_lines event.now w ≡ more → HasCome 1 bytes text.old replies.old.left → AddsAt (Ok (Some event.now)) bytes w) }
 {
-    if !gather(replies, 1, text)? {
-        return Ok(Err(Promise::Form));
-    }
     let refused = refusal_in(text);
     if !gather(replies, more, text)? {
         return Ok(Err(broken_by(machine, event, refused)?));
     }
+    judge_gathered(machine, event, more + 1, refused, text)
+}
+
+/// Judges the lines that were gathered as the reply to an event. If they are no reply, the first is this refusal, or none.
+#[inline(always)]
+fn judge_gathered(
+    machine: &mut Machine,
+    event: &Event,
+    lines: u128,
+    refused: Option<(Addressee, Refusal)>,
+    text: &Gathered<MOST_TEXT_BYTES>,
+) -> Result<LineVerdict, Unchecked>
+    ensures judged { (w : Known) (bytes : List ℕ) (left : Option (List ℕ)) → ShowsKnown machine.old w
+        → lines ≡ lines_to (Ok (Some event.now)) w → HasCome lines bytes text.now left
+        → (reply_in lines bytes ≡ None → refused ≡ refusal_read (reply_in 1 bytes))
+        → IfOk result (λ verdict. IsLineVerdict verdict (Ok (Some event.now)) bytes w machine.new left) }
+    ensures lines { IfOk result (λ verdict. IfOk verdict (λ count. count ≡ lines)) }
+    ensures end { IsEndedBy result false false ((w : Known) (bytes : List ℕ) (left : Option (List ℕ)) → ShowsKnown machine.old w
+        → lines ≡ lines_to (Ok (Some event.now)) w → HasCome lines bytes text.now left → AddsAt (Ok (Some event.now)) bytes w) }
+{
     match judge_text(machine, event, text)? {
-        Some(Ok(())) => Ok(Ok(more + 1)),
+        Some(Ok(())) => Ok(Ok(lines)),
         Some(Err(promise)) => Ok(Err(promise)),
         None => Ok(Err(broken_by(machine, event, refused)?)),
     }
@@ -188,7 +186,7 @@ fn judge_table(machine: &mut Machine, event: &Event, text: &[u8]) -> Option<Verd
 
 /// Returns the refusal that was gathered, and to whom it goes.
 fn refusal_in(text: &Gathered<MOST_TEXT_BYTES>) -> Option<(Addressee, Refusal)>
-    ensures { (came : List ℕ) → Gathers MOST_TEXT_BYTES came text.now → IsRefusalRead result (text_read came) }
+    ensures { (came : List ℕ) → Gathers MOST_TEXT_BYTES came text.now → result ≡ refusal_read (text_read came) }
 {
     let bytes = text.whole()?;
     let mut buffer = [0; MOST_BYTES];
@@ -205,8 +203,7 @@ fn broken_by(
     event: &Event,
     refused: Option<(Addressee, Refusal)>,
 ) -> Result<Promise, Unchecked>
-    ensures broken { (w : Known) (first : Option Reply) → ShowsKnown machine.old w → IsRefusalRead refused first
-        → IfOk result (λ promise. promise ≡ broken_by event.now first w) }
+    ensures broken { (w : Known) → ShowsKnown machine.old w → IfOk result (λ promise. promise ≡ broken_by event.now refused w) }
     ensures end { IsEndedBy result false false ⊥ }
 {
     let Some((addressee, refusal)) = refused else {

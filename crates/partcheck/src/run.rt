@@ -2,7 +2,7 @@
 
 ghost use Rattle.std.specs.Prelude.{◌≡◌, ℕ, List, true, false, Some, IfOk, ◌⊎◌};
 ghost use Rattle.model_core.specs.Booting.{is_bootable};
-ghost use Rattle.check_core.specs.Ending.{ComesToAdd, IsEndedBy};
+ghost use Rattle.check_core.specs.Checking.{ComesToAdd, IsEndedBy};
 ghost use Rattle.check_core.specs.Finding.{finding_of};
 ghost use Rattle.check_core.specs.Reading.{readings_of};
 ghost use Rattle.partcheck.specs.Checked.{IsSoundFinding, opening_of};

@@ -4,8 +4,7 @@ use Rattle.words_core.specs.declared.event.LineFault.{LineFault}
 use Rattle.promise_core.specs.declared.promise.Promise.{Promise}
 use Rattle.promise_core.specs.State.{Known}
 use Rattle.judge.specs.Machine.{ShowsKnown}
-use Rattle.check_core.specs.Checking.{IsLineVerdict}
-use Rattle.check_core.specs.Ending.{AddsAt, ComesToAdd}
+use Rattle.check_core.specs.Checking.{AddsAt, ComesToAdd, IsLineVerdict}
 use Rattle.check_core.specs.Finding.{after_lines, finding}
 use Rattle.check_core.specs.Reading.{IsNextReading, readings_of}
 use Rattle.check_core.proofs.CheckLemmas.{breaks, ends_broken, ends_kept, goes_on}

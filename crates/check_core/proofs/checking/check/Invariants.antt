@@ -1,7 +1,7 @@
 use Rattle.std.proofs.Common.{◌≡◌, ℕ, ◌+◌, ◌≤◌, List, Some, false}
 use Rattle.promise_core.specs.State.{Known}
 use Rattle.judge.specs.Machine.{ShowsKnown}
-use Rattle.check_core.specs.Ending.{ComesToAdd}
+use Rattle.check_core.specs.Checking.{ComesToAdd}
 use Rattle.check_core.specs.Finding.{finding, finding_of}
 use Rattle.check_core.specs.Reading.{readings_of}
 use Rattle.check_core.proofs.checking.check.Given as goal

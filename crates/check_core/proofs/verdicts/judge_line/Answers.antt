@@ -1,16 +1,15 @@
-use Rattle.std.proofs.Common.{Ok, Err, Some, ap, sym, ◌∙◌}
-use Rattle.std.proofs.lemmas.Result.{IfOk-weaker}
-use Rattle.check_core.proofs.CheckLemmas.{fault_judged, line_judged}
+use Rattle.std.proofs.Common.{Some, Ok, refl}
+use Rattle.check_core.proofs.Ending.{ended_so}
 use Rattle.check_core.proofs.verdicts.judge_line.Goals as goal
 
 pub returns-in-Some-clause-judged : goal.returns-in-Some-clause-judged
-returns-in-Some-clause-judged g c w bytes shown known =
-    IfOk-weaker c.judge_event.result _ _
-    (λ verdict is. line_judged verdict (Ok (Some c.in-Some.event)) c.args.reading.now bytes w _ _ (sym (c.in-Ok.is ∙ ap (λ event. Ok event) c.in-Some.is)) is)
-    (c.judge_event.ensures.judged w bytes shown known)
+returns-in-Some-clause-judged g c w bytes shown known = rw (c.in-Ok.is, c.in-Some.is)
+    (c.judge_event.ensures.judged w bytes shown (record { came = _; rest = bytes; are = refl; gathers = c.clear.ensures; known = known }))
+
+pub returns-in-Some-clause-end : goal.returns-in-Some-clause-end
+returns-in-Some-clause-end g c = rw (c.in-Ok.is, c.in-Some.is) (ended_so c.judge_event.result _ _ _ _ (λ adds w bytes shown known.
+    adds w bytes shown (record { came = _; rest = bytes; are = refl; gathers = c.clear.ensures; known = known })) c.judge_event.ensures.end)
 
 pub returns-in-Err-clause-judged : goal.returns-in-Err-clause-judged
-returns-in-Err-clause-judged g c w bytes shown known =
-    IfOk-weaker c.judge_fault.result _ _
-    (λ verdict is. line_judged verdict (Err c.in-Err.fault) c.args.reading.now bytes w _ _ (sym c.in-Err.is) (fault_judged verdict c.in-Err.fault bytes w _ _ is shown))
-    (c.judge_fault.ensures.told bytes known)
+returns-in-Err-clause-judged g c w bytes shown known = rw c.in-Err.is
+    (c.judge_fault.ensures.judged w _ bytes shown (record { came = _; rest = bytes; are = refl; gathers = c.clear.ensures; known = known }))

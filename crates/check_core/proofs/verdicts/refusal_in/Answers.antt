@@ -1,9 +1,9 @@
-use Rattle.std.proofs.Common.{◌≡◌, false, Option, Some, ap, sym, subst, ◌∙◌}
-use Rattle.std.specs.Prelude.{IfSome}
+use Rattle.std.proofs.Common.{◌≡◌, Option, Some, refl, ap, sym, ◌∙◌}
 use Rattle.words_core.specs.Requests.{reply_to}
 use Rattle.words_core.specs.declared.answer.Answer.TheVariants as Answer
 use Rattle.words_core.specs.declared.reply.Reply.{Reply}
-use Rattle.check_core.specs.Finding.{is_refusal}
+use Rattle.check_core.specs.Finding.{refusal_told}
+use Rattle.check_core.specs.Forms.{◌>>=◌}
 use Rattle.check_core.specs.Tables.{table_of}
 use Rattle.check_core.proofs.CheckLemmas.{as_answer, as_table, no_refusal_told, read_so, table_refuses_nothing}
 use Rattle.check_core.proofs.verdicts.refusal_in.Goals as goal
@@ -11,22 +11,19 @@ use Rattle.check_core.proofs.verdicts.refusal_in.Goals as goal
 pub returns-in_err-addressee : goal.returns-in_err-addressee
 returns-in_err-addressee c came gathers =
     let bytes = c.in_ok-bytes.bytes.now in
-    rw c.from_residual-in_err-addressee.ensures
-    (subst (λ (found : Option Reply). IfSome found (λ reply. is_refusal reply.body ≡ false))
-    (sym (read_so came bytes (table_of bytes) (c.in_ok-bytes.ensures came gathers) (as_table bytes c.in_err-addressee.ensures.exact)))
-    (table_refuses_nothing bytes))
+    rw (c.from_residual-in_err-addressee.ensures, read_so came bytes (table_of bytes) (c.in_ok-bytes.ensures came gathers) (as_table bytes c.in_err-addressee.ensures.exact))
+    (sym (table_refuses_nothing bytes))
 
 pub returns-in-Refused : goal.returns-in-Refused
 returns-in-Refused c came gathers =
     let bytes = c.in_ok-bytes.bytes.now in
     let reply : Reply = reply_to c.in_ok-addressee.addressee (Answer.Refused c.in-Refused.refusal) in
-    read_so came bytes (Some reply) (c.in_ok-bytes.ensures came gathers)
-    (as_answer bytes reply (c.in_ok-addressee.ensures.exact ∙ ap (λ answer. Some (reply_to c.in_ok-addressee.addressee answer)) c.in-Refused.is))
+    rw (read_so came bytes (Some reply) (c.in_ok-bytes.ensures came gathers)
+    (as_answer bytes reply (c.in_ok-addressee.ensures.exact ∙ ap (λ answer. Some (reply_to c.in_ok-addressee.addressee answer)) c.in-Refused.is))) refl
 
 pub returns-in_default : goal.returns-in_default
 returns-in_default c came gathers =
     let bytes = c.in_ok-bytes.bytes.now in
     let reply : Reply = reply_to c.in_ok-addressee.addressee c.in_ok-addressee.answer in
-    subst (λ (found : Option Reply). IfSome found (λ reply. is_refusal reply.body ≡ false))
-    (sym (read_so came bytes (Some reply) (c.in_ok-bytes.ensures came gathers) (as_answer bytes reply c.in_ok-addressee.ensures.exact)))
-    (no_refusal_told c.in_ok-addressee.answer c.in_default.not-Refused)
+    rw (read_so came bytes (Some reply) (c.in_ok-bytes.ensures came gathers) (as_answer bytes reply c.in_ok-addressee.ensures.exact))
+    (sym (no_refusal_told c.in_ok-addressee.addressee c.in_ok-addressee.answer c.in_default.not-Refused))
