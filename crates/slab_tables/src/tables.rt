@@ -64,11 +64,11 @@ impl Tables {
         };
         Ok(Tables {
             order,
-            lists: SlabLists::new(alloc, order, superblocks, tenants)?,
             kept: vec![in alloc; blank; nodes as usize]?,
             caches: vec![in alloc; None; caches as usize]?,
             live: vec![in alloc; 0; caches as usize]?,
             below: vec![in alloc; 0; usize::from(tenants)]?,
+            lists: SlabLists::new(alloc, order, superblocks, tenants)?,
         })
     }
 
