@@ -41,6 +41,9 @@ impl Drawn {
     }
 }
 
+/// How many pixels the word below the lowest number of the axis is moved down, so that it is read beside that number.
+const LABEL_GAP: u32 = 4;
+
 /// Runs a trace on a new machine of these settings, and draws what became of its frames. Nothing is drawn of a trace that
 /// can't be read to its end.
 pub fn run<F: Feed + Drop, W: Write>(
@@ -62,6 +65,7 @@ pub fn run<F: Feed + Drop, W: Write>(
     let Ok(mut picture) = Picture::new(alloc, &history, settings.machine.only) else {
         return Drawn::at_once(Outcome::NoMemory);
     };
+    picture.set_label_gap(LABEL_GAP);
     let mut watched = Watched { history, events: 0 };
     if watch(&mut kernel, feed, &mut watched).is_err() {
         return Drawn::at_once(Outcome::Unreadable);

@@ -21,6 +21,8 @@ pub struct Picture {
     first: u8,
     end: u8,
     cells: Vec<[Tone; MOST_ROWS]>,
+    /// How many pixels the word `refused` is moved down, away from the lowest number of the axis.
+    label_gap: u32,
 }
 
 impl Picture {
@@ -38,7 +40,15 @@ impl Picture {
             first,
             end,
             cells: vec![in alloc; [Tone::NOT_HELD; MOST_ROWS]; history.room()]?,
+            label_gap: 0,
         })
+    }
+
+    /// Moves the word below the lowest number of the axis down by this many pixels, so that they do not overlap.
+    pub fn set_label_gap(&mut self, pixels: u32)
+        ensures { self.new ≡ record self.old { label_gap = pixels } }
+    {
+        self.label_gap = pixels;
     }
 
     /// Draws what became of the frames in the trace of this name, and flushes. Of a history with more columns than that of `new` the first are drawn.
@@ -58,9 +68,9 @@ impl Picture {
         for t in self.first..self.end {
             let grid = self.grid(history, t);
             set_cells(&mut self.cells, history.columns(), t, grid);
-            let cells = self.cells.as_slice();
-            let columns = history.columns().len().min(cells.len());
-            draw_band(out, history, t, grid, &cells[..columns], top)?;
+            let columns = history.columns().len().min(self.cells.len());
+            let (cells, gap) = (&self.cells[..columns], self.label_gap);
+            draw_band(out, history, t, grid, cells, top, gap)?;
             top = top.saturating_add(band_height(grid));
         }
         out.write_all(b"</svg>\n")?;

@@ -224,7 +224,7 @@ fn write_escaped<W: Write>(out: &mut W, name: &[u8]) -> io::Result<()> {
     Ok(())
 }
 
-/// Draws the band of tenant `t` from a height on, of these columns of cells.
+/// Draws the band of tenant `t` from a height on, of these columns of cells; the word at the refusals is `gap` pixels lower.
 pub fn draw_band<W: Write>(
     out: &mut W,
     history: &History,
@@ -232,6 +232,7 @@ pub fn draw_band<W: Write>(
     grid: Grid,
     cells: &[[Tone; MOST_ROWS]],
     top: u32,
+    gap: u32,
 ) -> io::Result<()> {
     let height = rows_height(grid);
     let y = top.saturating_add(ABOVE);
@@ -245,12 +246,8 @@ pub fn draw_band<W: Write>(
     draw_rows(out, cells, grid, bottom)?;
     draw_frames_axis(out, grid, y, bottom)?;
     draw_slots_axis(out, grid, y, bottom)?;
-    draw_refusals(
-        out,
-        history.columns(),
-        t,
-        bottom.saturating_add(REFUSALS_TOP),
-    )?;
+    let refusals = bottom.saturating_add(REFUSALS_TOP);
+    draw_refusals(out, history.columns(), t, refusals, gap)?;
     let foot = bottom.saturating_add(STACK_TOP + STACK);
     draw_stack(out, history, t, foot)?;
     draw_lines_axis(out, history, foot)
@@ -517,13 +514,19 @@ fn draw_figures<W: Write>(out: &mut W, columns: &[Column], t: u8, top: u32) -> i
     )
 }
 
-/// Marks the columns in whose lines tenant `t` was refused for want of frames.
-fn draw_refusals<W: Write>(out: &mut W, columns: &[Column], t: u8, y: u32) -> io::Result<()> {
+/// Marks the columns in whose lines tenant `t` was refused for want of frames. The word that names the marks is `gap` pixels lower.
+fn draw_refusals<W: Write>(
+    out: &mut W,
+    columns: &[Column],
+    t: u8,
+    y: u32,
+    gap: u32,
+) -> io::Result<()> {
     writeln!(
         out,
         "<text class=\"right\" x=\"{}\" y=\"{}\">refused</text>",
         LEFT - 9,
-        y.saturating_add(REFUSALS)
+        y.saturating_add(REFUSALS).saturating_add(gap)
     )?;
     out.write_all(b"<path class=\"refused\" d=\"")?;
     for at in 0..columns.len() {
