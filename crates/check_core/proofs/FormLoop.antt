@@ -101,3 +101,79 @@ pub as_many_marks : (form next rest after : List ℕ) (mark : ℕ) → form ≡ 
     → marks form ≡ marks next
 as_many_marks form next rest after mark form_is found =
     first_mark form next mark false form_is (letter_is mark rest after found) ∙ omega arith
+
+-- ---- words, in which no number stands
+
+no_mark : (is : Bool) (n : ℕ) → cond is 1 0 + n ≡ 0 → (is ≡ false) × (n ≡ 0)
+no_mark true n e = absurd (omega (arith, e))
+no_mark false n e = (refl, omega (arith, e))
+
+pub no_number : (form next : List ℕ) (mark : ℕ) → form ≡ mark ∷ next → marks form ≡ 0 → ((mark == 35) ≡ false) × (marks next ≡ 0)
+no_number form next mark form_is none = no_mark (mark == 35) (marks next) (sym (first_mark form next mark (mark == 35) form_is refl) ∙ none)
+
+same_found : (found : Option (List ℕ × List ℕ)) → (found >>= (λ others. Some (others.0, others.1))) ≡ found
+same_found None = refl
+same_found (Some others) = refl
+
+pub letter_on : (form next rest : List ℕ) (letter : ℕ) → form ≡ letter ∷ next → (letter == 35) ≡ false
+    → form_at form rest ≡ (letter_at letter rest >>= (λ first. form_at next first.1 >>= (λ others. Some (onto first.0 others.0, others.1))))
+unfolding form_at mark_at
+letter_on form next rest letter form_is is =
+    ap (λ form. form_at form rest) form_is
+    ∙ ap (λ test. cond test (numbered (number_at rest)) (letter_at letter rest) >>= (λ first. form_at next first.1 >>= (λ others. Some (onto first.0 others.0, others.1)))) is
+
+-- one letter more
+pub letter_found : (form next rest after : List ℕ) (letter : ℕ) → form ≡ letter ∷ next → (letter == 35) ≡ false → letter_at letter rest ≡ Some (None, after)
+    → form_at form rest ≡ form_at next after
+letter_found form next rest after letter form_is is found =
+    letter_on form next rest letter form_is is
+    ∙ ap (λ first. first >>= (λ first. form_at next first.1 >>= (λ others. Some (onto first.0 others.0, others.1)))) found
+    ∙ same_found (form_at next after)
+
+pub letter_missing : (form next rest : List ℕ) (letter : ℕ) → form ≡ letter ∷ next → (letter == 35) ≡ false → letter_at letter rest ≡ None
+    → form_at form rest ≡ None
+letter_missing form next rest letter form_is is none =
+    letter_on form next rest letter form_is is
+    ∙ ap (λ first. first >>= (λ first. form_at next first.1 >>= (λ others. Some (onto first.0 others.0, others.1)))) none
+
+pub word_ends : (word rest : List ℕ) → word ≡ [] → form_at word rest ≡ Some ([], rest)
+unfolding form_at
+word_ends word rest is = ap (λ word. form_at word rest) is
+
+-- a number that was found, and this word behind it
+abbrev pub number_then : List ℕ → ℕ × List ℕ → Option (List ℕ × List ℕ)
+number_then after number = with_front (number.0 ∷ []) (form_at after number.1)
+
+-- the same behind what was found
+abbrev pub number_behind : List ℕ → Option (List ℕ × List ℕ) → Option (List ℕ × List ℕ)
+number_behind after at = at >>= (λ found. number_at found.1 >>= number_then after)
+
+abbrev number_next : List ℕ → Option (ℕ × List ℕ) → Option (List ℕ × List ℕ)
+number_next after found = numbered found >>= (λ first. form_at after first.1 >>= (λ others. Some (onto first.0 others.0, others.1)))
+
+number_first : (found : Option (ℕ × List ℕ)) (after : List ℕ) → number_next after found ≡ (found >>= number_then after)
+number_first None after = refl
+number_first (Some number) after = refl
+
+no_number_at : (letter n : ℕ) (text after : List ℕ) → letter_at letter text ≡ Some (Some n, after) → ⊥
+no_number_at letter n [] after e = omega (arith, ap kind e)
+no_number_at letter n (b ∷ text) after e = not_letter (b == letter) b n text after e
+
+-- a number between two words
+pub between : (before after text : List ℕ) → marks before ≡ 0 → form_at (before ++ 35 ∷ after) text ≡ number_behind after (form_at before text)
+unfolding form_at mark_at
+between [] after text none = number_first (number_at text) after
+between (letter ∷ before) after text none =
+    let next = no_number (letter ∷ before) before letter refl none in
+    step (letter_at letter text) refl next.0 (λ rest. between before after rest next.1) where
+      step : (found : Option (Option ℕ × List ℕ)) → letter_at letter text ≡ found → (letter == 35) ≡ false
+          → ((rest : List ℕ) → form_at (before ++ 35 ∷ after) rest ≡ number_behind after (form_at before rest))
+          → form_at ((letter ∷ before) ++ 35 ∷ after) text ≡ number_behind after (form_at (letter ∷ before) text)
+      step None found is more =
+          letter_missing ((letter ∷ before) ++ 35 ∷ after) (before ++ 35 ∷ after) text letter refl is found
+          ∙ sym (ap (number_behind after) (letter_missing (letter ∷ before) before text letter refl is found))
+      step (Some (None, rest)) found is more =
+          letter_found ((letter ∷ before) ++ 35 ∷ after) (before ++ 35 ∷ after) text rest letter refl is found
+          ∙ more rest
+          ∙ sym (ap (number_behind after) (letter_found (letter ∷ before) before text rest letter refl is found))
+      step (Some (Some n, rest)) found is more = absurd (no_number_at letter n text rest found)

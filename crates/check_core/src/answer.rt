@@ -8,7 +8,7 @@ ghost use Rattle.check_core.specs.Forms.{Gives};
 ghost use Rattle.check_core.specs.Ranges.{Fits};
 ghost use Rattle.check_core.specs.Replies.{addressee_at, tenant_at, admin_at, nobody_at, answer_of};
 
-use crate::form::form_at;
+use crate::form::{behind_word, number_between};
 use crate::said::said_at;
 use model_core::limits::MOST_BYTES;
 use words_core::{Addressee, Answer};
@@ -60,7 +60,7 @@ pub fn addressee_at(text: &[u8]) -> Option<(Addressee, &[u8])>
 fn tenant_at(text: &[u8]) -> Option<(Addressee, &[u8])>
     ensures { Gives (λ found. (found.0, found.1.now)) result (tenant_at text.now) }
 {
-    let ([tenant], rest) = form_at::<1>(b"#> ", text)?;
+    let (tenant, rest) = number_between(b"", b"> ", text)?;
     Some((Addressee::Tenant(u8::try_from(tenant).ok()?), rest))
 }
 
@@ -68,7 +68,7 @@ fn tenant_at(text: &[u8]) -> Option<(Addressee, &[u8])>
 fn admin_at(text: &[u8]) -> Option<(Addressee, &[u8])>
     ensures { Gives (λ found. (found.0, found.1.now)) result (admin_at text.now) }
 {
-    let ([], rest) = form_at::<0>(b"admin> ", text)?;
+    let rest = behind_word(b"admin> ", text)?;
     Some((Addressee::Admin, rest))
 }
 
@@ -76,6 +76,6 @@ fn admin_at(text: &[u8]) -> Option<(Addressee, &[u8])>
 fn nobody_at(text: &[u8]) -> Option<(Addressee, &[u8])>
     ensures { Gives (λ found. (found.0, found.1.now)) result (nobody_at text.now) }
 {
-    let ([], rest) = form_at::<0>(b"!> ", text)?;
+    let rest = behind_word(b"!> ", text)?;
     Some((Addressee::Nobody, rest))
 }

@@ -1,8 +1,8 @@
 //! Forms: texts in which each `#` stands for a number.
 
-ghost use Rattle.std.specs.Prelude.{◌≡◌, ◌<◌, ◌≤◌, ◌^◌, ◌==◌, count_by, length, take_while};
+ghost use Rattle.std.specs.Prelude.{◌≡◌, ◌<◌, ◌≤◌, ◌^◌, ◌==◌, [], ◌∷◌, ◌++◌, None, count_by, length, take_while};
 ghost use Rattle.std.specs.Char.{is_ascii_digit};
-ghost use Rattle.check_core.specs.Forms.{Gives, plain_number, number_at, mark_at, form_at};
+ghost use Rattle.check_core.specs.Forms.{Gives, plain_number, number_at, letter_at, mark_at, form_at};
 
 use arrayvec::ArrayVec;
 
@@ -53,13 +53,18 @@ fn mark_at(mark: u8, text: &[u8]) -> Option<(Option<u32>, &[u8])>
         let (number, rest) = number_at(text)?;
         return Some((Some(number), rest));
     }
-    let [first, rest @ ..] = text else {
-        return None;
-    };
-    if *first != mark {
-        return None;
+    Some((None, letter_at(mark, text)?))
+}
+
+/// Returns what follows a letter with which the text begins.
+#[inline(always)]
+fn letter_at(letter: u8, text: &[u8]) -> Option<&[u8]>
+    ensures { Gives (λ rest. (None, rest.now)) result (letter_at letter text.now) }
+{
+    match text {
+        [first, rest @ ..] if *first == letter => Some(rest),
+        _ => None,
     }
-    Some((None, rest))
 }
 
 /// Returns the numbers in the form with which the text begins, and what follows it.
@@ -81,4 +86,28 @@ pub fn form_at<'a, const N: usize>(form: &[u8], text: &'a [u8]) -> Option<([u32;
         return None;
     };
     Some((numbers, rest))
+}
+
+/// Returns what follows a word with which the text begins.
+#[inline(always)]
+pub fn behind_word<'a>(word: &[u8], text: &'a [u8]) -> Option<&'a [u8]>
+    requires { count_by (λ b. b == 35) word.now ≡ 0 }
+    ensures { Gives (λ rest. ([], rest.now)) result (form_at word.now text.now) }
+{
+    let mut rest = text;
+    for letter in word {
+        rest = letter_at(*letter, rest)?;
+    }
+    Some(rest)
+}
+
+/// Returns the number between two words with which the text begins, and what follows the second.
+#[inline(always)]
+pub fn number_between<'a>(before: &[u8], after: &[u8], text: &'a [u8]) -> Option<(u32, &'a [u8])>
+    requires before { count_by (λ b. b == 35) before.now ≡ 0 }
+    requires after { count_by (λ b. b == 35) after.now ≡ 0 }
+    ensures { Gives (λ found. (found.0 ∷ [], found.1.now)) result (form_at (before.now ++ 35 ∷ after.now) text.now) }
+{
+    let (number, rest) = number_at(behind_word(before, text)?)?;
+    Some((number, behind_word(after, rest)?))
 }

@@ -5,7 +5,7 @@ ghost use Rattle.words_core.specs.Requests.{body_of_answer};
 ghost use Rattle.check_core.specs.Forms.{Gives};
 ghost use Rattle.check_core.specs.Replies.{frame_at, freed_at, written_at, cache_at, destroyed_at, object_at, given_at, reaped_at, refused_at, refusal_of, bytes_at, granted_at, taken_at, reset_at, moved_at, fault_at, some_fault_at, notice_at, rare_at, said_at};
 
-use crate::form::form_at;
+use crate::form::{behind_word, form_at, number_between};
 use crate::hexed::bytes_of;
 use model_core::limits::MOST_BYTES;
 use words_core::{Answer, LineFault, REFUSALS, Refusal};
@@ -58,7 +58,7 @@ fn notice_at(text: &[u8]) -> Option<(Answer<'_>, &[u8])>
 fn frame_at(text: &[u8]) -> Option<(Answer<'_>, &[u8])>
     ensures { Gives (λ found. (body_of_answer found.0, found.1.now)) result (frame_at text.now) }
 {
-    let ([frame], rest) = form_at::<1>(b"frame #\n", text)?;
+    let (frame, rest) = number_between(b"frame ", b"\n", text)?;
     Some((Answer::Frame(frame), rest))
 }
 
@@ -66,7 +66,7 @@ fn frame_at(text: &[u8]) -> Option<(Answer<'_>, &[u8])>
 fn freed_at(text: &[u8]) -> Option<(Answer<'_>, &[u8])>
     ensures { Gives (λ found. (body_of_answer found.0, found.1.now)) result (freed_at text.now) }
 {
-    let ([order], rest) = form_at::<1>(b"freed #\n", text)?;
+    let (order, rest) = number_between(b"freed ", b"\n", text)?;
     Some((Answer::Freed(u8::try_from(order).ok()?), rest))
 }
 
@@ -74,7 +74,7 @@ fn freed_at(text: &[u8]) -> Option<(Answer<'_>, &[u8])>
 fn written_at(text: &[u8]) -> Option<(Answer<'_>, &[u8])>
     ensures { Gives (λ found. (body_of_answer found.0, found.1.now)) result (written_at text.now) }
 {
-    let ([count], rest) = form_at::<1>(b"written #\n", text)?;
+    let (count, rest) = number_between(b"written ", b"\n", text)?;
     Some((Answer::Written(count), rest))
 }
 
@@ -100,7 +100,7 @@ fn cache_at(text: &[u8]) -> Option<(Answer<'_>, &[u8])>
 fn destroyed_at(text: &[u8]) -> Option<(Answer<'_>, &[u8])>
     ensures { Gives (λ found. (body_of_answer found.0, found.1.now)) result (destroyed_at text.now) }
 {
-    let ([frames], rest) = form_at::<1>(b"destroyed #\n", text)?;
+    let (frames, rest) = number_between(b"destroyed ", b"\n", text)?;
     Some((Answer::Destroyed(frames), rest))
 }
 
@@ -108,7 +108,7 @@ fn destroyed_at(text: &[u8]) -> Option<(Answer<'_>, &[u8])>
 fn object_at(text: &[u8]) -> Option<(Answer<'_>, &[u8])>
     ensures { Gives (λ found. (body_of_answer found.0, found.1.now)) result (object_at text.now) }
 {
-    let ([place], rest) = form_at::<1>(b"object #\n", text)?;
+    let (place, rest) = number_between(b"object ", b"\n", text)?;
     Some((Answer::Object(place), rest))
 }
 
@@ -116,7 +116,7 @@ fn object_at(text: &[u8]) -> Option<(Answer<'_>, &[u8])>
 fn given_at(text: &[u8]) -> Option<(Answer<'_>, &[u8])>
     ensures { Gives (λ found. (body_of_answer found.0, found.1.now)) result (given_at text.now) }
 {
-    let ([], rest) = form_at::<0>(b"given\n", text)?;
+    let rest = behind_word(b"given\n", text)?;
     Some((Answer::Given, rest))
 }
 
@@ -124,7 +124,7 @@ fn given_at(text: &[u8]) -> Option<(Answer<'_>, &[u8])>
 fn reaped_at(text: &[u8]) -> Option<(Answer<'_>, &[u8])>
     ensures { Gives (λ found. (body_of_answer found.0, found.1.now)) result (reaped_at text.now) }
 {
-    let ([frames], rest) = form_at::<1>(b"reaped #\n", text)?;
+    let (frames, rest) = number_between(b"reaped ", b"\n", text)?;
     Some((Answer::Reaped(frames), rest))
 }
 
@@ -142,10 +142,10 @@ fn refusal_of(number: u32) -> Option<Refusal>
 fn refused_at(text: &[u8]) -> Option<(Answer<'_>, &[u8])>
     ensures { Gives (λ found. (body_of_answer found.0, found.1.now)) result (refused_at text.now) }
 {
-    let ([number], rest) = form_at::<1>(b"refused # ", text)?;
+    let (number, rest) = number_between(b"refused ", b" ", text)?;
     let refusal = refusal_of(number)?;
-    let ([], rest) = form_at::<0>(refusal.name().as_bytes(), rest)?;
-    let ([], rest) = form_at::<0>(b"\n", rest)?;
+    let rest = behind_word(refusal.name().as_bytes(), rest)?;
+    let rest = behind_word(b"\n", rest)?;
     Some((Answer::Refused(refusal), rest))
 }
 
@@ -161,10 +161,10 @@ fn line_len(text: &[u8]) -> usize
 fn bytes_at<'a>(text: &'a [u8], buffer: &'a mut [u8; MOST_BYTES]) -> Option<(Answer<'a>, &'a [u8])>
     ensures { Gives (λ found. (body_of_answer found.0, found.1.now)) result (bytes_at text.now) }
 {
-    let ([], rest) = form_at::<0>(b"bytes ", text)?;
+    let rest = behind_word(b"bytes ", text)?;
     let (word, rest) = rest.split_at(line_len(rest));
     let bytes = bytes_of(word, buffer)?;
-    let ([], rest) = form_at::<0>(b"\n", rest)?;
+    let rest = behind_word(b"\n", rest)?;
     Some((Answer::Bytes(bytes), rest))
 }
 
@@ -188,7 +188,7 @@ fn granted_at(text: &[u8]) -> Option<(Answer<'_>, &[u8])>
 fn taken_at(text: &[u8]) -> Option<(Answer<'_>, &[u8])>
     ensures { Gives (λ found. (body_of_answer found.0, found.1.now)) result (taken_at text.now) }
 {
-    let ([superblock], rest) = form_at::<1>(b"taken superblock #\n", text)?;
+    let (superblock, rest) = number_between(b"taken superblock ", b"\n", text)?;
     Some((Answer::TakenBack(u16::try_from(superblock).ok()?), rest))
 }
 
@@ -222,9 +222,9 @@ fn moved_at(text: &[u8]) -> Option<(Answer<'_>, &[u8])>
 fn fault_at(fault: LineFault, text: &[u8]) -> Option<(Answer<'_>, &[u8])>
     ensures { Gives (λ found. (body_of_answer found.0, found.1.now)) result (fault_at fault text.now) }
 {
-    let ([], rest) = form_at::<0>(b"fault ", text)?;
-    let ([], rest) = form_at::<0>(fault.name().as_bytes(), rest)?;
-    let ([], rest) = form_at::<0>(b"\n", rest)?;
+    let rest = behind_word(b"fault ", text)?;
+    let rest = behind_word(fault.name().as_bytes(), rest)?;
+    let rest = behind_word(b"\n", rest)?;
     Some((Answer::Fault(fault), rest))
 }
 

@@ -1,0 +1,11 @@
+use Rattle.std.proofs.Common.{◌≡◌, drop}
+use Rattle.std.specs.Prelude.{count_by, ◌==◌}
+use Rattle.check_core.specs.Forms.{form_at}
+use Rattle.check_core.proofs.form.behind_word.Given as goal
+
+-- what of the word is left stands at the front of what of the text is left
+abbrev pub invariant-loop-letter : goal.invariant-loop-letter
+invariant-loop-letter l = record {
+  left : form_at (drop l.letter-index l.word) l.rest ≡ form_at l.word l.text;
+  marks : count_by (λ b. b == 35) (drop l.letter-index l.word) ≡ 0;
+}
