@@ -10,6 +10,7 @@ pub mod TableSteps
 pub mod TableLemmas
 pub mod ReplyLemmas
 pub mod ReadingLemmas
+pub mod HeldLemmas
 pub mod Ending
 pub mod CheckLemmas
 pub mod TextLemmas
@@ -17,4 +18,3 @@ pub mod CountLemmas
 pub mod LawLemmas
 pub mod Witnesses
 pub mod Examples
-pub mod ShortLemmas

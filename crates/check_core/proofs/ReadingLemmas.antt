@@ -159,6 +159,13 @@ next_taken (Ok false) bytes (b ∷ part) left fine consumed is =
     )
 next_taken (Err error) bytes part left fine consumed is = absurd cc
 
+pub next_line : (bytes part line : List ℕ) (left : Option (List ℕ)) → Consumes (Some bytes) left part → IsOneLine line → part ≡ line ++ 10 ∷ []
+    → IsNextReading bytes (Some (reading_of line)) left
+next_line bytes part line left consumed one is =
+    let taken = taken_ended bytes part line left consumed one is in
+    let whole : without_line_feed part ≡ line = ap without_line_feed is ∙ taken_off line in
+    (taken.rest, taken.known, ap (λ lines. map reading_of lines) (taken.lines ∙ ap (λ line. line ∷ lines_of_trace taken.rest) whole))
+
 -- by whether anything was taken
 pub next_none : (bytes part : List ℕ) (left : Option (List ℕ)) → (length part == 0) ≡ true → IsNextReading bytes (reading_in part) left → bytes ≡ []
 next_none bytes [] left none is = is

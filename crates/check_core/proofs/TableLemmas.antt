@@ -1,5 +1,5 @@
 -- A report or a table of owners is what its whole text was read as.
-use Rattle.std.proofs.Common.{◌≡◌, ℕ, ◌+◌, ◌-◌, ◌^◌, ◌<◌, ◌≤◌, Bool, true, false, cond, List, [], ◌∷◌, ◌++◌, map, length, take, drop, get_or, Option, Some, None, refl, sym, subst, ◌∙◌, ap, arith, append-nil, append_assoc, length-append, take_at}
+use Rattle.std.proofs.Common.{◌≡◌, ℕ, ◌+◌, ◌-◌, ◌^◌, ◌<◌, ◌≤◌, true, cond, List, [], ◌∷◌, ◌++◌, map, length, take, get_or, Option, Some, None, refl, sym, subst, ◌∙◌, ap, arith, append-nil, append_assoc, length-append, take_at}
 use Rattle.std.proofs.lemmas.List.Sums.{count_by-le-length}
 use Rattle.arrayvec.specs.ArrayVec.{ArrayVec}
 use Rattle.std.specs.Prelude.{codes, decimal, nat_lt, ◌==◌, ◌&&◌, count_by, is_none, IfSome}
@@ -19,7 +19,7 @@ use Rattle.words_core.specs.declared.reply.Body.TheVariants as Say
 use Rattle.check_core.specs.Ranges.{AddresseeFits, OwnerFits, OrderFits, CacheFits, ReportFits}
 use Rattle.check_core.specs.Forms.{◌>>=◌, number_at, mark_at, form_at}
 use Rattle.check_core.specs.Replies.{◌or_else◌, addressee_at, whole}
-use Rattle.check_core.specs.Tables.{after_front, rows_from, order_at, cache_row_at, top_at, no_top_at, some_top_at, report_at, owner_of, owner_at, pool_at, table_of}
+use Rattle.check_core.specs.Tables.{after_front, rows_from, order_at, cache_row_at, top_at, no_top_at, some_top_at, report_at, owner_at, pool_at, table_of}
 use Rattle.check_core.proofs.FormLemmas.{bind_some, both, same_byte, itself, form_text, form_takes, form_again}
 use Rattle.check_core.proofs.KindLemmas.{text_takes, kind_again, either, two, three, small_one, small_more, below}
 use Rattle.check_core.proofs.TableSteps.{pool_read, report_is, report_made, with_owners, with_top}

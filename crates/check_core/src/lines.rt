@@ -9,7 +9,6 @@ ghost use Rattle.check_core.specs.Reading.{IsNextReading, without_line_feed};
 use crate::finding::Unchecked;
 use crate::gathered::Gathered;
 use crate::reader::LineReader;
-use crate::short::read_short;
 use crate::shown::MOST_PART_BYTES;
 use streams::Feed;
 use words_core::{Event, LineFault, read_line};
@@ -25,6 +24,9 @@ pub fn next_reading<F: Feed>(
     ensures end { IsEndedBy result trace.new.failed false ⊥ }
 {
     line.clear();
+    if let Some(event) = trace.next_event(line) {
+        return Ok(Some(Ok(Some(event))));
+    }
     if trace.next(line).is_err() {
         return Err(Unchecked::Trace);
     }
@@ -40,10 +42,7 @@ pub(crate) fn reading(line: &Gathered<MOST_PART_BYTES>) -> Result<Option<Event>,
 {
     match line.whole() {
         None => Err(LineFault::Long),
-        Some(part) => match read_short(part) {
-            Some(event) => Ok(Some(event)),
-            None => read_line(without_line_feed(part)),
-        },
+        Some(part) => read_line(without_line_feed(part)),
     }
 }
 

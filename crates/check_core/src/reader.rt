@@ -1,13 +1,17 @@
 //! A text, a line at a time.
 
-ghost use Rattle.std.specs.Prelude.{◌≡◌, ℕ, ◌+◌, ◌^◌, ◌<◌, List, ◌++◌, length, false, is_err};
+ghost use Rattle.std.specs.Prelude.{◌≡◌, ℕ, ◌+◌, ◌^◌, ◌<◌, List, ◌++◌, length, false, is_err, Some, Ok, IfSome, IfNone};
 ghost use Rattle.std.specs.Io.KnownBytes.{Consumes};
 ghost use Rattle.check_core.specs.Gathered.{Gathers};
-ghost use Rattle.check_core.specs.Reading.{IsPartAtOk};
+ghost use Rattle.check_core.specs.Reading.{IsNextReading, IsPartAtOk};
 
 use crate::gathered::Gathered;
+use crate::short::event_of;
+use model_core::limits::MOST_BYTES;
+use quick_core::read_request;
 use std::marker::Model;
 use streams::{Feed, Stopped, line_end};
+use words_core::Event;
 
 /// Limit on the bytes of one pull.
 const PIECE_BYTES: usize = 65_536;
@@ -87,5 +91,23 @@ impl<F: Feed> LineReader<F> {
                 return Ok(false);
             }
         }
+    }
+
+    /// Reads the next line of a trace in place, and returns what it says. `None` if it is not read the short way; then nothing is
+    /// read.
+    #[inline(always)]
+    pub fn next_event<const N: usize>(&mut self, into: &mut Gathered<N>) -> Option<Event>
+        ensures reading { IfSome result (λ event. (bytes : List ℕ) → self.old.left ≡ Some bytes
+            → IsNextReading bytes (Some (Ok (Some event))) self.new.left) }
+        ensures less { IfSome result (λ _. self.new.room < self.old.room) }
+        ensures failed { self.new.failed ≡ self.old.failed }
+        ensures none { IfNone result ((self.new ≡ self.old) × (into.new ≡ into.old)) }
+    {
+        let mut buffer = [0; MOST_BYTES];
+        let held = &self.piece[self.start..self.end];
+        let line = read_request(held, &mut buffer)?;
+        into.add(&held[..line.len]);
+        self.start += line.len;
+        Some(event_of(line))
     }
 }

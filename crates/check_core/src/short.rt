@@ -1,50 +1,19 @@
-//! Lines of a load, read the short way.
+//! Lines of a load that were read the short way, as events.
 
-ghost use Rattle.std.specs.Prelude.{◌≡◌, ◌≤◌, ◌<◌, Some, Ok, IfSome, length};
-ghost use Rattle.words_core.specs.Grammar.{reading_of};
+ghost use Rattle.std.specs.Prelude.{◌≡◌, ◌≤◌, length};
 ghost use Rattle.words_core.specs.Requests.{command_of, IsAskable};
 ghost use Rattle.words_core.specs.declared.event.Event.TheVariants.{Tenant};
-ghost use Rattle.check_core.specs.Reading.{without_line_feed};
 
 use arrayvec::ArrayVec;
-use model_core::limits::MOST_BYTES;
-use quick_core::{RequestLine, WINDOW, read_request};
+use quick_core::RequestLine;
 use words_core::{Command, Event, Request};
 
-/// Returns what a line with its LF says. `None` if that is not read the short way.
-pub(crate) fn read_short(part: &[u8]) -> Option<Event>
-    ensures { IfSome result (λ event. reading_of (without_line_feed part.now) ≡ Ok (Some event)) }
+/// Returns the event of a line that was read the short way.
+pub(crate) fn event_of(line: RequestLine<'_>) -> Event
+    requires { IsAskable line.request }
+    ensures { result ≡ Tenant line.entry.tenant (command_of line.entry.request) }
 {
-    let mut room = [0; MOST_BYTES];
-    let line = if part.len() < WINDOW {
-        read_in_window(part, &mut room)?
-    } else {
-        read_whole(part, &mut room)?
-    };
-    Some(Event::Tenant(line.tenant, command_of(line.request)))
-}
-
-/// Reads a line with its LF that has as many bytes as the short way needs.
-fn read_whole<'a>(part: &[u8], room: &'a mut [u8; MOST_BYTES]) -> Option<RequestLine<'a>>
-    ensures reads { IfSome result (λ line.
-        reading_of (without_line_feed part.now) ≡ Ok (Some (Tenant line.tenant (command_of line.request)))) }
-    ensures askable { IfSome result (λ line. IsAskable line.request) }
-{
-    let line = read_request(part, room)?;
-    (line.len == part.len()).then_some(line)
-}
-
-/// Reads a line with its LF that has fewer bytes, with other bytes behind it.
-fn read_in_window<'a>(part: &[u8], room: &'a mut [u8; MOST_BYTES]) -> Option<RequestLine<'a>>
-    requires { length part.now < WINDOW }
-    ensures reads { IfSome result (λ line.
-        reading_of (without_line_feed part.now) ≡ Ok (Some (Tenant line.tenant (command_of line.request)))) }
-    ensures askable { IfSome result (λ line. IsAskable line.request) }
-{
-    let mut window = [0; WINDOW];
-    window[..part.len()].copy_from_slice(part);
-    let line = read_request(&window, room)?;
-    (line.len == part.len()).then_some(line)
+    Event::Tenant(line.tenant, command_of(line.request))
 }
 
 /// Returns the command that is requested.

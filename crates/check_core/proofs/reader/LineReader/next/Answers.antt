@@ -1,24 +1,13 @@
-use Rattle.std.proofs.Common.{◌≡◌, ℕ, ◌+◌, ◌-◌, ◌<◌, ◌≤◌, List, [], ◌∷◌, ◌++◌, length, take, drop, sym, ap, subst, ◌∙◌, arith, rules, append_assoc, length-append, length-drop}
-use Rattle.std.proofs.lemmas.List.{append-nil, drop-take, drop-drop, drop_all, length-take, take-append-drop}
+use Rattle.std.proofs.Common.{◌≡◌, ℕ, ◌+◌, ◌-◌, ◌<◌, List, [], ◌∷◌, ◌++◌, length, take, drop, sym, ap, subst, ◌∙◌, arith, rules, append_assoc, length-append}
+use Rattle.std.proofs.lemmas.List.{append-nil, drop_all, length-take}
 use Rattle.std.specs.Io.KnownBytes.{Consumes, prepend_known}
 use Rattle.check_core.specs.Gathered.{Gathers}
-use Rattle.streams.proofs.LineLemmas.{found_cut, none_cut, one_line_append}
+use Rattle.streams.proofs.LineLemmas.{none_cut, one_line_append}
 use Rattle.streams.proofs.MoveLemmas.{consumes_nothing, consumes_more}
-use Rattle.check_core.proofs.ReadingLemmas.{at_end, gives_front, gives_held, gives_none, part_at_err, with_feed}
+use Rattle.check_core.proofs.ReadingLemmas.{at_end, gives_held, gives_none, part_at_err}
+use Rattle.check_core.proofs.HeldLemmas.{held_is, held_size, line_given}
 use Rattle.check_core.proofs.reader.LineReader.next.Goals as goal
 use borrow.Rule.Slice.PartMut.{mid_of}
-
--- what is held
-held_is : (piece : List ℕ) (start end : ℕ) → start ≤ end → drop start (take end piece) ≡ mid_of start (end - start) piece
-held_is piece start end within =
-    let e : end ≡ start + (end - start) = omega (arith, within) in
-    ap (λ n. drop start (take n piece)) e ∙ drop-take start (end - start) piece
-
-held_size : (piece : List ℕ) (start end : ℕ) → start ≤ end → end ≤ length piece → length (mid_of start (end - start) piece) ≡ end - start
-held_size piece start end within fits =
-    let a = length-take (end - start) (drop start piece) in
-    let b = length-drop start piece in
-    omega (arith, a, b, within, fits)
 
 pub loop-at-init : goal.loop-at-init
 loop-at-init g c = rw (← c.self.view_is) (
@@ -43,22 +32,13 @@ returns-in-Some-clause-taken g c =
     let mid : List ℕ = mid_of start (end - start) piece in
     let within : at < length mid = c.in-Some.ensures.within in
     let known = g.F.Feed.remaining c.loop-at.self-inside.feed in
-    let held : drop start (take end piece) ≡ mid = held_is piece start end here.5 in
     let size : length mid ≡ end - start = held_size piece start end here.5 here.6 in
-    let found = found_cut mid at (sym c.in-Some.ensures.at) in
     let given : List ℕ = take (at + 1) mid in
-    let ended : given ≡ take at mid ++ 10 ∷ [] = with_feed mid (drop (at + 1) mid) at within found.1 in
-    let behind : drop (at + 1) mid ≡ drop (start + (at + 1)) (take end piece) =
-    ap (λ (xs : List ℕ). drop (at + 1) xs) (sym held) ∙ drop-drop (at + 1) start (take end piece) in
-    let front : Consumes (prepend_known (drop start (take end piece)) known) (prepend_known (drop (start + (at + 1)) (take end piece)) known) given =
-    subst (λ (xs : List ℕ). Consumes (prepend_known (drop start (take end piece)) known) (prepend_known xs known) given) behind
-    (subst (λ (xs : List ℕ). Consumes (prepend_known xs known) (prepend_known (drop (at + 1) mid) known) given) (take-append-drop (at + 1) mid ∙ sym held)
-    (gives_front given (drop (at + 1) mid) known)) in
-    let long : length given ≡ at + 1 = omega (arith, within, length-take (at + 1) mid) in (
+    let is = line_given piece start end at known here.5 within (sym c.in-Some.ensures.at) in (
       passed ++ given,
-      consumes_more _ _ _ passed given here.2 front,
-      (passed ++ take at mid, one_line_append passed (take at mid) here.1 found.0, ap (λ (xs : List ℕ). passed ++ xs) ended ∙ sym (append_assoc passed (take at mid) (10 ∷ []))),
-      omega (arith, here.3, long, size, within, here.5, length-append passed given),
+      consumes_more _ _ _ passed given here.2 is.consumed,
+      (passed ++ take at mid, one_line_append passed (take at mid) here.1 is.line, ap (λ (xs : List ℕ). passed ++ xs) is.ended ∙ sym (append_assoc passed (take at mid) (10 ∷ []))),
+      omega (arith, here.3, is.size, size, within, here.5, length-append passed given),
       λ front gathers. subst (λ (xs : List ℕ). Gathers g.row.N xs c.add.new.self) (append_assoc front passed given) (c.add.ensures (front ++ passed) (here.4 front gathers)),
     )
 
