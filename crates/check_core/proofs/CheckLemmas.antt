@@ -17,7 +17,7 @@ use Rattle.promise_core.specs.Promises.{allowed}
 use Rattle.promise_core.specs.State.{Known}
 use Rattle.check_core.specs.declared.finding.Finding.TheVariants.{Broken, Kept}
 use Rattle.check_core.specs.declared.gathered.Gathered.{Gathered}
-use Rattle.check_core.specs.Checking.{HasCome}
+use Rattle.check_core.specs.Checking.{HasGathered}
 use Rattle.check_core.specs.declared.shown.TheConstants.{MOST_TEXT_BYTES}
 use Rattle.check_core.specs.Forms.{◌>>=◌}
 use Rattle.check_core.specs.Gathered.{whole_of}
@@ -30,7 +30,7 @@ use Rattle.check_core.specs.Finding.{after_lines, broken_by, finding, refusal_re
 -- lines that are read as a reply
 
 pub read_there : {k : ℕ} {bytes : List ℕ} {text : Gathered MOST_TEXT_BYTES} {left : Option (List ℕ)} (event : Event) (w : Known)
-    → (come : HasCome k bytes text left) → k ≡ suc (more_lines event w) → reply_in (suc (more_lines event w)) bytes ≡ text_read come.came
+    → (come : HasGathered k bytes text left) → k ≡ suc (more_lines event w) → reply_in (suc (more_lines event w)) bytes ≡ text_read come.came
 read_there {bytes = bytes} event w come count = ap (λ n. reply_in n bytes) (sym count) ∙ rw come.are refl
 
 -- verdicts on replies

@@ -16,7 +16,7 @@ use Rattle.words_core.specs.Grammar.{reading_of}
 use Rattle.streams.specs.Lines.{IsOneLine}
 use Rattle.check_core.specs.declared.gathered.Gathered.{Gathered}
 use Rattle.check_core.specs.declared.shown.TheConstants.{MOST_TEXT_BYTES}
-use Rattle.check_core.specs.Checking.{HasCome}
+use Rattle.check_core.specs.Checking.{HasGathered}
 use Rattle.check_core.specs.Finding.{line_at, lines_at}
 use Rattle.check_core.specs.Forms.{◌>>=◌}
 use Rattle.check_core.specs.Gathered.{Gathers, whole_of}
@@ -183,9 +183,9 @@ end_taken (x ∷ bytes) (b ∷ part) left is = eqb-suc-zero (length part) ∙ sy
 
 -- lines that are gathered: one more
 
-pub come_more : {k : ℕ} {bytes : List ℕ} {old new : Gathered MOST_TEXT_BYTES} {left now : Option (List ℕ)} (part line : List ℕ) → HasCome k bytes old left
+pub come_more : {k : ℕ} {bytes : List ℕ} {old new : Gathered MOST_TEXT_BYTES} {left now : Option (List ℕ)} (part line : List ℕ) → HasGathered k bytes old left
     → Consumes left now part → IsOneLine line → part ≡ line ++ 10 ∷ []
-    → ((front : List ℕ) → Gathers MOST_TEXT_BYTES front old → Gathers MOST_TEXT_BYTES (front ++ part) new) → HasCome (suc k) bytes new now
+    → ((front : List ℕ) → Gathers MOST_TEXT_BYTES front old → Gathers MOST_TEXT_BYTES (front ++ part) new) → HasGathered (suc k) bytes new now
 come_more {now = now} part line come consumed one is add =
     let taken = taken_ended come.rest part line now (subst (λ from. Consumes from now part) come.known consumed) one is in
     record { came = come.came ++ part; rest = taken.rest; are = rw (come.are, taken.line); gathers = add come.came come.gathers; known = taken.known }
@@ -196,7 +196,7 @@ none_later zero k n bytes sum none = let e : n ≡ k = omega arith in ap (λ m. 
 none_later (suc j) k n bytes sum none = none_later j (suc k) n bytes (omega (arith, sum)) (rw none refl)
 
 pub none_more : {k : ℕ} {bytes : List ℕ} {text : Gathered MOST_TEXT_BYTES} {left : Option (List ℕ)} (n : ℕ) (part : List ℕ) (now : Option (List ℕ))
-    → HasCome k bytes text left → Consumes left now part → IsOneLine part → IsAtEnd now → k < n → lines_at n bytes ≡ None
+    → HasGathered k bytes text left → Consumes left now part → IsOneLine part → IsAtEnd now → k < n → lines_at n bytes ≡ None
 none_more {k = k} {bytes = bytes} n part now come consumed one ends more =
     let all = (taken_last come.rest part now (subst (λ from. Consumes from now part) come.known consumed) ends).1 in
     none_later (n - suc k) (suc k) n bytes (omega (arith, more)) (rw (come.are, all, no_line part one))

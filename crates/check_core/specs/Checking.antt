@@ -16,7 +16,7 @@ use Rattle.check_core.specs.Finding.{after_lines, lines_at, lines_to, more_lines
 use Rattle.check_core.specs.Gathered.{Gathers}
 
 -- so many lines of the bytes have come, and the others are left
-pub record HasCome (lines : ℕ) (bytes : List ℕ) (text : Gathered MOST_TEXT_BYTES) (left : Option (List ℕ)) : Type 0 where
+pub record HasGathered (lines : ℕ) (bytes : List ℕ) (text : Gathered MOST_TEXT_BYTES) (left : Option (List ℕ)) : Type 0 where
   pub came : List ℕ
   pub rest : List ℕ
   pub are : lines_at lines bytes ≡ Some (came, rest)

@@ -2,7 +2,7 @@
 
 ghost use Rattle.std.specs.Prelude.{◌≡◌, ℕ, ◌+◌, ◌≤◌, List, None, Ok, IfOk, MatchBool, length, true, false};
 ghost use Rattle.std.specs.Str.{bytes_eq};
-ghost use Rattle.check_core.specs.Checking.{HasCome, IsEndedBy};
+ghost use Rattle.check_core.specs.Checking.{HasGathered, IsEndedBy};
 ghost use Rattle.check_core.specs.Finding.{lines_at};
 ghost use Rattle.check_core.specs.Gathered.{Gathers};
 
@@ -30,8 +30,8 @@ pub fn gather<F: Feed>(
     text: &mut Gathered<MOST_TEXT_BYTES>,
 ) -> Result<bool, Unchecked>
     requires fine { replies.old.failed ≡ false }
-    ensures come { (k n : ℕ) (bytes : List ℕ) → k + lines ≡ n → HasCome k bytes text.old replies.old.left
-        → IfOk result (λ all. MatchBool all (HasCome n bytes text.new replies.new.left) (lines_at n bytes ≡ None)) }
+    ensures come { (k n : ℕ) (bytes : List ℕ) → k + lines ≡ n → HasGathered k bytes text.old replies.old.left
+        → IfOk result (λ all. MatchBool all (HasGathered n bytes text.new replies.new.left) (lines_at n bytes ≡ None)) }
     ensures room { result ≡ Ok true → replies.new.room + lines ≤ replies.old.room }
     ensures end { IsEndedBy result false replies.new.failed ⊥ }
 {

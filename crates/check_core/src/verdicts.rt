@@ -5,7 +5,7 @@ ghost use Rattle.words_core.specs.declared.reply.Reply.{Reply};
 ghost use Rattle.promise_core.specs.State.{Known};
 ghost use Rattle.judge.specs.Adding.{IsAllowedAddition};
 ghost use Rattle.judge.specs.Machine.{SeenMachine, ShowsKnown};
-ghost use Rattle.check_core.specs.Checking.{AddsAt, HasCome, IsEndedBy, IsLineVerdict, IsTextVerdict};
+ghost use Rattle.check_core.specs.Checking.{AddsAt, HasGathered, IsEndedBy, IsLineVerdict, IsTextVerdict};
 ghost use Rattle.check_core.specs.Finding.{broken_by, lines_to, more_lines, refusal_read, reply_in, text_read};
 ghost use Rattle.check_core.specs.Gathered.{Gathers};
 ghost use Rattle.check_core.specs.Tables.{table_of};
@@ -61,7 +61,7 @@ fn judge_fault<R: Feed>(
     text: &mut Gathered<MOST_TEXT_BYTES>,
 ) -> Result<LineVerdict, Unchecked>
     requires fine { replies.old.failed ≡ false }
-    ensures judged { (w : Known) (kept : SeenMachine) (bytes : List ℕ) → ShowsKnown kept w → HasCome 0 bytes text.old replies.old.left
+    ensures judged { (w : Known) (kept : SeenMachine) (bytes : List ℕ) → ShowsKnown kept w → HasGathered 0 bytes text.old replies.old.left
         → IfOk result (λ verdict. IsLineVerdict verdict (Err fault) bytes w kept replies.new.left) }
     ensures room { IfOk result (λ verdict. IfOk verdict (λ lines. replies.new.room + lines ≤ replies.old.room)) }
     ensures end { IsEndedBy result false replies.new.failed ⊥ }
@@ -86,11 +86,11 @@ fn judge_event<R: Feed>(
     text: &mut Gathered<MOST_TEXT_BYTES>,
 ) -> Result<LineVerdict, Unchecked>
     requires fine { replies.old.failed ≡ false }
-    ensures judged { (w : Known) (bytes : List ℕ) → ShowsKnown machine.old w → HasCome 0 bytes text.old replies.old.left
+    ensures judged { (w : Known) (bytes : List ℕ) → ShowsKnown machine.old w → HasGathered 0 bytes text.old replies.old.left
         → IfOk result (λ verdict. IsLineVerdict verdict (Ok (Some event.now)) bytes w machine.new replies.new.left) }
     ensures room { IfOk result (λ verdict. IfOk verdict (λ lines. replies.new.room + lines ≤ replies.old.room)) }
     ensures end { IsEndedBy result false replies.new.failed ((w : Known) (bytes : List ℕ) → ShowsKnown machine.old w
-        → HasCome 0 bytes text.old replies.old.left → AddsAt (Ok (Some event.now)) bytes w) }
+        → HasGathered 0 bytes text.old replies.old.left → AddsAt (Ok (Some event.now)) bytes w) }
 {
     if !gather(replies, 1, text)? {
         return Ok(Err(Promise::Form));
@@ -115,11 +115,11 @@ fn judge_lines<R: Feed>(
     requires fine { replies.old.failed ≡ false }
     requires some { more + 1 < 2 ^ 128 }
     ensures judged { (w : Known) (bytes : List ℕ) → ShowsKnown machine.old w → more_lines event.now w ≡ more
-        → HasCome 1 bytes text.old replies.old.left
+        → HasGathered 1 bytes text.old replies.old.left
         → IfOk result (λ verdict. IsLineVerdict verdict (Ok (Some event.now)) bytes w machine.new replies.new.left) }
     ensures room { IfOk result (λ verdict. IfOk verdict (λ lines. replies.new.room + lines ≤ replies.old.room + 1)) }
     ensures end { IsEndedBy result false replies.new.failed ((w : Known) (bytes : List ℕ) → ShowsKnown machine.old w
-        → more_lines event.now w ≡ more → HasCome 1 bytes text.old replies.old.left → AddsAt (Ok (Some event.now)) bytes w) }
+        → more_lines event.now w ≡ more → HasGathered 1 bytes text.old replies.old.left → AddsAt (Ok (Some event.now)) bytes w) }
 {
     let refused = refusal_in(text);
     if !gather(replies, more, text)? {
@@ -138,12 +138,12 @@ fn judge_gathered(
     text: &Gathered<MOST_TEXT_BYTES>,
 ) -> Result<LineVerdict, Unchecked>
     ensures judged { (w : Known) (bytes : List ℕ) (left : Option (List ℕ)) → ShowsKnown machine.old w
-        → lines ≡ lines_to (Ok (Some event.now)) w → HasCome lines bytes text.now left
+        → lines ≡ lines_to (Ok (Some event.now)) w → HasGathered lines bytes text.now left
         → (reply_in lines bytes ≡ None → refused ≡ refusal_read (reply_in 1 bytes))
         → IfOk result (λ verdict. IsLineVerdict verdict (Ok (Some event.now)) bytes w machine.new left) }
     ensures lines { IfOk result (λ verdict. IfOk verdict (λ count. count ≡ lines)) }
     ensures end { IsEndedBy result false false ((w : Known) (bytes : List ℕ) (left : Option (List ℕ)) → ShowsKnown machine.old w
-        → lines ≡ lines_to (Ok (Some event.now)) w → HasCome lines bytes text.now left → AddsAt (Ok (Some event.now)) bytes w) }
+        → lines ≡ lines_to (Ok (Some event.now)) w → HasGathered lines bytes text.now left → AddsAt (Ok (Some event.now)) bytes w) }
 {
     match judge_text(machine, event, text)? {
         Some(Ok(())) => Ok(Ok(lines)),

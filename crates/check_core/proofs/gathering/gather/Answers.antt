@@ -1,6 +1,6 @@
 use Rattle.std.proofs.Common.{◌≡◌, ℕ, suc, Bool, true, false, Ok, [], ◌∷◌, List, length, length-append, rules, ap, subst, arith}
 use Rattle.streams.specs.declared.feed.Stopped.{Stopped}
-use Rattle.check_core.specs.Checking.{HasCome}
+use Rattle.check_core.specs.Checking.{HasGathered}
 use Rattle.check_core.specs.Reading.{IsPartAtOk}
 use Rattle.check_core.proofs.ReadingLemmas.{come_more, none_more}
 use Rattle.check_core.proofs.gathering.gather.Goals as goal
@@ -27,4 +27,4 @@ returns-in-Ok-false-clause-come g c k n bytes sum came =
 pub returns-clause-come : goal.returns-clause-come
 returns-clause-come g c k n bytes sum came =
     let here = c.lines.invariant.come k n bytes sum came in
-    subst (λ m. HasCome m bytes c.lines.text c.lines.replies.left) (omega (arith, here.1, c.lines-test.false)) here.2
+    subst (λ m. HasGathered m bytes c.lines.text c.lines.replies.left) (omega (arith, here.1, c.lines-test.false)) here.2
