@@ -103,23 +103,23 @@ module _ (r : spaces.Content) (b : buddies.Content) (s : Content) (t : ℕ) (st 
 
   -- a taken block that is no slab's is a page block
   pub in_page : (first k : ℕ) → buddies.taken_of (buddies.holding_of t b) first ≡ Some k → HasFrame (block first k) f
-      → showing.has_slab s (showing.node_of s.top r.slots t first) ≡ false → IsTaken (order_in m.blocks) f
+      → showing.has_slab s (showing.machine_frame_of s.top r.slots t first) ≡ false → IsTaken (order_in m.blocks) f
   in_page first k taken here none =
       (first, k, h.blocks first ∙ ap (λ v. cond v None (buddies.taken_of (buddies.holding_of t b) first)) none ∙ taken, here)
 
   -- a taken block on which a slab stands is the block of a slab of the kind of its list
   pub in_slab : IsSlabs s → showing.Agree r b s → (first k : ℕ) → buddies.taken_of (buddies.holding_of t b) first ≡ Some k → HasFrame (block first k) f
-      → (node head key kind : ℕ) → showing.node_of s.top r.slots t first ≡ Some node → place_at s.lists.places node ≡ Some (head, key)
+      → (machine_frame head key kind : ℕ) → showing.machine_frame_of s.top r.slots t first ≡ Some machine_frame → place_at s.lists.places machine_frame ≡ Some (head, key)
       → kind < 3 → head % 3 ≡ kind → IsInSlab m f (is_kind kind)
-  in_slab w a first k taken here node head key kind under place less is =
-      let q = st.listed first node head key under place in
-      let p = placed_as r s t q.0 first node q.1 q.2 in
+  in_slab w a first k taken here machine_frame head key kind under place less is =
+      let q = st.listed first machine_frame head key under place in
+      let p = placed_as r s t q.0 first machine_frame q.1 q.2 in
       let same : p.head ≡ head = ap (λ (z : ℕ × ℕ). z.0) (some_same (sym p.place ∙ place)) in
       let x = cache_shown r b s t m h q.0 q.1 q.2.cached in
       let head_there : p.head ≡ head_of t q.0 kind = head_is p.head (index_of_cache t q.0) kind p.index (ap (λ z. z % 3) same ∙ is) in
-      let y = from_list r b s w a t q.0 kind less m x.shown h x.cached first node
+      let y = from_list r b s w a t q.0 kind less m x.shown h x.cached first machine_frame
       (p.place ∙ ap (λ (z : ℕ). Some (z, first)) head_there) in
-      let order : k ≡ (layout_numbers q.1).order = some_same (sym taken ∙ (st.stands q.0 first node q.1 q.2).taken) in
+      let order : k ≡ (layout_numbers q.1).order = some_same (sym taken ∙ (st.stands q.0 first machine_frame q.1 q.2).taken) in
       record {
         number = q.0;
         cache = x.shown;
@@ -133,7 +133,7 @@ module _ (r : spaces.Content) (b : buddies.Content) (s : Content) (t : ℕ) (st 
 
 -- the list has the slab that begins at a frame
 abbrev pub IsListed : KernelContent → ℕ → ℕ → ℕ → Type 0
-IsListed k t first list = (node key : ℕ) × (showing.node_of k.slabs.top k.space.slots t first ≡ Some node) × (place_at k.slabs.lists.places node ≡ Some (list, key))
+IsListed k t first list = (machine_frame key : ℕ) × (showing.machine_frame_of k.slabs.top k.space.slots t first ≡ Some machine_frame) × (place_at k.slabs.lists.places machine_frame ≡ Some (list, key))
 
 -- The same, of the fields and of what they show.
 module _ (r : spaces.Content) (b : buddies.Content) (s : Content) (t : ℕ) (k : KernelContent) (is : content_of r b s ≡ k) (holds : HoldTogether k.space k.buddy k.slabs)
@@ -153,5 +153,5 @@ module _ (r : spaces.Content) (b : buddies.Content) (s : Content) (t : ℕ) (k :
   pub slab_told : (first order : ℕ) → buddies.taken_of (buddies.holding_of t b) first ≡ Some order → HasFrame (block first order) f
       → (list kind : ℕ) → IsListed k t first list → kind < 3 → kind ≡ list % 3 → IsInSlab m f (is_kind kind)
   slab_told first order taken here list kind listed small same =
-      let (node, key, under, place) = subst (λ (x : KernelContent). IsListed x t first list) (sym is) listed in
-      in_slab r b s t st m shown f together.slabs together.agree first order taken here node list key kind under place small (sym same)
+      let (machine_frame, key, under, place) = subst (λ (x : KernelContent). IsListed x t first list) (sym is) listed in
+      in_slab r b s t st m shown f together.slabs together.agree first order taken here machine_frame list key kind under place small (sym same)

@@ -8,7 +8,7 @@ use Rattle.model_core.specs.Machine.{Machine, order_in}
 use Rattle.space_core.specs.Content as spaces
 use Rattle.buddy_core.specs.Content as buddies
 use Rattle.slab_tables.specs.Content as tables
-use Rattle.machine_changes.specs.Shows.{node_of, has_slab}
+use Rattle.machine_changes.specs.Shows.{machine_frame_of, has_slab}
 use Rattle.machine_changes.specs.Changes.{Found}
 use Rattle.machine_changes.specs.Objects.{HasRange}
 use Rattle.machine_changes.specs.Pages.{IsInPage, IsInReach}
@@ -56,7 +56,7 @@ module _ (r : spaces.Content) (b : buddies.Content) (s : tables.Content) (t plac
   page_of m shown taken =
       let f : ℕ = taken.0 in
       let k : ℕ = taken.1 in
-      let is = page_from (has_slab s (node_of s.top r.slots t f)) (buddies.taken_of (buddies.holding_of t b) f) k (sym (shown.blocks f) ∙ taken.2) in
+      let is = page_from (has_slab s (machine_frame_of s.top r.slots t f)) (buddies.taken_of (buddies.holding_of t b) f) k (sym (shown.blocks f) ∙ taken.2) in
       let here = taken.3 in record {
         first = f;
         order = k;
@@ -78,7 +78,7 @@ module _ (r : spaces.Content) (b : buddies.Content) (s : tables.Content) (t plac
 
   module _ (first order : ℕ) (taken : buddies.taken_of (buddies.holding_of t b) first ≡ Some order) (here : HasFrame (block first order) (place / 4096)) where
     -- .. and where a slab is
-    pub slab_no_page : has_slab s (node_of s.top r.slots t first) ≡ true → (m : Machine) → ShowsMachine (content_of r b s) t m
+    pub slab_no_page : has_slab s (machine_frame_of s.top r.slots t first) ≡ true → (m : Machine) → ShowsMachine (content_of r b s) t m
         → IsTaken (order_in m.blocks) (place / 4096) → ⊥
     slab_no_page slab m shown there =
         false≢true (sym ((block_decides r b s t place 1 first order st (omega arith) taken here).0 (page_of m shown there)).0 ∙ slab)
@@ -90,7 +90,7 @@ module _ (r : spaces.Content) (b : buddies.Content) (s : tables.Content) (t plac
         let top = asked.together.buddy.sizes.small in
         omega arith
 
-    module _ (page : has_slab s (node_of s.top r.slots t first) ≡ false) where
+    module _ (page : has_slab s (machine_frame_of s.top r.slots t first) ≡ false) where
       size : 4096 * 2 ^ order % 4294967296 ≡ 4096 * 2 ^ order
       size = size_is order few
 

@@ -23,7 +23,7 @@ use Rattle.space_core.proofs.Vacancy.{unowned-from_position}
 use Rattle.buddy_core.specs.Content as buddies
 use Rattle.slab_tables.specs.Content as tables
 use Rattle.slab_tables.proofs.Keeping.{slabs_opening}
-use Rattle.machine_changes.specs.Shows.{ShowsMachine, node_of, has_slab}
+use Rattle.machine_changes.specs.Shows.{ShowsMachine, machine_frame_of, has_slab}
 use Rattle.machine_changes.specs.Slots.{HoldTogether}
 use Rattle.machine_changes.specs.Pages.{IsInReach}
 use Rattle.machine_changes.proofs.SlotEmpty.{none_in, opening_shows}
@@ -126,7 +126,7 @@ read_acts k t place byte is loads =
 
 -- a range inside frame 0, where that is a page block
 pub in_frame : (r : spaces.Content) (b : buddies.Content) (s : tables.Content) (t place len : ℕ) → buddies.taken_of (buddies.holding_of t b) 0 ≡ Some 0
-    → has_slab s (node_of s.top r.slots t 0) ≡ false → 0 < len → place + len ≤ 4096 → IsInReach r b s t place len
+    → has_slab s (machine_frame_of s.top r.slots t 0) ≡ false → 0 < len → place + len ≤ 4096 → IsInReach r b s t place len
 in_frame r b s t place len taken page some inside = record {
   some = some;
   inside = inl (record { first = 0; order = 0; taken = taken; page = page; begins = omega arith; ends = inside });

@@ -16,7 +16,7 @@ use Rattle.buddy_core.specs.Content as buddies
 use Rattle.slab_tables.specs.Content as tables
 use Rattle.machine_changes.specs.Pages.{released, IsInReach, IsWritten, stored}
 use Rattle.machine_changes.proofs.PageTaken.{released_shows, released_agrees}
-use Rattle.machine_changes.specs.Shows.{Agree, frame_under, node_of, has_slab}
+use Rattle.machine_changes.specs.Shows.{Agree, frame_under, machine_frame_of, has_slab}
 use Rattle.machine_changes.specs.Steady.{IsSteady}
 use Rattle.std.specs.Prelude.{is_some}
 use Rattle.std.proofs.lemmas.Bool.{false≢true, le-leb, leb-true, and_parts, and_from, false_from_ne_true, le-ltb}
@@ -117,7 +117,7 @@ free_unheld r b s t f st none = answered (content_of r b s) t (Command.Free f) (
     go (Some k) is = absurd (false≢true (sym (ap is_some none) ∙ (st.sound.placed f k is).1))
 
 -- at the frame begins a slab
-pub free_slab : (k : KernelContent) (t f : ℕ) → has_slab k.slabs (node_of k.slabs.top k.space.slots t f) ≡ true
+pub free_slab : (k : KernelContent) (t f : ℕ) → has_slab k.slabs (machine_frame_of k.slabs.top k.space.slots t f) ≡ true
     → StepsMachine k t (Command.Free f) k (Refused NotABlock)
 unfolding command_step
 free_slab k t f slab = answered k t (Command.Free f) (Refused NotABlock)
@@ -125,13 +125,13 @@ free_slab k t f slab = answered k t (Command.Free f) (Refused NotABlock)
 
 -- .. or none: then the parts agree ..
 pub free_agrees : (r : spaces.Content) (b b' : buddies.Content) (s : tables.Content) (t f : ℕ) (x : Option ℕ) → Agree r b s
-    → has_slab s (node_of s.top r.slots t f) ≡ false → IfNone x (b' ≡ b) → OnSome x (b' ≡ released t f b) → Agree r b' s
+    → has_slab s (machine_frame_of s.top r.slots t f) ≡ false → IfNone x (b' ≡ b) → OnSome x (b' ≡ released t f b) → Agree r b' s
 free_agrees r b b' s t f None agree page same _ = subst (λ y. Agree r y s) (sym same) agree
 free_agrees r b b' s t f (Some o) agree page _ done = subst (λ y. Agree r y s) (sym done) (released_agrees r b s t f agree page).0
 
 -- .. and there is a page block where a block is taken
 pub free_done : (r : spaces.Content) (b b' : buddies.Content) (s : tables.Content) (t f : ℕ) (x : Option ℕ) → Agree r b s
-    → has_slab s (node_of s.top r.slots t f) ≡ false → x ≡ buddies.taken_of (buddies.holding_of t b) f
+    → has_slab s (machine_frame_of s.top r.slots t f) ≡ false → x ≡ buddies.taken_of (buddies.holding_of t b) f
     → IfNone x (b' ≡ b) → OnSome x (b' ≡ released t f b)
     → StepsMachine (content_of r b s) t (Command.Free f) (content_of r b' s) (body_of Freed (ok_or x Refusal.NotABlock))
 unfolding command_step

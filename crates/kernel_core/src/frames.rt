@@ -5,7 +5,7 @@ ghost use Rattle.model_core.specs.Blocks.{block, HasFrame};
 ghost use Rattle.buddy_core.specs.Content.{holding_of, taken_of};
 ghost use Rattle.model_core.specs.Machine.{Machine};
 ghost use Rattle.klist_core.specs.Places.{place_at};
-ghost use Rattle.machine_changes.specs.Shows.{node_of, has_slab};
+ghost use Rattle.machine_changes.specs.Shows.{machine_frame_of, has_slab};
 ghost use Rattle.kernel_core.specs.Content.{superblock_at};
 ghost use Rattle.kernel_core.specs.Shows.{ShowsMachine};
 ghost use Rattle.kernel_core.specs.Frames.{IsFrame, IsInSlab, AreEndedBefore};
@@ -142,12 +142,13 @@ impl Kernel {
     /// The list that has the slab that begins at a frame of tenant `t`, if one does.
     fn list_at(&self, t: u8, first: u32) -> Option<ListId>
         requires { t < self.now.tenants }
-        ensures { MatchOption result (has_slab self.now.slabs (node_of self.now.slabs.top self.now.space.slots t first) ≡ false)
-            (λ list. (node key : ℕ) × (node_of self.now.slabs.top self.now.space.slots t first ≡ Some node)
-            × (place_at self.now.slabs.lists.places node ≡ Some (list.number, key))) }
+        ensures { MatchOption result
+            (has_slab self.now.slabs (machine_frame_of self.now.slabs.top self.now.space.slots t first) ≡ false)
+            (λ list. (n key : ℕ) × (machine_frame_of self.now.slabs.top self.now.space.slots t first ≡ Some n)
+            × (place_at self.now.slabs.lists.places n ≡ Some (list.number, key))) }
     {
-        let node = self.node_of(t, first)?;
-        let (number, _) = self.slabs.lists().place_of(node)?;
+        let machine_frame = self.machine_frame_of(t, first)?;
+        let (number, _) = self.slabs.lists().place_of(machine_frame)?;
         Some(ListId { number })
     }
 
@@ -155,31 +156,32 @@ impl Kernel {
     fn list_in(&self, superblock: u16, t: u8, first: u32) -> Option<ListId>
         requires tenant { t < self.now.tenants }
         requires held { superblock_at self.now t (first / 2 ^ self.now.order) ≡ Some superblock }
-        ensures { MatchOption result (has_slab self.now.slabs (node_of self.now.slabs.top self.now.space.slots t first) ≡ false)
-            (λ list. (node key : ℕ) × (node_of self.now.slabs.top self.now.space.slots t first ≡ Some node)
-            × (place_at self.now.slabs.lists.places node ≡ Some (list.number, key))) }
+        ensures { MatchOption result
+            (has_slab self.now.slabs (machine_frame_of self.now.slabs.top self.now.space.slots t first) ≡ false)
+            (λ list. (n key : ℕ) × (machine_frame_of self.now.slabs.top self.now.space.slots t first ≡ Some n)
+            × (place_at self.now.slabs.lists.places n ≡ Some (list.number, key))) }
     {
-        let node = self.node_in(superblock, t, first);
-        let (number, _) = self.slabs.lists().place_of(node)?;
+        let machine_frame = self.machine_frame_in(superblock, t, first);
+        let (number, _) = self.slabs.lists().place_of(machine_frame)?;
         Some(ListId { number })
     }
 
-    /// The number among all frames of the machine of a frame of tenant `t`, if it holds the slot.
-    fn node_of(&self, t: u8, frame: u32) -> Option<u32>
+    /// The machine frame at a frame of tenant `t`, if it holds the slot.
+    fn machine_frame_of(&self, t: u8, frame: u32) -> Option<u32>
         requires { t < self.now.tenants }
-        ensures value { result ≡ node_of self.now.slabs.top self.now.space.slots t frame }
-        ensures below { IfSome result (λ node. node < length self.now.slabs.lists.places) }
+        ensures value { result ≡ machine_frame_of self.now.slabs.top self.now.space.slots t frame }
+        ensures below { IfSome result (λ machine_frame. machine_frame < length self.now.slabs.lists.places) }
     {
         self.laws();
         let superblock = self.space.machine_of(t, frame >> self.order())?;
-        Some(self.node_in(superblock, t, frame))
+        Some(self.machine_frame_in(superblock, t, frame))
     }
 
-    /// As `node_of`, where the caller knows that this superblock stands under the slot; `t` is named for the contract alone.
+    /// As `machine_frame_of`, for a caller who knows that this superblock is under the slot. Only the contract names `t`.
     #[inline(always)]
-    pub(crate) fn node_in(&self, superblock: u16, t: u8, frame: u32) -> u32
+    pub(crate) fn machine_frame_in(&self, superblock: u16, t: u8, frame: u32) -> u32
         requires { superblock_at self.now t (frame / 2 ^ self.now.order) ≡ Some superblock }
-        ensures value { node_of self.now.slabs.top self.now.space.slots t frame ≡ Some result }
+        ensures value { machine_frame_of self.now.slabs.top self.now.space.slots t frame ≡ Some result }
         ensures below { result < length self.now.slabs.lists.places }
     {
         let _ = t;

@@ -100,8 +100,8 @@ impl Kernel {
         let Some((first, order)) = self.buddy.block_in(superblock, t, frame) else {
             return Err(Refusal::OutOfReach);
         };
-        let node = self.node_in(superblock, t, first);
-        if self.slabs.is_slab_in(node) {
+        let machine_frame = self.machine_frame_in(superblock, t, first);
+        if self.slabs.is_slab_in(machine_frame) {
             return Err(Refusal::OutOfReach);
         }
         Ok(Span {

@@ -44,8 +44,8 @@ impl Kernel {
         let Some(superblock) = self.space.machine_of(t, frame >> self.order()) else {
             return Err(Refusal::NotABlock);
         };
-        let node = self.node_in(superblock, t, frame);
-        if self.slabs.is_slab_in(node) {
+        let machine_frame = self.machine_frame_in(superblock, t, frame);
+        if self.slabs.is_slab_in(machine_frame) {
             return Err(Refusal::NotABlock);
         }
         self.buddy
@@ -127,14 +127,14 @@ impl Kernel {
         let Some((first, order)) = self.buddy.block_in(superblock, t, place / FRAME_BYTES) else {
             return false;
         };
-        let node = self.node_in(superblock, t, first);
-        if self.slabs.is_slab_in(node) {
+        let machine_frame = self.machine_frame_in(superblock, t, first);
+        if self.slabs.is_slab_in(machine_frame) {
             return self.slabs.object_in(
                 &self.space,
                 &self.buddy,
                 t,
                 first,
-                node,
+                machine_frame,
                 order,
                 place,
                 len,

@@ -13,7 +13,7 @@ use Rattle.buddy_core.specs.Content as buddies
 use Rattle.slab_tables.specs.declared.cache.Cache as own
 use Rattle.slab_tables.specs.Content.{Content, IsSlabs, kept_at, index_of_cache, head_of, kind_of, layout_numbers}
 use Rattle.machine_changes.specs.Records.{count_true}
-use Rattle.machine_changes.specs.Shows.{node_of, is_live, IsSlab, ShowsMachine, Agree}
+use Rattle.machine_changes.specs.Shows.{machine_frame_of, is_live, IsSlab, ShowsMachine, Agree}
 use Rattle.machine_changes.specs.Laws.{is_kind}
 use Rattle.machine_changes.proofs.Lookups.{some_same, in_found}
 use Rattle.machine_changes.proofs.Facts.{shown, cache_kept, slab_in, slab_of_machine}
@@ -75,18 +75,18 @@ module _ (r : spaces.Content) (b : buddies.Content) (s : Content) (w : IsSlabs s
   module _ (m : Machine) (x : Cache) (h : ShowsMachine r b s t m) (ex : cache_of m c ≡ Some x) where
     -- the slab stands in the list of the kind
     pub record IsInList (y : Slab) : Type 0 where
-      pub node : ℕ
-      pub place : place_at s.lists.places node ≡ Some (head_of t c kind, y.first)
+      pub machine_frame : ℕ
+      pub place : place_at s.lists.places machine_frame ≡ Some (head_of t c kind, y.first)
 
     pub to_list : (y : Slab) → IsIn y x.slabs → is_kind kind y ≡ true → IsInList y
     to_list y i e =
         let ey : slab_of x y.first ≡ Some y = in_found (λ z. z.first) 0 y x.slabs (h.slabs_rise c x ex) i in
         let is = slab_of_machine r b s t m h c y.first x y ex ey in
-        let p = placed_as r s t c y.first is.node is.kept is.slab in
+        let p = placed_as r s t c y.first is.machine_frame is.kept is.slab in
         let kind_there : p.head % 3 ≡ kind =
-        eqb-true (p.head % 3) kind (sym (kind_of_slab y.first is.node is.kept is.slab p) ∙ ap (is_kind kind) (sym is.is) ∙ e) in
+        eqb-true (p.head % 3) kind (sym (kind_of_slab y.first is.machine_frame is.kept is.slab p) ∙ ap (is_kind kind) (sym is.is) ∙ e) in
         record {
-          node = is.node;
+          machine_frame = is.machine_frame;
           place = p.place ∙ ap (λ (head : ℕ). Some (head, y.first)) (head_is p.head (index_of_cache t c) kind p.index kind_there);
         }
 
@@ -98,24 +98,24 @@ module _ (r : spaces.Content) (b : buddies.Content) (s : Content) (w : IsSlabs s
       pub passes : is_kind kind slab ≡ true
       pub begins : slab.first ≡ first
 
-    pub from_list : (first node : ℕ) → place_at s.lists.places node ≡ Some (head_of t c kind, first) → IsOfKind first
-    from_list first node place =
+    pub from_list : (first machine_frame : ℕ) → place_at s.lists.places machine_frame ≡ Some (head_of t c kind, first) → IsOfKind first
+    from_list first machine_frame place =
         let head : ℕ = head_of t c kind in
         let number : c < MOST_CACHES = (in_table s t c (cache_kept r b s t m h c x ex).kept (cache_kept r b s t m h c x ex).cached).number in
         let index : head / 3 ≡ index_of_cache t c = index_is (index_of_cache t c) kind less in
         let tenant : head / 3 / MOST_CACHES ≡ t = tenant_is (head / 3) t c index number in
-        let kept = w.standing node head first place in
-        let under = subst (λ u. node_of s.top r.slots u first ≡ Some node) tenant (a.slabs node head first kept.0 place kept.1).under in
-        let q = slab_from r s t c first node head kept.0 number index kept.1 under place in
-        let p = placed_as r s t c first node kept.0 q in
+        let kept = w.standing machine_frame head first place in
+        let under = subst (λ u. machine_frame_of s.top r.slots u first ≡ Some machine_frame) tenant (a.slabs machine_frame head first kept.0 place kept.1).under in
+        let q = slab_from r s t c first machine_frame head kept.0 number index kept.1 under place in
+        let p = placed_as r s t c first machine_frame kept.0 q in
         let same : p.head ≡ head = ap (λ (z : ℕ × ℕ). z.0) (some_same (sym p.place ∙ place)) in
-        let is = slab_in r b s t m h c first node kept.0 q in
-        let standing : slab_of x first ≡ Some (shown r s t c kept.0 q.cached first node) =
+        let is = slab_in r b s t m h c first machine_frame kept.0 q in
+        let standing : slab_of x first ≡ Some (shown r s t c kept.0 q.cached first machine_frame) =
         ap (λ z. slab_of z first) (some_same (sym ex ∙ is.there.cached)) ∙ is.slab in
         record {
-          slab = shown r s t c kept.0 q.cached first node;
+          slab = shown r s t c kept.0 q.cached first machine_frame;
           listed = (find_in _ _ x.slabs standing).0;
           standing = standing;
-          passes = kind_of_slab first node kept.0 q p ∙ eq-eqb (p.head % 3) kind (ap (λ z. z % 3) same ∙ rest_is (index_of_cache t c) kind less);
+          passes = kind_of_slab first machine_frame kept.0 q p ∙ eq-eqb (p.head % 3) kind (ap (λ z. z % 3) same ∙ rest_is (index_of_cache t c) kind less);
           begins = refl;
         }

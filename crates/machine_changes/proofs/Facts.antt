@@ -17,7 +17,7 @@ use Rattle.slab_tables.specs.declared.cache.Cache as own
 use Rattle.slab_tables.specs.declared.cache.Kept.{Kept}
 use Rattle.slab_tables.specs.Content.{Content, kept_at, cache_at, index_of_cache, layout_numbers}
 use Rattle.machine_changes.specs.Records.{is_set, flags_from}
-use Rattle.machine_changes.specs.Shows.{frame_under, node_of, record_byte, is_live, live_of, is_of_cache, slab_placed, slab_under, slab_at, has_slab, bare, without_slabs, is_inside, IsSlab, ShowsMachine}
+use Rattle.machine_changes.specs.Shows.{frame_under, machine_frame_of, record_byte, is_live, live_of, is_of_cache, slab_placed, slab_under, slab_at, has_slab, bare, without_slabs, is_inside, IsSlab, ShowsMachine}
 use Rattle.machine_changes.specs.Steady.{IsSteady}
 use Rattle.machine_changes.proofs.Lookups.{some_none, some_same, mapped_from}
 
@@ -34,14 +34,14 @@ same_below k (suc n) p q same =
     ap (λ b. b ∷ flags_from (suc k) n p) (same k (omega arith) (omega arith))
     ∙ ap (λ bs. q k ∷ bs) (same_below (suc k) n p q (λ i low high. same i (omega arith) (omega arith)))
 
--- Nodes
+-- Machine frames
 
--- a frame's node names its superblock and its frame there
-pub superblock_of_node : (top m f : ℕ) → (m * 2 ^ top + f % 2 ^ top) / 2 ^ top ≡ m
-superblock_of_node top m f = div-mul-add m (2 ^ top) (f % 2 ^ top) (mod_below f (2 ^ top) (pow_pos top))
+-- a machine frame names its superblock and the frame there
+pub superblock_of_machine_frame : (top m f : ℕ) → (m * 2 ^ top + f % 2 ^ top) / 2 ^ top ≡ m
+superblock_of_machine_frame top m f = div-mul-add m (2 ^ top) (f % 2 ^ top) (mod_below f (2 ^ top) (pow_pos top))
 
-pub frame_of_node : (top m f : ℕ) → (m * 2 ^ top + f % 2 ^ top) % 2 ^ top ≡ f % 2 ^ top
-frame_of_node top m f = mod-mul-add m (2 ^ top) (f % 2 ^ top) (mod_below f (2 ^ top) (pow_pos top))
+pub frame_of_machine_frame : (top m f : ℕ) → (m * 2 ^ top + f % 2 ^ top) % 2 ^ top ≡ f % 2 ^ top
+frame_of_machine_frame top m f = mod-mul-add m (2 ^ top) (f % 2 ^ top) (mod_below f (2 ^ top) (pow_pos top))
 
 pub under_is : (top f n : ℕ) (o : Option ℕ) → frame_under top f o ≡ Some n → (m : ℕ) × (o ≡ Some m) × (n ≡ m * 2 ^ top + f % 2 ^ top)
 under_is top f n None e = absurd (some_none (sym e))
@@ -61,62 +61,62 @@ one_listed n f n' f' (Some p) e e' =
 
 module _ (r : spaces.Content) (s : Content) (t : ℕ) where
   -- a slab's frame has one
-  pub has_it : (c f n : ℕ) (cache : own.Cache) → IsSlab r s t c f n cache → has_slab s (node_of s.top r.slots t f) ≡ true
+  pub has_it : (c f n : ℕ) (cache : own.Cache) → IsSlab r s t c f n cache → has_slab s (machine_frame_of s.top r.slots t f) ≡ true
   has_it c f n cache q = ap (has_slab s) q.under ∙ some_listed (index_of_cache t c) f (place_at s.lists.places n) q.listed
 
   -- two slabs at one frame are one
   pub record IsOneSlab (c f n c' f' n' : ℕ) (cache cache' : own.Cache) : Type 0 where
     pub number : c' ≡ c
-    pub node : n' ≡ n
+    pub machine_frame : n' ≡ n
     pub same : cache' ≡ cache
 
   pub one_slab : (c f n c' f' n' : ℕ) (cache cache' : own.Cache) → IsSlab r s t c f n cache → IsSlab r s t c' f' n' cache' → f' ≡ f
       → IsOneSlab c f n c' f' n' cache cache'
   one_slab c f n c' f' n' cache cache' q q' e =
-      let node : n' ≡ n = some_same (sym q'.under ∙ ap (λ g. node_of s.top r.slots t g) e ∙ q.under) in
+      let machine_frame : n' ≡ n = some_same (sym q'.under ∙ ap (λ g. machine_frame_of s.top r.slots t g) e ∙ q.under) in
       let listed : is_of_cache (index_of_cache t c') f' (place_at s.lists.places n) ≡ true =
-      subst (λ x. is_of_cache (index_of_cache t c') f' (place_at s.lists.places x) ≡ true) node q'.listed in
+      subst (λ x. is_of_cache (index_of_cache t c') f' (place_at s.lists.places x) ≡ true) machine_frame q'.listed in
       let both = one_listed (index_of_cache t c) f (index_of_cache t c') f' (place_at s.lists.places n) q.listed listed in
       let number : c' ≡ c = let same = both.0 in omega arith in
       record {
         number = number;
-        node = node;
+        machine_frame = machine_frame;
         same = some_same (sym q'.cached ∙ ap (cache_at s t) number ∙ q.cached);
       }
 
 module _ (r : spaces.Content) (b : buddies.Content) (s : Content) (t : ℕ) (st : IsSteady r b s t) where
   -- a machine frame has one frame of t
-  pub one_node : (f g n : ℕ) → node_of s.top r.slots t f ≡ Some n → node_of s.top r.slots t g ≡ Some n → f ≡ g
-  one_node f g n e e' =
+  pub one_machine_frame : (f g n : ℕ) → machine_frame_of s.top r.slots t f ≡ Some n → machine_frame_of s.top r.slots t g ≡ Some n → f ≡ g
+  one_machine_frame f g n e e' =
       let z = 2 ^ s.top in
       let here = under_is s.top f n (spaces.superblock_at r.slots t (f / z)) e in
       let there = under_is s.top g n (spaces.superblock_at r.slots t (g / z)) e' in
-      let node : here.0 * z + f % z ≡ there.0 * z + g % z = sym here.2 ∙ there.2 in
-      let superblock : here.0 ≡ there.0 = sym (superblock_of_node s.top here.0 f) ∙ ap (λ x. x / z) node ∙ superblock_of_node s.top there.0 g in
-      let frame : f % z ≡ g % z = sym (frame_of_node s.top here.0 f) ∙ ap (λ x. x % z) node ∙ frame_of_node s.top there.0 g in
+      let machine_frame : here.0 * z + f % z ≡ there.0 * z + g % z = sym here.2 ∙ there.2 in
+      let superblock : here.0 ≡ there.0 = sym (superblock_of_machine_frame s.top here.0 f) ∙ ap (λ x. x / z) machine_frame ∙ superblock_of_machine_frame s.top there.0 g in
+      let frame : f % z ≡ g % z = sym (frame_of_machine_frame s.top here.0 f) ∙ ap (λ x. x % z) machine_frame ∙ frame_of_machine_frame s.top there.0 g in
       let slot : f / z ≡ g / z = st.apart (f / z) (g / z) here.0 here.1 (there.1 ∙ ap (λ m. Some m) (sym superblock)) in
       sym (div-add-mod' f z) ∙ ap (λ x. x * z + f % z) slot ∙ ap (λ x. g / z * z + x) frame ∙ div-add-mod' g z
 
   -- a slab that begins at the frame
   pub record IsSlabThere (f : ℕ) : Type 0 where
     pub number : ℕ
-    pub node : ℕ
+    pub machine_frame : ℕ
     pub cache : own.Cache
-    pub slab : IsSlab r s t number f node cache
+    pub slab : IsSlab r s t number f machine_frame cache
 
-  pub some_slab : (f : ℕ) → has_slab s (node_of s.top r.slots t f) ≡ true → IsSlabThere f
-  some_slab f has = go (node_of s.top r.slots t f) refl has
+  pub some_slab : (f : ℕ) → has_slab s (machine_frame_of s.top r.slots t f) ≡ true → IsSlabThere f
+  some_slab f has = go (machine_frame_of s.top r.slots t f) refl has
     where
-      at_node : (n : ℕ) → node_of s.top r.slots t f ≡ Some n → (place : Option (ℕ × ℕ)) → place_at s.lists.places n ≡ place
+      at_machine_frame : (n : ℕ) → machine_frame_of s.top r.slots t f ≡ Some n → (place : Option (ℕ × ℕ)) → place_at s.lists.places n ≡ place
           → is_some place ≡ true → IsSlabThere f
-      at_node n under None placed e = absurd (false≢true e)
-      at_node n under (Some p) placed e =
+      at_machine_frame n under None placed e = absurd (false≢true e)
+      at_machine_frame n under (Some p) placed e =
           let there = st.listed f n p.0 p.1 under placed in
-          record { number = there.0; node = n; cache = there.1; slab = there.2 }
+          record { number = there.0; machine_frame = n; cache = there.1; slab = there.2 }
 
-      go : (o : Option ℕ) → node_of s.top r.slots t f ≡ o → has_slab s o ≡ true → IsSlabThere f
+      go : (o : Option ℕ) → machine_frame_of s.top r.slots t f ≡ o → has_slab s o ≡ true → IsSlabThere f
       go None under e = absurd (false≢true e)
-      go (Some n) under e = at_node n under (place_at s.lists.places n) refl e
+      go (Some n) under e = at_machine_frame n under (place_at s.lists.places n) refl e
 
   -- slabs that share a place begin at one frame
   pub one_first : (place c f n c' f' n' : ℕ) (cache cache' : own.Cache) → IsSlab r s t c f n cache → IsSlab r s t c' f' n' cache'
@@ -156,20 +156,20 @@ all_stay r r' t cache kept f few same =
 -- no slab is shown where none begins
 pub no_slab_under : (r : spaces.Content) (s : Content) (t n : ℕ) (cache : own.Cache) (f : ℕ) (o : Option ℕ) → has_slab s o ≡ false → slab_under r s t n cache f o ≡ None
 no_slab_under r s t n cache f None e = refl
-no_slab_under r s t n cache f (Some node) e =
-    ap (λ p. slab_placed (live_of r t cache (kept_at s.kept node) f) (kept_at s.kept node).colour f (is_of_cache n f p))
-    (none_of (place_at s.lists.places node) e)
+no_slab_under r s t n cache f (Some machine_frame) e =
+    ap (λ p. slab_placed (live_of r t cache (kept_at s.kept machine_frame) f) (kept_at s.kept machine_frame).colour f (is_of_cache n f p))
+    (none_of (place_at s.lists.places machine_frame) e)
 
--- a slab is shown as it was if its node is the same, and if it is listed there as it was with what was kept of it and the same live objects
-pub same_slab : (r r' : spaces.Content) (s s' : Content) (t c f : ℕ) (cache : own.Cache) → node_of s'.top r'.slots t f ≡ node_of s.top r.slots t f
-    → ((n : ℕ) → node_of s.top r.slots t f ≡ Some n → is_of_cache (index_of_cache t c) f (place_at s'.lists.places n) ≡ is_of_cache (index_of_cache t c) f (place_at s.lists.places n))
-    → ((n : ℕ) → node_of s.top r.slots t f ≡ Some n → is_of_cache (index_of_cache t c) f (place_at s.lists.places n) ≡ true
+-- a slab is shown as it was if its machine frame is the same, and if it is listed there as it was with what was kept of it and the same live objects
+pub same_slab : (r r' : spaces.Content) (s s' : Content) (t c f : ℕ) (cache : own.Cache) → machine_frame_of s'.top r'.slots t f ≡ machine_frame_of s.top r.slots t f
+    → ((n : ℕ) → machine_frame_of s.top r.slots t f ≡ Some n → is_of_cache (index_of_cache t c) f (place_at s'.lists.places n) ≡ is_of_cache (index_of_cache t c) f (place_at s.lists.places n))
+    → ((n : ℕ) → machine_frame_of s.top r.slots t f ≡ Some n → is_of_cache (index_of_cache t c) f (place_at s.lists.places n) ≡ true
     → (kept_at s'.kept n ≡ kept_at s.kept n) × (live_of r' t cache (kept_at s.kept n) f ≡ live_of r t cache (kept_at s.kept n) f))
     → slab_at r' s' t c cache f ≡ slab_at r s t c cache f
-same_slab r r' s s' t c f cache node listed stays =
-    ap (slab_under r' s' t (index_of_cache t c) cache f) node ∙ under (node_of s.top r.slots t f) refl
+same_slab r r' s s' t c f cache machine_frame listed stays =
+    ap (slab_under r' s' t (index_of_cache t c) cache f) machine_frame ∙ under (machine_frame_of s.top r.slots t f) refl
   where
-    placed : (n : ℕ) → node_of s.top r.slots t f ≡ Some n → (w : Bool) → is_of_cache (index_of_cache t c) f (place_at s.lists.places n) ≡ w
+    placed : (n : ℕ) → machine_frame_of s.top r.slots t f ≡ Some n → (w : Bool) → is_of_cache (index_of_cache t c) f (place_at s.lists.places n) ≡ w
         → slab_placed (live_of r' t cache (kept_at s'.kept n) f) (kept_at s'.kept n).colour f w
         ≡ slab_placed (live_of r t cache (kept_at s.kept n) f) (kept_at s.kept n).colour f w
     placed n at false e = refl
@@ -178,7 +178,7 @@ same_slab r r' s s' t c f cache node listed stays =
         ap (λ kept. slab_placed (live_of r' t cache kept f) kept.colour f true) same.0
         ∙ ap (λ live. slab_placed live (kept_at s.kept n).colour f true) same.1
 
-    under : (o : Option ℕ) → node_of s.top r.slots t f ≡ o
+    under : (o : Option ℕ) → machine_frame_of s.top r.slots t f ≡ o
         → slab_under r' s' t (index_of_cache t c) cache f o ≡ slab_under r s t (index_of_cache t c) cache f o
     under None at = refl
     under (Some n) at =
@@ -193,34 +193,34 @@ module _ (r : spaces.Content) (b : buddies.Content) (s : Content) (t : ℕ) (st 
   live_stays r' kept c f n cache q same = all_stay r r' t cache kept f ((st.stands c f n cache q).layout.fits 0).few same
 
 module _ (r : spaces.Content) (s : Content) (t c : ℕ) (cache : own.Cache) (cached : cache_at s t c ≡ Some cache) where
-  -- the slab that stands at frame f, node n
+  -- the slab that stands at frame f, machine frame n
   abbrev pub shown : ℕ → ℕ → Slab
   shown f n = record { first = f; colour = (kept_at s.kept n).colour; live = live_of r t cache (kept_at s.kept n) f }
 
   pub record IsShown (f : ℕ) (z : Slab) : Type 0 where
-    pub node : ℕ
-    pub slab : IsSlab r s t c f node cache
-    pub is : z ≡ shown f node
+    pub machine_frame : ℕ
+    pub slab : IsSlab r s t c f machine_frame cache
+    pub is : z ≡ shown f machine_frame
 
-  shown_placed : (f n : ℕ) (z : Slab) (placed : Bool) → node_of s.top r.slots t f ≡ Some n
+  shown_placed : (f n : ℕ) (z : Slab) (placed : Bool) → machine_frame_of s.top r.slots t f ≡ Some n
       → is_of_cache (index_of_cache t c) f (place_at s.lists.places n) ≡ placed
       → slab_placed (live_of r t cache (kept_at s.kept n) f) (kept_at s.kept n).colour f placed ≡ Some z → IsShown f z
   shown_placed f n z false under listed e = absurd (some_none (sym e))
   shown_placed f n z true under listed e = record {
-    node = n;
+    machine_frame = n;
     slab = record { cached = cached; under = under; listed = listed };
     is = sym (some_same e);
   }
 
-  shown_under : (f : ℕ) (z : Slab) (node : Option ℕ) → node_of s.top r.slots t f ≡ node
-      → slab_under r s t (index_of_cache t c) cache f node ≡ Some z → IsShown f z
+  shown_under : (f : ℕ) (z : Slab) (machine_frame : Option ℕ) → machine_frame_of s.top r.slots t f ≡ machine_frame
+      → slab_under r s t (index_of_cache t c) cache f machine_frame ≡ Some z → IsShown f z
   shown_under f z None under e = absurd (some_none (sym e))
   shown_under f z (Some n) under e =
       shown_placed f n z (is_of_cache (index_of_cache t c) f (place_at s.lists.places n)) under refl e
 
   -- what a shown slab is
   pub shown_is : (f : ℕ) (z : Slab) → slab_at r s t c cache f ≡ Some z → IsShown f z
-  shown_is f z e = shown_under f z (node_of s.top r.slots t f) refl e
+  shown_is f z e = shown_under f z (machine_frame_of s.top r.slots t f) refl e
 
   pub slab_shown : (f n : ℕ) → IsSlab r s t c f n cache → slab_at r s t c cache f ≡ Some (shown f n)
   slab_shown f n q =
@@ -276,16 +276,16 @@ module _ (r : spaces.Content) (b : buddies.Content) (s : Content) (t : ℕ) (m :
   -- and back
   pub record IsSlabKept (c f : ℕ) (x : Cache) (y : Slab) : Type 0 where
     pub kept : own.Cache
-    pub node : ℕ
-    pub slab : IsSlab r s t c f node kept
-    pub is : y ≡ shown r s t c kept slab.cached f node
+    pub machine_frame : ℕ
+    pub slab : IsSlab r s t c f machine_frame kept
+    pub is : y ≡ shown r s t c kept slab.cached f machine_frame
     pub layout : layout x ≡ layout_numbers kept
 
   pub slab_of_machine : (c f : ℕ) (x : Cache) (y : Slab) → cache_of m c ≡ Some x → slab_of x f ≡ Some y → IsSlabKept c f x y
   slab_of_machine c f x y ex ey =
       let there = cache_kept c x ex in
       let is = shown_is r s t c there.kept there.cached f y (sym (h.slabs c f x there.kept ex there.cached) ∙ ey) in
-      record { kept = there.kept; node = is.node; slab = is.slab; is = is.is; layout = there.layout }
+      record { kept = there.kept; machine_frame = is.machine_frame; slab = is.slab; is = is.is; layout = there.layout }
 
 -- the places of a slab lie in the slot of its first frame
 pub slot_inside : (r : spaces.Content) (b : buddies.Content) (s : Content) (t place c f n : ℕ) (cache : own.Cache) → IsSteady r b s t

@@ -9,7 +9,7 @@ use Rattle.model_core.proofs.Lists.{map_in, flat_map_in, key_above}
 use Rattle.space_core.specs.Content as spaces
 use Rattle.buddy_core.specs.Content as buddies
 use Rattle.slab_tables.specs.Content.{Content}
-use Rattle.machine_changes.specs.Shows.{node_of, has_slab, ShowsMachine}
+use Rattle.machine_changes.specs.Shows.{machine_frame_of, has_slab, ShowsMachine}
 use Rattle.machine_changes.specs.Steady.{IsSteady}
 use Rattle.machine_changes.proofs.Facts.{has_it, one_slab}
 use Rattle.machine_changes.proofs.Lookups.{some_none, in_found}
@@ -41,7 +41,7 @@ module _ (r : spaces.Content) (b : buddies.Content) (s : Content) (t : ℕ) (m :
   one_cache x x' y y' i i' j j' same =
       let is = slab_kept r b s t m st h x y i j in
       let is' = slab_kept r b s t m st h x' y' i' j' in
-      (one_slab r s t x.number y.first is.node x'.number y'.first is'.node is.kept is'.kept is.slab is'.slab same).number
+      (one_slab r s t x.number y.first is.machine_frame x'.number y'.first is'.machine_frame is.kept is'.kept is.slab is'.slab same).number
 
   slabs_keyed : (n : ℕ) (cs : List Cache) → RisesFrom n (map (λ x. x.number) cs) → ((x : Cache) → IsIn x cs → IsIn x m.caches)
       → AreKeyed first (flat_map slab_blocks cs)
@@ -67,9 +67,9 @@ module _ (r : spaces.Content) (b : buddies.Content) (s : Content) (t : ℕ) (m :
       let is = slab_kept r b s t m st h there.cache there.slab there.cache_in there.slab_in in
       let found : order_in m.blocks z.first ≡ Some z.order =
       order_found m.blocks z.first ∙ ap (option_map (λ x. x.order)) (in_found first 0 z m.blocks h.blocks_rise i) in
-      let has : has_slab s (node_of s.top r.slots t z.first) ≡ true =
-      sym (ap (λ f. has_slab s (node_of s.top r.slots t f)) (ap first there.same ∙ same))
-      ∙ has_it r s t there.cache.number there.slab.first is.node is.kept is.slab in
+      let has : has_slab s (machine_frame_of s.top r.slots t z.first) ≡ true =
+      sym (ap (λ f. has_slab s (machine_frame_of s.top r.slots t f)) (ap first there.same ∙ same))
+      ∙ has_it r s t there.cache.number there.slab.first is.machine_frame is.kept is.slab in
       some_none (sym found ∙ h.blocks z.first ∙ ap (λ v. cond v None (buddies.taken_of (buddies.holding_of t b) z.first)) has)
 
   pub blocks_keyed : AreKeyed first (taken_blocks m)

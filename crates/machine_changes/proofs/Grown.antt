@@ -18,12 +18,12 @@ use Rattle.slab_tables.specs.declared.cache.Cache as own
 use Rattle.slab_tables.specs.Content.{Content, kept_at, cache_at, index_of_cache, head_of, layout_numbers}
 use Rattle.slab_tables.specs.Changes.{fresh_kept, made_more}
 use Rattle.machine_changes.specs.Records.{is_set, flags_from}
-use Rattle.machine_changes.specs.Shows.{frame_under, node_of, byte_or_zero, record_byte, is_live, live_of, is_of_cache, slab_placed, slab_under, slab_at, has_slab, bare, without_slabs, is_inside, IsSlab, ShowsMachine}
+use Rattle.machine_changes.specs.Shows.{frame_under, machine_frame_of, byte_or_zero, record_byte, is_live, live_of, is_of_cache, slab_placed, slab_under, slab_at, has_slab, bare, without_slabs, is_inside, IsSlab, ShowsMachine}
 use Rattle.machine_changes.specs.Steady.{IsSteady}
 use Rattle.machine_changes.specs.Changes.{IsGrown}
 use Rattle.machine_changes.specs.Laws.{GrownShows}
 use Rattle.machine_changes.proofs.Lookups.{some_none, some_same, found_key, keys_replaced, found_new, found_other, in_found, found_put}
-use Rattle.machine_changes.proofs.Facts.{one_listed, one_slab, one_node, same_slab, live_stays, record_inside, cache_kept}
+use Rattle.machine_changes.proofs.Facts.{one_listed, one_slab, one_machine_frame, same_slab, live_stays, record_inside, cache_kept}
 
 -- flags that are all down
 pub all_down : (k n : ℕ) (p : ℕ → Bool) → ((i : ℕ) → k ≤ i → i < k + n → p i ≡ false) → flags_from k n p ≡ replicate n false
@@ -41,8 +41,8 @@ third n = omega arith
 module _ (r r' : spaces.Content) (b b' : buddies.Content) (s s' : Content) (t c : ℕ) (cache : own.Cache) (f n : ℕ)
     (k : IsGrown r r' b b' s s' t c cache f n) (st : IsSteady r b s t) (cut : IsLayout cache.layout.size cache.layout.align (layout_numbers cache))
     (apart : (g j x : ℕ) → buddies.taken_of (buddies.holding_of t b) g ≡ Some j → HasFrame (block g j) x → HasFrame (block f (layout_numbers cache).order) x → ⊥) where
-  node_same : (g : ℕ) → node_of s'.top r'.slots t g ≡ node_of s.top r.slots t g
-  node_same g = ap (λ top. node_of top r'.slots t g) k.top ∙ ap (frame_under s.top g) (k.slots (g / 2 ^ s.top))
+  machine_frame_same : (g : ℕ) → machine_frame_of s'.top r'.slots t g ≡ machine_frame_of s.top r.slots t g
+  machine_frame_same g = ap (λ top. machine_frame_of top r'.slots t g) k.top ∙ ap (frame_under s.top g) (k.slots (g / 2 ^ s.top))
 
   -- the new slab's block is free of the others
   apart_slab : (place d g x : ℕ) (other : own.Cache) → IsSlab r s t d g x other → is_inside place g other ≡ true → is_inside place f cache ≡ false
@@ -63,9 +63,9 @@ module _ (r r' : spaces.Content) (b b' : buddies.Content) (s s' : Content) (t c 
   not_first d g x other q same =
       some_none (sym (st.stands d g x other q).taken ∙ ap (buddies.taken_of (buddies.holding_of t b)) same ∙ untaken)
 
-  -- nodes of other frames are other nodes
-  differs : (g x : ℕ) → node_of s.top r.slots t g ≡ Some x → g ≢ f → x ≢ n
-  differs g x under other same = other (one_node r b s t st g f x under (k.under ∙ ap (λ y. Some y) (sym same)))
+  -- machine frames of other frames are other machine frames
+  differs : (g x : ℕ) → machine_frame_of s.top r.slots t g ≡ Some x → g ≢ f → x ≢ n
+  differs g x under other same = other (one_machine_frame r b s t st g f x under (k.under ∙ ap (λ y. Some y) (sym same)))
 
   -- a cache that stands stood before, with the same layout
   pub record WasCached (d : ℕ) (other : own.Cache) : Type 0 where
@@ -99,7 +99,7 @@ module _ (r r' : spaces.Content) (b b' : buddies.Content) (s s' : Content) (t c 
       (λ (differ : d ≢ c). record { after = other; cached = k.caches d differ ∙ e; layout = refl })
       (cases_eq d c)
 
-  listed_other : (d g x : ℕ) → node_of s.top r.slots t g ≡ Some x → g ≢ f
+  listed_other : (d g x : ℕ) → machine_frame_of s.top r.slots t g ≡ Some x → g ≢ f
       → is_of_cache d g (place_at s'.lists.places x) ≡ is_of_cache d g (place_at s.lists.places x)
   listed_other d g x under other = ap (is_of_cache d g) (k.lists x (differs g x under other))
 
@@ -111,7 +111,7 @@ module _ (r r' : spaces.Content) (b b' : buddies.Content) (s s' : Content) (t c 
   slab_was : (d g x : ℕ) (other : own.Cache) → IsSlab r' s' t d g x other → g ≢ f → WasSlab d g x other
   slab_was d g x other p differ =
       let was = was_cached d other p.cached in
-      let under : node_of s.top r.slots t g ≡ Some x = sym (node_same g) ∙ p.under in
+      let under : machine_frame_of s.top r.slots t g ≡ Some x = sym (machine_frame_same g) ∙ p.under in
       record {
         before = was.before;
         slab = record { cached = was.cached; under = under; listed = sym (listed_other (index_of_cache t d) g x under differ) ∙ p.listed };
@@ -130,7 +130,7 @@ module _ (r r' : spaces.Content) (b b' : buddies.Content) (s s' : Content) (t c 
         after = now.after;
         slab = record {
           cached = now.cached;
-          under = node_same g ∙ q.under;
+          under = machine_frame_same g ∙ q.under;
           listed = listed_other (index_of_cache t d) g x q.under (not_first d g x other q) ∙ q.listed;
         };
         layout = now.layout;
@@ -144,7 +144,7 @@ module _ (r r' : spaces.Content) (b b' : buddies.Content) (s s' : Content) (t c 
       ∙ ap (λ x. x && (f == f)) (eq-eqb (head_of t c 2 / 3) (index_of_cache t c) (third (index_of_cache t c))) ∙ eq-eqb f f refl
 
   new_is : IsSlab r' s' t c f n (made_more cache)
-  new_is = record { cached = k.made; under = node_same f ∙ k.under; listed = new_listed }
+  new_is = record { cached = k.made; under = machine_frame_same f ∙ k.under; listed = new_listed }
 
   new_live : live_of r' t cache (fresh_kept cache) f ≡ replicate (layout_numbers cache).count false
   new_live = all_down 0 (layout_numbers cache).count (is_live r' t cache (fresh_kept cache) f) down
@@ -164,7 +164,7 @@ module _ (r r' : spaces.Content) (b b' : buddies.Content) (s s' : Content) (t c 
 
   new_at : slab_at r' s' t c (made_more cache) f ≡ Some fresh
   new_at =
-      ap (slab_under r' s' t (index_of_cache t c) cache f) (node_same f ∙ k.under)
+      ap (slab_under r' s' t (index_of_cache t c) cache f) (machine_frame_same f ∙ k.under)
       ∙ ap (slab_placed (live_of r' t cache (kept_at s'.kept n) f) (kept_at s'.kept n).colour f) new_listed
       ∙ ap (λ kept. slab_placed (live_of r' t cache kept f) kept.colour f true) k.fresh
       ∙ ap (λ live. slab_placed live (fresh_kept cache).colour f true) new_live
@@ -177,7 +177,7 @@ module _ (r r' : spaces.Content) (b b' : buddies.Content) (s s' : Content) (t c 
       let same : index_of_cache t d ≡ index_of_cache t c =
       (one_listed (index_of_cache t c) f (index_of_cache t d) f (place_at s'.lists.places n) new_listed e).0 in
       differ (omega arith)) in
-      ap (slab_under r' s' t (index_of_cache t d) other f) (node_same f ∙ k.under)
+      ap (slab_under r' s' t (index_of_cache t d) other f) (machine_frame_same f ∙ k.under)
       ∙ ap (slab_placed (live_of r' t other (kept_at s'.kept n) f) (kept_at s'.kept n).colour f) unlisted
 
   none_before : (d : ℕ) (other : own.Cache) → slab_at r s t d other f ≡ None
@@ -196,18 +196,18 @@ module _ (r r' : spaces.Content) (b b' : buddies.Content) (s s' : Content) (t c 
 
   slab_other : (d g : ℕ) (other : own.Cache) → cache_at s t d ≡ Some other → g ≢ f → slab_at r' s' t d other g ≡ slab_at r s t d other g
   slab_other d g other cached differ =
-      same_slab r r' s s' t d g other (node_same g) (λ x under. listed_other (index_of_cache t d) g x under differ)
+      same_slab r r' s s' t d g other (machine_frame_same g) (λ x under. listed_other (index_of_cache t d) g x under differ)
       (λ x under listed. (k.kept x (differs g x under differ), live_now d g x other (record { cached = cached; under = under; listed = listed })))
 
-  has_under : (g : ℕ) (o : Option ℕ) → node_of s.top r.slots t g ≡ o → g ≢ f → has_slab s' o ≡ has_slab s o
+  has_under : (g : ℕ) (o : Option ℕ) → machine_frame_of s.top r.slots t g ≡ o → g ≢ f → has_slab s' o ≡ has_slab s o
   has_under g None under differ = refl
   has_under g (Some x) under differ = ap is_some (k.lists x (differs g x under differ))
 
-  has_now : (g : ℕ) → g ≢ f → has_slab s' (node_of s'.top r'.slots t g) ≡ has_slab s (node_of s.top r.slots t g)
-  has_now g differ = ap (has_slab s') (node_same g) ∙ has_under g (node_of s.top r.slots t g) refl differ
+  has_now : (g : ℕ) → g ≢ f → has_slab s' (machine_frame_of s'.top r'.slots t g) ≡ has_slab s (machine_frame_of s.top r.slots t g)
+  has_now g differ = ap (has_slab s') (machine_frame_same g) ∙ has_under g (machine_frame_of s.top r.slots t g) refl differ
 
-  has_new : has_slab s' (node_of s'.top r'.slots t f) ≡ true
-  has_new = ap (has_slab s') (node_same f ∙ k.under) ∙ ap is_some k.listed
+  has_new : has_slab s' (machine_frame_of s'.top r'.slots t f) ≡ true
+  has_new = ap (has_slab s') (machine_frame_same f ∙ k.under) ∙ ap is_some k.listed
 
   module _ (m : Machine) (x : Cache) (ex : cache_of m c ≡ Some x) (h : ShowsMachine r b s t m) where
     -- the machine's cache, but for its slabs
@@ -330,18 +330,18 @@ module _ (r r' : spaces.Content) (b b' : buddies.Content) (s s' : Content) (t c 
         (was_cache d z e)
 
     blocks_now : (g : ℕ) → order_in m.blocks g
-        ≡ cond (has_slab s' (node_of s'.top r'.slots t g)) None (buddies.taken_of (buddies.holding_of t b') g)
+        ≡ cond (has_slab s' (machine_frame_of s'.top r'.slots t g)) None (buddies.taken_of (buddies.holding_of t b') g)
     blocks_now g =
         h.blocks g
         ∙ ⊎_elim
         (λ here.
-        ap (λ i. cond (has_slab s (node_of s.top r.slots t i)) None (buddies.taken_of (buddies.holding_of t b) i)) here
-        ∙ ap (cond (has_slab s (node_of s.top r.slots t f)) None) untaken ∙ both (has_slab s (node_of s.top r.slots t f))
+        ap (λ i. cond (has_slab s (machine_frame_of s.top r.slots t i)) None (buddies.taken_of (buddies.holding_of t b) i)) here
+        ∙ ap (cond (has_slab s (machine_frame_of s.top r.slots t f)) None) untaken ∙ both (has_slab s (machine_frame_of s.top r.slots t f))
         ∙ sym (ap (λ v. cond v None (buddies.taken_of (buddies.holding_of t b') f)) has_new)
-        ∙ ap (λ i. cond (has_slab s' (node_of s'.top r'.slots t i)) None (buddies.taken_of (buddies.holding_of t b') i)) (sym here))
+        ∙ ap (λ i. cond (has_slab s' (machine_frame_of s'.top r'.slots t i)) None (buddies.taken_of (buddies.holding_of t b') i)) (sym here))
         (λ differ.
         ap (λ v. cond v None (buddies.taken_of (buddies.holding_of t b) g)) (sym (has_now g differ))
-        ∙ ap (cond (has_slab s' (node_of s'.top r'.slots t g)) None)
+        ∙ ap (cond (has_slab s' (machine_frame_of s'.top r'.slots t g)) None)
         (sym (k.taken g ∙ ap (λ v. cond v (Some (layout_numbers cache).order) (buddies.taken_of (buddies.holding_of t b) g)) (ne_eqb g f differ))))
         (cases_eq g f)
       where
@@ -373,7 +373,7 @@ module _ (r r' : spaces.Content) (b b' : buddies.Content) (s s' : Content) (t c 
             let layout : cache.layout ≡ other.layout = sym (ap (λ z. z.layout) one.same) in
             let inside_new : is_inside place f cache ≡ true =
             ap (λ i. is_inside place i cache) (sym e) ∙ ap (λ l. is_inside place g (record cache { layout = l })) layout ∙ inside in
-            let colour : (kept_at s'.kept y).colour ≡ (fresh_kept cache).colour = ap (λ i. (kept_at s'.kept i).colour) one.node ∙ ap (λ z. z.colour) k.fresh in
+            let colour : (kept_at s'.kept y).colour ≡ (fresh_kept cache).colour = ap (λ i. (kept_at s'.kept i).colour) one.machine_frame ∙ ap (λ z. z.colour) k.fresh in
             ap is_some (bytes_are place) ∙ ap (λ v. is_some (cond v (constructed place) (m.bytes place))) inside_new
             ∙ is_some_if (in_object (layout_numbers cache) cache.layout.size (fresh_kept cache).colour (place - 4096 * f)) _
             ∙ ap (λ l. in_object (layout_numbers (record cache { layout = l })) l.size (fresh_kept cache).colour (place - 4096 * f)) layout

@@ -29,4 +29,4 @@ kinds_hold s w table r b t c kind m x a st h ex less =
     let kept = filter_in (is_kind kind) y.0 x.slabs y.1 in
     let there = to_list r b s w a t c kind less m x h ex y.0 kept.0 kept.1 in
     subst (λ f. IsIn f (lists.keys_of s.lists.places (head_of t c kind))) y.2
-    (in_map (λ (p : ℕ × ℕ). p.0) (y.0.first, there.node) (lists.list_of s.lists.places (head_of t c kind)) (listed s.lists.places (head_of t c kind) y.0.first there.node there.place)))
+    (in_map (λ (p : ℕ × ℕ). p.0) (y.0.first, there.machine_frame) (lists.list_of s.lists.places (head_of t c kind)) (listed s.lists.places (head_of t c kind) y.0.first there.machine_frame there.place)))

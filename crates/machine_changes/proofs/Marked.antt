@@ -13,12 +13,12 @@ use Rattle.space_core.specs.Windows.{byte_at}
 use Rattle.buddy_core.specs.Content as buddies
 use Rattle.slab_tables.specs.declared.cache.Cache as own
 use Rattle.slab_tables.specs.Content.{Content, kept_at, cache_at, index_of_cache, layout_numbers}
-use Rattle.machine_changes.specs.Shows.{frame_under, node_of, byte_or_zero, record_byte, live_of, is_of_cache, slab_placed, slab_under, slab_at, has_slab, bare, without_slabs, is_inside, IsSlab, ShowsMachine}
+use Rattle.machine_changes.specs.Shows.{frame_under, machine_frame_of, byte_or_zero, record_byte, live_of, is_of_cache, slab_placed, slab_under, slab_at, has_slab, bare, without_slabs, is_inside, IsSlab, ShowsMachine}
 use Rattle.machine_changes.specs.Steady.{IsSteady}
 use Rattle.machine_changes.specs.Changes.{Found, IsMarked}
 use Rattle.machine_changes.specs.Laws.{MarkedShows}
 use Rattle.machine_changes.proofs.Lookups.{some_same, found_key, keys_replaced, found_new, found_other}
-use Rattle.machine_changes.proofs.Facts.{one_listed, one_node, same_slab, live_stays, record_inside, shown, slab_shown}
+use Rattle.machine_changes.proofs.Facts.{one_listed, one_machine_frame, same_slab, live_stays, record_inside, shown, slab_shown}
 
 none_above : (colour offset count chunk size : ℕ) → 0 < chunk → colour + count * chunk ≤ offset
     → (leb colour offset && (ltb ((offset - colour) / chunk) count && ltb ((offset - colour) % chunk) size)) ≡ false
@@ -35,47 +35,47 @@ pub not_object : (l : Layout) (size colour offset : ℕ) → 16 ≤ l.chunk → 
 not_object l size colour offset wide past = none_above colour offset l.count l.chunk size (omega arith) past
 
 module _ (r r' : spaces.Content) (b : buddies.Content) (s s' : Content) (t c : ℕ) (o : Found) (v : Bool)
-    (k : IsMarked r r' s s' t c o v) (st : IsSteady r b s t) (q : IsSlab r s t c o.first o.node o.cache) where
-  pub node_same : (f : ℕ) → node_of s'.top r'.slots t f ≡ node_of s.top r.slots t f
-  node_same f = ap (λ top. node_of top r'.slots t f) k.top ∙ ap (frame_under s.top f) (k.slots (f / 2 ^ s.top))
+    (k : IsMarked r r' s s' t c o v) (st : IsSteady r b s t) (q : IsSlab r s t c o.first o.machine_frame o.cache) where
+  pub machine_frame_same : (f : ℕ) → machine_frame_of s'.top r'.slots t f ≡ machine_frame_of s.top r.slots t f
+  machine_frame_same f = ap (λ top. machine_frame_of top r'.slots t f) k.top ∙ ap (frame_under s.top f) (k.slots (f / 2 ^ s.top))
 
-  pub listed_same : (n f node : ℕ) → is_of_cache n f (place_at s'.lists.places node) ≡ is_of_cache n f (place_at s.lists.places node)
-  listed_same n f node =
+  pub listed_same : (n f machine_frame : ℕ) → is_of_cache n f (place_at s'.lists.places machine_frame) ≡ is_of_cache n f (place_at s.lists.places machine_frame)
+  listed_same n f machine_frame =
       ⊎_elim
       (λ same. subst (λ x. is_of_cache n f (place_at s'.lists.places x) ≡ is_of_cache n f (place_at s.lists.places x)) (sym same) (k.listed n f))
-      (λ differ. ap (is_of_cache n f) (k.lists node differ))
-      (cases_eq node o.node)
+      (λ differ. ap (is_of_cache n f) (k.lists machine_frame differ))
+      (cases_eq machine_frame o.machine_frame)
 
-  pub colour_same : (node : ℕ) → (kept_at s'.kept node).colour ≡ (kept_at s.kept node).colour
-  colour_same node =
+  pub colour_same : (machine_frame : ℕ) → (kept_at s'.kept machine_frame).colour ≡ (kept_at s.kept machine_frame).colour
+  colour_same machine_frame =
       ⊎_elim
       (λ same. subst (λ x. (kept_at s'.kept x).colour ≡ (kept_at s.kept x).colour) (sym same) k.colour)
-      (λ differ. ap (λ kept. kept.colour) (k.kept node differ))
-      (cases_eq node o.node)
+      (λ differ. ap (λ kept. kept.colour) (k.kept machine_frame differ))
+      (cases_eq machine_frame o.machine_frame)
 
   pub slab_was : (d f n : ℕ) (cache : own.Cache) → IsSlab r' s' t d f n cache → IsSlab r s t d f n cache
   slab_was d f n cache p = record {
     cached = sym (k.caches d) ∙ p.cached;
-    under = sym (node_same f) ∙ p.under;
+    under = sym (machine_frame_same f) ∙ p.under;
     listed = sym (listed_same (index_of_cache t d) f n) ∙ p.listed;
   }
 
   pub slab_is : (d f n : ℕ) (cache : own.Cache) → IsSlab r s t d f n cache → IsSlab r' s' t d f n cache
   slab_is d f n cache p = record {
     cached = k.caches d ∙ p.cached;
-    under = node_same f ∙ p.under;
+    under = machine_frame_same f ∙ p.under;
     listed = listed_same (index_of_cache t d) f n ∙ p.listed;
   }
 
-  -- a node has a slab exactly where it had one
-  has_same_at : (node : ℕ) → is_some (place_at s'.lists.places node) ≡ is_some (place_at s.lists.places node)
-  has_same_at node =
+  -- a machine frame has a slab exactly where it had one
+  has_same_at : (machine_frame : ℕ) → is_some (place_at s'.lists.places machine_frame) ≡ is_some (place_at s.lists.places machine_frame)
+  has_same_at machine_frame =
       ⊎_elim
       (λ same. subst (λ x. is_some (place_at s'.lists.places x) ≡ is_some (place_at s.lists.places x)) (sym same)
-      (some_of (place_at s'.lists.places o.node) (k.listed (index_of_cache t c) o.first ∙ q.listed)
-      ∙ sym (some_of (place_at s.lists.places o.node) q.listed)))
-      (λ differ. ap is_some (k.lists node differ))
-      (cases_eq node o.node)
+      (some_of (place_at s'.lists.places o.machine_frame) (k.listed (index_of_cache t c) o.first ∙ q.listed)
+      ∙ sym (some_of (place_at s.lists.places o.machine_frame) q.listed)))
+      (λ differ. ap is_some (k.lists machine_frame differ))
+      (cases_eq machine_frame o.machine_frame)
     where
       some_of : (place : Option (ℕ × ℕ)) → is_of_cache (index_of_cache t c) o.first place ≡ true → is_some place ≡ true
       some_of None e = absurd (false≢true e)
@@ -83,10 +83,10 @@ module _ (r r' : spaces.Content) (b : buddies.Content) (s s' : Content) (t c : �
 
   has_same_under : (n : Option ℕ) → has_slab s' n ≡ has_slab s n
   has_same_under None = refl
-  has_same_under (Some node) = has_same_at node
+  has_same_under (Some machine_frame) = has_same_at machine_frame
 
-  pub has_same : (f : ℕ) → has_slab s' (node_of s'.top r'.slots t f) ≡ has_slab s (node_of s.top r.slots t f)
-  has_same f = ap (has_slab s') (node_same f) ∙ has_same_under (node_of s.top r.slots t f)
+  pub has_same : (f : ℕ) → has_slab s' (machine_frame_of s'.top r'.slots t f) ≡ has_slab s (machine_frame_of s.top r.slots t f)
+  has_same f = ap (has_slab s') (machine_frame_same f) ∙ has_same_under (machine_frame_of s.top r.slots t f)
 
   -- another slab's record is none of the marked one's bytes
   record_stays : (f : ℕ) → f ≢ o.first → (j : ℕ) → j < 32 → record_byte r' t f j ≡ record_byte r t f j
@@ -96,9 +96,9 @@ module _ (r r' : spaces.Content) (b : buddies.Content) (s s' : Content) (t c : �
   -- slabs but the marked one
   pub slab_other : (d f : ℕ) (cache : own.Cache) → cache_at s t d ≡ Some cache → f ≢ o.first → slab_at r' s' t d cache f ≡ slab_at r s t d cache f
   slab_other d f cache cached differ =
-      same_slab r r' s s' t d f cache (node_same f) (λ n under. listed_same (index_of_cache t d) f n)
+      same_slab r r' s s' t d f cache (machine_frame_same f) (λ n under. listed_same (index_of_cache t d) f n)
       (λ n under listed.
-      let other : n ≢ o.node = λ same. differ (one_node r b s t st f o.first n under (q.under ∙ ap (λ x. Some x) (sym same))) in (
+      let other : n ≢ o.machine_frame = λ same. differ (one_machine_frame r b s t st f o.first n under (q.under ∙ ap (λ x. Some x) (sym same))) in (
         k.kept n other,
         live_stays r b s t st r' (kept_at s.kept n) d f n cache (record { cached = cached; under = under; listed = listed })
             (λ small j less. record_stays f differ j less),
@@ -107,29 +107,29 @@ module _ (r r' : spaces.Content) (b : buddies.Content) (s s' : Content) (t c : �
   -- the marked frame has no slab of another cache
   pub slab_none : (d : ℕ) (cache : own.Cache) → d ≢ c → slab_at r' s' t d cache o.first ≡ slab_at r s t d cache o.first
   slab_none d cache differ =
-      let unlisted : is_of_cache (index_of_cache t d) o.first (place_at s.lists.places o.node) ≡ false =
-      false_from_ne_true (is_of_cache (index_of_cache t d) o.first (place_at s.lists.places o.node)) (λ e.
+      let unlisted : is_of_cache (index_of_cache t d) o.first (place_at s.lists.places o.machine_frame) ≡ false =
+      false_from_ne_true (is_of_cache (index_of_cache t d) o.first (place_at s.lists.places o.machine_frame)) (λ e.
       let same : index_of_cache t d ≡ index_of_cache t c =
-      (one_listed (index_of_cache t c) o.first (index_of_cache t d) o.first (place_at s.lists.places o.node) q.listed e).0 in
+      (one_listed (index_of_cache t c) o.first (index_of_cache t d) o.first (place_at s.lists.places o.machine_frame) q.listed e).0 in
       differ (omega arith)) in
-      ap (slab_under r' s' t (index_of_cache t d) cache o.first) (node_same o.first ∙ q.under)
-      ∙ ap (slab_placed (live_of r' t cache (kept_at s'.kept o.node) o.first) (kept_at s'.kept o.node).colour o.first)
-      (listed_same (index_of_cache t d) o.first o.node ∙ unlisted)
+      ap (slab_under r' s' t (index_of_cache t d) cache o.first) (machine_frame_same o.first ∙ q.under)
+      ∙ ap (slab_placed (live_of r' t cache (kept_at s'.kept o.machine_frame) o.first) (kept_at s'.kept o.machine_frame).colour o.first)
+      (listed_same (index_of_cache t d) o.first o.machine_frame ∙ unlisted)
       ∙ sym (ap (slab_under r s t (index_of_cache t d) cache o.first) q.under
-      ∙ ap (slab_placed (live_of r t cache (kept_at s.kept o.node) o.first) (kept_at s.kept o.node).colour o.first) unlisted)
+      ∙ ap (slab_placed (live_of r t cache (kept_at s.kept o.machine_frame) o.first) (kept_at s.kept o.machine_frame).colour o.first) unlisted)
 
   -- the marked one
-  pub slab_before : slab_at r s t c o.cache o.first ≡ Some (shown r s t c o.cache q.cached o.first o.node)
-  slab_before = slab_shown r s t c o.cache q.cached o.first o.node q
+  pub slab_before : slab_at r s t c o.cache o.first ≡ Some (shown r s t c o.cache q.cached o.first o.machine_frame)
+  slab_before = slab_shown r s t c o.cache q.cached o.first o.machine_frame q
 
   pub slab_after : slab_at r' s' t c o.cache o.first
-      ≡ Some (with_live o.index v (shown r s t c o.cache q.cached o.first o.node))
+      ≡ Some (with_live o.index v (shown r s t c o.cache q.cached o.first o.machine_frame))
   slab_after =
-      ap (slab_under r' s' t (index_of_cache t c) o.cache o.first) (node_same o.first ∙ q.under)
-      ∙ ap (slab_placed (live_of r' t o.cache (kept_at s'.kept o.node) o.first) (kept_at s'.kept o.node).colour o.first)
+      ap (slab_under r' s' t (index_of_cache t c) o.cache o.first) (machine_frame_same o.first ∙ q.under)
+      ∙ ap (slab_placed (live_of r' t o.cache (kept_at s'.kept o.machine_frame) o.first) (kept_at s'.kept o.machine_frame).colour o.first)
       (k.listed (index_of_cache t c) o.first ∙ q.listed)
-      ∙ ap (λ live. Some (slab live (kept_at s'.kept o.node).colour)) k.live
-      ∙ ap (λ colour. Some (slab (slice_set (live_of r t o.cache (kept_at s.kept o.node) o.first) o.index v) colour)) k.colour
+      ∙ ap (λ live. Some (slab live (kept_at s'.kept o.machine_frame).colour)) k.live
+      ∙ ap (λ colour. Some (slab (slice_set (live_of r t o.cache (kept_at s.kept o.machine_frame) o.first) o.index v) colour)) k.colour
     where
       slab : List Bool → ℕ → Slab
       slab live colour = record { first = o.first; colour = colour; live = live }
@@ -138,16 +138,16 @@ module _ (r r' : spaces.Content) (b : buddies.Content) (s s' : Content) (t c : �
   off_record : (m : Machine) → ShowsMachine r b s t m → is_small (layout_numbers o.cache).chunk ≡ true → (place byte : ℕ) → m.bytes place ≡ Some byte
       → (j : ℕ) → j < 32 → place ≢ 4096 * o.first + 4064 + j
   off_record m h small place byte e j less same =
-      let fit : IsFit (layout_numbers o.cache) (kept_at s.kept o.node).colour =
-      let stands = st.stands c o.first o.node o.cache q in
+      let fit : IsFit (layout_numbers o.cache) (kept_at s.kept o.machine_frame).colour =
+      let stands = st.stands c o.first o.machine_frame o.cache q in
       subst (λ x. IsFit (layout_numbers o.cache) x) (sym stands.colour.1) (stands.layout.fits stands.colour.0) in
       let inside : is_inside place o.first o.cache ≡ true =
-      subst (λ x. is_inside x o.first o.cache ≡ true) (sym same) (record_inside r b s t st c o.first o.node j o.cache q less) in
+      subst (λ x. is_inside x o.first o.cache ≡ true) (sym same) (record_inside r b s t st c o.first o.machine_frame j o.cache q less) in
       let room = (fit.small small).1 in
       let ends = fit.inside in
-      let none : in_object (layout_numbers o.cache) o.cache.layout.size (kept_at s.kept o.node).colour (place - 4096 * o.first) ≡ false =
-      not_object (layout_numbers o.cache) o.cache.layout.size (kept_at s.kept o.node).colour (place - 4096 * o.first) fit.chunked (omega arith) in
-      false≢true (sym none ∙ sym (h.in_slab place c o.first o.node o.cache q inside) ∙ ap is_some e)
+      let none : in_object (layout_numbers o.cache) o.cache.layout.size (kept_at s.kept o.machine_frame).colour (place - 4096 * o.first) ≡ false =
+      not_object (layout_numbers o.cache) o.cache.layout.size (kept_at s.kept o.machine_frame).colour (place - 4096 * o.first) fit.chunked (omega arith) in
+      false≢true (sym none ∙ sym (h.in_slab place c o.first o.machine_frame o.cache q inside) ∙ ap is_some e)
 
   module _ (m : Machine) (x : Cache) (y : Slab) (h : ShowsMachine r b s t m) (ex : cache_of m c ≡ Some x) (ey : slab_of x o.first ≡ Some y) where
     abbrev marked_slab : Slab
@@ -166,7 +166,7 @@ module _ (r r' : spaces.Content) (b : buddies.Content) (s s' : Content) (t c : �
     first_is = found_key (λ z. z.first) o.first x.slabs y ey
 
     -- the machine's slab is the one that is shown
-    y_is : y ≡ shown r s t c o.cache q.cached o.first o.node
+    y_is : y ≡ shown r s t c o.cache q.cached o.first o.machine_frame
     y_is = some_same (sym ey ∙ h.slabs c o.first x o.cache ex q.cached ∙ slab_before)
 
     cache_marked : cache_of marked c ≡ Some marked_cache

@@ -83,30 +83,30 @@ module _ (r : spaces.Content) (b : buddies.Content) (s : Content) (t c : ℕ) (s
 
   pub one_object : (place : ℕ) (o u : Found) → IsLiveObject r s t c place o → IsLiveObject r s t c place u → IsOneObject o u
   one_object place o u is also =
-      let fit = fit_of o.first o.node o.cache is.slab in
+      let fit = fit_of o.first o.machine_frame o.cache is.slab in
       let first : u.first ≡ o.first =
       st.sound.apart u.first (layout_numbers u.cache).order o.first (layout_numbers o.cache).order (place / 4096)
-      (st.stands c u.first u.node u.cache also.slab).taken (st.stands c o.first o.node o.cache is.slab).taken
-      (lies (layout_numbers u.cache) u.first (kept_at s.kept u.node).colour u.index place (fit_of u.first u.node u.cache also.slab) also.index also.begins)
-      (lies (layout_numbers o.cache) o.first (kept_at s.kept o.node).colour o.index place fit is.index is.begins) in
-      let one = one_slab r s t c o.first o.node c u.first u.node o.cache u.cache is.slab also.slab first in
-      let here : object_place (layout_numbers o.cache) o.first (kept_at s.kept o.node).colour u.index ≡ place =
-      ap (λ f. object_place (layout_numbers o.cache) f (kept_at s.kept o.node).colour u.index) (sym first)
-      ∙ ap (λ n. object_place (layout_numbers o.cache) u.first (kept_at s.kept n).colour u.index) (sym one.node)
-      ∙ ap (λ x. object_place (layout_numbers x) u.first (kept_at s.kept u.node).colour u.index) (sym one.same)
+      (st.stands c u.first u.machine_frame u.cache also.slab).taken (st.stands c o.first o.machine_frame o.cache is.slab).taken
+      (lies (layout_numbers u.cache) u.first (kept_at s.kept u.machine_frame).colour u.index place (fit_of u.first u.machine_frame u.cache also.slab) also.index also.begins)
+      (lies (layout_numbers o.cache) o.first (kept_at s.kept o.machine_frame).colour o.index place fit is.index is.begins) in
+      let one = one_slab r s t c o.first o.machine_frame c u.first u.machine_frame o.cache u.cache is.slab also.slab first in
+      let here : object_place (layout_numbers o.cache) o.first (kept_at s.kept o.machine_frame).colour u.index ≡ place =
+      ap (λ f. object_place (layout_numbers o.cache) f (kept_at s.kept o.machine_frame).colour u.index) (sym first)
+      ∙ ap (λ n. object_place (layout_numbers o.cache) u.first (kept_at s.kept n).colour u.index) (sym one.machine_frame)
+      ∙ ap (λ x. object_place (layout_numbers x) u.first (kept_at s.kept u.machine_frame).colour u.index) (sym one.same)
       ∙ also.begins in
       let some : 0 < (layout_numbers o.cache).chunk = let chunked = fit.chunked in omega arith in
       record {
         first = first;
-        index = one_index (layout_numbers o.cache) o.first (kept_at s.kept o.node).colour u.index o.index some (here ∙ sym is.begins);
+        index = one_index (layout_numbers o.cache) o.first (kept_at s.kept o.machine_frame).colour u.index o.index some (here ∙ sym is.begins);
       }
 
   module _ (m : Machine) (h : ShowsMachine r b s t m) where
     -- a live object of the machine is one of the tables
     pub record IsObjectKept (place : ℕ) (x : Cache) (w : LiveObject) : Type 0 where
       pub kept : own.Cache
-      pub node : ℕ
-      pub object : IsLiveObject r s t c place (found kept w.slab.first node w.index)
+      pub machine_frame : ℕ
+      pub object : IsLiveObject r s t c place (found kept w.slab.first machine_frame w.index)
       pub standing : slab_of x w.slab.first ≡ Some w.slab
 
     pub object_kept : (place : ℕ) (x : Cache) (w : LiveObject) → cache_of m c ≡ Some x → IsIn w (live_objects x) → w.place ≡ place → IsObjectKept place x w
@@ -114,17 +114,17 @@ module _ (r : spaces.Content) (b : buddies.Content) (s : Content) (t c : ℕ) (s
         let live = live_is x w i in
         let standing : slab_of x w.slab.first ≡ Some w.slab = in_found (λ z. z.first) 0 w.slab x.slabs (h.slabs_rise c x ex) live.slab_in in
         let is = slab_of_machine r b s t m h c w.slab.first x w.slab ex standing in
-        let flag : ℕ → Bool = is_live r t is.kept (kept_at s.kept is.node) w.slab.first in
+        let flag : ℕ → Bool = is_live r t is.kept (kept_at s.kept is.machine_frame) w.slab.first in
         let count : length w.slab.live ≡ (layout_numbers is.kept).count = ap (λ y. length y.live) is.is ∙ length_flags 0 (layout_numbers is.kept).count flag in
         let less : w.index < (layout_numbers is.kept).count = let below = live.index_in in omega arith in
         record {
           kept = is.kept;
-          node = is.node;
+          machine_frame = is.machine_frame;
           object = record {
             slab = is.slab;
             index = less;
             live = sym (flag_at (layout_numbers is.kept).count w.index flag false less) ∙ sym (ap (λ y. get_or y.live w.index false) is.is) ∙ live.live;
-            begins = ap (λ l. object_place l w.slab.first (kept_at s.kept is.node).colour w.index) (sym is.layout)
+            begins = ap (λ l. object_place l w.slab.first (kept_at s.kept is.machine_frame).colour w.index) (sym is.layout)
                 ∙ ap (λ n. object_place (layout x) w.slab.first n w.index) (sym (ap (λ y. y.colour) is.is)) ∙ sym live.at ∙ e;
           };
           standing = standing;
@@ -141,7 +141,7 @@ module _ (r : spaces.Content) (b : buddies.Content) (s : Content) (t c : ℕ) (s
       where
         go : (o : Option LiveObject) → find (λ z. z.place == place) (live_objects x) ≡ o → o ≡ None
         go None e = refl
-        go (Some w) e = let is = found_kept place x w ex e in absurd (none (found is.kept w.slab.first is.node w.index) is.object)
+        go (Some w) e = let is = found_kept place x w ex e in absurd (none (found is.kept w.slab.first is.machine_frame w.index) is.object)
 
     -- a live object of the tables is one of the machine
     pub record IsObjectIn (o : Found) : Type 0 where
@@ -150,13 +150,13 @@ module _ (r : spaces.Content) (b : buddies.Content) (s : Content) (t c : ℕ) (s
       pub cached : cache_of m c ≡ Some cache
       pub standing : slab_of cache o.first ≡ Some slab
       pub listed : IsIn (object_of cache slab o.index) (live_objects cache)
-      pub begins : object_place (layout cache) slab.first slab.colour o.index ≡ object_place (layout_numbers o.cache) o.first (kept_at s.kept o.node).colour o.index
+      pub begins : object_place (layout cache) slab.first slab.colour o.index ≡ object_place (layout_numbers o.cache) o.first (kept_at s.kept o.machine_frame).colour o.index
 
     pub object_in : (place : ℕ) (o : Found) → IsLiveObject r s t c place o → IsObjectIn o
     object_in place o is =
-        let there = slab_in r b s t m h c o.first o.node o.cache is.slab in
+        let there = slab_in r b s t m h c o.first o.machine_frame o.cache is.slab in
         let x = there.there.shown in
-        let flag : ℕ → Bool = is_live r t o.cache (kept_at s.kept o.node) o.first in
+        let flag : ℕ → Bool = is_live r t o.cache (kept_at s.kept o.machine_frame) o.first in
         let count = length_flags 0 (layout_numbers o.cache).count flag in
         let index = is.index in
         record {
@@ -166,7 +166,7 @@ module _ (r : spaces.Content) (b : buddies.Content) (s : Content) (t c : ℕ) (s
           standing = there.slab;
           listed = in_flat_map (live_in x) _ _ x.slabs (find_in _ _ x.slabs there.slab).0
               (live_object x _ o.index (omega arith) (flag_at (layout_numbers o.cache).count o.index flag false is.index ∙ is.live));
-          begins = ap (λ l. object_place l o.first (kept_at s.kept o.node).colour o.index) there.there.layout;
+          begins = ap (λ l. object_place l o.first (kept_at s.kept o.machine_frame).colour o.index) there.there.layout;
         }
 
 pub not_found_refuses : NotFoundRefuses
@@ -198,7 +198,7 @@ found_gives r b s t c place o m st h is =
     go x y ex ey some None e = absurd (some e)
     go x y ex ey some (Some w) e =
         let also = found_kept r b s t c st m h place x w ex e in
-        let one = one_object r b s t c st place o (found also.kept w.slab.first also.node w.index) is also.object in
+        let one = one_object r b s t c st place o (found also.kept w.slab.first also.machine_frame w.index) is also.object in
         let same : w.slab ≡ y = some_same (sym also.standing ∙ ap (slab_of x) one.first ∙ ey) in
         ap (λ (i : ℕ). give_object x m (Some (record w { index = i }))) one.index
         ∙ ap (λ (z : Slab). give_object x m (Some (record w { index = o.index; slab = z }))) same

@@ -11,7 +11,7 @@ use Rattle.model_core.proofs.TakenSteps.{order_in_is}
 use Rattle.space_core.specs.Content as spaces
 use Rattle.buddy_core.specs.Content as buddies
 use Rattle.slab_tables.specs.Content.{Content}
-use Rattle.machine_changes.specs.Shows.{node_of, has_slab, ShowsMachine}
+use Rattle.machine_changes.specs.Shows.{machine_frame_of, has_slab, ShowsMachine}
 use Rattle.machine_changes.specs.Steady.{IsSteady}
 use Rattle.machine_changes.proofs.Lookups.{some_none, some_same}
 use Rattle.machine_changes.specs.Pages.{IsInPage, BlockDecides, NoBlockDecides}
@@ -19,8 +19,8 @@ use Rattle.machine_changes.proofs.PageLists.{order_told}
 
 module _ (r : spaces.Content) (b : buddies.Content) (s : Content) (t place len : ℕ) (m : Machine) (h : ShowsMachine r b s t m) where
   -- an order told by a page block is that of a taken block, and no slab's
-  page_taken : (f k : ℕ) (v : Bool) → has_slab s (node_of s.top r.slots t f) ≡ v → cond v None (buddies.taken_of (buddies.holding_of t b) f) ≡ Some k
-      → (has_slab s (node_of s.top r.slots t f) ≡ false) × (buddies.taken_of (buddies.holding_of t b) f ≡ Some k)
+  page_taken : (f k : ℕ) (v : Bool) → has_slab s (machine_frame_of s.top r.slots t f) ≡ v → cond v None (buddies.taken_of (buddies.holding_of t b) f) ≡ Some k
+      → (has_slab s (machine_frame_of s.top r.slots t f) ≡ false) × (buddies.taken_of (buddies.holding_of t b) f ≡ Some k)
   page_taken f k true is e = absurd (some_none (sym e))
   page_taken f k false is e = (is, e)
 
@@ -28,7 +28,7 @@ module _ (r : spaces.Content) (b : buddies.Content) (s : Content) (t place len :
   page_tells e =
       let z = some_any (within_block place len) m.blocks e in
       let told : order_in m.blocks z.0.first ≡ Some z.0.order = order_told z.0 m.blocks h.blocks_rise z.1 in
-      let page = page_taken z.0.first z.0.order (has_slab s (node_of s.top r.slots t z.0.first)) refl (sym (h.blocks z.0.first) ∙ told) in
+      let page = page_taken z.0.first z.0.order (has_slab s (machine_frame_of s.top r.slots t z.0.first)) refl (sym (h.blocks z.0.first) ∙ told) in
       let inside = and_parts (nat_le (4096 * z.0.first) place) (nat_le (place + len) (4096 * z.0.first + 4096 * 2 ^ z.0.order)) z.2 in
       let begins : 4096 * z.0.first ≤ place = leb-true (4096 * z.0.first) place inside.0 in
       let ends : place + len ≤ 4096 * z.0.first + 4096 * 2 ^ z.0.order = leb-true (place + len) (4096 * z.0.first + 4096 * 2 ^ z.0.order) inside.1 in
@@ -63,14 +63,14 @@ module _ (r : spaces.Content) (b : buddies.Content) (s : Content) (t place len :
         let same : p.first ≡ first = st.sound.apart p.first p.order first order (place / 4096) p.taken taken (first_frame p) has in
         (same, some_same (sym p.taken ∙ (ap (buddies.taken_of (buddies.holding_of t b)) same ∙ taken)))
 
-    tells : IsInPage r b s t place len → (has_slab s (node_of s.top r.slots t first) ≡ false) × (place + len ≤ 4096 * (first + 2 ^ order))
+    tells : IsInPage r b s t place len → (has_slab s (machine_frame_of s.top r.slots t first) ≡ false) × (place + len ≤ 4096 * (first + 2 ^ order))
     tells p =
         let is = block_is p in (
-          subst (λ f. has_slab s (node_of s.top r.slots t f) ≡ false) is.0 p.page,
+          subst (λ f. has_slab s (machine_frame_of s.top r.slots t f) ≡ false) is.0 p.page,
           subst (λ f. place + len ≤ 4096 * (f + 2 ^ order)) is.0 (subst (λ k. place + len ≤ 4096 * (p.first + 2 ^ k)) is.1 p.ends),
         )
 
-    told : (has_slab s (node_of s.top r.slots t first) ≡ false) × (place + len ≤ 4096 * (first + 2 ^ order)) → IsInPage r b s t place len
+    told : (has_slab s (machine_frame_of s.top r.slots t first) ≡ false) × (place + len ≤ 4096 * (first + 2 ^ order)) → IsInPage r b s t place len
     told is = record { first = first; order = order; taken = taken; page = is.0; begins = begins_at first place has.0; ends = is.1 }
 
 pub block_decides : BlockDecides

@@ -10,7 +10,7 @@ use Rattle.space_core.specs.Laws.{IsSameFor}
 use Rattle.buddy_core.specs.Content as buddies
 use Rattle.slab_tables.specs.declared.cache.Cache as own
 use Rattle.slab_tables.specs.Content.{Content, layout_numbers}
-use Rattle.machine_changes.specs.Shows.{node_of, has_slab, IsAgreed, Agree}
+use Rattle.machine_changes.specs.Shows.{machine_frame_of, has_slab, IsAgreed, Agree}
 use Rattle.machine_changes.specs.Keeps.{IsSameCaches, Spares}
 use Rattle.machine_changes.proofs.Lookups.{some_none}
 
@@ -51,7 +51,7 @@ same_caches t r s = record { top = refl; caches = λ c. refl; lists = λ f n und
 -- tenant t holds h now, with the same slots, and with the same taken blocks where slabs begin
 module _ (r : spaces.Content) (b : buddies.Content) (s : Content) (t : ℕ) (a : Agree r b s) (h : buddies.Holding)
     (is : buddies.holding_of t (buddies.with_holding t h b) ≡ h) (slots : h.slots ≡ (buddies.holding_of t b).slots)
-    (stays : (f : ℕ) → has_slab s (node_of s.top r.slots t f) ≡ true → buddies.taken_of (buddies.holding_of t b) f ≢ None → buddies.taken_of h f ≡ buddies.taken_of (buddies.holding_of t b) f) where
+    (stays : (f : ℕ) → has_slab s (machine_frame_of s.top r.slots t f) ≡ true → buddies.taken_of (buddies.holding_of t b) f ≢ None → buddies.taken_of h f ≡ buddies.taken_of (buddies.holding_of t b) f) where
   abbrev b' : buddies.Content
   b' = buddies.with_holding t h b
 
@@ -63,14 +63,14 @@ module _ (r : spaces.Content) (b : buddies.Content) (s : Content) (t : ℕ) (a :
       (cases_eq u t)
 
   -- the taken block of a slab, of whichever tenant
-  taken_stays : (node head key : ℕ) (cache : own.Cache) → place_at s.lists.places node ≡ Some (head, key) → IsAgreed r b s node head key cache
+  taken_stays : (machine_frame head key : ℕ) (cache : own.Cache) → place_at s.lists.places machine_frame ≡ Some (head, key) → IsAgreed r b s machine_frame head key cache
       → (u : ℕ) → head / 3 / MOST_CACHES ≡ u → buddies.taken_of (buddies.holding_of u b') key ≡ buddies.taken_of (buddies.holding_of u b) key
-  taken_stays node head key cache place x u tenant =
+  taken_stays machine_frame head key cache place x u tenant =
       ⊎_elim
       (λ (same : u ≡ t).
       let mine : head / 3 / MOST_CACHES ≡ t = tenant ∙ same in
-      let has : has_slab s (node_of s.top r.slots t key) ≡ true =
-      ap (λ v. has_slab s (node_of s.top r.slots v key)) (sym mine) ∙ (ap (has_slab s) x.under ∙ ap is_some place) in
+      let has : has_slab s (machine_frame_of s.top r.slots t key) ≡ true =
+      ap (λ v. has_slab s (machine_frame_of s.top r.slots v key)) (sym mine) ∙ (ap (has_slab s) x.under ∙ ap is_some place) in
       let taken = subst (λ v. buddies.taken_of (buddies.holding_of v b) key ≡ Some (layout_numbers cache).order) mine x.taken in
       subst (λ v. buddies.taken_of (buddies.holding_of v b') key ≡ buddies.taken_of (buddies.holding_of v b) key) (sym same)
       (ap (λ y. buddies.taken_of y key) is ∙ stays key has (λ none. some_none (sym taken ∙ none))))
@@ -82,15 +82,15 @@ module _ (r : spaces.Content) (b : buddies.Content) (s : Content) (t : ℕ) (a :
     order = a.order;
     unit = a.unit;
     superblocks = a.superblocks;
-    nodes = a.nodes;
+    machine_frames = a.machine_frames;
     rows = a.rows ∙ sym (length-set b.tenants t h);
     tenants = a.tenants ∙ ap (λ n. MOST_CACHES * n) (sym (length-set b.tenants t h));
     slots = λ u v. ap (λ xs. slice_index_or xs v None) (slots_same u) ∙ a.slots u v;
-    slabs = λ node head key cache place cached.
-        let x = a.slabs node head key cache place cached in
+    slabs = λ machine_frame head key cache place cached.
+        let x = a.slabs machine_frame head key cache place cached in
         record {
           under = x.under;
-          taken = taken_stays node head key cache place x (head / 3 / MOST_CACHES) refl ∙ x.taken;
+          taken = taken_stays machine_frame head key cache place x (head / 3 / MOST_CACHES) refl ∙ x.taken;
           counted = x.counted;
           rest = x.rest;
         };

@@ -16,7 +16,7 @@ use Rattle.space_core.proofs.Ranges.{range_held}
 use Rattle.buddy_core.specs.Content as buddies
 use Rattle.slab_tables.specs.declared.cache.Cache as own
 use Rattle.slab_tables.specs.Content.{Content, kept_at, layout_numbers}
-use Rattle.machine_changes.specs.Shows.{node_of, has_slab, is_inside, IsSlab, ShowsMachine}
+use Rattle.machine_changes.specs.Shows.{machine_frame_of, has_slab, is_inside, IsSlab, ShowsMachine}
 use Rattle.machine_changes.specs.Steady.{IsSteady}
 use Rattle.machine_changes.specs.Changes.{Found}
 use Rattle.machine_changes.proofs.Facts.{has_it}
@@ -51,16 +51,16 @@ object_byte l size colour i j off wide inside within sized less few e =
 module _ (r : spaces.Content) (b : buddies.Content) (s : Content) (t place len : ℕ) (st : IsSteady r b s t) (o : Found) (g : HasRange r s t place len o) where
   -- a place of the range is one of the object's bytes
   pub byte_of : (p : ℕ) → place ≤ p → p < place + len
-      → (4096 * o.first ≤ p) × IsObjectByte (layout_numbers o.cache) o.cache.layout.size (kept_at s.kept o.node).colour (p - 4096 * o.first) (2 ^ (layout_numbers o.cache).order)
+      → (4096 * o.first ≤ p) × IsObjectByte (layout_numbers o.cache) o.cache.layout.size (kept_at s.kept o.machine_frame).colour (p - 4096 * o.first) (2 ^ (layout_numbers o.cache).order)
   byte_of p low high =
-      let fit = fit_of r b s t g.number st o.first o.node o.cache g.object.slab in
+      let fit = fit_of r b s t g.number st o.first o.machine_frame o.cache g.object.slab in
       let begins = g.object.begins in
       let from = g.from in
       let to = g.to in
       let base : 4096 * o.first ≤ p = omega arith in (
         base,
-        object_byte (layout_numbers o.cache) o.cache.layout.size (kept_at s.kept o.node).colour o.index (p - g.begin) (p - 4096 * o.first)
-            fit.chunked fit.inside fit.within (st.stands g.number o.first o.node o.cache g.object.slab).layout.chunked g.object.index (omega arith) (omega arith),
+        object_byte (layout_numbers o.cache) o.cache.layout.size (kept_at s.kept o.machine_frame).colour o.index (p - g.begin) (p - 4096 * o.first)
+            fit.chunked fit.inside fit.within (st.stands g.number o.first o.machine_frame o.cache g.object.slab).layout.chunked g.object.index (omega arith) (omega arith),
       )
 
 -- Ranges inside one taken block
@@ -89,7 +89,7 @@ object_block r b s t place len st o g =
     record {
       first = o.first;
       order = (layout_numbers o.cache).order;
-      taken = (st.stands g.number o.first o.node o.cache g.object.slab).taken;
+      taken = (st.stands g.number o.first o.machine_frame o.cache g.object.slab).taken;
       begins = low.0;
       ends = omega arith;
     }
@@ -128,7 +128,7 @@ module _ (r : spaces.Content) (b : buddies.Content) (s : Content) (t place len :
       let same : f ≡ g.first =
       st.sound.apart f (layout_numbers cache).order g.first g.order (p / 4096) (st.stands c f n cache q).taken g.taken
       (in_block-true p (block f (layout_numbers cache).order) inside) frame in
-      false≢true (sym g.page ∙ subst (λ x. has_slab s (node_of s.top r.slots t x) ≡ true) same (has_it r s t c f n cache q)))
+      false≢true (sym g.page ∙ subst (λ x. has_slab s (machine_frame_of s.top r.slots t x) ≡ true) same (has_it r s t c f n cache q)))
 
   -- a place of an object lies in its slab
   pub object_inside : (o : Found) (g : HasRange r s t place len o) (p : ℕ) → place ≤ p → p < place + len → is_inside p o.first o.cache ≡ true
@@ -150,7 +150,7 @@ module _ (r : spaces.Content) (b : buddies.Content) (s : Content) (t place len :
       h.mapped p (page_outside r b s t place len st page p low high)
       ∙ (h.slots (slot_of s.top p) ∙ held r b s t place len st (page_block r b s t place len page) p low high))
       (λ object.
-      h.in_slab p object.1.number object.0.first object.0.node object.0.cache object.1.object.slab
+      h.in_slab p object.1.number object.0.first object.0.machine_frame object.0.cache object.1.object.slab
       (object_inside r b s t place len st object.0 object.1 p low high)
       ∙ (byte_of r b s t place len st object.0 object.1 p low high).1.object)
       is.inside

@@ -17,7 +17,7 @@ use Rattle.space_core.specs.Content as spaces
 use Rattle.buddy_core.specs.Content as buddies
 use Rattle.slab_tables.specs.declared.cache.Cache as own
 use Rattle.slab_tables.specs.Content.{Content, cache_at, index_of_cache, layout_numbers}
-use Rattle.machine_changes.specs.Shows.{node_of, is_of_cache, without_slabs, is_inside, IsSlab, ShowsMachine}
+use Rattle.machine_changes.specs.Shows.{machine_frame_of, is_of_cache, without_slabs, is_inside, IsSlab, ShowsMachine}
 use Rattle.machine_changes.proofs.Lookups.{some_none, some_same, at, found_key, in_found}
 use Rattle.machine_changes.proofs.Facts.{one_slab, cache_kept}
 use Rattle.machine_changes.proofs.Reserved.{order_found}
@@ -48,9 +48,9 @@ module _ (r : spaces.Content) (s : Content) (t place : ℕ) where
   record IsInSlab : Type 0 where
     number : ℕ
     first : ℕ
-    node : ℕ
+    machine_frame : ℕ
     cache : own.Cache
-    slab : IsSlab r s t number first node cache
+    slab : IsSlab r s t number first machine_frame cache
     inside : is_inside place first cache ≡ true
 
   -- no slab at the frame has it
@@ -69,20 +69,20 @@ module _ (r : spaces.Content) (s : Content) (t place : ℕ) where
       let index : p.0 / 3 ≡ index_of_cache t c = eqb-true (p.0 / 3) (index_of_cache t c) (and_parts (p.0 / 3 == index_of_cache t c) (p.1 == f) e).0 in
       omega arith
 
-  module _ (f n : ℕ) (under : node_of s.top r.slots t f ≡ Some n) where
+  module _ (f n : ℕ) (under : machine_frame_of s.top r.slots t f ≡ Some n) where
     abbrev c : ℕ
     c = number_in (place_at s.lists.places n)
 
     -- a slab at the frame is one of this cache
     only : (d x : ℕ) (cache : own.Cache) → IsSlab r s t d f x cache → (d ≡ c) × IsSlab r s t c f n cache
     only d x cache q =
-        let node : x ≡ n = some_same (sym q.under ∙ under) in
-        let here : IsSlab r s t d f n cache = subst (λ z. IsSlab r s t d f z cache) node q in
+        let machine_frame : x ≡ n = some_same (sym q.under ∙ under) in
+        let here : IsSlab r s t d f n cache = subst (λ z. IsSlab r s t d f z cache) machine_frame q in
         let number : d ≡ c = number_is d f (place_at s.lists.places n) here.listed in
         (number, subst (λ z. IsSlab r s t z f n cache) number here)
 
     with_slab : (cache : own.Cache) → IsSlab r s t c f n cache → (v : Bool) → is_inside place f cache ≡ v → IsInSlab ⊎ IsApart f
-    with_slab cache q true inside = inl (record { number = c; first = f; node = n; cache = cache; slab = q; inside = inside })
+    with_slab cache q true inside = inl (record { number = c; first = f; machine_frame = n; cache = cache; slab = q; inside = inside })
     with_slab cache q false outside =
         inr (λ d x other p.
         let one = one_slab r s t c f n c f n cache other q (only d x other p).1 refl in
@@ -94,16 +94,16 @@ module _ (r : spaces.Content) (s : Content) (t place : ℕ) where
         with_slab cache (record { cached = cached; under = under; listed = listed }) (is_inside place f cache) refl
     with_cache cache cached false unlisted = inr (λ d x other p. absurd (false≢true (sym unlisted ∙ (only d x other p).1.listed)))
 
-    with_node : (o : Option own.Cache) → cache_at s t c ≡ o → IsInSlab ⊎ IsApart f
-    with_node None none = inr (λ d x other p. absurd (some_none (sym (only d x other p).1.cached ∙ none)))
-    with_node (Some cache) cached = with_cache cache cached (is_of_cache (index_of_cache t c) f (place_at s.lists.places n)) refl
+    with_machine_frame : (o : Option own.Cache) → cache_at s t c ≡ o → IsInSlab ⊎ IsApart f
+    with_machine_frame None none = inr (λ d x other p. absurd (some_none (sym (only d x other p).1.cached ∙ none)))
+    with_machine_frame (Some cache) cached = with_cache cache cached (is_of_cache (index_of_cache t c) f (place_at s.lists.places n)) refl
 
   at_frame : (f : ℕ) → IsInSlab ⊎ IsApart f
-  at_frame f = go (node_of s.top r.slots t f) refl
+  at_frame f = go (machine_frame_of s.top r.slots t f) refl
     where
-      go : (o : Option ℕ) → node_of s.top r.slots t f ≡ o → IsInSlab ⊎ IsApart f
+      go : (o : Option ℕ) → machine_frame_of s.top r.slots t f ≡ o → IsInSlab ⊎ IsApart f
       go None none = inr (λ d x other p. absurd (some_none (sym p.under ∙ none)))
-      go (Some n) under = with_node f n under (cache_at s t (number_in (place_at s.lists.places n))) refl
+      go (Some n) under = with_machine_frame f n under (cache_at s t (number_in (place_at s.lists.places n))) refl
 
   below : (k : ℕ) → IsInSlab ⊎ ((f : ℕ) → f < k → IsApart f)
   below zero = inr (λ f less. absurd (omega arith))
@@ -155,7 +155,7 @@ module _ (r : spaces.Content) (b : buddies.Content) (s : Content) (t : ℕ) (m n
   mapped_same : (place : ℕ) → is_some (m.bytes place) ≡ is_some (n.bytes place)
   mapped_same place =
       ⊎_elim
-      (λ is. h.in_slab place is.number is.first is.node is.cache is.slab is.inside ∙ sym (h'.in_slab place is.number is.first is.node is.cache is.slab is.inside))
+      (λ is. h.in_slab place is.number is.first is.machine_frame is.cache is.slab is.inside ∙ sym (h'.in_slab place is.number is.first is.machine_frame is.cache is.slab is.inside))
       (λ out. h.mapped place out ∙ (h.slots (slot_of s.top place) ∙ (sym (h'.slots (slot_of s.top place)) ∙ sym (h'.mapped place out))))
       (in_slab_or_none r s t place)
 

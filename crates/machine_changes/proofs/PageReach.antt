@@ -35,7 +35,7 @@ module _ (r : spaces.Content) (b : buddies.Content) (s : Content) (t place len :
       let there = cache_shown r b s t m h x.0.number is.kept is.object.slab.cached in
       let same : x.0.size ≡ is.kept.layout.size = ap (λ z. z.size) (some_same (sym cached ∙ there.cached)) ∙ ap (λ z. z.size) there.same in
       let high : place + len ≤ w.0.place + x.0.size = leb-true (place + len) (w.0.place + x.0.size) range.1 in (
-        found is.kept w.0.slab.first is.node w.0.index,
+        found is.kept w.0.slab.first is.machine_frame w.0.index,
         record {
           number = x.0.number;
           begin = w.0.place;
@@ -49,23 +49,23 @@ module _ (r : spaces.Content) (b : buddies.Content) (s : Content) (t place len :
   -- and back
   pub object_from : (o : Found) → HasRange r s t place len o → list_any (within_objects place len) m.caches ≡ true
   object_from o g =
-      let there = slab_in r b s t m h g.number o.first o.node o.cache g.object.slab in
+      let there = slab_in r b s t m h g.number o.first o.machine_frame o.cache g.object.slab in
       let x : Cache = there.there.shown in
-      let y : Slab = shown r s t g.number o.cache g.object.slab.cached o.first o.node in
-      let flag : ℕ → Bool = is_live r t o.cache (kept_at s.kept o.node) o.first in
+      let y : Slab = shown r s t g.number o.cache g.object.slab.cached o.first o.machine_frame in
+      let flag : ℕ → Bool = is_live r t o.cache (kept_at s.kept o.machine_frame) o.first in
       let long : length y.live ≡ (layout_numbers o.cache).count = length_flags 0 (layout_numbers o.cache).count flag in
       let less = g.object.index in
       let object : IsIn (object_of x y o.index) (live_objects x) =
       in_flat_map (live_in x) (object_of x y o.index) y x.slabs (find_in (λ z. eqb z.first o.first) y x.slabs there.slab).0
       (live_object x y o.index (omega arith) (flag_at (layout_numbers o.cache).count o.index flag false less ∙ g.object.live)) in
-      let begin : object_place (layout x) o.first (kept_at s.kept o.node).colour o.index ≡ g.begin =
-      ap (λ l. object_place l o.first (kept_at s.kept o.node).colour o.index) there.there.layout ∙ g.object.begins in
+      let begin : object_place (layout x) o.first (kept_at s.kept o.machine_frame).colour o.index ≡ g.begin =
+      ap (λ l. object_place l o.first (kept_at s.kept o.machine_frame).colour o.index) there.there.layout ∙ g.object.begins in
       let size : x.size ≡ o.cache.layout.size = ap (λ z. z.size) there.there.same in
       let from = g.from in
       let to = g.to in
       let within : within_object x place len (object_of x y o.index) ≡ true =
-      and_from _ _ (le-leb (object_place (layout x) o.first (kept_at s.kept o.node).colour o.index) place (omega arith))
-      (le-leb (place + len) (object_place (layout x) o.first (kept_at s.kept o.node).colour o.index + x.size) (omega arith)) in
+      and_from _ _ (le-leb (object_place (layout x) o.first (kept_at s.kept o.machine_frame).colour o.index) place (omega arith))
+      (le-leb (place + len) (object_place (layout x) o.first (kept_at s.kept o.machine_frame).colour o.index + x.size) (omega arith)) in
       any_in (within_objects place len) x m.caches (find_in (λ z. eqb z.number g.number) x m.caches there.there.cached).0
       (any_in (within_object x place len) (object_of x y o.index) (live_objects x) object within)
 

@@ -12,9 +12,9 @@ use Rattle.slab_tables.specs.declared.cache.Cache as own
 use Rattle.slab_tables.specs.declared.cache.Kept.{Kept}
 use Rattle.slab_tables.specs.Content.{Content, kept_at, layout_numbers}
 use Rattle.machine_changes.specs.Records.{is_set}
-use Rattle.machine_changes.specs.Shows.{node_of, byte_or_zero, record_byte, is_live}
+use Rattle.machine_changes.specs.Shows.{machine_frame_of, byte_or_zero, record_byte, is_live}
 use Rattle.machine_changes.proofs.Lookups.{some_same}
-use Rattle.machine_changes.proofs.Facts.{superblock_of_node, frame_of_node, under_is, shown, slab_in}
+use Rattle.machine_changes.proofs.Facts.{superblock_of_machine_frame, frame_of_machine_frame, under_is, shown, slab_in}
 use Rattle.machine_changes.proofs.Flags.{length_flags, flag_at}
 use Rattle.machine_changes.proofs.Steady.{placed_as}
 use Rattle.machine_changes.specs.Pages.{record_at, RecordMeets}
@@ -38,7 +38,7 @@ placed_in unit z f off size some less =
     }
 
 -- the record of a frame stands in its machine frame
-record_stands : (r : spaces.Content) (s : Content) (t f n i : ℕ) → r.unit ≡ 4096 * 2 ^ s.top → node_of s.top r.slots t f ≡ Some n → i < 32
+record_stands : (r : spaces.Content) (s : Content) (t f n i : ℕ) → r.unit ≡ 4096 * 2 ^ s.top → machine_frame_of s.top r.slots t f ≡ Some n → i < 32
     → record_byte r t f i ≡ record_at r s n i
 record_stands r s t f n i unit under less =
     let z : ℕ = 2 ^ s.top in
@@ -48,8 +48,8 @@ record_stands r s t f n i unit under less =
     let slot : p / r.unit ≡ f / z = ap (λ x. x / r.unit) sum ∙ is.slot in
     let offset : p % r.unit ≡ 4096 * (f % z) + (4064 + i) = ap (λ x. x % r.unit) sum ∙ is.offset in
     let there = under_is s.top f n (spaces.superblock_at r.slots t (f / z)) under in
-    let superblock : n / z ≡ there.0 = ap (λ x. x / z) there.2 ∙ superblock_of_node s.top there.0 f in
-    let frame : n % z ≡ f % z = ap (λ x. x % z) there.2 ∙ frame_of_node s.top there.0 f in
+    let superblock : n / z ≡ there.0 = ap (λ x. x / z) there.2 ∙ superblock_of_machine_frame s.top there.0 f in
+    let frame : n % z ≡ f % z = ap (λ x. x % z) there.2 ∙ frame_of_machine_frame s.top there.0 f in
     let at : 4096 * (f % z) + (4064 + i) ≡ 4096 * (n % z) + 4064 + i = omega arith in
     ap (λ u. byte_or_zero (byte_under r.banks (p % r.unit) (spaces.superblock_at r.slots t u))) slot
     ∙ (ap (λ o. byte_or_zero (byte_under r.banks (p % r.unit) o)) there.1

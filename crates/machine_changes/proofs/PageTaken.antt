@@ -4,7 +4,7 @@ use Rattle.std.specs.Prelude.{Option, not, ◌==◌}
 use Rattle.std.proofs.lemmas.Bool.{false≢true}
 use Rattle.model_core.proofs.Lists.{filter_rises}
 use Rattle.buddy_core.specs.Content as buddies
-use Rattle.machine_changes.specs.Shows.{node_of, has_slab}
+use Rattle.machine_changes.specs.Shows.{machine_frame_of, has_slab}
 use Rattle.machine_changes.specs.Pages.{released, ReleasedShows, ReleasedAgrees}
 use Rattle.machine_changes.proofs.PageLists.{order_less}
 use Rattle.machine_changes.proofs.PageHoldings.{own_changed, set_none, agree_held, spares_held}
@@ -26,9 +26,9 @@ released_shows r b s t f m h = record {
   blocks = λ g.
       order_less f m.blocks g
       ∙ ap (cond (g == f) None) (h.blocks g)
-      ∙ past_none (has_slab s (node_of s.top r.slots t g)) (g == f) (buddies.taken_of (buddies.holding_of t b) g)
-      ∙ ap (cond (has_slab s (node_of s.top r.slots t g)) None) (sym (set_none (buddies.holding_of t b).taken f g))
-      ∙ ap (λ x. cond (has_slab s (node_of s.top r.slots t g)) None (buddies.taken_of x g)) (sym (own_released t f b));
+      ∙ past_none (has_slab s (machine_frame_of s.top r.slots t g)) (g == f) (buddies.taken_of (buddies.holding_of t b) g)
+      ∙ ap (cond (has_slab s (machine_frame_of s.top r.slots t g)) None) (sym (set_none (buddies.holding_of t b).taken f g))
+      ∙ ap (λ x. cond (has_slab s (machine_frame_of s.top r.slots t g)) None (buddies.taken_of x g)) (sym (own_released t f b));
   caches_rise = h.caches_rise;
   caches = h.caches;
   slabs_rise = h.slabs_rise;
@@ -44,8 +44,8 @@ released_agrees r b s t f a page = (
   spares_held r b s t a (buddies.without_block f (buddies.holding_of t b)) (own_released t f b) refl stays,
 )
   where
-    stays : (g : ℕ) → has_slab s (node_of s.top r.slots t g) ≡ true → buddies.taken_of (buddies.holding_of t b) g ≢ None
+    stays : (g : ℕ) → has_slab s (machine_frame_of s.top r.slots t g) ≡ true → buddies.taken_of (buddies.holding_of t b) g ≢ None
         → buddies.taken_of (buddies.without_block f (buddies.holding_of t b)) g ≡ buddies.taken_of (buddies.holding_of t b) g
     stays g has taken =
         get_or-set_other (buddies.holding_of t b).taken f g None None
-        (λ same. false≢true (sym page ∙ (ap (λ x. has_slab s (node_of s.top r.slots t x)) (sym same) ∙ has)))
+        (λ same. false≢true (sym page ∙ (ap (λ x. has_slab s (machine_frame_of s.top r.slots t x)) (sym same) ∙ has)))

@@ -16,7 +16,7 @@ use Rattle.buddy_core.specs.Content as buddies
 use Rattle.slab_tables.specs.declared.cache.Cache as own
 use Rattle.slab_tables.specs.Content.{Content, IsSlabs, kept_at, cache_in, cache_at, index_of_cache, layout_numbers}
 use Rattle.machine_changes.specs.Records.{count_true}
-use Rattle.machine_changes.specs.Shows.{node_of, byte_or_zero, record_byte, live_of, slab_at, is_inside, IsSlab, IsAgreed, ShowsMachine, Agree}
+use Rattle.machine_changes.specs.Shows.{machine_frame_of, byte_or_zero, record_byte, live_of, slab_at, is_inside, IsSlab, IsAgreed, ShowsMachine, Agree}
 use Rattle.machine_changes.specs.Keeps.{Spares}
 use Rattle.machine_changes.specs.Steady.{IsSteady}
 use Rattle.machine_changes.proofs.Facts.{one_slab, one_first, one_stays, all_stay, record_inside, same_slab}
@@ -55,9 +55,9 @@ module _ (r : spaces.Content) (b : buddies.Content) (s : Content) (t place : ℕ
       let o = object.0 in
       let x = byte_of r b s t place (length new) st o object.1 p low high in
       let first : o.first ≡ f =
-      one_first r b s t st p c f n object.1.number o.first o.node cache o.cache q object.1.object.slab inside
+      one_first r b s t st p c f n object.1.number o.first o.machine_frame cache o.cache q object.1.object.slab inside
       (object_inside r b s t place (length new) st o object.1 p low high) in
-      let one = one_slab r s t c f n object.1.number o.first o.node cache o.cache q object.1.object.slab first in
+      let one = one_slab r s t c f n object.1.number o.first o.machine_frame cache o.cache q object.1.object.slab first in
       let below : p - 4096 * o.first < (layout_numbers cache).room = subst (λ z. p - 4096 * o.first < (layout_numbers z).room) one.same x.1.room in
       let room = ((fit_of r b s t c st f n cache q).small small).1 in
       absurd (omega arith))
@@ -147,32 +147,32 @@ module _ (r : spaces.Content) (b : buddies.Content) (s : Content) (t place : ℕ
   -- The other parts
 
   -- the records of an agreed slab of any tenant
-  agreed_stays : (node head key : ℕ) (cache : own.Cache) → place_at s.lists.places node ≡ Some (head, key) → cache_in s.caches (head / 3) ≡ Some cache
-      → IsAgreed r b s node head key cache → (u : ℕ) → head / 3 / MOST_CACHES ≡ u
+  agreed_stays : (machine_frame head key : ℕ) (cache : own.Cache) → place_at s.lists.places machine_frame ≡ Some (head, key) → cache_in s.caches (head / 3) ≡ Some cache
+      → IsAgreed r b s machine_frame head key cache → (u : ℕ) → head / 3 / MOST_CACHES ≡ u
       → is_small (layout_numbers cache).chunk ≡ true → (j : ℕ) → j < 32 → record_byte r' u key j ≡ record_byte r u key j
-  agreed_stays node head key cache placed cached x u is small j less =
+  agreed_stays machine_frame head key cache placed cached x u is small j less =
       ⊎_elim
       (λ (same : u ≡ t).
       let tenant : head / 3 / MOST_CACHES ≡ t = is ∙ same in
       let index : head / 3 ≡ index_of_cache t (head / 3 % MOST_CACHES) = omega arith in
-      let q : IsSlab r s t (head / 3 % MOST_CACHES) key node cache =
-      slab_from r s t (head / 3 % MOST_CACHES) key node head cache (omega arith) index cached
-      (subst (λ v. node_of s.top r.slots v key ≡ Some node) tenant x.under) placed in
+      let q : IsSlab r s t (head / 3 % MOST_CACHES) key machine_frame cache =
+      slab_from r s t (head / 3 % MOST_CACHES) key machine_frame head cache (omega arith) index cached
+      (subst (λ v. machine_frame_of s.top r.slots v key ≡ Some machine_frame) tenant x.under) placed in
       subst (λ v. record_byte r' v key j ≡ record_byte r v key j) (sym same)
-      (record_stays (head / 3 % MOST_CACHES) key node j cache q small less))
+      (record_stays (head / 3 % MOST_CACHES) key machine_frame j cache q small less))
       (λ (other : u ≢ t). ap byte_or_zero ((laws.others.window t place (length new) new u other).bytes (4096 * key + 4064 + j)))
       (cases_eq u t)
 
-  agreed_now : (node head key : ℕ) (cache : own.Cache) → (layout_numbers cache).count ≤ 256 → place_at s.lists.places node ≡ Some (head, key)
-      → cache_in s.caches (head / 3) ≡ Some cache → IsAgreed r b s node head key cache → IsAgreed r' b s node head key cache
-  agreed_now node head key cache few placed cached x =
+  agreed_now : (machine_frame head key : ℕ) (cache : own.Cache) → (layout_numbers cache).count ≤ 256 → place_at s.lists.places machine_frame ≡ Some (head, key)
+      → cache_in s.caches (head / 3) ≡ Some cache → IsAgreed r b s machine_frame head key cache → IsAgreed r' b s machine_frame head key cache
+  agreed_now machine_frame head key cache few placed cached x =
       let u : ℕ = head / 3 / MOST_CACHES in
-      let same = agreed_stays node head key cache placed cached x u refl in
+      let same = agreed_stays machine_frame head key cache placed cached x u refl in
       record {
         under = x.under;
         taken = x.taken;
-        counted = x.counted ∙ ap count_true (sym (all_stay r r' u cache (kept_at s.kept node) key few same));
-        rest = λ i low high. one_stays r r' u cache (kept_at s.kept node) key i same high ∙ x.rest i low high;
+        counted = x.counted ∙ ap count_true (sym (all_stay r r' u cache (kept_at s.kept machine_frame) key few same));
+        rest = λ i low high. one_stays r r' u cache (kept_at s.kept machine_frame) key i same high ∙ x.rest i low high;
       }
 
   agree_now : IsSlabs s → Agree r' b s
@@ -180,12 +180,12 @@ module _ (r : spaces.Content) (b : buddies.Content) (s : Content) (t place : ℕ
     order = a.order;
     unit = a.unit;
     superblocks = a.superblocks;
-    nodes = a.nodes;
+    machine_frames = a.machine_frames;
     rows = a.rows;
     tenants = a.tenants;
     slots = a.slots;
-    slabs = λ node head key cache placed cached.
-        agreed_now node head key cache ((w.fits (head / 3) cache cached).layout.fits 0).few placed cached (a.slabs node head key cache placed cached);
+    slabs = λ machine_frame head key cache placed cached.
+        agreed_now machine_frame head key cache ((w.fits (head / 3) cache cached).layout.fits 0).few placed cached (a.slabs machine_frame head key cache placed cached);
   }
 
   spares : Spares t r r' b b s s

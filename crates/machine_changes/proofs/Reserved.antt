@@ -9,7 +9,7 @@ use Rattle.model_core.proofs.Lists.{each_from, put_rises}
 use Rattle.space_core.specs.Content as spaces
 use Rattle.buddy_core.specs.Content as buddies
 use Rattle.slab_tables.specs.Content.{Content}
-use Rattle.machine_changes.specs.Shows.{node_of, has_slab}
+use Rattle.machine_changes.specs.Shows.{machine_frame_of, has_slab}
 use Rattle.machine_changes.specs.Steady.{IsSteady}
 use Rattle.machine_changes.specs.Laws.{ReservedShows}
 use Rattle.machine_changes.proofs.Lookups.{eq_turned, some_none, at, in_found, found_put, through}
@@ -40,10 +40,10 @@ order_put z bs g absent =
 
 -- a slab's frame is taken
 pub slab_taken : (r : spaces.Content) (b : buddies.Content) (s : Content) (t f : ℕ) → IsSteady r b s t
-    → has_slab s (node_of s.top r.slots t f) ≡ true → buddies.taken_of (buddies.holding_of t b) f ≢ None
+    → has_slab s (machine_frame_of s.top r.slots t f) ≡ true → buddies.taken_of (buddies.holding_of t b) f ≢ None
 slab_taken r b s t f st has none =
     let is = some_slab r b s t st f has in
-    some_none (sym (st.stands is.number f is.node is.cache is.slab).taken ∙ none)
+    some_none (sym (st.stands is.number f is.machine_frame is.cache is.slab).taken ∙ none)
 
 pub reserved_shows : ReservedShows
 reserved_shows r b b' s t f k m st untaken taken h = record {
@@ -52,8 +52,8 @@ reserved_shows r b b' s t f k m st untaken taken h = record {
   blocks_rise = put_rises (λ x. x.first) 0 (block f k) m.blocks h.blocks_rise (omega arith) (each_from (λ y. y.first ≢ f) m.blocks new);
   blocks = λ g.
       order_put (block f k) m.blocks g absent
-      ∙ go g (has_slab s (node_of s.top r.slots t g)) refl
-      ∙ ap (cond (has_slab s (node_of s.top r.slots t g)) None) (sym (taken g));
+      ∙ go g (has_slab s (machine_frame_of s.top r.slots t g)) refl
+      ∙ ap (cond (has_slab s (machine_frame_of s.top r.slots t g)) None) (sym (taken g));
   caches_rise = h.caches_rise;
   caches = h.caches;
   slabs_rise = h.slabs_rise;
@@ -63,8 +63,8 @@ reserved_shows r b b' s t f k m st untaken taken h = record {
   bytes = h.bytes;
 }
   where
-    no_slab : has_slab s (node_of s.top r.slots t f) ≡ false
-    no_slab = false_from_ne_true (has_slab s (node_of s.top r.slots t f)) (λ has. slab_taken r b s t f st has untaken)
+    no_slab : has_slab s (machine_frame_of s.top r.slots t f) ≡ false
+    no_slab = false_from_ne_true (has_slab s (machine_frame_of s.top r.slots t f)) (λ has. slab_taken r b s t f st has untaken)
 
     absent : order_in m.blocks f ≡ None
     absent = h.blocks f ∙ ap (λ has. cond has None (buddies.taken_of (buddies.holding_of t b) f)) no_slab ∙ untaken
@@ -75,10 +75,10 @@ reserved_shows r b b' s t f k m st untaken taken h = record {
         order_found m.blocks y.first ∙ ap (option_map (λ z. z.order)) (in_found (λ z. z.first) 0 y m.blocks h.blocks_rise i) in
         some_none (sym found ∙ ap (order_in m.blocks) same ∙ absent)
 
-    go : (g : ℕ) (has : Bool) → has_slab s (node_of s.top r.slots t g) ≡ has
+    go : (g : ℕ) (has : Bool) → has_slab s (machine_frame_of s.top r.slots t g) ≡ has
         → cond (eqb f g) (Some k) (order_in m.blocks g) ≡ cond has None (with_taken (buddies.taken_of (buddies.holding_of t b)) f k g)
     go g true has =
-        ap (λ v. cond v (Some k) (order_in m.blocks g)) (ne_eqb f g (λ same. false≢true (sym no_slab ∙ ap (λ x. has_slab s (node_of s.top r.slots t x)) same ∙ has)))
+        ap (λ v. cond v (Some k) (order_in m.blocks g)) (ne_eqb f g (λ same. false≢true (sym no_slab ∙ ap (λ x. has_slab s (machine_frame_of s.top r.slots t x)) same ∙ has)))
         ∙ h.blocks g ∙ ap (λ v. cond v None (buddies.taken_of (buddies.holding_of t b) g)) has
     go g false has =
         ap (cond (eqb f g) (Some k)) (h.blocks g ∙ ap (λ v. cond v None (buddies.taken_of (buddies.holding_of t b) g)) has)

@@ -15,7 +15,7 @@ use Rattle.space_core.specs.Windows.{byte_at}
 use Rattle.buddy_core.specs.Content as buddies
 use Rattle.slab_tables.specs.declared.cache.Cache as own
 use Rattle.slab_tables.specs.Content.{Content, kept_at, cache_at, index_of_cache, layout_numbers}
-use Rattle.machine_changes.specs.Shows.{frame_under, node_of, byte_or_zero, live_of, is_of_cache, slab_at, has_slab, bare, without_slabs, is_inside, IsSlab, ShowsMachine}
+use Rattle.machine_changes.specs.Shows.{frame_under, machine_frame_of, byte_or_zero, live_of, is_of_cache, slab_at, has_slab, bare, without_slabs, is_inside, IsSlab, ShowsMachine}
 use Rattle.machine_changes.specs.Steady.{IsSteady}
 use Rattle.machine_changes.specs.Changes.{IsReturned, kept_slabs, gone_blocks, returned}
 use Rattle.machine_changes.specs.Laws.{ReturnedShows}
@@ -24,10 +24,10 @@ use Rattle.machine_changes.proofs.Facts.{one_first, no_slab_under, same_slab, li
 
 module _ (r r' : spaces.Content) (b b' : buddies.Content) (s s' : Content) (t : ℕ) (gone : ℕ → Bool)
     (k : IsReturned r r' b b' s s' t gone) (st : IsSteady r b s t) where
-  pub node_same : (f : ℕ) → node_of s'.top r'.slots t f ≡ node_of s.top r.slots t f
-  node_same f = ap (λ top. node_of top r'.slots t f) k.top ∙ ap (frame_under s.top f) (k.slots (f / 2 ^ s.top))
+  pub machine_frame_same : (f : ℕ) → machine_frame_of s'.top r'.slots t f ≡ machine_frame_of s.top r.slots t f
+  machine_frame_same f = ap (λ top. machine_frame_of top r'.slots t f) k.top ∙ ap (frame_under s.top f) (k.slots (f / 2 ^ s.top))
 
-  has_now_under : (f : ℕ) (o : Option ℕ) → node_of s.top r.slots t f ≡ o → has_slab s' o ≡ cond (gone f) false (has_slab s o)
+  has_now_under : (f : ℕ) (o : Option ℕ) → machine_frame_of s.top r.slots t f ≡ o → has_slab s' o ≡ cond (gone f) false (has_slab s o)
   has_now_under f None under = none (gone f)
     where
       none : (v : Bool) → false ≡ cond v false false
@@ -35,11 +35,11 @@ module _ (r r' : spaces.Content) (b b' : buddies.Content) (s s' : Content) (t : 
       none false = refl
   has_now_under f (Some n) under = ap is_some (k.lists f n under) ∙ through is_some (gone f) None (place_at s.lists.places n)
 
-  pub has_now : (f : ℕ) → has_slab s' (node_of s'.top r'.slots t f) ≡ cond (gone f) false (has_slab s (node_of s.top r.slots t f))
-  has_now f = ap (has_slab s') (node_same f) ∙ has_now_under f (node_of s.top r.slots t f) refl
+  pub has_now : (f : ℕ) → has_slab s' (machine_frame_of s'.top r'.slots t f) ≡ cond (gone f) false (has_slab s (machine_frame_of s.top r.slots t f))
+  has_now f = ap (has_slab s') (machine_frame_same f) ∙ has_now_under f (machine_frame_of s.top r.slots t f) refl
 
   -- the place in the lists, as a test of it
-  pub listed_now : (d f n : ℕ) → node_of s.top r.slots t f ≡ Some n
+  pub listed_now : (d f n : ℕ) → machine_frame_of s.top r.slots t f ≡ Some n
       → is_of_cache d f (place_at s'.lists.places n) ≡ cond (gone f) false (is_of_cache d f (place_at s.lists.places n))
   listed_now d f n under = ap (is_of_cache d f) (k.lists f n under) ∙ through (is_of_cache d f) (gone f) None (place_at s.lists.places n)
 
@@ -50,7 +50,7 @@ module _ (r r' : spaces.Content) (b b' : buddies.Content) (s s' : Content) (t : 
   -- a slab that is there was there, and is not gone
   pub slab_was : (c f n : ℕ) (cache : own.Cache) → IsSlab r' s' t c f n cache → IsSlab r s t c f n cache × (gone f ≡ false)
   slab_was c f n cache p =
-      let under : node_of s.top r.slots t f ≡ Some n = sym (node_same f) ∙ p.under in
+      let under : machine_frame_of s.top r.slots t f ≡ Some n = sym (machine_frame_same f) ∙ p.under in
       let both = true_unless (gone f) (is_of_cache (index_of_cache t c) f (place_at s.lists.places n))
       (sym (listed_now (index_of_cache t c) f n under) ∙ p.listed) in
       (record { cached = sym (k.caches c) ∙ p.cached; under = under; listed = both.1 }, both.0)
@@ -58,7 +58,7 @@ module _ (r r' : spaces.Content) (b b' : buddies.Content) (s s' : Content) (t : 
   pub slab_stays : (c f n : ℕ) (cache : own.Cache) → IsSlab r s t c f n cache → gone f ≡ false → IsSlab r' s' t c f n cache
   slab_stays c f n cache q stays = record {
     cached = k.caches c ∙ q.cached;
-    under = node_same f ∙ q.under;
+    under = machine_frame_same f ∙ q.under;
     listed = listed_now (index_of_cache t c) f n q.under
         ∙ ap (λ v. cond v false (is_of_cache (index_of_cache t c) f (place_at s.lists.places n))) stays ∙ q.listed;
   }
@@ -83,10 +83,10 @@ module _ (r r' : spaces.Content) (b b' : buddies.Content) (s s' : Content) (t : 
     where
       go : (v : Bool) → gone f ≡ v → slab_at r' s' t c cache f ≡ cond v None (slab_at r s t c cache f)
       go true goes =
-          no_slab_under r' s' t (index_of_cache t c) cache f (node_of s'.top r'.slots t f)
-          (has_now f ∙ ap (λ v. cond v false (has_slab s (node_of s.top r.slots t f))) goes)
+          no_slab_under r' s' t (index_of_cache t c) cache f (machine_frame_of s'.top r'.slots t f)
+          (has_now f ∙ ap (λ v. cond v false (has_slab s (machine_frame_of s.top r.slots t f))) goes)
       go false stays =
-          same_slab r r' s s' t c f cache (node_same f)
+          same_slab r r' s s' t c f cache (machine_frame_same f)
           (λ n under. listed_now (index_of_cache t c) f n under ∙ ap (λ v. cond v false (is_of_cache (index_of_cache t c) f (place_at s.lists.places n))) stays)
           (λ n under listed. (k.kept f n under, live_now c f n cache (record { cached = cached; under = under; listed = listed }) stays))
 
@@ -95,9 +95,9 @@ module _ (r r' : spaces.Content) (b b' : buddies.Content) (s s' : Content) (t : 
     pub record IsGone (place : ℕ) : Type 0 where
       pub number : ℕ
       pub first : ℕ
-      pub node : ℕ
+      pub machine_frame : ℕ
       pub cache : own.Cache
-      pub slab : IsSlab r s t number first node cache
+      pub slab : IsSlab r s t number first machine_frame cache
       pub goes : gone first ≡ true
       pub inside : is_inside place first cache ≡ true
 
@@ -116,7 +116,7 @@ module _ (r r' : spaces.Content) (b b' : buddies.Content) (s s' : Content) (t : 
         record {
           number = x.number;
           first = y.first;
-          node = is.node;
+          machine_frame = is.machine_frame;
           cache = is.kept;
           slab = is.slab;
           goes = kept.1;
@@ -149,15 +149,15 @@ module _ (r r' : spaces.Content) (b b' : buddies.Content) (s s' : Content) (t : 
 
     -- page blocks are as they were
     blocks_now : (f : ℕ) → order_in m.blocks f
-        ≡ cond (has_slab s' (node_of s'.top r'.slots t f)) None (buddies.taken_of (buddies.holding_of t b') f)
+        ≡ cond (has_slab s' (machine_frame_of s'.top r'.slots t f)) None (buddies.taken_of (buddies.holding_of t b') f)
     blocks_now f =
         h.blocks f ∙ same (gone f) refl
         ∙ ap (λ has. cond has None (cond (gone f) None (buddies.taken_of (buddies.holding_of t b) f))) (sym (has_now f))
-        ∙ ap (cond (has_slab s' (node_of s'.top r'.slots t f)) None) (sym (k.taken f))
+        ∙ ap (cond (has_slab s' (machine_frame_of s'.top r'.slots t f)) None) (sym (k.taken f))
       where
         same : (v : Bool) → gone f ≡ v
-            → cond (has_slab s (node_of s.top r.slots t f)) None (buddies.taken_of (buddies.holding_of t b) f)
-            ≡ cond (cond v false (has_slab s (node_of s.top r.slots t f))) None (cond v None (buddies.taken_of (buddies.holding_of t b) f))
+            → cond (has_slab s (machine_frame_of s.top r.slots t f)) None (buddies.taken_of (buddies.holding_of t b) f)
+            ≡ cond (cond v false (has_slab s (machine_frame_of s.top r.slots t f))) None (cond v None (buddies.taken_of (buddies.holding_of t b) f))
         same true goes = ap (λ has. cond has None (buddies.taken_of (buddies.holding_of t b) f)) (k.begun f goes)
         same false stays = refl
 
@@ -177,7 +177,7 @@ module _ (r r' : spaces.Content) (b b' : buddies.Content) (s s' : Content) (t : 
             → is_some (cond any (Some 0) (m.bytes place)) ≡ holds m (slot_of s.top place)
         go true some =
             let is = gone_tells place some in
-            sym (h.slots (slot_of s.top place) ∙ slot_held r b s t st place is.number is.first is.node is.cache is.slab is.inside)
+            sym (h.slots (slot_of s.top place) ∙ slot_held r b s t st place is.number is.first is.machine_frame is.cache is.slab is.inside)
         go false none = h.mapped place (outside none)
 
     in_slab_now : (place c f n : ℕ) (cache : own.Cache) → IsSlab r' s' t c f n cache → is_inside place f cache ≡ true
@@ -187,7 +187,7 @@ module _ (r r' : spaces.Content) (b b' : buddies.Content) (s s' : Content) (t : 
         let none : list_any (in_block place) (flat_map (gone_blocks gone) m.caches) ≡ false =
         false_from_ne_true (list_any (in_block place) (flat_map (gone_blocks gone) m.caches)) (λ e.
         let is = gone_tells place e in
-        false≢true (sym (not_gone place c f n cache was.0 was.1 inside is.number is.first is.node is.cache is.slab is.goes) ∙ is.inside)) in
+        false≢true (sym (not_gone place c f n cache was.0 was.1 inside is.number is.first is.machine_frame is.cache is.slab is.goes) ∙ is.inside)) in
         ap (λ any. is_some (cond any (Some 0) (m.bytes place))) none
         ∙ h.in_slab place c f n cache was.0 inside
         ∙ ap (λ kept. in_object (layout_numbers cache) cache.layout.size kept.colour (place - 4096 * f)) (sym (k.kept f n was.0.under))
@@ -199,7 +199,7 @@ module _ (r r' : spaces.Content) (b b' : buddies.Content) (s s' : Content) (t : 
             → cond any (Some 0) (m.bytes place) ≡ Some byte → byte_at r' t place ≡ Some byte
         go true some e =
             let is = gone_tells place some in
-            k.zeroed place is.number is.first is.node is.cache is.slab is.goes is.inside ∙ e
+            k.zeroed place is.number is.first is.machine_frame is.cache is.slab is.goes is.inside ∙ e
         go false none e =
             k.bytes place (λ c f n cache q goes. false_from_ne_true (is_inside place f cache) (λ inside. false≢true (sym none ∙ gone_is place c f n cache q goes inside)))
             ∙ h.bytes place byte e

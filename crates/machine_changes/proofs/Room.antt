@@ -14,7 +14,7 @@ use Rattle.space_core.specs.Content as spaces
 use Rattle.buddy_core.specs.Content as buddies
 use Rattle.slab_tables.specs.declared.cache.Cache as own
 use Rattle.slab_tables.specs.Content.{Content, kept_at, layout_numbers}
-use Rattle.machine_changes.specs.Shows.{node_of, has_slab, IsSlab, ShowsMachine}
+use Rattle.machine_changes.specs.Shows.{machine_frame_of, has_slab, IsSlab, ShowsMachine}
 use Rattle.machine_changes.specs.Steady.{IsSteady}
 use Rattle.machine_changes.specs.Room.{IsIdle, HasRoom}
 use Rattle.machine_changes.specs.Laws.{AreObjectsCounted, RoomMeets}
@@ -47,15 +47,15 @@ module _ (r : spaces.Content) (b : buddies.Content) (s : Content) (t : ℕ) (m :
   -- the block is that of a slab with a live object
   record IsLeft (z : Block) : Type 0 where
     of : IsOfSlab r b s t m st h z
-    busy : (kept_at s.kept of.node).live ≢ 0
+    busy : (kept_at s.kept of.machine_frame).live ≢ 0
 
   left_of : (x : Cache) (y : Slab) → IsIn x m.caches → IsIn y x.slabs → not (is_empty y) ≡ true → IsLeft (slab_block x y)
   left_of x y i j busy =
       let is = slab_kept r b s t m st h x y i j in
-      let same : is_empty y ≡ ((kept_at s.kept is.node).live == 0) = ap is_empty is.is ∙ empty_tells x.number y.first is.node is.kept is.slab in
+      let same : is_empty y ≡ ((kept_at s.kept is.machine_frame).live == 0) = ap is_empty is.is ∙ empty_tells x.number y.first is.machine_frame is.kept is.slab in
       record {
-        of = record { number = x.number; node = is.node; cache = is.kept; slab = is.slab; order = ap (λ l. l.order) is.layout };
-        busy = λ none. false≢true (sym (not-true (is_empty y) busy) ∙ same ∙ eq-eqb (kept_at s.kept is.node).live 0 none);
+        of = record { number = x.number; machine_frame = is.machine_frame; cache = is.kept; slab = is.slab; order = ap (λ l. l.order) is.layout };
+        busy = λ none. false≢true (sym (not-true (is_empty y) busy) ∙ same ∙ eq-eqb (kept_at s.kept is.machine_frame).live 0 none);
       }
 
   left_tells : (z : Block) → IsIn z left_list → IsLeft z
@@ -82,29 +82,29 @@ module _ (r : spaces.Content) (b : buddies.Content) (s : Content) (t : ℕ) (m :
   -- an empty slab begins at the frame
   record IsEmptySlab (f : ℕ) : Type 0 where
     there : IsSlabThere r b s t st f
-    empty : (kept_at s.kept there.node).live ≡ 0
+    empty : (kept_at s.kept there.machine_frame).live ≡ 0
 
   -- an empty slab's block is not taken once it is given back
   given_back : (c f n : ℕ) (cache : own.Cache) → IsSlab r s t c f n cache → (kept_at s.kept n).live ≡ 0 → after f ≡ None
   given_back c f n cache q empty =
       order_of_none r b s t m st h left_list (λ z i. (left_tells z i).of) f (has_it r s t c f n cache q) (λ z i same.
       let is = left_tells z i in
-      let one = one_slab r s t c f n is.of.number z.first is.of.node cache is.of.cache q is.of.slab same in
-      is.busy (ap (λ x. (kept_at s.kept x).live) one.node ∙ empty))
+      let one = one_slab r s t c f n is.of.number z.first is.of.machine_frame cache is.of.cache q is.of.slab same in
+      is.busy (ap (λ x. (kept_at s.kept x).live) one.machine_frame ∙ empty))
 
   -- .. and all else is taken as it was
   sorted : (f : ℕ) → IsEmptySlab f ⊎ (after f ≡ taken f)
-  sorted f = go (has_slab s (node_of s.top r.slots t f)) refl
+  sorted f = go (has_slab s (machine_frame_of s.top r.slots t f)) refl
     where
       at : IsSlabThere r b s t st f → IsEmptySlab f ⊎ (after f ≡ taken f)
       at is =
           ⊎_elim
           (λ none. inl (record { there = is; empty = none }))
-          (λ busy. inr (order_of_slab r b s t m st h left_list (λ z i. (left_tells z i).of) is.number f is.node is.cache is.slab
-          (left_listed is.number f is.node is.cache is.slab busy)))
-          (cases_eq (kept_at s.kept is.node).live 0)
+          (λ busy. inr (order_of_slab r b s t m st h left_list (λ z i. (left_tells z i).of) is.number f is.machine_frame is.cache is.slab
+          (left_listed is.number f is.machine_frame is.cache is.slab busy)))
+          (cases_eq (kept_at s.kept is.machine_frame).live 0)
 
-      go : (v : Bool) → has_slab s (node_of s.top r.slots t f) ≡ v → IsEmptySlab f ⊎ (after f ≡ taken f)
+      go : (v : Bool) → has_slab s (machine_frame_of s.top r.slots t f) ≡ v → IsEmptySlab f ⊎ (after f ≡ taken f)
       go true has = at (some_slab r b s t st f has)
       go false none = inr (order_of_page r b s t m st h left_list (λ z i. (left_tells z i).of) f none)
 
@@ -117,13 +117,13 @@ module _ (r : spaces.Content) (b : buddies.Content) (s : Content) (t : ℕ) (m :
     where
       by : (x : ℕ) → HasFrame (block room.first k) x → (g j : ℕ) → after g ≡ Some j → HasFrame (block g j) x → IsEmptySlab g ⊎ (after g ≡ taken g) → ⊥
       by x has g j e there (inl is) =
-          some_none (sym e ∙ given_back is.there.number g is.there.node is.there.cache is.there.slab is.empty)
+          some_none (sym e ∙ given_back is.there.number g is.there.machine_frame is.there.cache is.there.slab is.empty)
       by x has g j e there (inr same) =
           let idle = room.idle x has (g, j, sym same ∙ e, there) in
           let first : g ≡ idle.first =
           st.sound.apart g j idle.first (layout_numbers idle.cache).order x (sym same ∙ e)
-          (st.stands idle.number idle.first idle.node idle.cache idle.slab).taken there idle.within in
-          some_none (sym e ∙ ap after first ∙ given_back idle.number idle.first idle.node idle.cache idle.slab idle.empty)
+          (st.stands idle.number idle.first idle.machine_frame idle.cache idle.slab).taken there idle.within in
+          some_none (sym e ∙ ap after first ∙ given_back idle.number idle.first idle.machine_frame idle.cache idle.slab idle.empty)
 
   room_of : (f k : ℕ) → IsVacant s.top (holds m) after f k → HasRoom r b s t k
   room_of f k v = record {
@@ -136,11 +136,11 @@ module _ (r : spaces.Content) (b : buddies.Content) (s : Content) (t : ℕ) (m :
       by : (x : ℕ) → HasFrame (block f k) x → (g j : ℕ) → taken g ≡ Some j → HasFrame (block g j) x → IsEmptySlab g ⊎ (after g ≡ taken g) → IsIdle r s t x
       by x has g j e there (inl is) =
           let order : j ≡ (layout_numbers is.there.cache).order =
-          some_same (sym e ∙ (st.stands is.there.number g is.there.node is.there.cache is.there.slab).taken) in
+          some_same (sym e ∙ (st.stands is.there.number g is.there.machine_frame is.there.cache is.there.slab).taken) in
           record {
             number = is.there.number;
             first = g;
-            node = is.there.node;
+            machine_frame = is.there.machine_frame;
             cache = is.there.cache;
             slab = is.there.slab;
             empty = is.empty;

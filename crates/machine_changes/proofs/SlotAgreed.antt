@@ -13,10 +13,10 @@ use Rattle.slab_tables.specs.declared.cache.Cache as own
 use Rattle.slab_tables.specs.declared.cache.Kept.{Kept}
 use Rattle.slab_tables.specs.Content.{Content, IsSlabs, kept_at, cache_in, layout_numbers}
 use Rattle.machine_changes.specs.Records.{is_set, count_true}
-use Rattle.machine_changes.specs.Shows.{node_of, record_byte, byte_or_zero, is_live, live_of, IsAgreed, Agree}
+use Rattle.machine_changes.specs.Shows.{machine_frame_of, record_byte, byte_or_zero, is_live, live_of, IsAgreed, Agree}
 use Rattle.machine_changes.specs.Keeps.{Keeps}
 use Rattle.machine_changes.proofs.Facts.{same_below}
-use Rattle.machine_changes.proofs.Untouched.{node_same}
+use Rattle.machine_changes.proofs.Untouched.{machine_frame_same}
 
 -- an object of a slab whose record is the same
 one_same : (r r' : spaces.Content) (t : ℕ) (cache : own.Cache) (kept : Kept) (f i : ℕ)
@@ -24,24 +24,24 @@ one_same : (r r' : spaces.Content) (t : ℕ) (cache : own.Cache) (kept : Kept) (
 one_same r r' t cache kept f i same less =
     ap (λ x. cond (is_small (layout_numbers cache).chunk) (is_set x (i % 8)) (is_set kept.outside i)) (same (i / 8) (omega arith))
 
--- the slab that stood at a node agrees at the node where it stands now
-pub agreed_still : (r r' : spaces.Content) (b b' : buddies.Content) (s s' : Content) (node node' head key : ℕ) (cache : own.Cache)
-    → (layout_numbers cache).count ≤ 256 → IsAgreed r b s node head key cache
-    → node_of s'.top r'.slots (head / 3 / MOST_CACHES) key ≡ Some node'
+-- the slab that stood at a machine frame agrees at the machine frame where it stands now
+pub agreed_still : (r r' : spaces.Content) (b b' : buddies.Content) (s s' : Content) (machine_frame machine_frame' head key : ℕ) (cache : own.Cache)
+    → (layout_numbers cache).count ≤ 256 → IsAgreed r b s machine_frame head key cache
+    → machine_frame_of s'.top r'.slots (head / 3 / MOST_CACHES) key ≡ Some machine_frame'
     → buddies.taken_of (buddies.holding_of (head / 3 / MOST_CACHES) b') key ≡ buddies.taken_of (buddies.holding_of (head / 3 / MOST_CACHES) b) key
-    → kept_at s'.kept node' ≡ kept_at s.kept node
+    → kept_at s'.kept machine_frame' ≡ kept_at s.kept machine_frame
     → ((j : ℕ) → j < 32 → record_byte r' (head / 3 / MOST_CACHES) key j ≡ record_byte r (head / 3 / MOST_CACHES) key j)
-    → IsAgreed r' b' s' node' head key cache
-agreed_still r r' b b' s s' node node' head key cache few g under taken kept same =
+    → IsAgreed r' b' s' machine_frame' head key cache
+agreed_still r r' b b' s s' machine_frame machine_frame' head key cache few g under taken kept same =
     let t : ℕ = head / 3 / MOST_CACHES in
     record {
       under = under;
       taken = taken ∙ g.taken;
       counted = ap (λ k. k.live) kept ∙ g.counted
           ∙ sym (ap (λ k. count_true (live_of r' t cache k key)) kept
-          ∙ ap count_true (same_below 0 (layout_numbers cache).count (is_live r' t cache (kept_at s.kept node) key) (is_live r t cache (kept_at s.kept node) key)
-          (λ i low high. one_same r r' t cache (kept_at s.kept node) key i same (omega arith))));
-      rest = λ i low high. ap (λ k. is_live r' t cache k key i) kept ∙ one_same r r' t cache (kept_at s.kept node) key i same high ∙ g.rest i low high;
+          ∙ ap count_true (same_below 0 (layout_numbers cache).count (is_live r' t cache (kept_at s.kept machine_frame) key) (is_live r t cache (kept_at s.kept machine_frame) key)
+          (λ i low high. one_same r r' t cache (kept_at s.kept machine_frame) key i same (omega arith))));
+      rest = λ i low high. ap (λ k. is_live r' t cache k key i) kept ∙ one_same r r' t cache (kept_at s.kept machine_frame) key i same high ∙ g.rest i low high;
     }
 
 -- The share of tenant t changed, which holds h now: all others keep everything, and so do their slabs; those of t agree.
@@ -50,7 +50,7 @@ pub record IsLocal (r r' : spaces.Content) (b : buddies.Content) (h : buddies.Ho
   pub superblocks : length r'.owners ≡ length r.owners
   pub rows : length r'.slots ≡ length r.slots
   pub top : s'.top ≡ s.top
-  pub nodes : length s'.lists.places ≡ length s.lists.places
+  pub machine_frames : length s'.lists.places ≡ length s.lists.places
   pub tables : length s'.caches ≡ length s.caches
   pub others : (u : ℕ) → u ≢ t → Keeps r r' b (buddies.with_holding t h b) s s' u
   pub slots : (u : ℕ) → buddies.superblock_at h u ≡ spaces.superblock_at r'.slots t u
@@ -73,7 +73,7 @@ module _ (r r' : spaces.Content) (b : buddies.Content) (h : buddies.Holding) (s 
       let keeps : Keeps r r' b now s s' u = k.others u differ in
       let agreed : IsAgreed r b s n head key cache = a.slabs n head key cache (k.placed n head key place differ) was in
       agreed_still r r' b now s s' n n head key cache ((w.fits (head / 3) cache was).layout.fits 0).few agreed
-      (node_same r r' b now s s' u keeps key ∙ agreed.under)
+      (machine_frame_same r r' b now s s' u keeps key ∙ agreed.under)
       (ap (λ x. buddies.taken_of x key) keeps.buddy)
       (keeps.slabs.kept key n agreed.under)
       (λ j less. ap byte_or_zero (keeps.space.bytes (4096 * key + 4064 + j)))
@@ -90,7 +90,7 @@ module _ (r r' : spaces.Content) (b : buddies.Content) (h : buddies.Holding) (s 
     order = a.order ∙ sym k.top;
     unit = k.unit ∙ a.unit ∙ sym (ap (λ top. 4096 * 2 ^ top) k.top);
     superblocks = k.superblocks ∙ a.superblocks;
-    nodes = k.nodes ∙ a.nodes ∙ sym (ap (λ top. b.superblocks * 2 ^ top) k.top);
+    machine_frames = k.machine_frames ∙ a.machine_frames ∙ sym (ap (λ top. b.superblocks * 2 ^ top) k.top);
     rows = k.rows ∙ a.rows ∙ sym (length-set b.tenants t h);
     tenants = k.tables ∙ a.tenants ∙ ap (λ n. MOST_CACHES * n) (sym (length-set b.tenants t h));
     slots = slots_now;

@@ -11,7 +11,7 @@ use Rattle.slab_tables.specs.Content.{Content, cache_in}
 use Rattle.machine_changes.specs.Shows.{IsAgreed}
 use Rattle.machine_changes.specs.Steady.{IsSteady}
 use Rattle.machine_changes.proofs.Lookups.{some_none}
-use Rattle.machine_changes.proofs.Facts.{superblock_of_node, under_is}
+use Rattle.machine_changes.proofs.Facts.{superblock_of_machine_frame, under_is}
 use Rattle.machine_changes.proofs.Steady.{agree_steady}
 use Rattle.machine_changes.specs.Slots.{HoldTogether, UnownedIsSpare}
 
@@ -22,7 +22,7 @@ module _ (r : spaces.Content) (b : buddies.Content) (s : Content) (h : HoldToget
   pub tenant_of : (t : ℕ) → t < length r.slots → t < length b.tenants
   tenant_of t tenant = let same : length r.slots ≡ length b.tenants = h.agree.rows in omega arith
 
-  -- the slab that begins at a node
+  -- the slab that begins at a machine frame
   pub record IsThere (n head key : ℕ) : Type 0 where
     pub cache : own.Cache
     pub cached : cache_in s.caches (head / 3) ≡ Some cache
@@ -30,7 +30,7 @@ module _ (r : spaces.Content) (b : buddies.Content) (s : Content) (h : HoldToget
     -- the superblock on which it stands
     pub superblock : ℕ
     pub under : spaces.superblock_at r.slots (head / 3 / MOST_CACHES) (key / 2 ^ s.top) ≡ Some superblock
-    pub node : n ≡ superblock * 2 ^ s.top + key % 2 ^ s.top
+    pub machine_frame : n ≡ superblock * 2 ^ s.top + key % 2 ^ s.top
     pub is : n / 2 ^ s.top ≡ superblock
 
   pub slab_there : (n head key : ℕ) → place_at s.lists.places n ≡ Some (head, key) → IsThere n head key
@@ -44,8 +44,8 @@ module _ (r : spaces.Content) (b : buddies.Content) (s : Content) (h : HoldToget
         agreed = agreed;
         superblock = there.0;
         under = there.1;
-        node = there.2;
-        is = ap (λ x. x / 2 ^ s.top) there.2 ∙ superblock_of_node s.top there.0 key;
+        machine_frame = there.2;
+        is = ap (λ x. x / 2 ^ s.top) there.2 ∙ superblock_of_machine_frame s.top there.0 key;
       }
 
   -- a superblock under a slot has an owner

@@ -14,7 +14,7 @@ use Rattle.model_core.proofs.Apart.{overlap_from}
 use Rattle.space_core.specs.Content as spaces
 use Rattle.buddy_core.specs.Content as buddies
 use Rattle.slab_tables.specs.Content.{Content}
-use Rattle.machine_changes.specs.Shows.{node_of, has_slab, ShowsMachine}
+use Rattle.machine_changes.specs.Shows.{machine_frame_of, has_slab, ShowsMachine}
 use Rattle.machine_changes.specs.Steady.{IsSteady}
 use Rattle.machine_changes.proofs.Lookups.{some_none, some_same, in_found}
 use Rattle.machine_changes.proofs.Reserved.{order_found}
@@ -56,7 +56,7 @@ module _ (r : spaces.Content) (b : buddies.Content) (s : Content) (t : ℕ) (m :
   page_taken z i =
       let told : order_in m.blocks z.first ≡ Some z.order =
       order_found m.blocks z.first ∙ ap (option_map (λ x. x.order)) (in_found (λ x. x.first) 0 z m.blocks h.blocks_rise i) in
-      go (has_slab s (node_of s.top r.slots t z.first)) (sym (h.blocks z.first) ∙ told)
+      go (has_slab s (machine_frame_of s.top r.slots t z.first)) (sym (h.blocks z.first) ∙ told)
     where
       go : (has : Bool) → cond has None (buddies.taken_of (buddies.holding_of t b) z.first) ≡ Some z.order
           → buddies.taken_of (buddies.holding_of t b) z.first ≡ Some z.order
@@ -69,7 +69,7 @@ module _ (r : spaces.Content) (b : buddies.Content) (s : Content) (t : ℕ) (m :
       let y = map_in (slab_block x.0) z x.0.slabs x.2 in
       let is = slab_kept r b s t m st h x.0 y.0 x.1 y.1 in
       subst (λ w. buddies.taken_of (buddies.holding_of t b) w.first ≡ Some w.order) y.2
-      ((st.stands x.0.number y.0.first is.node is.kept is.slab).taken ∙ ap (λ (l : Layout). Some l.order) (sym is.layout))
+      ((st.stands x.0.number y.0.first is.machine_frame is.kept is.slab).taken ∙ ap (λ (l : Layout). Some l.order) (sym is.layout))
 
   each_taken : (z : Block) → IsIn z (m.blocks ++ flat_map slab_blocks m.caches) → buddies.taken_of (buddies.holding_of t b) z.first ≡ Some z.order
   each_taken z i = ⊎_elim (page_taken z) (slab_taken z) (in_append z m.blocks (flat_map slab_blocks m.caches) i)

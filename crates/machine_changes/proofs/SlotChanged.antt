@@ -14,7 +14,7 @@ use Rattle.space_core.specs.Windows.{byte_at}
 use Rattle.buddy_core.specs.Content as buddies
 use Rattle.slab_tables.specs.declared.cache.Cache as own
 use Rattle.slab_tables.specs.Content.{Content, IsSlabs, kept_at, cache_at, cache_in, index_of_cache}
-use Rattle.machine_changes.specs.Shows.{frame_under, node_of, byte_or_zero, record_byte, slab_at, has_slab, IsSlab, ShowsMachine, IsAgreed, Agree}
+use Rattle.machine_changes.specs.Shows.{frame_under, machine_frame_of, byte_or_zero, record_byte, slab_at, has_slab, IsSlab, ShowsMachine, IsAgreed, Agree}
 use Rattle.machine_changes.specs.Steady.{IsSteady}
 use Rattle.machine_changes.proofs.Lookups.{through}
 use Rattle.machine_changes.proofs.Facts.{has_it, same_slab, live_stays, no_slab_under, slot_inside}
@@ -36,18 +36,18 @@ pub record IsReslotted (r r' : spaces.Content) (b b' : buddies.Content) (s : Con
   pub slots : (v : ℕ) → spaces.superblock_at r'.slots t v ≡ cond (eqb v u) under (spaces.superblock_at r.slots t v)
   pub bytes : (place : ℕ) → byte_at r' t place ≡ cond (eqb (slot_of s.top place) u) byte (byte_at r t place)
   pub taken : (f : ℕ) → buddies.taken_of (buddies.holding_of t b') f ≡ buddies.taken_of (buddies.holding_of t b) f
-  pub was_bare : (f : ℕ) → f / 2 ^ s.top ≡ u → has_slab s (node_of s.top r.slots t f) ≡ false
-  pub is_bare : (f : ℕ) → f / 2 ^ s.top ≡ u → has_slab s (node_of s.top r'.slots t f) ≡ false
+  pub was_bare : (f : ℕ) → f / 2 ^ s.top ≡ u → has_slab s (machine_frame_of s.top r.slots t f) ≡ false
+  pub is_bare : (f : ℕ) → f / 2 ^ s.top ≡ u → has_slab s (machine_frame_of s.top r'.slots t f) ≡ false
 
 module _ (r r' : spaces.Content) (b b' : buddies.Content) (s : Content) (t u : ℕ) (under byte : Option ℕ)
     (k : IsReslotted r r' b b' s t u under byte) where
-  node_same : (f : ℕ) → f / 2 ^ s.top ≢ u → node_of s.top r'.slots t f ≡ node_of s.top r.slots t f
-  node_same f differ =
+  machine_frame_same : (f : ℕ) → f / 2 ^ s.top ≢ u → machine_frame_of s.top r'.slots t f ≡ machine_frame_of s.top r.slots t f
+  machine_frame_same f differ =
       ap (frame_under s.top f)
       (k.slots (f / 2 ^ s.top) ∙ ap (λ v. cond v under (spaces.superblock_at r.slots t (f / 2 ^ s.top))) (ne_eqb (f / 2 ^ s.top) u differ))
 
-  has_same : (f : ℕ) → has_slab s (node_of s.top r'.slots t f) ≡ has_slab s (node_of s.top r.slots t f)
-  has_same f = ⊎_elim (λ e. k.is_bare f e ∙ sym (k.was_bare f e)) (λ differ. ap (has_slab s) (node_same f differ)) (cases_eq (f / 2 ^ s.top) u)
+  has_same : (f : ℕ) → has_slab s (machine_frame_of s.top r'.slots t f) ≡ has_slab s (machine_frame_of s.top r.slots t f)
+  has_same f = ⊎_elim (λ e. k.is_bare f e ∙ sym (k.was_bare f e)) (λ differ. ap (has_slab s) (machine_frame_same f differ)) (cases_eq (f / 2 ^ s.top) u)
 
   record_same : (f j : ℕ) → f / 2 ^ s.top ≢ u → j < 32 → record_byte r' t f j ≡ record_byte r t f j
   record_same f j differ less =
@@ -60,10 +60,10 @@ module _ (r r' : spaces.Content) (b b' : buddies.Content) (s : Content) (t u : �
       → cache_in s.caches (head / 3) ≡ Some cache → head / 3 / MOST_CACHES ≡ t → IsAgreed r' b' s n head key cache
   mine_agreed w a n head key cache placed cached is =
       let agreed : IsAgreed r b s n head key cache = a.slabs n head key cache placed cached in
-      let under_key : node_of s.top r.slots t key ≡ Some n = subst (λ x. node_of s.top r.slots x key ≡ Some n) is agreed.under in
+      let under_key : machine_frame_of s.top r.slots t key ≡ Some n = subst (λ x. machine_frame_of s.top r.slots x key ≡ Some n) is agreed.under in
       let differ : key / 2 ^ s.top ≢ u = λ e. false≢true (sym (k.was_bare key e) ∙ ap (has_slab s) under_key ∙ ap is_some placed) in
       agreed_still r r' b b' s s n n head key cache ((w.fits (head / 3) cache cached).layout.fits 0).few agreed
-      (subst (λ x. node_of s.top r'.slots x key ≡ Some n) (sym is) (node_same key differ ∙ under_key))
+      (subst (λ x. machine_frame_of s.top r'.slots x key ≡ Some n) (sym is) (machine_frame_same key differ ∙ under_key))
       (subst (λ x. buddies.taken_of (buddies.holding_of x b') key ≡ buddies.taken_of (buddies.holding_of x b) key) (sym is) (k.taken key))
       refl
       (λ j less. subst (λ x. record_byte r' x key j ≡ record_byte r x key j) (sym is) (record_same key j differ less))
@@ -71,7 +71,7 @@ module _ (r r' : spaces.Content) (b b' : buddies.Content) (s : Content) (t u : �
   slab_is : (c f n : ℕ) (cache : own.Cache) → IsSlab r s t c f n cache → IsSlab r' s t c f n cache
   slab_is c f n cache q =
       let differ : f / 2 ^ s.top ≢ u = λ e. false≢true (sym (k.was_bare f e) ∙ has_it r s t c f n cache q) in
-      record { cached = q.cached; under = node_same f differ ∙ q.under; listed = q.listed }
+      record { cached = q.cached; under = machine_frame_same f differ ∙ q.under; listed = q.listed }
 
   -- a slab that is there was there, in another slot
   slab_elsewhere : (c f n : ℕ) (cache : own.Cache) → IsSlab r' s t c f n cache → f / 2 ^ s.top ≢ u
@@ -80,16 +80,16 @@ module _ (r r' : spaces.Content) (b b' : buddies.Content) (s : Content) (t u : �
   slab_was : (c f n : ℕ) (cache : own.Cache) → IsSlab r' s t c f n cache → IsSlab r s t c f n cache
   slab_was c f n cache q = record {
     cached = q.cached;
-    under = sym (node_same f (slab_elsewhere c f n cache q)) ∙ q.under;
+    under = sym (machine_frame_same f (slab_elsewhere c f n cache q)) ∙ q.under;
     listed = q.listed;
   }
 
   module _ (st : IsSteady r b s t) where
     slab_same : (c f : ℕ) (cache : own.Cache) → cache_at s t c ≡ Some cache → slab_at r' s t c cache f ≡ slab_at r s t c cache f
     slab_same c f cache cached = ⊎_elim
-        (λ e. no_slab_under r' s t (index_of_cache t c) cache f (node_of s.top r'.slots t f) (k.is_bare f e)
-        ∙ sym (no_slab_under r s t (index_of_cache t c) cache f (node_of s.top r.slots t f) (k.was_bare f e)))
-        (λ differ. same_slab r r' s s t c f cache (node_same f differ) (λ n under. refl)
+        (λ e. no_slab_under r' s t (index_of_cache t c) cache f (machine_frame_of s.top r'.slots t f) (k.is_bare f e)
+        ∙ sym (no_slab_under r s t (index_of_cache t c) cache f (machine_frame_of s.top r.slots t f) (k.was_bare f e)))
+        (λ differ. same_slab r r' s s t c f cache (machine_frame_same f differ) (λ n under. refl)
         (λ n under listed. (
           refl,
           live_stays r b s t st r' (kept_at s.kept n) c f n cache (record { cached = cached; under = under; listed = listed })
@@ -109,7 +109,7 @@ module _ (r r' : spaces.Content) (b b' : buddies.Content) (s : Content) (t u : �
       blocks_rise = h.blocks_rise;
       blocks = λ f. h.blocks f
           ∙ ap (λ v. cond v None (buddies.taken_of (buddies.holding_of t b) f)) (sym (has_same f))
-          ∙ ap (cond (has_slab s (node_of s.top r'.slots t f)) None) (sym (k.taken f));
+          ∙ ap (cond (has_slab s (machine_frame_of s.top r'.slots t f)) None) (sym (k.taken f));
       caches_rise = h.caches_rise;
       caches = h.caches;
       slabs_rise = h.slabs_rise;

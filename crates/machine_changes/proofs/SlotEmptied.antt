@@ -10,7 +10,7 @@ use Rattle.buddy_core.specs.Content as buddies
 use Rattle.buddy_core.proofs.Holdings.{own_holding, other_holding}
 use Rattle.slab_tables.specs.Content.{Content, kept_at, cache_in, cache_at, index_of_cache}
 use Rattle.slab_tables.specs.Changes.{IsReset, unless_gone}
-use Rattle.machine_changes.specs.Shows.{node_of, ShowsMachine}
+use Rattle.machine_changes.specs.Shows.{machine_frame_of, ShowsMachine}
 use Rattle.machine_changes.specs.Keeps.{Keeps}
 use Rattle.machine_changes.proofs.Lookups.{some_none, some_same}
 use Rattle.machine_changes.proofs.Steady.{one_owner}
@@ -61,7 +61,7 @@ module _ (r r' : spaces.Content) (b : buddies.Content) (s s' : Content) (t : ℕ
   cache_other : (v c : ℕ) → v ≢ t → cache_at s' v c ≡ cache_at s v c
   cache_other v c differ = same_cache s' s t v c cache_stays differ
 
-  place_stays : (v f n : ℕ) → v ≢ t → node_of s.top r.slots v f ≡ Some n → place_at s'.lists.places n ≡ place_at s.lists.places n
+  place_stays : (v f n : ℕ) → v ≢ t → machine_frame_of s.top r.slots v f ≡ Some n → place_at s'.lists.places n ≡ place_at s.lists.places n
   place_stays v f n differ under = k.places n ∙ go (place_at s.lists.places n) refl
     where
       go : (place : Option (ℕ × ℕ)) → place_at s.lists.places n ≡ place → unless_gone gone place ≡ place
@@ -94,7 +94,7 @@ module _ (r r' : spaces.Content) (b : buddies.Content) (s s' : Content) (t : ℕ
     superblocks = g.superblocks;
     rows = g.rows;
     top = k.top;
-    nodes = k.nodes;
+    machine_frames = k.machine_frames;
     tables = k.tenants;
     others = others_kept;
     slots = λ u. none_in b.superblocks u ∙ sym (g.slots u);

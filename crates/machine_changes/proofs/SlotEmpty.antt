@@ -8,7 +8,7 @@ use Rattle.model_core.specs.declared.limits.TheConstants.{MOST_CACHES}
 use Rattle.space_core.specs.Content as spaces
 use Rattle.buddy_core.specs.Content as buddies
 use Rattle.slab_tables.specs.Content.{Content, cache_in, cache_at, index_of_cache, empty_tables}
-use Rattle.machine_changes.specs.Shows.{node_of, has_slab, bare, ShowsMachine, Agree}
+use Rattle.machine_changes.specs.Shows.{machine_frame_of, has_slab, bare, ShowsMachine, Agree}
 use Rattle.machine_changes.proofs.Lookups.{some_none}
 use Rattle.machine_changes.specs.Slots.{OpeningShows}
 
@@ -23,7 +23,7 @@ empty_shows r b s t slots taken caches = record {
   slots_rise = tt;
   slots = λ u. sym (ap is_some (slots u));
   blocks_rise = tt;
-  blocks = λ f. sym (ap (cond (has_slab s (node_of s.top r.slots t f)) None) (taken f) ∙ either (has_slab s (node_of s.top r.slots t f)));
+  blocks = λ f. sym (ap (cond (has_slab s (machine_frame_of s.top r.slots t f)) None) (taken f) ∙ either (has_slab s (machine_frame_of s.top r.slots t f)));
   caches_rise = tt;
   caches = λ c. sym (ap (option_map (bare c)) (caches c));
   slabs_rise = λ c x e. absurd (some_none (sym e));
@@ -90,11 +90,11 @@ module _ (order superblocks tenants : ℕ) where
     order = refl;
     unit = refl;
     superblocks = length-replicate superblocks _;
-    nodes = length-replicate (superblocks * 2 ^ order) _;
+    machine_frames = length-replicate (superblocks * 2 ^ order) _;
     rows = length-replicate tenants _ ∙ sym (length-replicate tenants _);
     tenants = length-replicate (MOST_CACHES * tenants) _ ∙ ap (λ n. MOST_CACHES * n) (sym (length-replicate tenants _));
     slots = λ t u. (no_holding t).0 u ∙ sym (no_slot t u);
-    slabs = λ node head key cache placed cached. absurd (some_none (sym placed ∙ none_in (superblocks * 2 ^ order) node));
+    slabs = λ machine_frame head key cache placed cached. absurd (some_none (sym placed ∙ none_in (superblocks * 2 ^ order) machine_frame));
   }
 
   pub opened : (t : ℕ) → ShowsMachine r b s t empty_machine

@@ -60,7 +60,7 @@ module _ (r : spaces.Content) (b : buddies.Content) (s : Content) (t u m : ℕ) 
     superblocks = length-set r.owners m (Some (owned_by t u));
     rows = length-set r.slots t _;
     top = refl;
-    nodes = refl;
+    machine_frames = refl;
     tables = refl;
     others = others_kept;
     slots = λ v. slots_with r b s h t u v (Some m) tenant slot ∙ sym (slots_now v);

@@ -16,14 +16,14 @@ use Rattle.buddy_core.proofs.Holdings.{own_holding, other_holding}
 use Rattle.slab_tables.specs.declared.cache.Cache as own
 use Rattle.slab_tables.specs.Content.{Content, kept_at, cache_at, cache_in}
 use Rattle.slab_tables.specs.Changes.{IsMoved}
-use Rattle.machine_changes.specs.Shows.{frame_under, node_of, byte_or_zero, record_byte, IsAgreed, ShowsMachine}
+use Rattle.machine_changes.specs.Shows.{frame_under, machine_frame_of, byte_or_zero, record_byte, IsAgreed, ShowsMachine}
 use Rattle.machine_changes.specs.Keeps.{Keeps}
 use Rattle.machine_changes.proofs.Lookups.{some_none, some_same}
-use Rattle.machine_changes.proofs.Facts.{superblock_of_node, frame_of_node, under_is}
+use Rattle.machine_changes.proofs.Facts.{superblock_of_machine_frame, frame_of_machine_frame, under_is}
 use Rattle.machine_changes.specs.Slots.{HoldTogether, MovedShows}
 use Rattle.machine_changes.proofs.SlotAgreed.{IsLocal, agree_of, agreed_still}
 use Rattle.machine_changes.proofs.SlotBare.{tenant_of, slab_there, is_owned}
-use Rattle.machine_changes.proofs.SlotCarried.{IsSameNode, SameNode, IsCarried, carried_shows}
+use Rattle.machine_changes.proofs.SlotCarried.{IsSameSlab, SameSlab, IsCarried, carried_shows}
 use Rattle.machine_changes.proofs.SlotHoldings.{slots_with, slot_below}
 
 module _ (r : spaces.Content) (b : buddies.Content) (s s' : Content) (t u from to : ℕ) (h : HoldTogether r b s) (tenant : t < length r.slots)
@@ -60,11 +60,11 @@ module _ (r : spaces.Content) (b : buddies.Content) (s s' : Content) (t u from t
   pub not_to : (v w m : ℕ) → spaces.superblock_at r.slots v w ≡ Some m → m ≢ to
   not_to v w m under e = is_owned r b s h v w to (under ∙ ap (λ (x : ℕ). Some x) e) free
 
-  -- a node of such a superblock has what it had
-  node_stays : (v f m : ℕ) → spaces.superblock_at r.slots v (f / size) ≡ Some m → ((v ≡ t) × (f / size ≡ u) → ⊥)
-      → IsSameNode s s' (m * size + f % size) (m * size + f % size)
-  node_stays v f m under differ =
-      let is : (m * size + f % size) / size ≡ m = superblock_of_node s.top m f in
+  -- a machine frame of such a superblock has what it had
+  machine_frame_stays : (v f m : ℕ) → spaces.superblock_at r.slots v (f / size) ≡ Some m → ((v ≡ t) × (f / size ≡ u) → ⊥)
+      → IsSameSlab s s' (m * size + f % size) (m * size + f % size)
+  machine_frame_stays v f m under differ =
+      let is : (m * size + f % size) / size ≡ m = superblock_of_machine_frame s.top m f in
       let same = k.others (m * size + f % size) (λ e. not_from v (f / size) m under differ (sym is ∙ e)) (λ e. not_to v (f / size) m under (sym is ∙ e)) in
       record { place = same.0; kept = same.1 }
 
@@ -82,31 +82,31 @@ module _ (r : spaces.Content) (b : buddies.Content) (s s' : Content) (t u from t
     };
   }
     where
-      stays : (f n : ℕ) → node_of s.top r.slots v f ≡ Some n → IsSameNode s s' n n
+      stays : (f n : ℕ) → machine_frame_of s.top r.slots v f ≡ Some n → IsSameSlab s s' n n
       stays f n e =
           let there = under_is s.top f n (spaces.superblock_at r.slots v (f / size)) e in
-          subst (λ x. IsSameNode s s' x x) (sym there.2) (node_stays v f there.0 there.1 (λ both. differ both.0))
+          subst (λ x. IsSameSlab s s' x x) (sym there.2) (machine_frame_stays v f there.0 there.1 (λ both. differ both.0))
 
   -- The tenant
 
   same_under : (f : ℕ) → f / size ≢ u → (o : Option ℕ) → spaces.superblock_at r.slots t (f / size) ≡ o
-      → SameNode s s' (frame_under s.top f o) (frame_under s.top f o)
+      → SameSlab s s' (frame_under s.top f o) (frame_under s.top f o)
   same_under f differ None under = tt
-  same_under f differ (Some m) under = node_stays t f m under (λ both. differ both.1)
+  same_under f differ (Some m) under = machine_frame_stays t f m under (λ both. differ both.1)
 
-  node_now : (f : ℕ) → SameNode s s' (node_of s.top r.slots t f) (node_of s.top r'.slots t f)
-  node_now f = ⊎_elim moves stays (cases_eq (f / size) u)
+  machine_frame_now : (f : ℕ) → SameSlab s s' (machine_frame_of s.top r.slots t f) (machine_frame_of s.top r'.slots t f)
+  machine_frame_now f = ⊎_elim moves stays (cases_eq (f / size) u)
     where
-      moves : f / size ≡ u → SameNode s s' (node_of s.top r.slots t f) (node_of s.top r'.slots t f)
+      moves : f / size ≡ u → SameSlab s s' (machine_frame_of s.top r.slots t f) (machine_frame_of s.top r'.slots t f)
       moves e =
           let less : f % size < size = mod_below f size (pow_pos s.top) in
-          subst (λ o. SameNode s s' (frame_under s.top f o) (node_of s.top r'.slots t f)) (sym (ap (spaces.superblock_at r.slots t) e ∙ here))
-          (subst (λ o. SameNode s s' (Some (from * size + f % size)) (frame_under s.top f o)) (sym (slot_here (f / size) e))
+          subst (λ o. SameSlab s s' (frame_under s.top f o) (machine_frame_of s.top r'.slots t f)) (sym (ap (spaces.superblock_at r.slots t) e ∙ here))
+          (subst (λ o. SameSlab s s' (Some (from * size + f % size)) (frame_under s.top f o)) (sym (slot_here (f / size) e))
           (record { place = k.moved (f % size) less; kept = k.kept (f % size) less }))
 
-      stays : f / size ≢ u → SameNode s s' (node_of s.top r.slots t f) (node_of s.top r'.slots t f)
+      stays : f / size ≢ u → SameSlab s s' (machine_frame_of s.top r.slots t f) (machine_frame_of s.top r'.slots t f)
       stays differ =
-          subst (λ o. SameNode s s' (node_of s.top r.slots t f) (frame_under s.top f o)) (sym (slot_other (f / size) differ))
+          subst (λ o. SameSlab s s' (machine_frame_of s.top r.slots t f) (frame_under s.top f o)) (sym (slot_other (f / size) differ))
           (same_under f differ (spaces.superblock_at r.slots t (f / size)) refl)
 
   carried : IsCarried r r' b b' s s' t
@@ -119,19 +119,19 @@ module _ (r : spaces.Content) (b : buddies.Content) (s s' : Content) (t u from t
     bytes = reads.bytes;
     taken = λ f. ap (λ x. buddies.taken_of x f) (own_holding t held b (tenant_of r b s h t tenant));
     caches = λ c. ap (λ caches. cache_at (record s { caches = caches }) t c) k.caches;
-    nodes = λ f. subst (λ top. SameNode s s' (node_of s.top r.slots t f) (node_of top r'.slots t f)) (sym k.top) (node_now f);
+    machine_frames = λ f. subst (λ top. SameSlab s s' (machine_frame_of s.top r.slots t f) (machine_frame_of top r'.slots t f)) (sym k.top) (machine_frame_now f);
   }
 
   pub machine_now : (m : Machine) → ShowsMachine r b s t m → ShowsMachine r' b' s' t m
   machine_now m = carried_shows r r' b b' s s' t carried m
 
-  -- Where a slab that stands at a node stood
+  -- Where a slab that stands at a machine frame stood
 
   record WasAt (n : ℕ) (p : ℕ × ℕ) : Type 0 where
-    pub node : ℕ
-    pub placed : place_at s.lists.places node ≡ Some p
-    pub kept : kept_at s'.kept n ≡ kept_at s.kept node
-    pub superblock : ((node / size ≡ from) × (n ≡ to * size + node % size)) ⊎ ((node / size ≡ from → ⊥) × (n ≡ node))
+    pub machine_frame : ℕ
+    pub placed : place_at s.lists.places machine_frame ≡ Some p
+    pub kept : kept_at s'.kept n ≡ kept_at s.kept machine_frame
+    pub superblock : ((machine_frame / size ≡ from) × (n ≡ to * size + machine_frame % size)) ⊎ ((machine_frame / size ≡ from → ⊥) × (n ≡ machine_frame))
 
   was_at : (n : ℕ) (p : ℕ × ℕ) → place_at s'.lists.places n ≡ Some p → WasAt n p
   was_at n p placed = ⊎_elim left (λ off_from. ⊎_elim arrived (stayed off_from) (cases_eq (n / size) to)) (cases_eq (n / size) from)
@@ -147,15 +147,15 @@ module _ (r : spaces.Content) (b : buddies.Content) (s s' : Content) (t u from t
 
       arrived : n / size ≡ to → WasAt n p
       arrived e = record {
-        node = from * size + n % size;
+        machine_frame = from * size + n % size;
         placed = sym (k.moved (n % size) less) ∙ ap (place_at s'.lists.places) (sym (split to e)) ∙ placed;
         kept = ap (kept_at s'.kept) (split to e) ∙ k.kept (n % size) less;
-        superblock = inl (superblock_of_node s.top from n, split to e ∙ ap (λ x. to * size + x) (sym (frame_of_node s.top from n)));
+        superblock = inl (superblock_of_machine_frame s.top from n, split to e ∙ ap (λ x. to * size + x) (sym (frame_of_machine_frame s.top from n)));
       }
 
       stayed : (n / size ≡ from → ⊥) → (n / size ≡ to → ⊥) → WasAt n p
       stayed off_from off_to = record {
-        node = n;
+        machine_frame = n;
         placed = sym (k.others n off_from off_to).0 ∙ placed;
         kept = (k.others n off_from off_to).1;
         superblock = inr (off_from, refl);
@@ -166,30 +166,30 @@ module _ (r : spaces.Content) (b : buddies.Content) (s s' : Content) (t u from t
   mine n head key cache placed cached is =
       let was : WasAt n (head, key) = was_at n (head, key) placed in
       let cached_before : cache_in s.caches (head / 3) ≡ Some cache = sym (ap (λ caches. cache_in caches (head / 3)) k.caches) ∙ cached in
-      let there = slab_there r b s h was.node head key was.placed in
+      let there = slab_there r b s h was.machine_frame head key was.placed in
       let under : spaces.superblock_at r.slots t (key / size) ≡ Some there.superblock = subst (λ x. spaces.superblock_at r.slots x (key / size) ≡ Some there.superblock) is there.under in
-      agreed_still r r' b b' s s' was.node n head key cache ((h.slabs.fits (head / 3) cache cached_before).layout.fits 0).few
-      (h.agree.slabs was.node head key cache was.placed cached_before)
-      (subst (λ x. node_of s'.top r'.slots x key ≡ Some n) (sym is)
-      (ap (λ top. node_of top r'.slots t key) k.top ∙ under_now there.superblock was under there.node there.is was.superblock))
+      agreed_still r r' b b' s s' was.machine_frame n head key cache ((h.slabs.fits (head / 3) cache cached_before).layout.fits 0).few
+      (h.agree.slabs was.machine_frame head key cache was.placed cached_before)
+      (subst (λ x. machine_frame_of s'.top r'.slots x key ≡ Some n) (sym is)
+      (ap (λ top. machine_frame_of top r'.slots t key) k.top ∙ under_now there.superblock was under there.machine_frame there.is was.superblock))
       (subst (λ x. buddies.taken_of (buddies.holding_of x b') key ≡ buddies.taken_of (buddies.holding_of x b) key) (sym is) (carried.taken key))
       was.kept
       (λ j less. subst (λ x. record_byte r' x key j ≡ record_byte r x key j) (sym is) (ap byte_or_zero (reads.bytes (4096 * key + 4064 + j))))
     where
       under_now : (m : ℕ) (was : WasAt n (head, key)) → spaces.superblock_at r.slots t (key / size) ≡ Some m
-          → was.node ≡ m * size + key % size → was.node / size ≡ m
-          → ((was.node / size ≡ from) × (n ≡ to * size + was.node % size)) ⊎ ((was.node / size ≡ from → ⊥) × (n ≡ was.node))
-          → node_of s.top r'.slots t key ≡ Some n
-      under_now m was under node whose (inl moves) =
+          → was.machine_frame ≡ m * size + key % size → was.machine_frame / size ≡ m
+          → ((was.machine_frame / size ≡ from) × (n ≡ to * size + was.machine_frame % size)) ⊎ ((was.machine_frame / size ≡ from → ⊥) × (n ≡ was.machine_frame))
+          → machine_frame_of s.top r'.slots t key ≡ Some n
+      under_now m was under machine_frame whose (inl moves) =
           let is_from : m ≡ from = sym whose ∙ moves.0 in
           let slot : key / size ≡ u = (h.space.apart.slots t (key / size) t u m under (here ∙ ap (λ (x : ℕ). Some x) (sym is_from))).1 in
-          let frame : was.node % size ≡ key % size = ap (λ x. x % size) node ∙ frame_of_node s.top m key in
+          let frame : was.machine_frame % size ≡ key % size = ap (λ x. x % size) machine_frame ∙ frame_of_machine_frame s.top m key in
           ap (frame_under s.top key) (slot_here (key / size) slot)
           ∙ ap (λ (x : ℕ). Some x) (sym (moves.1 ∙ ap (λ x. to * size + x) frame))
-      under_now m was under node whose (inr stays) =
+      under_now m was under machine_frame whose (inr stays) =
           let differ : key / size ≢ u = λ e. stays.0 (whose ∙ some_same (sym under ∙ ap (spaces.superblock_at r.slots t) e ∙ here)) in
           ap (frame_under s.top key) (slot_other (key / size) differ ∙ under)
-          ∙ ap (λ (x : ℕ). Some x) (sym (stays.1 ∙ node))
+          ∙ ap (λ (x : ℕ). Some x) (sym (stays.1 ∙ machine_frame))
 
   -- what stands there for another tenant stood there
   placed_before : (n head key : ℕ) → place_at s'.lists.places n ≡ Some (head, key) → (head / 3 / MOST_CACHES ≡ t → ⊥)
@@ -198,7 +198,7 @@ module _ (r : spaces.Content) (b : buddies.Content) (s s' : Content) (t u from t
     where
       go : WasAt n (head, key) → place_at s.lists.places n ≡ Some (head, key)
       go was =
-          let there = slab_there r b s h was.node head key was.placed in
+          let there = slab_there r b s h was.machine_frame head key was.placed in
           ⊎_elim
           (λ moves. absurd (not_from (head / 3 / MOST_CACHES) (key / size) there.superblock there.under (λ both. differ both.0) (sym there.is ∙ moves.0)))
           (λ stays. ap (place_at s.lists.places) stays.1 ∙ was.placed)
@@ -210,7 +210,7 @@ module _ (r : spaces.Content) (b : buddies.Content) (s s' : Content) (t u from t
     superblocks = length-set _ to (Some (owned_by t u)) ∙ length-set r.owners from None;
     rows = length-set r.slots t _;
     top = k.top;
-    nodes = k.nodes;
+    machine_frames = k.machine_frames;
     tables = ap length k.caches;
     others = others_kept;
     slots = λ v. slots_with r b s h t u v (Some to) tenant (slot_below r b s h t u from tenant here) ∙ sym (slots_now v);

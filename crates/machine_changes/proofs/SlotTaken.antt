@@ -14,7 +14,7 @@ use Rattle.space_core.specs.Windows.{byte_at}
 use Rattle.buddy_core.specs.Content as buddies
 use Rattle.buddy_core.proofs.Holdings.{own_holding}
 use Rattle.slab_tables.specs.Content.{Content, layout_numbers}
-use Rattle.machine_changes.specs.Shows.{frame_under, node_of, has_slab, ShowsMachine}
+use Rattle.machine_changes.specs.Shows.{frame_under, machine_frame_of, has_slab, ShowsMachine}
 use Rattle.machine_changes.specs.Steady.{IsSteady}
 use Rattle.machine_changes.specs.Keeps.{Keeps}
 use Rattle.machine_changes.proofs.Facts.{some_slab}
@@ -49,15 +49,15 @@ module _ (r : spaces.Content) (b : buddies.Content) (s : Content) (t u m : ℕ) 
   slots_now v = h.space.own_slots.take_back t u m here v
 
   -- a slab in the slot would be taken
-  no_slab : (f : ℕ) → f / 2 ^ s.top ≡ u → has_slab s (node_of s.top r.slots t f) ≡ false
-  no_slab f e = false_from_ne_true (has_slab s (node_of s.top r.slots t f)) (λ has.
+  no_slab : (f : ℕ) → f / 2 ^ s.top ≡ u → has_slab s (machine_frame_of s.top r.slots t f) ≡ false
+  no_slab f e = false_from_ne_true (has_slab s (machine_frame_of s.top r.slots t f)) (λ has.
       let st : IsSteady r b s t = steady_of r b s h t tenant in
       let is = some_slab r b s t st f has in
       let k : ℕ = (layout_numbers is.cache).order in
       idle (
         f,
         subst (λ top. HasFrame (slot_block top u) f) (sym h.agree.order) (in_slot s.top u f e),
-        (f, k, (st.stands is.number f is.node is.cache is.slab).taken, has_first (block f k)),
+        (f, k, (st.stands is.number f is.machine_frame is.cache is.slab).taken, has_first (block f k)),
       ))
 
   reslotted : IsReslotted r r' b b' s t u None None
@@ -81,7 +81,7 @@ module _ (r : spaces.Content) (b : buddies.Content) (s : Content) (t u m : ℕ) 
     superblocks = length-set r.owners m None;
     rows = length-set r.slots t _;
     top = refl;
-    nodes = refl;
+    machine_frames = refl;
     tables = refl;
     others = others_kept;
     slots = λ v. slots_with r b s h t u v None tenant (slot_below r b s h t u m tenant here) ∙ sym (slots_now v);

@@ -14,11 +14,11 @@ use Rattle.buddy_core.specs.Content as buddies
 use Rattle.slab_tables.specs.declared.cache.Cache as own
 use Rattle.slab_tables.specs.Content.{Content, IsSlabs, kept_at, cache_in, cache_at, index_of_cache, layout_numbers}
 use Rattle.machine_changes.specs.Records.{count_true}
-use Rattle.machine_changes.specs.Shows.{node_of, live_of, is_of_cache, IsSlab, IsAgreed, Agree}
+use Rattle.machine_changes.specs.Shows.{machine_frame_of, live_of, is_of_cache, IsSlab, IsAgreed, Agree}
 use Rattle.machine_changes.specs.Steady.{IsStanding, IsSteady}
 use Rattle.machine_changes.specs.Laws.{AreObjectsCounted, AgreeSteady}
 use Rattle.machine_changes.proofs.Lookups.{some_none, some_same}
-use Rattle.machine_changes.proofs.Facts.{superblock_of_node, frame_of_node, under_is}
+use Rattle.machine_changes.proofs.Facts.{superblock_of_machine_frame, frame_of_machine_frame, under_is}
 
 -- what is found in a list is not past its end
 pub within : {A : Type 0} (xs : List (Option A)) (i : ℕ) (x : A) → slice_index_or xs i None ≡ Some x → i < length xs
@@ -74,7 +74,7 @@ placed_as r s t c f n cache q = go (place_at s.lists.places n) refl q.listed
 
 -- and back
 pub slab_from : (r : spaces.Content) (s : Content) (t c f n head : ℕ) (cache : own.Cache) → c < MOST_CACHES → head / 3 ≡ index_of_cache t c
-    → cache_in s.caches (head / 3) ≡ Some cache → node_of s.top r.slots t f ≡ Some n → place_at s.lists.places n ≡ Some (head, f)
+    → cache_in s.caches (head / 3) ≡ Some cache → machine_frame_of s.top r.slots t f ≡ Some n → place_at s.lists.places n ≡ Some (head, f)
     → IsSlab r s t c f n cache
 slab_from r s t c f n head cache less index cached under place = record {
   cached = of_table s t c cache less (ap (cache_in s.caches) (sym index) ∙ cached);
@@ -87,15 +87,15 @@ pub record IsOneOwner (t f u g : ℕ) : Type 0 where
   pub tenant : u ≡ t
   pub frame : g ≡ f
 
-pub one_owner : (r : spaces.Content) (top t f u g n : ℕ) → IsOneToOne r → node_of top r.slots t f ≡ Some n → node_of top r.slots u g ≡ Some n
+pub one_owner : (r : spaces.Content) (top t f u g n : ℕ) → IsOneToOne r → machine_frame_of top r.slots t f ≡ Some n → machine_frame_of top r.slots u g ≡ Some n
     → IsOneOwner t f u g
 one_owner r top t f u g n apart e e' =
     let z = 2 ^ top in
     let here = under_is top f n (spaces.superblock_at r.slots t (f / z)) e in
     let there = under_is top g n (spaces.superblock_at r.slots u (g / z)) e' in
-    let node : there.0 * z + g % z ≡ here.0 * z + f % z = sym there.2 ∙ here.2 in
-    let superblock : there.0 ≡ here.0 = sym (superblock_of_node top there.0 g) ∙ ap (λ x. x / z) node ∙ superblock_of_node top here.0 f in
-    let frame : g % z ≡ f % z = sym (frame_of_node top there.0 g) ∙ ap (λ x. x % z) node ∙ frame_of_node top here.0 f in
+    let machine_frame : there.0 * z + g % z ≡ here.0 * z + f % z = sym there.2 ∙ here.2 in
+    let superblock : there.0 ≡ here.0 = sym (superblock_of_machine_frame top there.0 g) ∙ ap (λ x. x / z) machine_frame ∙ superblock_of_machine_frame top here.0 f in
+    let frame : g % z ≡ f % z = sym (frame_of_machine_frame top there.0 g) ∙ ap (λ x. x % z) machine_frame ∙ frame_of_machine_frame top here.0 f in
     let owner = apart.slots u (g / z) t (f / z) here.0 (there.1 ∙ ap (λ m. Some m) superblock) here.1 in
     record {
       tenant = owner.0;
@@ -124,7 +124,7 @@ module _ (r : spaces.Content) (b : buddies.Content) (s : Content) (w : IsSlabs s
       subst (λ u. (kept_at s.kept n).live ≡ count_true (live_of r u cache (kept_at s.kept n) f)) p.tenant (agreed t c f n cache q p).counted
 
   -- what stands in a list under a slot of a tenant is a slab of the tenant
-  pub slab_listed : (t f n head key : ℕ) → IsOneToOne r → node_of s.top r.slots t f ≡ Some n → place_at s.lists.places n ≡ Some (head, key)
+  pub slab_listed : (t f n head key : ℕ) → IsOneToOne r → machine_frame_of s.top r.slots t f ≡ Some n → place_at s.lists.places n ≡ Some (head, key)
       → (c : ℕ) × (cache : own.Cache) × IsSlab r s t c f n cache
   slab_listed t f n head key apart under place =
       let kept = w.standing n head key place in
@@ -144,7 +144,7 @@ module _ (r : spaces.Content) (b : buddies.Content) (s : Content) (w : IsSlabs s
     few f k e =
         let less : f < length (buddies.holding_of t b).taken = within (buddies.holding_of t b).taken f k e in
         let frames : length (buddies.holding_of t b).taken ≡ length s.lists.places =
-        sized.taken t tenant ∙ ap (λ top. b.superblocks * 2 ^ top) a.order ∙ sym a.nodes in
+        sized.taken t tenant ∙ ap (λ top. b.superblocks * 2 ^ top) a.order ∙ sym a.machine_frames in
         let small : length s.lists.places ≤ 65536 = w.small in
         omega arith
 

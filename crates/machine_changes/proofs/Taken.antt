@@ -11,7 +11,7 @@ use Rattle.space_core.specs.Content as spaces
 use Rattle.buddy_core.specs.Content as buddies
 use Rattle.slab_tables.specs.declared.cache.Cache as own
 use Rattle.slab_tables.specs.Content.{Content, layout_numbers}
-use Rattle.machine_changes.specs.Shows.{node_of, has_slab, IsSlab, ShowsMachine}
+use Rattle.machine_changes.specs.Shows.{machine_frame_of, has_slab, IsSlab, ShowsMachine}
 use Rattle.machine_changes.specs.Steady.{IsSteady}
 use Rattle.machine_changes.specs.Laws.{TakenMeets}
 use Rattle.machine_changes.proofs.Lookups.{in_found}
@@ -56,9 +56,9 @@ module _ (r : spaces.Content) (b : buddies.Content) (s : Content) (t : ℕ) (m :
   -- the block is that of a slab
   pub record IsOfSlab (z : Block) : Type 0 where
     pub number : ℕ
-    pub node : ℕ
+    pub machine_frame : ℕ
     pub cache : own.Cache
-    pub slab : IsSlab r s t number z.first node cache
+    pub slab : IsSlab r s t number z.first machine_frame cache
     pub order : z.order ≡ (layout_numbers cache).order
 
   -- a slab of the machine is one of the tables
@@ -71,12 +71,12 @@ module _ (r : spaces.Content) (b : buddies.Content) (s : Content) (t : ℕ) (m :
   of_slab : (x : Cache) (y : Slab) → IsIn x m.caches → IsIn y x.slabs → IsOfSlab (slab_block x y)
   of_slab x y i j =
       let is = slab_kept x y i j in
-      record { number = x.number; node = is.node; cache = is.kept; slab = is.slab; order = ap (λ l. l.order) is.layout }
+      record { number = x.number; machine_frame = is.machine_frame; cache = is.kept; slab = is.slab; order = ap (λ l. l.order) is.layout }
 
   -- page blocks, and blocks of some of the slabs
   module _ (bs : List Block) (tells : (z : Block) → IsIn z bs → IsOfSlab z) where
     -- where a slab begins, no page block does
-    no_page : (f : ℕ) → has_slab s (node_of s.top r.slots t f) ≡ true → order_in m.blocks f ≡ None
+    no_page : (f : ℕ) → has_slab s (machine_frame_of s.top r.slots t f) ≡ true → order_in m.blocks f ≡ None
     no_page f has = h.blocks f ∙ ap (λ v. cond v None (buddies.taken_of (buddies.holding_of t b) f)) has
 
     -- a slab that is among them
@@ -86,21 +86,21 @@ module _ (r : spaces.Content) (b : buddies.Content) (s : Content) (t : ℕ) (m :
         order_past m.blocks bs f (no_page f (has_it r s t c f n cache q))
         ∙ order_is bs f (layout_numbers cache).order i (λ z j same.
         let is = tells z j in
-        is.order ∙ ap (λ x. (layout_numbers x).order) (one_slab r s t c f n is.number z.first is.node cache is.cache q is.slab same).same)
+        is.order ∙ ap (λ x. (layout_numbers x).order) (one_slab r s t c f n is.number z.first is.machine_frame cache is.cache q is.slab same).same)
         ∙ sym (st.stands c f n cache q).taken
 
     -- a slab that is not
-    pub order_of_none : (f : ℕ) → has_slab s (node_of s.top r.slots t f) ≡ true → ((z : Block) → IsIn z bs → z.first ≡ f → ⊥)
+    pub order_of_none : (f : ℕ) → has_slab s (machine_frame_of s.top r.slots t f) ≡ true → ((z : Block) → IsIn z bs → z.first ≡ f → ⊥)
         → order_in (m.blocks ++ bs) f ≡ None
     order_of_none f has none = order_past m.blocks bs f (no_page f has) ∙ order_none bs f none
 
     -- where no slab begins
-    pub order_of_page : (f : ℕ) → has_slab s (node_of s.top r.slots t f) ≡ false
+    pub order_of_page : (f : ℕ) → has_slab s (machine_frame_of s.top r.slots t f) ≡ false
         → order_in (m.blocks ++ bs) f ≡ buddies.taken_of (buddies.holding_of t b) f
     order_of_page f none =
         order_before m.blocks bs f (order_none bs f (λ z i same.
         let is = tells z i in
-        false≢true (sym none ∙ ap (λ g. has_slab s (node_of s.top r.slots t g)) (sym same) ∙ has_it r s t is.number z.first is.node is.cache is.slab)))
+        false≢true (sym none ∙ ap (λ g. has_slab s (machine_frame_of s.top r.slots t g)) (sym same) ∙ has_it r s t is.number z.first is.machine_frame is.cache is.slab)))
         ∙ h.blocks f ∙ ap (λ v. cond v None (buddies.taken_of (buddies.holding_of t b) f)) none
 
   abbrev slab_list : List Block
@@ -122,12 +122,12 @@ module _ (r : spaces.Content) (b : buddies.Content) (s : Content) (t : ℕ) (m :
       (in_flat_map slab_blocks (block f (layout x).order) x m.caches x_in (in_map (slab_block x) _ x.slabs y_in))
 
   pub taken_is : (f : ℕ) → order_in (m.blocks ++ slab_list) f ≡ buddies.taken_of (buddies.holding_of t b) f
-  taken_is f = go (has_slab s (node_of s.top r.slots t f)) refl
+  taken_is f = go (has_slab s (machine_frame_of s.top r.slots t f)) refl
     where
-      go : (v : Bool) → has_slab s (node_of s.top r.slots t f) ≡ v → order_in (m.blocks ++ slab_list) f ≡ buddies.taken_of (buddies.holding_of t b) f
+      go : (v : Bool) → has_slab s (machine_frame_of s.top r.slots t f) ≡ v → order_in (m.blocks ++ slab_list) f ≡ buddies.taken_of (buddies.holding_of t b) f
       go true has =
           let is = some_slab r b s t st f has in
-          order_of_slab slab_list listed_tells is.number f is.node is.cache is.slab (slab_listed is.number f is.node is.cache is.slab)
+          order_of_slab slab_list listed_tells is.number f is.machine_frame is.cache is.slab (slab_listed is.number f is.machine_frame is.cache is.slab)
       go false none = order_of_page slab_list listed_tells f none
 
 pub taken_meets : TakenMeets

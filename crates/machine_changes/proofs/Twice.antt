@@ -7,11 +7,11 @@ use Rattle.space_core.specs.Windows.{byte_at}
 use Rattle.buddy_core.specs.Content as buddies
 use Rattle.slab_tables.specs.declared.cache.Cache as own
 use Rattle.slab_tables.specs.Content.{Content}
-use Rattle.machine_changes.specs.Shows.{node_of, has_slab, is_inside, IsSlab}
+use Rattle.machine_changes.specs.Shows.{machine_frame_of, has_slab, is_inside, IsSlab}
 use Rattle.machine_changes.specs.Steady.{IsSteady}
 use Rattle.machine_changes.specs.Changes.{IsReturned}
 use Rattle.machine_changes.proofs.Facts.{one_first}
-use Rattle.machine_changes.proofs.Returned.{node_same, has_now, slab_was, slab_stays}
+use Rattle.machine_changes.proofs.Returned.{machine_frame_same, has_now, slab_was, slab_stays}
 
 either : {A : Type 0} (v w : Bool) (x : Option A) → cond w None (cond v None x) ≡ cond (v || w) None x
 either true true x = refl
@@ -25,19 +25,19 @@ or_second false w e is = e
 
 module _ (r r' r'' : spaces.Content) (b b' b'' : buddies.Content) (s s' s'' : Content) (t : ℕ) (gone gone' : ℕ → Bool)
     (st : IsSteady r b s t) (k : IsReturned r r' b b' s s' t gone) (k' : IsReturned r' r'' b' b'' s' s'' t gone') where
-  under : (f n : ℕ) → node_of s.top r.slots t f ≡ Some n → node_of s'.top r'.slots t f ≡ Some n
-  under f n e = node_same r r' b b' s s' t gone k st f ∙ e
+  under : (f n : ℕ) → machine_frame_of s.top r.slots t f ≡ Some n → machine_frame_of s'.top r'.slots t f ≡ Some n
+  under f n e = machine_frame_same r r' b b' s s' t gone k st f ∙ e
 
   was : (c f n : ℕ) (cache : own.Cache) → IsSlab r' s' t c f n cache → IsSlab r s t c f n cache × (gone f ≡ false)
   was = slab_was r r' b b' s s' t gone k st
 
-  begun_either : (f : ℕ) → (gone f || gone' f) ≡ true → has_slab s (node_of s.top r.slots t f) ≡ true
+  begun_either : (f : ℕ) → (gone f || gone' f) ≡ true → has_slab s (machine_frame_of s.top r.slots t f) ≡ true
   begun_either f e = go (gone f) refl
     where
-      go : (v : Bool) → gone f ≡ v → has_slab s (node_of s.top r.slots t f) ≡ true
+      go : (v : Bool) → gone f ≡ v → has_slab s (machine_frame_of s.top r.slots t f) ≡ true
       go true goes = k.begun f goes
       go false stays =
-          sym (has_now r r' b b' s s' t gone k st f ∙ ap (λ v. cond v false (has_slab s (node_of s.top r.slots t f))) stays)
+          sym (has_now r r' b b' s s' t gone k st f ∙ ap (λ v. cond v false (has_slab s (machine_frame_of s.top r.slots t f))) stays)
           ∙ k'.begun f (or_second (gone f) (gone' f) e stays)
 
   zeroed_first : (place c f n : ℕ) (cache : own.Cache) → IsSlab r s t c f n cache → gone f ≡ true → is_inside place f cache ≡ true

@@ -20,7 +20,7 @@ module _ (r : spaces.Content) (b : buddies.Content) (s : Content) (w : IsSlabs s
   none_found none =
       find_none (is_kind kind) x.slabs (λ y i. false_from_ne_true (is_kind kind y) (λ e.
       let there = to_list r b s w a t c kind less m x h ex y i e in
-      none there.node y.first there.place))
+      none there.machine_frame y.first there.place))
 
   -- the first of a list is the first slab of its kind
   record IsFound (first : ℕ) : Type 0 where
@@ -28,14 +28,14 @@ module _ (r : spaces.Content) (b : buddies.Content) (s : Content) (w : IsSlabs s
     found : find (is_kind kind) x.slabs ≡ Some slab
     standing : slab_of x first ≡ Some slab
 
-  first_found : (first node : ℕ) → IsFirst s.lists.places (head_of t c kind) first node → IsFound first
-  first_found first node is =
-      let there = from_list r b s w a t c kind less m x h ex first node is.here in
+  first_found : (first machine_frame : ℕ) → IsFirst s.lists.places (head_of t c kind) first machine_frame → IsFound first
+  first_found first machine_frame is =
+      let there = from_list r b s w a t c kind less m x h ex first machine_frame is.here in
       record {
         slab = there.slab;
         found = find_least (λ y. y.first) (is_kind kind) 0 there.slab x.slabs (h.slabs_rise c x ex) there.listed there.passes (λ y i e.
             let also = to_list r b s w a t c kind less m x h ex y i e in
-            subst (λ f. f ≤ y.first) (sym there.begins) (is.least also.node y.first also.place));
+            subst (λ f. f ≤ y.first) (sym there.begins) (is.least also.machine_frame y.first also.place));
         standing = there.standing;
       }
 
@@ -44,10 +44,10 @@ unfolding slab_to_use
 take_uses r b s t c cache o m x w a st h ex is_used =
     ⊎_elim
     (λ first.
-    let is = first_found r b s w a t c 1 (omega arith) m x h ex o.first o.node first in
+    let is = first_found r b s w a t c 1 (omega arith) m x h ex o.first o.machine_frame first in
     (is.slab, ap (λ p. slab_to_use p (find is_empty x.slabs)) is.found, is.standing))
     (λ others.
-    let is = first_found r b s w a t c 2 (omega arith) m x h ex o.first o.node others.1 in
+    let is = first_found r b s w a t c 2 (omega arith) m x h ex o.first o.machine_frame others.1 in
     (is.slab, ap (λ p. slab_to_use p (find is_empty x.slabs)) (none_found r b s w a t c 1 (omega arith) m x h ex others.0) ∙ is.found, is.standing))
     is_used.first
 

@@ -13,29 +13,30 @@ use Rattle.slab_tables.specs.declared.cache.Cache as own
 use Rattle.slab_tables.specs.declared.kind.Kind.TheVariants.{Empty}
 use Rattle.slab_tables.specs.Content.{Content, kept_at, cache_at, kind_number, head_of, layout_numbers}
 use Rattle.slab_tables.specs.Changes.{fresh_kept, made_more}
-use Rattle.machine_changes.specs.Shows.{node_of, record_byte, live_of, is_of_cache, has_slab, is_inside, IsSlab}
+use Rattle.machine_changes.specs.Shows.{machine_frame_of, record_byte, live_of, is_of_cache, has_slab, is_inside, IsSlab}
 
--- an object: its cache, the first frame and the node of its slab, and which of the slab's objects it is
+-- an object: its cache, the first frame and the machine frame of its slab, and which of the slab's objects it is
 pub record Found : Type 0 where
   pub cache : own.Cache
   pub first : ℕ
-  pub node : ℕ
+  pub machine_frame : ℕ
   pub index : ℕ
 
 abbrev pub found : own.Cache → ℕ → ℕ → ℕ → Found
-found cache first node index = record { cache = cache; first = first; node = node; index = index }
+found cache first machine_frame index = record { cache = cache; first = first; machine_frame = machine_frame; index = index }
 
 -- object o of cache c of tenant t is live now, or not, and nothing else changed but the record of its slab
 pub record IsMarked (r r' : spaces.Content) (s s' : Content) (t c : ℕ) (o : Found) (v : Bool) : Type 0 where
   pub top : s'.top ≡ s.top
   pub slots : (u : ℕ) → spaces.superblock_at r'.slots t u ≡ spaces.superblock_at r.slots t u
   pub caches : (d : ℕ) → cache_at s' t d ≡ cache_at s t d
-  pub listed : (n f : ℕ) → is_of_cache n f (place_at s'.lists.places o.node) ≡ is_of_cache n f (place_at s.lists.places o.node)
-  pub lists : (n : ℕ) → n ≢ o.node → place_at s'.lists.places n ≡ place_at s.lists.places n
-  pub kept : (n : ℕ) → n ≢ o.node → kept_at s'.kept n ≡ kept_at s.kept n
-  pub colour : (kept_at s'.kept o.node).colour ≡ (kept_at s.kept o.node).colour
-  pub live : live_of r' t o.cache (kept_at s'.kept o.node) o.first
-      ≡ slice_set (live_of r t o.cache (kept_at s.kept o.node) o.first) o.index v
+  pub listed : (n f : ℕ) → is_of_cache n f (place_at s'.lists.places o.machine_frame)
+      ≡ is_of_cache n f (place_at s.lists.places o.machine_frame)
+  pub lists : (n : ℕ) → n ≢ o.machine_frame → place_at s'.lists.places n ≡ place_at s.lists.places n
+  pub kept : (n : ℕ) → n ≢ o.machine_frame → kept_at s'.kept n ≡ kept_at s.kept n
+  pub colour : (kept_at s'.kept o.machine_frame).colour ≡ (kept_at s.kept o.machine_frame).colour
+  pub live : live_of r' t o.cache (kept_at s'.kept o.machine_frame) o.first
+      ≡ slice_set (live_of r t o.cache (kept_at s.kept o.machine_frame) o.first) o.index v
   pub bytes : (place : ℕ) → ((k : ℕ) → k < RECORD_BYTES → place ≢ FRAME_BYTES * o.first + RECORD_OFFSET + k) → byte_at r' t place ≡ byte_at r t place
   pub large : is_small (layout_numbers o.cache).chunk ≢ true → (place : ℕ) → byte_at r' t place ≡ byte_at r t place
 
@@ -45,10 +46,10 @@ pub record IsReturned (r r' : spaces.Content) (b b' : buddies.Content) (s s' : C
   pub top : s'.top ≡ s.top
   pub slots : (u : ℕ) → spaces.superblock_at r'.slots t u ≡ spaces.superblock_at r.slots t u
   pub caches : (c : ℕ) → cache_at s' t c ≡ cache_at s t c
-  pub lists : (f n : ℕ) → node_of s.top r.slots t f ≡ Some n
+  pub lists : (f n : ℕ) → machine_frame_of s.top r.slots t f ≡ Some n
       → place_at s'.lists.places n ≡ (if gone f then None else place_at s.lists.places n)
-  pub kept : (f n : ℕ) → node_of s.top r.slots t f ≡ Some n → kept_at s'.kept n ≡ kept_at s.kept n
-  pub begun : (f : ℕ) → gone f ≡ true → has_slab s (node_of s.top r.slots t f) ≡ true
+  pub kept : (f n : ℕ) → machine_frame_of s.top r.slots t f ≡ Some n → kept_at s'.kept n ≡ kept_at s.kept n
+  pub begun : (f : ℕ) → gone f ≡ true → has_slab s (machine_frame_of s.top r.slots t f) ≡ true
   pub taken : (f : ℕ) → buddies.taken_of (buddies.holding_of t b') f
       ≡ (if gone f then None else buddies.taken_of (buddies.holding_of t b) f)
   pub zeroed : (place c f n : ℕ) (cache : own.Cache) → IsSlab r s t c f n cache → gone f ≡ true → is_inside place f cache ≡ true
@@ -71,15 +72,15 @@ returned gone m = record m {
   bytes = zeroed (flat_map (gone_blocks gone) m.caches) m.bytes;
 }
 
--- The block at frame f, node n, becomes the next slab of cache c of tenant t: an empty one, its record clear and every object
--- constructed. All bytes outside it stay.
+-- The block at frame f, machine frame n, becomes the next slab of cache c of tenant t: an empty one, its record clear and every
+-- object constructed. All bytes outside it stay.
 pub record IsGrown (r r' : spaces.Content) (b b' : buddies.Content) (s s' : Content) (t c : ℕ) (cache : own.Cache) (f n : ℕ) : Type 0 where
   pub top : s'.top ≡ s.top
   pub slots : (u : ℕ) → spaces.superblock_at r'.slots t u ≡ spaces.superblock_at r.slots t u
   pub cached : cache_at s t c ≡ Some cache
   pub made : cache_at s' t c ≡ Some (made_more cache)
   pub caches : (d : ℕ) → d ≢ c → cache_at s' t d ≡ cache_at s t d
-  pub under : node_of s.top r.slots t f ≡ Some n
+  pub under : machine_frame_of s.top r.slots t f ≡ Some n
   pub vacant : place_at s.lists.places n ≡ None
   pub listed : place_at s'.lists.places n ≡ Some (head_of t c (kind_number Empty), f)
   pub fresh : kept_at s'.kept n ≡ fresh_kept cache

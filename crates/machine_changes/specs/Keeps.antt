@@ -5,14 +5,14 @@ use Rattle.space_core.specs.Content as spaces
 use Rattle.space_core.specs.Laws.{IsSameFor, SpareStays}
 use Rattle.buddy_core.specs.Content as buddies
 use Rattle.slab_tables.specs.Content.{Content, kept_at, cache_at}
-use Rattle.machine_changes.specs.Shows.{node_of}
+use Rattle.machine_changes.specs.Shows.{machine_frame_of}
 
--- tenant t has the same caches, and on each node under its slots the same slab with the same that is kept of it
+-- tenant t has the same caches, and at each machine frame under its slots the same slab with the same that is kept of it
 pub record IsSameCaches (t : ℕ) (r : spaces.Content) (s s' : Content) : Type 0 where
   pub top : s'.top ≡ s.top
   pub caches : (c : ℕ) → cache_at s' t c ≡ cache_at s t c
-  pub lists : (f n : ℕ) → node_of s.top r.slots t f ≡ Some n → place_at s'.lists.places n ≡ place_at s.lists.places n
-  pub kept : (f n : ℕ) → node_of s.top r.slots t f ≡ Some n → kept_at s'.kept n ≡ kept_at s.kept n
+  pub lists : (f n : ℕ) → machine_frame_of s.top r.slots t f ≡ Some n → place_at s'.lists.places n ≡ place_at s.lists.places n
+  pub kept : (f n : ℕ) → machine_frame_of s.top r.slots t f ≡ Some n → kept_at s'.kept n ≡ kept_at s.kept n
 
 -- all that tenant t has is as it was: slots and bytes, control records included, taken blocks, caches and slabs
 pub record Keeps (r r' : spaces.Content) (b b' : buddies.Content) (s s' : Content) (t : ℕ) : Type 0 where

@@ -30,7 +30,8 @@ KeptShowsSame = (r r' : spaces.Content) (b b' : buddies.Content) (s s' : Content
 -- an object marked is that object live, or not, in the machine
 abbrev pub MarkedShows : Type 0
 MarkedShows = (r r' : spaces.Content) (b : buddies.Content) (s s' : Content) (t c : ℕ) (o : Found) (v : Bool) (m : Machine) (x : Cache) (y : Slab)
-    → IsMarked r r' s s' t c o v → IsSteady r b s t → IsSlab r s t c o.first o.node o.cache → o.index < (layout_numbers o.cache).count
+    → IsMarked r r' s s' t c o v → IsSteady r b s t → IsSlab r s t c o.first o.machine_frame o.cache
+    → o.index < (layout_numbers o.cache).count
     → cache_of m c ≡ Some x → slab_of x o.first ≡ Some y
     → ShowsMachine r b s t m → ShowsMachine r' b s' t (with_cache (with_slab (with_live o.index v y) x) m)
 

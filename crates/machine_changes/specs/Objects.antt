@@ -11,25 +11,26 @@ use Rattle.machine_changes.specs.Changes.{Found}
 
 -- o is a live object of cache c of tenant t, and begins at this place
 pub record IsLiveObject (r : spaces.Content) (s : Content) (t c place : ℕ) (o : Found) : Type 0 where
-  pub slab : IsSlab r s t c o.first o.node o.cache
+  pub slab : IsSlab r s t c o.first o.machine_frame o.cache
   pub index : o.index < (layout_numbers o.cache).count
-  pub live : is_live r t o.cache (kept_at s.kept o.node) o.first o.index ≡ true
-  pub begins : object_place (layout_numbers o.cache) o.first (kept_at s.kept o.node).colour o.index ≡ place
+  pub live : is_live r t o.cache (kept_at s.kept o.machine_frame) o.first o.index ≡ true
+  pub begins : object_place (layout_numbers o.cache) o.first (kept_at s.kept o.machine_frame).colour o.index ≡ place
 
 -- no live object of the cache begins there
 abbrev pub IsNoObject : spaces.Content → Content → ℕ → ℕ → ℕ → Type 0
 IsNoObject r s t c place = (o : Found) → IsLiveObject r s t c place o → ⊥
 
--- a slab of a cache: its first frame and its node
+-- a slab of a cache: its first frame and its machine frame
 pub record Standing : Type 0 where
   pub first : ℕ
-  pub node : ℕ
+  pub machine_frame : ℕ
 
 -- the slab of cache c that a take uses: the first of the partial ones, else of the empty ones
 pub record IsToUse (r : spaces.Content) (s : Content) (t c : ℕ) (cache : own.Cache) (o : Standing) : Type 0 where
-  pub slab : IsSlab r s t c o.first o.node cache
-  pub first : IsFirst s.lists.places (head_of t c (kind_number Partial)) o.first o.node
-      ⊎ (IsEmpty s.lists.places (head_of t c (kind_number Partial)) × IsFirst s.lists.places (head_of t c (kind_number Empty)) o.first o.node)
+  pub slab : IsSlab r s t c o.first o.machine_frame cache
+  pub first : IsFirst s.lists.places (head_of t c (kind_number Partial)) o.first o.machine_frame
+      ⊎ (IsEmpty s.lists.places (head_of t c (kind_number Partial))
+      × IsFirst s.lists.places (head_of t c (kind_number Empty)) o.first o.machine_frame)
 
 -- the cache has neither a partial nor an empty slab
 abbrev pub IsAllFull : Content → ℕ → ℕ → Type 0

@@ -15,7 +15,7 @@ use Rattle.buddy_core.specs.Content as buddies
 use Rattle.slab_tables.specs.declared.cache.Cache as own
 use Rattle.slab_tables.specs.Content.{Content, IsSlabs, kept_at, layout_numbers}
 use Rattle.machine_changes.specs.Records.{is_set}
-use Rattle.machine_changes.specs.Shows.{node_of, live_of, has_slab, IsSlab, ShowsMachine, Agree}
+use Rattle.machine_changes.specs.Shows.{machine_frame_of, live_of, has_slab, IsSlab, ShowsMachine, Agree}
 use Rattle.machine_changes.specs.Keeps.{Spares}
 use Rattle.machine_changes.specs.Steady.{IsSteady}
 use Rattle.machine_changes.specs.Changes.{Found}
@@ -33,14 +33,15 @@ ReleasedShows = (r : spaces.Content) (b : buddies.Content) (s : Content) (t f : 
 -- where it was no slab's, the parts agree as before, and others keep everything
 abbrev pub ReleasedAgrees : Type 0
 ReleasedAgrees = (r : spaces.Content) (b : buddies.Content) (s : Content) (t f : ℕ)
-    → Agree r b s → has_slab s (node_of s.top r.slots t f) ≡ false → Agree r (released t f b) s × Spares t r r b (released t f b) s s
+    → Agree r b s → has_slab s (machine_frame_of s.top r.slots t f) ≡ false
+    → Agree r (released t f b) s × Spares t r r b (released t f b) s s
 
 -- the range lies inside one taken block of tenant t that is no slab's
 pub record IsInPage (r : spaces.Content) (b : buddies.Content) (s : Content) (t place len : ℕ) : Type 0 where
   pub first : ℕ
   pub order : ℕ
   pub taken : buddies.taken_of (buddies.holding_of t b) first ≡ Some order
-  pub page : has_slab s (node_of s.top r.slots t first) ≡ false
+  pub page : has_slab s (machine_frame_of s.top r.slots t first) ≡ false
   pub begins : FRAME_BYTES * first ≤ place
   pub ends : place + len ≤ FRAME_BYTES * (first + 2 ^ order)
 
@@ -59,7 +60,7 @@ abbrev pub BlockDecides : Type 0
 BlockDecides = (r : spaces.Content) (b : buddies.Content) (s : Content) (t place len first order : ℕ)
     → IsSteady r b s t → 0 < len → buddies.taken_of (buddies.holding_of t b) first ≡ Some order → HasFrame (block first order) (place / FRAME_BYTES)
     → IsInPage r b s t place len
-    ↔ ((has_slab s (node_of s.top r.slots t first) ≡ false) × (place + len ≤ FRAME_BYTES * (first + 2 ^ order)))
+    ↔ ((has_slab s (machine_frame_of s.top r.slots t first) ≡ false) × (place + len ≤ FRAME_BYTES * (first + 2 ^ order)))
 
 -- .. and where none has it, the range does not
 abbrev pub NoBlockDecides : Type 0
@@ -111,9 +112,9 @@ abbrev pub OneMachine : Type 0
 OneMachine = (r : spaces.Content) (b : buddies.Content) (s : Content) (t : ℕ) (m n : Machine)
     → ShowsMachine r b s t m → ShowsMachine r b s t n → m ≡ n
 
--- byte i of the control record in the machine frame `node`: of the last 32 bytes of that frame
+-- byte i of the control record in machine frame n: of the last 32 bytes of that frame
 abbrev pub record_at : spaces.Content → Content → ℕ → ℕ → ℕ
-record_at r s node i = slice_index (spaces.bank r.banks (node / 2 ^ s.top)) (FRAME_BYTES * (node % 2 ^ s.top) + RECORD_OFFSET + i)
+record_at r s n i = slice_index (spaces.bank r.banks (n / 2 ^ s.top)) (FRAME_BYTES * (n % 2 ^ s.top) + RECORD_OFFSET + i)
 
 -- the control record of a slab of small objects has a 1 for each live object of the machine's slab, and else zeroes
 abbrev pub RecordMeets : Type 0

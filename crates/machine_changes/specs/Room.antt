@@ -11,10 +11,10 @@ use Rattle.machine_changes.specs.Shows.{IsSlab}
 pub record IsIdle (r : spaces.Content) (s : Content) (t x : ℕ) : Type 0 where
   pub number : ℕ
   pub first : ℕ
-  pub node : ℕ
+  pub machine_frame : ℕ
   pub cache : own.Cache
-  pub slab : IsSlab r s t number first node cache
-  pub empty : (kept_at s.kept node).live ≡ 0
+  pub slab : IsSlab r s t number first machine_frame cache
+  pub empty : (kept_at s.kept machine_frame).live ≡ 0
   pub within : HasFrame (block first (layout_numbers cache).order) x
 
 -- some aligned block of order k in a held slot of tenant t has no taken frame outside empty slabs

@@ -20,9 +20,9 @@ abbrev pub frame_under : ℕ → ℕ → Option ℕ → Option ℕ
 frame_under top f None = None
 frame_under top f (Some m) = Some (m * 2 ^ top + f % 2 ^ top)
 
--- the node of frame f of tenant t: the machine frame there, if t holds the slot
-abbrev pub node_of : ℕ → List (List (Option ℕ)) → ℕ → ℕ → Option ℕ
-node_of top slots t f = frame_under top f (spaces.superblock_at slots t (f / 2 ^ top))
+-- the machine frame at frame f of tenant t, if t holds the slot
+abbrev pub machine_frame_of : ℕ → List (List (Option ℕ)) → ℕ → ℕ → Option ℕ
+machine_frame_of top slots t f = frame_under top f (spaces.superblock_at slots t (f / 2 ^ top))
 
 abbrev pub byte_or_zero : Option ℕ → ℕ
 byte_or_zero o = unwrap_or o 0
@@ -51,17 +51,17 @@ slab_placed live colour f true = Some (record { first = f; colour = colour; live
 
 abbrev pub slab_under : spaces.Content → Content → ℕ → ℕ → own.Cache → ℕ → Option ℕ → Option Slab
 slab_under r s t n c f None = None
-slab_under r s t n c f (Some node) =
-    slab_placed (live_of r t c (kept_at s.kept node) f) (kept_at s.kept node).colour f (is_of_cache n f (place_at s.lists.places node))
+slab_under r s t n c f (Some x) =
+    slab_placed (live_of r t c (kept_at s.kept x) f) (kept_at s.kept x).colour f (is_of_cache n f (place_at s.lists.places x))
 
 -- the slab of cache c of tenant t at frame f
 abbrev pub slab_at : spaces.Content → Content → ℕ → ℕ → own.Cache → ℕ → Option Slab
-slab_at r s t c cache f = slab_under r s t (index_of_cache t c) cache f (node_of s.top r.slots t f)
+slab_at r s t c cache f = slab_under r s t (index_of_cache t c) cache f (machine_frame_of s.top r.slots t f)
 
--- a slab begins at the node
+-- a slab begins at the machine frame
 abbrev pub has_slab : Content → Option ℕ → Bool
 has_slab s None = false
-has_slab s (Some node) = is_some (place_at s.lists.places node)
+has_slab s (Some n) = is_some (place_at s.lists.places n)
 
 -- the cache with this number, but for its slabs
 abbrev pub bare : ℕ → own.Cache → Cache
@@ -70,10 +70,10 @@ bare number c = record { number = number; size = c.layout.size; align = c.layout
 abbrev pub without_slabs : Cache → Cache
 without_slabs c = record c { slabs = [] }
 
--- a slab of cache c of tenant t begins at frame f, node n
+-- a slab of cache c of tenant t begins at frame f, machine frame n
 pub record IsSlab (r : spaces.Content) (s : Content) (t c f n : ℕ) (cache : own.Cache) : Type 0 where
   pub cached : cache_at s t c ≡ Some cache
-  pub under : node_of s.top r.slots t f ≡ Some n
+  pub under : machine_frame_of s.top r.slots t f ≡ Some n
   pub listed : is_of_cache (index_of_cache t c) f (place_at s.lists.places n) ≡ true
 
 -- the place lies in a slab of the cache that begins at frame f
@@ -87,7 +87,7 @@ pub record ShowsMachine (r : spaces.Content) (b : buddies.Content) (s : Content)
   pub blocks_rise : RisesFrom 0 (map (λ x. x.first) m.blocks)
   -- page blocks are the taken blocks that are no slab's
   pub blocks : (f : ℕ) → order_in m.blocks f
-      ≡ (if has_slab s (node_of s.top r.slots t f) then None else buddies.taken_of (buddies.holding_of t b) f)
+      ≡ (if has_slab s (machine_frame_of s.top r.slots t f) then None else buddies.taken_of (buddies.holding_of t b) f)
   pub caches_rise : RisesFrom 0 (map (λ x. x.number) m.caches)
   pub caches : (c : ℕ) → option_map without_slabs (cache_of m c) ≡ option_map (bare c) (cache_at s t c)
   pub slabs_rise : (c : ℕ) (x : Cache) → cache_of m c ≡ Some x → RisesFrom 0 (map (λ y. y.first) x.slabs)
@@ -100,13 +100,13 @@ pub record ShowsMachine (r : spaces.Content) (b : buddies.Content) (s : Content)
       → is_some (m.bytes place) ≡ in_object (layout_numbers cache) cache.layout.size (kept_at s.kept n).colour (place - FRAME_BYTES * f)
   pub bytes : (place byte : ℕ) → m.bytes place ≡ Some byte → byte_at r t place ≡ Some byte
 
--- the slab at a node is a taken block of its tenant, and its record and its count say the same
-pub record IsAgreed (r : spaces.Content) (b : buddies.Content) (s : Content) (node head key : ℕ) (cache : own.Cache) : Type 0 where
-  pub under : node_of s.top r.slots (head / 3 / MOST_CACHES) key ≡ Some node
+-- the slab at machine frame n is a taken block of its tenant, and its record and its count say the same
+pub record IsAgreed (r : spaces.Content) (b : buddies.Content) (s : Content) (n head key : ℕ) (cache : own.Cache) : Type 0 where
+  pub under : machine_frame_of s.top r.slots (head / 3 / MOST_CACHES) key ≡ Some n
   pub taken : buddies.taken_of (buddies.holding_of (head / 3 / MOST_CACHES) b) key ≡ Some (layout_numbers cache).order
-  pub counted : (kept_at s.kept node).live ≡ count_true (live_of r (head / 3 / MOST_CACHES) cache (kept_at s.kept node) key)
+  pub counted : (kept_at s.kept n).live ≡ count_true (live_of r (head / 3 / MOST_CACHES) cache (kept_at s.kept n) key)
   -- the record is the bitmap of the live objects and nothing else
-  pub rest : (i : ℕ) → (layout_numbers cache).count ≤ i → i < 256 → is_live r (head / 3 / MOST_CACHES) cache (kept_at s.kept node) key i ≡ false
+  pub rest : (i : ℕ) → (layout_numbers cache).count ≤ i → i < 256 → is_live r (head / 3 / MOST_CACHES) cache (kept_at s.kept n) key i ≡ false
 
 -- The memory, the buddy systems and the tables agree: on their sizes, on the superblock under each slot of each tenant, and
 -- on each slab.
@@ -114,9 +114,9 @@ pub record Agree (r : spaces.Content) (b : buddies.Content) (s : Content) : Type
   pub order : b.top ≡ s.top
   pub unit : r.unit ≡ FRAME_BYTES * 2 ^ s.top
   pub superblocks : length r.owners ≡ b.superblocks
-  pub nodes : length s.lists.places ≡ b.superblocks * 2 ^ s.top
+  pub machine_frames : length s.lists.places ≡ b.superblocks * 2 ^ s.top
   pub rows : length r.slots ≡ length b.tenants
   pub tenants : length s.caches ≡ MOST_CACHES * length b.tenants
   pub slots : (t u : ℕ) → buddies.superblock_at (buddies.holding_of t b) u ≡ spaces.superblock_at r.slots t u
-  pub slabs : (node head key : ℕ) (cache : own.Cache) → place_at s.lists.places node ≡ Some (head, key)
-      → cache_in s.caches (head / 3) ≡ Some cache → IsAgreed r b s node head key cache
+  pub slabs : (n head key : ℕ) (cache : own.Cache) → place_at s.lists.places n ≡ Some (head, key)
+      → cache_in s.caches (head / 3) ≡ Some cache → IsAgreed r b s n head key cache

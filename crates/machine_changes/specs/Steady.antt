@@ -8,7 +8,7 @@ use Rattle.space_core.specs.Content as spaces
 use Rattle.buddy_core.specs.Content as buddies
 use Rattle.slab_tables.specs.declared.cache.Cache as own
 use Rattle.slab_tables.specs.Content.{Content, kept_at, layout_numbers}
-use Rattle.machine_changes.specs.Shows.{IsSlab, node_of}
+use Rattle.machine_changes.specs.Shows.{IsSlab, machine_frame_of}
 
 -- the slab's block is taken, and it is cut by its cache's layout
 pub record IsStanding (b : buddies.Content) (s : Content) (t f n : ℕ) (cache : own.Cache) : Type 0 where
@@ -19,7 +19,7 @@ pub record IsStanding (b : buddies.Content) (s : Content) (t f n : ℕ) (cache :
 pub record IsSteady (r : spaces.Content) (b : buddies.Content) (s : Content) (t : ℕ) : Type 0 where
   pub stands : (c f n : ℕ) (cache : own.Cache) → IsSlab r s t c f n cache → IsStanding b s t f n cache
   -- what stands in a list under a slot of the tenant is a slab of the tenant
-  pub listed : (f n head key : ℕ) → node_of s.top r.slots t f ≡ Some n → place_at s.lists.places n ≡ Some (head, key)
+  pub listed : (f n head key : ℕ) → machine_frame_of s.top r.slots t f ≡ Some n → place_at s.lists.places n ≡ Some (head, key)
       → (c : ℕ) × (cache : own.Cache) × IsSlab r s t c f n cache
   pub sound : IsSound s.top (λ u. is_some (spaces.superblock_at r.slots t u)) (buddies.taken_of (buddies.holding_of t b))
   -- a place of a taken frame fits 32 bits

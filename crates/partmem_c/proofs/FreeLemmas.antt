@@ -12,7 +12,7 @@ use Rattle.world_core.specs.World.{world_step, tenant_step}
 use Rattle.words_core.specs.declared.event.Command.TheVariants.{Free}
 use Rattle.words_core.specs.declared.reply.Addressee.TheVariants as To
 use Rattle.words_core.specs.declared.reply.Reply.{Reply}
-use Rattle.machine_changes.specs.Shows.{node_of, has_slab}
+use Rattle.machine_changes.specs.Shows.{machine_frame_of, has_slab}
 use Rattle.buddy_core.specs.Content.{holding_of, taken_of}
 use Rattle.kernel_core.specs.Content.{KernelContent}
 use Rattle.kernel_core.specs.Shows.{ShowsMachine}
@@ -37,7 +37,7 @@ none_taken k t frame is here large =
 no_block : (k : KernelContent) (t frame : ℕ) (m : Machine) → IsKernel k → t < k.tenants → 2 ^ 20 ≤ frame → ShowsMachine k t m → order_in m.blocks frame ≡ None
 no_block k t frame m is here large shown =
     shown.blocks frame
-    ∙ neither_none (has_slab k.slabs (node_of k.slabs.top k.space.slots t frame)) (taken_of (holding_of t k.buddy) frame) (none_taken k t frame is here large)
+    ∙ neither_none (has_slab k.slabs (machine_frame_of k.slabs.top k.space.slots t frame)) (taken_of (holding_of t k.buddy) frame) (none_taken k t frame is here large)
 
 pub offsets_refused : OffsetsAreRefused
 unfolding world_step tenant_step command_step free_step

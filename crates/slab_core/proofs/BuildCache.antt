@@ -13,7 +13,7 @@ use Rattle.buddy_core.specs.Content as buddies
 use Rattle.slab_tables.specs.declared.cache.Cache as own
 use Rattle.slab_tables.specs.Content.{Content, kept_at, cache_in, cache_at, index_of_cache}
 use Rattle.slab_tables.specs.Changes.{with_cache}
-use Rattle.machine_changes.specs.Shows.{node_of, live_of, is_of_cache, slab_placed, slab_under, slab_at, bare, without_slabs, IsSlab, ShowsMachine, Agree}
+use Rattle.machine_changes.specs.Shows.{machine_frame_of, live_of, is_of_cache, slab_placed, slab_under, slab_at, bare, without_slabs, IsSlab, ShowsMachine, Agree}
 use Rattle.machine_changes.specs.Keeps.{Keeps}
 use Rattle.machine_changes.proofs.PageHoldings.{same_space}
 use Rattle.machine_changes.proofs.Lookups.{at}
@@ -70,7 +70,7 @@ module _ (s : Content) (t c : ℕ) (o : Option own.Cache) (small : c < MOST_CACH
       order = a.order;
       unit = a.unit;
       superblocks = a.superblocks;
-      nodes = a.nodes;
+      machine_frames = a.machine_frames;
       rows = a.rows;
       tenants = length-set s.caches (index_of_cache t c) o ∙ a.tenants;
       slots = a.slots;
@@ -99,7 +99,7 @@ module _ (s : Content) (t c : ℕ) (o : Option own.Cache) (small : c < MOST_CACH
           let differ : d ≢ c = λ e. slab_not f n cache s refl (subst (λ x. IsSlab r s t x f n cache) e q) in
           record { cached = cache_there d differ ∙ q.cached; under = q.under; listed = q.listed }
 
-      none_under : (cache : own.Cache) (f : ℕ) (node : Option ℕ) → slab_under r (with_cache s t c o) t (index_of_cache t c) cache f node ≡ None
+      none_under : (cache : own.Cache) (f : ℕ) (machine_frame : Option ℕ) → slab_under r (with_cache s t c o) t (index_of_cache t c) cache f machine_frame ≡ None
       none_under cache f None = refl
       none_under cache f (Some n) =
           ap (slab_placed (live_of r t cache (kept_at s.kept n) f) (kept_at s.kept n).colour f) (not_of s (index_of_cache t c) f n none)
@@ -120,7 +120,7 @@ module _ (s : Content) (t c : ℕ) (o : Option own.Cache) (small : c < MOST_CACH
             (λ differ. h.slabs_rise d x (sym (there d differ) ∙ e)) (cases_eq d c);
         slabs = λ d f x cache e cached. ⊎_elim
             (λ same. ap (λ ys. find (λ y. eqb y.first f) ys) (empty x (ap (λ z. at (λ y. y.number) z cs) (sym same) ∙ e))
-            ∙ sym (ap (λ z. slab_at r (with_cache s t c o) t z cache f) same ∙ none_under cache f (node_of s.top r.slots t f)))
+            ∙ sym (ap (λ z. slab_at r (with_cache s t c o) t z cache f) same ∙ none_under cache f (machine_frame_of s.top r.slots t f)))
             (λ differ. h.slabs d f x cache (sym (there d differ) ∙ e) (sym (cache_there d differ) ∙ cached)) (cases_eq d c);
         mapped = λ place out. h.mapped place (λ d f n cache q. out d f n cache (stays d f n cache q));
         in_slab = λ place d f n cache q inside. h.in_slab place d f n cache (was d f n cache q) inside;

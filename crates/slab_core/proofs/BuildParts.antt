@@ -1,4 +1,4 @@
--- Parts of which one tenant's share changed, at one node: all others are spared, and what agreed still agrees.
+-- Parts of which one tenant's share changed, at one machine frame: all others are spared, and what agreed still agrees.
 use Rattle.std.proofs.Common.{◌≡◌, ◌≢◌, ℕ, ◌+◌, ◌*◌, ◌/◌, ◌%◌, ◌^◌, ◌<◌, ◌≤◌, cond, length, Some, sym, ap, ◌∙◌, subst, ⊎_elim, arith}
 use Rattle.std.proofs.lemmas.Bool.{cases_eq}
 use Rattle.std.proofs.lemmas.List.{length-set}
@@ -12,51 +12,51 @@ use Rattle.buddy_core.proofs.Holdings.{other_holding}
 use Rattle.slab_tables.specs.declared.cache.Cache as own
 use Rattle.slab_tables.specs.Content.{Content, IsSlabs, kept_at, cache_in, cache_at, layout_numbers}
 use Rattle.machine_changes.specs.Records.{is_set, count_true}
-use Rattle.machine_changes.specs.Shows.{node_of, byte_or_zero, is_live, live_of, IsAgreed, Agree}
+use Rattle.machine_changes.specs.Shows.{machine_frame_of, byte_or_zero, is_live, live_of, IsAgreed, Agree}
 use Rattle.machine_changes.specs.Keeps.{Keeps, Spares}
 use Rattle.machine_changes.proofs.Facts.{same_below}
 use Rattle.machine_changes.proofs.Steady.{one_owner}
-use Rattle.machine_changes.proofs.Untouched.{node_same}
+use Rattle.machine_changes.proofs.Untouched.{machine_frame_same}
 use Rattle.machine_changes.proofs.SlotEmptied.{same_cache}
 
--- only what tenant t has changed, and of the nodes only this one, which lies under frame `first`
-pub record IsLocal (r r' : spaces.Content) (b b' : buddies.Content) (s s' : Content) (t first node : ℕ) : Type 0 where
+-- only what tenant t has changed, and of the machine frames only this one, which lies under frame `first`
+pub record IsLocal (r r' : spaces.Content) (b b' : buddies.Content) (s s' : Content) (t first machine_frame : ℕ) : Type 0 where
   pub space : r' ≡ record r { banks = r'.banks }
   pub bytes : (u : ℕ) → u ≢ t → IsSameFor u r r'
   pub spare : SpareStays r r'
   pub buddy : b' ≡ buddies.with_holding t (buddies.holding_of t b') b
   pub top : s'.top ≡ s.top
-  pub under : node_of s.top r.slots t first ≡ Some node
+  pub under : machine_frame_of s.top r.slots t first ≡ Some machine_frame
   pub caches : (i : ℕ) → (i / MOST_CACHES ≡ t → ⊥) → cache_in s'.caches i ≡ cache_in s.caches i
-  pub lists : (n : ℕ) → n ≢ node → place_at s'.lists.places n ≡ place_at s.lists.places n
-  pub kept : (n : ℕ) → n ≢ node → kept_at s'.kept n ≡ kept_at s.kept n
+  pub lists : (n : ℕ) → n ≢ machine_frame → place_at s'.lists.places n ≡ place_at s.lists.places n
+  pub kept : (n : ℕ) → n ≢ machine_frame → kept_at s'.kept n ≡ kept_at s.kept n
 
--- the slab at a node agrees still where nothing that it says changed
-pub agreed_still : (r r' : spaces.Content) (b b' : buddies.Content) (s s' : Content) (node head key : ℕ) (cache : own.Cache)
-    → (layout_numbers cache).count ≤ 256 → IsAgreed r b s node head key cache
-    → node_of s'.top r'.slots (head / 3 / MOST_CACHES) key ≡ node_of s.top r.slots (head / 3 / MOST_CACHES) key
+-- the slab at a machine frame agrees still where nothing that it says changed
+pub agreed_still : (r r' : spaces.Content) (b b' : buddies.Content) (s s' : Content) (machine_frame head key : ℕ) (cache : own.Cache)
+    → (layout_numbers cache).count ≤ 256 → IsAgreed r b s machine_frame head key cache
+    → machine_frame_of s'.top r'.slots (head / 3 / MOST_CACHES) key ≡ machine_frame_of s.top r.slots (head / 3 / MOST_CACHES) key
     → buddies.taken_of (buddies.holding_of (head / 3 / MOST_CACHES) b') key ≡ buddies.taken_of (buddies.holding_of (head / 3 / MOST_CACHES) b) key
-    → kept_at s'.kept node ≡ kept_at s.kept node
-    → ((i : ℕ) → i < 256 → is_live r' (head / 3 / MOST_CACHES) cache (kept_at s.kept node) key i ≡ is_live r (head / 3 / MOST_CACHES) cache (kept_at s.kept node) key i)
-    → IsAgreed r' b' s' node head key cache
-agreed_still r r' b b' s s' node head key cache few g under taken kept live = record {
+    → kept_at s'.kept machine_frame ≡ kept_at s.kept machine_frame
+    → ((i : ℕ) → i < 256 → is_live r' (head / 3 / MOST_CACHES) cache (kept_at s.kept machine_frame) key i ≡ is_live r (head / 3 / MOST_CACHES) cache (kept_at s.kept machine_frame) key i)
+    → IsAgreed r' b' s' machine_frame head key cache
+agreed_still r r' b b' s s' machine_frame head key cache few g under taken kept live = record {
   under = under ∙ g.under;
   taken = taken ∙ g.taken;
   counted = ap (λ k. k.live) kept ∙ g.counted
       ∙ sym (ap (λ k. count_true (live_of r' (head / 3 / MOST_CACHES) cache k key)) kept
-      ∙ ap count_true (same_below 0 (layout_numbers cache).count (is_live r' (head / 3 / MOST_CACHES) cache (kept_at s.kept node) key)
-      (is_live r (head / 3 / MOST_CACHES) cache (kept_at s.kept node) key) (λ i low high. live i (omega arith))));
+      ∙ ap count_true (same_below 0 (layout_numbers cache).count (is_live r' (head / 3 / MOST_CACHES) cache (kept_at s.kept machine_frame) key)
+      (is_live r (head / 3 / MOST_CACHES) cache (kept_at s.kept machine_frame) key) (λ i low high. live i (omega arith))));
   rest = λ i low high. ap (λ k. is_live r' (head / 3 / MOST_CACHES) cache k key i) kept ∙ live i high ∙ g.rest i low high;
 }
 
-module _ (r r' : spaces.Content) (b b' : buddies.Content) (s s' : Content) (t first node : ℕ) (k : IsLocal r r' b b' s s' t first node)
+module _ (r r' : spaces.Content) (b b' : buddies.Content) (s s' : Content) (t first machine_frame : ℕ) (k : IsLocal r r' b b' s s' t first machine_frame)
     (apart : IsOneToOne r) where
   cache_other : (u c : ℕ) → u ≢ t → cache_at s' u c ≡ cache_at s u c
   cache_other u c differ = same_cache s' s t u c k.caches differ
 
-  not_here : (u f n : ℕ) → u ≢ t → node_of s.top r.slots u f ≡ Some n → n ≢ node
+  not_here : (u f n : ℕ) → u ≢ t → machine_frame_of s.top r.slots u f ≡ Some n → n ≢ machine_frame
   not_here u f n differ e same =
-      differ (one_owner r s.top t first u f node apart k.under (e ∙ ap (λ x. Some x) same)).tenant
+      differ (one_owner r s.top t first u f machine_frame apart k.under (e ∙ ap (λ x. Some x) same)).tenant
 
   keeps_other : (u : ℕ) → u ≢ t → Keeps r r' b b' s s' u
   keeps_other u differ = record {
@@ -74,21 +74,21 @@ module _ (r r' : spaces.Content) (b b' : buddies.Content) (s s' : Content) (t fi
   spares_of = record { others = keeps_other; space = k.space; spare = k.spare; buddy = k.buddy }
 
   module _ (w : IsSlabs s) (a : Agree r b s)
-      (nodes : length s'.lists.places ≡ length s.lists.places) (tables : length s'.caches ≡ length s.caches)
+      (machine_frames : length s'.lists.places ≡ length s.lists.places) (tables : length s'.caches ≡ length s.caches)
       (slots : (v : ℕ) → buddies.superblock_at (buddies.holding_of t b') v ≡ buddies.superblock_at (buddies.holding_of t b) v)
-      (here : (head key : ℕ) → place_at s'.lists.places node ≡ Some (head, key) → head / 3 / MOST_CACHES ≡ t)
+      (here : (head key : ℕ) → place_at s'.lists.places machine_frame ≡ Some (head, key) → head / 3 / MOST_CACHES ≡ t)
       (mine : (n head key : ℕ) (cache : own.Cache) → place_at s'.lists.places n ≡ Some (head, key) → cache_in s'.caches (head / 3) ≡ Some cache
       → head / 3 / MOST_CACHES ≡ t → IsAgreed r' b' s' n head key cache) where
     other_agreed : (n head key : ℕ) (cache : own.Cache) → place_at s'.lists.places n ≡ Some (head, key) → cache_in s'.caches (head / 3) ≡ Some cache
         → (head / 3 / MOST_CACHES ≡ t → ⊥) → IsAgreed r' b' s' n head key cache
     other_agreed n head key cache placed cached differ =
         let u : ℕ = head / 3 / MOST_CACHES in
-        let away : n ≢ node = λ e. differ (here head key (ap (place_at s'.lists.places) (sym e) ∙ placed)) in
+        let away : n ≢ machine_frame = λ e. differ (here head key (ap (place_at s'.lists.places) (sym e) ∙ placed)) in
         let was : cache_in s.caches (head / 3) ≡ Some cache = sym (k.caches (head / 3) differ) ∙ cached in
         let keeps : Keeps r r' b b' s s' u = keeps_other u differ in
         agreed_still r r' b b' s s' n head key cache ((w.fits (head / 3) cache was).layout.fits 0).few
         (a.slabs n head key cache (sym (k.lists n away) ∙ placed) was)
-        (node_same r r' b b' s s' u keeps key)
+        (machine_frame_same r r' b b' s s' u keeps key)
         (ap (λ h. buddies.taken_of h key) keeps.buddy)
         (k.kept n away)
         (λ i less. ap (λ x. cond (is_small (layout_numbers cache).chunk) (is_set (byte_or_zero x) (i % 8)) (is_set (kept_at s.kept n).outside i))
@@ -105,7 +105,7 @@ module _ (r r' : spaces.Content) (b b' : buddies.Content) (s s' : Content) (t fi
       order = ap (λ x. x.top) k.buddy ∙ a.order ∙ sym k.top;
       unit = ap (λ x. x.unit) k.space ∙ a.unit ∙ sym (ap (λ top. 4096 * 2 ^ top) k.top);
       superblocks = ap (λ x. length x.owners) k.space ∙ a.superblocks ∙ sym (ap (λ x. x.superblocks) k.buddy);
-      nodes = nodes ∙ a.nodes ∙ sym (ap (λ x. x.superblocks * 2 ^ s'.top) k.buddy ∙ ap (λ top. b.superblocks * 2 ^ top) k.top);
+      machine_frames = machine_frames ∙ a.machine_frames ∙ sym (ap (λ x. x.superblocks * 2 ^ s'.top) k.buddy ∙ ap (λ top. b.superblocks * 2 ^ top) k.top);
       rows = ap (λ x. length x.slots) k.space ∙ a.rows ∙ sym (ap (λ x. length x.tenants) k.buddy ∙ length-set b.tenants t (buddies.holding_of t b'));
       tenants = tables ∙ a.tenants
           ∙ sym (ap (λ x. MOST_CACHES * length x.tenants) k.buddy ∙ ap (λ n. MOST_CACHES * n) (length-set b.tenants t (buddies.holding_of t b')));

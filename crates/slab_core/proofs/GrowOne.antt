@@ -21,7 +21,7 @@ use Rattle.slab_tables.specs.declared.cache.Cache as own
 use Rattle.slab_tables.specs.Content.{Content, IsSlabs, kept_at, cache_in, cache_at, index_of_cache, head_of, layout_numbers}
 use Rattle.slab_tables.specs.Changes.{fresh_kept, made_more, with_new_slab}
 use Rattle.machine_changes.specs.Records.{is_set, count_true, flags_from}
-use Rattle.machine_changes.specs.Shows.{frame_under, node_of, is_inside, record_byte, byte_or_zero, is_live, live_of, IsSlab, IsAgreed, Agree, ShowsMachine}
+use Rattle.machine_changes.specs.Shows.{frame_under, machine_frame_of, is_inside, record_byte, byte_or_zero, is_live, live_of, IsSlab, IsAgreed, Agree, ShowsMachine}
 use Rattle.machine_changes.specs.Keeps.{Spares}
 use Rattle.machine_changes.specs.Slots.{HoldTogether}
 use Rattle.machine_changes.specs.Steady.{IsSteady}
@@ -63,9 +63,9 @@ chosen_for b t k k' f j e is =
 
 module _ {r : spaces.Content} {b : buddies.Content} {s : Content} (t k : ℕ) (a : Agree r b s) where
   -- a chosen block lies in a slot that the tenant holds
-  pub has_node : (f j : ℕ) → IsChoice b.top (buddies.is_held (buddies.holding_of t b)) (buddies.taken_of (buddies.holding_of t b)) k (block f j)
-      → node_of s.top r.slots t f ≡ None → ⊥
-  has_node f j chosen none =
+  pub has_machine_frame : (f j : ℕ) → IsChoice b.top (buddies.is_held (buddies.holding_of t b)) (buddies.taken_of (buddies.holding_of t b)) k (block f j)
+      → machine_frame_of s.top r.slots t f ≡ None → ⊥
+  has_machine_frame f j chosen none =
       let free = reserved_is_untaken b.top (buddies.is_held (buddies.holding_of t b)) (buddies.taken_of (buddies.holding_of t b)) f j k chosen.0 chosen.1 in
       let held : is_some (spaces.superblock_at r.slots t (f / 2 ^ s.top)) ≡ true =
       subst (λ top. is_some (spaces.superblock_at r.slots t (f / 2 ^ top)) ≡ true) a.order
@@ -97,14 +97,14 @@ module _ {r : spaces.Content} {b : buddies.Content} {s : Content} (t k : ℕ) (a
     pub choice_large : b.top < k → choice s.top m k ≡ None
     choice_large large = choice_none (none_large large)
 
--- for the next slab of the tenant's cache the buddy system has chosen the block at frame f, node n
+-- for the next slab of the tenant's cache the buddy system has chosen the block at frame f, machine frame n
 pub record IsChosen (r : spaces.Content) (b : buddies.Content) (s : Content) (t c : ℕ) (cache : own.Cache) (f j n : ℕ) : Type 0 where
   pub parts : HoldTogether r b s
   pub steady : IsSteady r b s t
   pub tenant : t < length r.slots
   pub cached : cache_at s t c ≡ Some cache
   pub block : IsChoice b.top (buddies.is_held (buddies.holding_of t b)) (buddies.taken_of (buddies.holding_of t b)) (layout_numbers cache).order (block f j)
-  pub under : node_of s.top r.slots t f ≡ Some n
+  pub under : machine_frame_of s.top r.slots t f ≡ Some n
 
 module _ {r : spaces.Content} {b : buddies.Content} {s : Content} {t c : ℕ} {cache : own.Cache} {f j n : ℕ} (chosen : IsChosen r b s t c cache f j n) where
   w : IsSlabs s
@@ -113,7 +113,7 @@ module _ {r : spaces.Content} {b : buddies.Content} {s : Content} {t c : ℕ} {c
   a : Agree r b s
   a = chosen.parts.agree
 
-  under : node_of s.top r.slots t f ≡ Some n
+  under : machine_frame_of s.top r.slots t f ≡ Some n
   under = chosen.under
 
   cached : cache_at s t c ≡ Some cache
@@ -159,7 +159,7 @@ module _ {r : spaces.Content} {b : buddies.Content} {s : Content} {t c : ℕ} {c
       omega (arith, below, mul-le-mul_right (2 ^ b.top) slot, chosen.parts.buddy.sizes.taken t known)
 
   pub few : f < 65536
-  few = omega (arith, frame_within, chosen.parts.buddy.sizes.taken t known, a.nodes, ap (λ top. b.superblocks * 2 ^ top) a.order, w.small)
+  few = omega (arith, frame_within, chosen.parts.buddy.sizes.taken t known, a.machine_frames, ap (λ top. b.superblocks * 2 ^ top) a.order, w.small)
 
   -- no slab begins there
   pub vacant : place_at s.lists.places n ≡ None
@@ -175,12 +175,12 @@ module _ {r : spaces.Content} {b : buddies.Content} {s : Content} {t c : ℕ} {c
       let taken = (a.slabs x (head_of t c 2) f there.0 e there.1).taken in
       not_first (layout_numbers there.0).order (subst (λ u. buddies.taken_of (buddies.holding_of u b) f ≡ Some (layout_numbers there.0).order) tenant_of taken)
 
-  pub node_within : n < length s.lists.places
-  node_within =
+  pub machine_frame_within : n < length s.lists.places
+  machine_frame_within =
       let there = under_is s.top f n (spaces.superblock_at r.slots t (f / 2 ^ s.top)) under in
       let owned = within r.owners there.0 _ ((chosen.parts.space.facts.agree t (f / 2 ^ s.top) there.0).0 there.1) in
       let rest : f % 2 ^ s.top < 2 ^ s.top = mod_below f (2 ^ s.top) (pow_pos s.top) in
-      omega (arith, owned, rest, mul-le-mul_right (2 ^ s.top) owned, a.superblocks, a.nodes, there.2, ap (λ x. x * 2 ^ s.top) a.superblocks)
+      omega (arith, owned, rest, mul-le-mul_right (2 ^ s.top) owned, a.superblocks, a.machine_frames, there.2, ap (λ x. x * 2 ^ s.top) a.superblocks)
 
   small : c < MOST_CACHES
   small = (in_table s t c cache cached).number
@@ -189,10 +189,10 @@ module _ {r : spaces.Content} {b : buddies.Content} {s : Content} {t c : ℕ} {c
   among = among_all r b s t c a chosen.tenant small
 
   pub kept_now : kept_at (with_new_slab s t c cache f n).kept n ≡ fresh_kept cache
-  kept_now = get_or-set_same s.kept n (fresh_kept cache) _ (subst (λ l. n < l) (sym w.paired) node_within)
+  kept_now = get_or-set_same s.kept n (fresh_kept cache) _ (subst (λ l. n < l) (sym w.paired) machine_frame_within)
 
   placed_now : place_at (with_new_slab s t c cache f n).lists.places n ≡ Some (head_of t c 2, f)
-  placed_now = get_or-set_same s.lists.places n (Some (head_of t c 2, f)) None node_within
+  placed_now = get_or-set_same s.lists.places n (Some (head_of t c 2, f)) None machine_frame_within
 
   abbrev pub reserved : buddies.Content
   reserved = buddies.with_holding t (buddies.with_block f k (buddies.holding_of t b)) b
@@ -286,8 +286,8 @@ module _ {r : spaces.Content} {b : buddies.Content} {s : Content} {t c : ℕ} {c
         let tenant_of : head_of t c 2 / 3 / MOST_CACHES ≡ t = omega arith in
         let few_objects = (cut.fits 0).few in
         record {
-          under = subst (λ u. node_of s.top r'.slots u f ≡ Some n) (sym tenant_of)
-              (ap (λ x. node_of s.top x.slots t f) built.space ∙ under);
+          under = subst (λ u. machine_frame_of s.top r'.slots u f ≡ Some n) (sym tenant_of)
+              (ap (λ x. machine_frame_of s.top x.slots t f) built.space ∙ under);
           taken = subst (λ u. buddies.taken_of (buddies.holding_of u reserved) f ≡ Some k) (sym tenant_of)
               (taken_now f ∙ ap (λ v. cond v (Some k) (buddies.taken_of (buddies.holding_of t b) f)) (eq-eqb f f refl));
           counted = subst (λ u. (kept_at s'.kept n).live ≡ count_true (live_of r' u (made_more cache) (kept_at s'.kept n) f)) (sym tenant_of)
@@ -303,13 +303,13 @@ module _ {r : spaces.Content} {b : buddies.Content} {s : Content} {t c : ℕ} {c
         → head / 3 / MOST_CACHES ≡ t → IsAgreed r' reserved s' x head key other
     stays x head key other away placed old e =
         let g : IsAgreed r b s x head key other = a.slabs x head key other placed old in
-        let here : node_of s.top r.slots t key ≡ Some x = subst (λ u. node_of s.top r.slots u key ≡ Some x) e g.under in
+        let here : machine_frame_of s.top r.slots t key ≡ Some x = subst (λ u. machine_frame_of s.top r.slots u key ≡ Some x) e g.under in
         let there = chosen.steady.listed key x head key here placed in
         let q : IsSlab r s t there.0 key x there.1 = there.2 in
-        let differ : key ≡ f → ⊥ = λ same. away (some_same (sym here ∙ ap (node_of s.top r.slots t) same ∙ under)) in
+        let differ : key ≡ f → ⊥ = λ same. away (some_same (sym here ∙ ap (machine_frame_of s.top r.slots t) same ∙ under)) in
         let taken : buddies.taken_of (buddies.holding_of t b) key ≡ Some (layout_numbers there.1).order = (chosen.steady.stands there.0 key x there.1 q).taken in
         agreed_still r r' b reserved s s' x head key other ((w.fits (head / 3) other old).layout.fits 0).few g
-        (ap (λ y. node_of s.top y.slots (head / 3 / MOST_CACHES) key) built.space)
+        (ap (λ y. machine_frame_of s.top y.slots (head / 3 / MOST_CACHES) key) built.space)
         (subst (λ u. buddies.taken_of (buddies.holding_of u reserved) key ≡ buddies.taken_of (buddies.holding_of u b) key) (sym e)
         (taken_now key ∙ ap (λ v. cond v (Some k) (buddies.taken_of (buddies.holding_of t b) key)) (ne_eqb key f differ)))
         (alone.kept x away)

@@ -15,14 +15,14 @@ use Rattle.slab_tables.specs.Content.{Content, IsSlabs, IsPlacedIn, blank, kept_
 use Rattle.slab_tables.specs.Changes.{with_count}
 use Rattle.slab_tables.proofs.Reading.{kind_below, head_parts, same_place}
 use Rattle.machine_changes.specs.Records.{is_set, count_true}
-use Rattle.machine_changes.specs.Shows.{node_of, byte_or_zero, is_live, live_of, is_of_cache, IsSlab, IsAgreed, Agree}
+use Rattle.machine_changes.specs.Shows.{machine_frame_of, byte_or_zero, is_live, live_of, is_of_cache, IsSlab, IsAgreed, Agree}
 use Rattle.machine_changes.specs.Changes.{found, IsMarked}
 use Rattle.machine_changes.proofs.Lookups.{some_same}
 use Rattle.machine_changes.proofs.Flags.{length_flags, flag_at, count_few}
 use Rattle.slab_core.specs.Objects.{IsTurned, IsRecounted}
 use Rattle.slab_core.proofs.BuildParts.{IsLocal, agreed_still, spares_of, agree_of}
 use Rattle.slab_core.proofs.MarkBits.{flags_changed, count_cleared, count_set}
-use Rattle.slab_core.proofs.ObjectSlabs.{IsHeld, held, node_within}
+use Rattle.slab_core.proofs.ObjectSlabs.{IsHeld, held, machine_frame_within}
 
 -- the count after one object more or less
 abbrev pub IsCountOf : Bool → ℕ → ℕ → Type 0
@@ -67,7 +67,7 @@ module _ {r : spaces.Content} {b : buddies.Content} {s : Content} {t c f n i : �
       let whole : h.head ≡ head_of t c (h.head % 3) = omega arith in
       record { kind = h.head % 3; few = omega arith; placed = h.place ∙ ap (λ (x : ℕ). Some (x, f)) whole }
 
-  -- no other node of the cache has the slab's first frame
+  -- no other machine frame of the cache has the slab's first frame
   pub alone : (m : ℕ) → IsPlacedIn s t c f m → m ≡ n
   alone m p =
       let few = p.few in
@@ -75,7 +75,7 @@ module _ {r : spaces.Content} {b : buddies.Content} {s : Content} {t c f n i : �
       let below = h.below in
       let tenant : head_of t c p.kind / 3 / MOST_CACHES ≡ t = omega arith in
       let x = a.slabs m (head_of t c p.kind) f cache p.placed (ap (cache_in s.caches) index ∙ h.cached) in
-      some_same (sym (ap (λ u. node_of s.top r.slots u f) (sym tenant) ∙ x.under) ∙ q.under)
+      some_same (sym (ap (λ u. machine_frame_of s.top r.slots u f) (sym tenant) ∙ x.under) ∙ q.under)
 
   module _ (laws : SpaceLaws r) (banks : List (List ℕ)) (ks : List Kept) (count : ℕ) (is_count : IsCountOf v (kept_at s.kept n).live count)
       (k : IsTurned r (record r { banks = banks }) s (record s { kept = ks }) t (found cache f n i)) where
@@ -98,13 +98,13 @@ module _ {r : spaces.Content} {b : buddies.Content} {s : Content} {t c f n i : �
     tenant_now = let e = index_now in let below = h.below in omega arith
 
     place_now : place_at s'.lists.places n ≡ Some (head_now, f)
-    place_now = get_or-set_same s.lists.places n (Some (head_now, f)) None (node_within q)
+    place_now = get_or-set_same s.lists.places n (Some (head_now, f)) None (machine_frame_within q)
 
     place_other : (m : ℕ) → m ≢ n → place_at s'.lists.places m ≡ place_at s.lists.places m
     place_other m other = get_or-set_other s.lists.places n m (Some (head_now, f)) None other
 
     kept_now : kept_at s'.kept n ≡ record (kept_at ks n) { live = count }
-    kept_now = get_or-set_same ks n (record (kept_at ks n) { live = count }) blank (omega (arith, node_within q, w.paired, k.nodes))
+    kept_now = get_or-set_same ks n (record (kept_at ks n) { live = count }) blank (omega (arith, machine_frame_within q, w.paired, k.machine_frames))
 
     kept_other : (m : ℕ) → m ≢ n → kept_at s'.kept m ≡ kept_at s.kept m
     kept_other m other = get_or-set_other ks n m (record (kept_at ks n) { live = count }) blank other ∙ k.kept m other
@@ -143,7 +143,7 @@ module _ {r : spaces.Content} {b : buddies.Content} {s : Content} {t c f n i : �
     -- the slab that was marked
     own_slab : IsAgreed r' b s' n head_now f cache
     own_slab = record {
-      under = ap (λ u. node_of s.top r.slots u f) tenant_now ∙ q.under;
+      under = ap (λ u. machine_frame_of s.top r.slots u f) tenant_now ∙ q.under;
       taken = ap (λ u. buddies.taken_of (buddies.holding_of u b) f) tenant_now ∙ h.taken;
       counted = subst (λ u. (kept_at s'.kept n).live ≡ count_true (live_of r' u cache (kept_at s'.kept n) f)) (sym tenant_now)
           (ap (λ (x : Kept). x.live) kept_now ∙ (count_marked count is_count ∙ ap count_true (sym flags_now)));
@@ -165,20 +165,20 @@ module _ {r : spaces.Content} {b : buddies.Content} {s : Content} {t c f n i : �
     }
 
     -- another slab of the tenant
-    other_slab : (node head key : ℕ) (cache' : own.Cache) → node ≢ n → place_at s.lists.places node ≡ Some (head, key) → cache_in s.caches (head / 3) ≡ Some cache'
-        → head / 3 / MOST_CACHES ≡ t → IsAgreed r' b s' node head key cache'
-    other_slab node head key cache' other place cached tenant =
-        let x = a.slabs node head key cache' place cached in
-        let under : node_of s.top r.slots t key ≡ Some node = subst (λ u. node_of s.top r.slots u key ≡ Some node) tenant x.under in
-        let differ : key ≢ f = λ e. other (some_same (sym under ∙ (ap (λ (g : ℕ). node_of s.top r.slots t g) e ∙ q.under))) in
-        agreed_still r r' b b s s' node head key cache' ((w.fits (head / 3) cache' cached).layout.fits 0).few x refl refl (kept_other node other)
-        (λ j low. subst (λ u. is_live r' u cache' (kept_at s.kept node) key j ≡ is_live r u cache' (kept_at s.kept node) key j) (sym tenant)
-        (ap (λ (z : ℕ). if is_small (layout_numbers cache').chunk then is_set z (j % 8) else is_set (kept_at s.kept node).outside j)
+    other_slab : (machine_frame head key : ℕ) (cache' : own.Cache) → machine_frame ≢ n → place_at s.lists.places machine_frame ≡ Some (head, key) → cache_in s.caches (head / 3) ≡ Some cache'
+        → head / 3 / MOST_CACHES ≡ t → IsAgreed r' b s' machine_frame head key cache'
+    other_slab machine_frame head key cache' other place cached tenant =
+        let x = a.slabs machine_frame head key cache' place cached in
+        let under : machine_frame_of s.top r.slots t key ≡ Some machine_frame = subst (λ u. machine_frame_of s.top r.slots u key ≡ Some machine_frame) tenant x.under in
+        let differ : key ≢ f = λ e. other (some_same (sym under ∙ (ap (λ (g : ℕ). machine_frame_of s.top r.slots t g) e ∙ q.under))) in
+        agreed_still r r' b b s s' machine_frame head key cache' ((w.fits (head / 3) cache' cached).layout.fits 0).few x refl refl (kept_other machine_frame other)
+        (λ j low. subst (λ u. is_live r' u cache' (kept_at s.kept machine_frame) key j ≡ is_live r u cache' (kept_at s.kept machine_frame) key j) (sym tenant)
+        (ap (λ (z : ℕ). if is_small (layout_numbers cache').chunk then is_set z (j % 8) else is_set (kept_at s.kept machine_frame).outside j)
         (ap byte_or_zero (k.bytes (4096 * key + 4064 + j / 8) (λ m less' e. differ (omega arith))))))
 
-    mine : (node head key : ℕ) (cache' : own.Cache) → place_at s'.lists.places node ≡ Some (head, key) → cache_in s.caches (head / 3) ≡ Some cache'
-        → head / 3 / MOST_CACHES ≡ t → IsAgreed r' b s' node head key cache'
-    mine node head key cache' place cached tenant = elim (cases_eq node n) [
+    mine : (machine_frame head key : ℕ) (cache' : own.Cache) → place_at s'.lists.places machine_frame ≡ Some (head, key) → cache_in s.caches (head / 3) ≡ Some cache'
+        → head / 3 / MOST_CACHES ≡ t → IsAgreed r' b s' machine_frame head key cache'
+    mine machine_frame head key cache' place cached tenant = elim (cases_eq machine_frame n) [
       | inl same ↦
           let at = same_place place_now (ap (place_at s'.lists.places) (sym same) ∙ place) in
           let cache_is : cache ≡ cache' = some_same (sym h.cached ∙ (ap (cache_in s.caches) (sym index_now ∙ ap (λ (x : ℕ). x / 3) at.0) ∙ cached)) in
@@ -186,7 +186,7 @@ module _ {r : spaces.Content} {b : buddies.Content} {s : Content} {t c f n i : �
           (subst (λ (x : own.Cache). IsAgreed r' b s' n head key x) cache_is
           (subst (λ (x : ℕ). IsAgreed r' b s' n x key cache) at.0
           (subst (λ (x : ℕ). IsAgreed r' b s' n head_now x cache) at.1 own_slab)))
-      | inr ne ↦ other_slab node head key cache' ne (sym (place_other node ne) ∙ place) cached tenant
+      | inr ne ↦ other_slab machine_frame head key cache' ne (sym (place_other machine_frame ne) ∙ place) cached tenant
     ]
 
     pub counted : IsRecounted r r' b s s' t c (found cache f n i) v

@@ -10,22 +10,22 @@ use Rattle.slab_core.proofs.MarkAgreed.{IsCountOf, some_live, count_below, is_pl
 
 module _ {r r' : spaces.Content} {b : buddies.Content} {s s' : Content} {t c : ℕ} {o : Found} {v : Bool} (k : IsToCount r r' b s s' t c o v) where
   -- what set_count wants of the tables
-  pub some_now : v ≡ false → 1 ≤ (kept_at s'.kept o.node).live
+  pub some_now : v ≡ false → 1 ≤ (kept_at s'.kept o.machine_frame).live
   some_now dead = let x = some_live k.slabs k.agree k.slab k.index v k.was dead in let same = k.turned.live in omega arith
 
-  pub placed_now : IsPlacedIn s' t c o.first o.node
+  pub placed_now : IsPlacedIn s' t c o.first o.machine_frame
   placed_now =
       let p = is_placed k.slabs k.agree k.slab k.index v k.was in
-      subst (λ (x : Content). IsPlacedIn x t c o.first o.node) (sym k.turned.tables) (record { kind = p.kind; few = p.few; placed = p.placed })
+      subst (λ (x : Content). IsPlacedIn x t c o.first o.machine_frame) (sym k.turned.tables) (record { kind = p.kind; few = p.few; placed = p.placed })
 
-  pub alone_now : (m : ℕ) → IsPlacedIn s' t c o.first m → m ≡ o.node
+  pub alone_now : (m : ℕ) → IsPlacedIn s' t c o.first m → m ≡ o.machine_frame
   alone_now m e =
       let p = subst (λ (x : Content). IsPlacedIn x t c o.first m) k.turned.tables e in
       alone k.slabs k.agree k.slab k.index v k.was m (record { kind = p.kind; few = p.few; placed = p.placed })
 
   -- what is so once it is counted
-  module _ (count : ℕ) (is_now : IsCountOf v (kept_at s'.kept o.node).live count) where
-    is_count : IsCountOf v (kept_at s.kept o.node).live count
+  module _ (count : ℕ) (is_now : IsCountOf v (kept_at s'.kept o.machine_frame).live count) where
+    is_count : IsCountOf v (kept_at s.kept o.machine_frame).live count
     is_count = subst (λ x. IsCountOf v x count) k.turned.live is_now
 
     pub below_now : count ≤ (layout_numbers o.cache).count
@@ -42,8 +42,8 @@ module _ {r r' : spaces.Content} {b : buddies.Content} {s s' : Content} {t c : �
         subst (λ (x : spaces.Content). IsTurned r x s tables t o) k.turned.space
         (subst (λ (x : Content). IsTurned r r' s x t o) k.turned.tables k.turned)
 
-    pub counted_now : IsRecounted r r' b s (with_count s' t c o.cache o.first o.node count) t c o v
+    pub counted_now : IsRecounted r r' b s (with_count s' t c o.cache o.first o.machine_frame count) t c o v
     counted_now =
-        subst (λ (x : spaces.Content). IsRecounted r x b s (with_count s' t c o.cache o.first o.node count) t c o v) (sym k.turned.space)
-        (subst (λ (x : Content). IsRecounted r space_now b s (with_count x t c o.cache o.first o.node count) t c o v) (sym k.turned.tables)
+        subst (λ (x : spaces.Content). IsRecounted r x b s (with_count s' t c o.cache o.first o.machine_frame count) t c o v) (sym k.turned.space)
+        (subst (λ (x : Content). IsRecounted r space_now b s (with_count x t c o.cache o.first o.machine_frame count) t c o v) (sym k.turned.tables)
         (counted k.slabs k.agree k.slab k.index v k.was k.laws r'.banks s'.kept count is_count turned))

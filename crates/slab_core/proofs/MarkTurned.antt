@@ -47,11 +47,11 @@ module _ (r : spaces.Content) (s : Content) (t : ℕ) (o : Found) where
     now_byte : record_byte after t o.first (o.index / 8) ≡ word
     now_byte = ap (λ p. byte_or_zero (byte_at after t p)) (sym at) ∙ ap byte_or_zero here
 
-    stay : (i : ℕ) → i < 256 → i ≢ o.index → is_live after t o.cache (kept_at s.kept o.node) o.first i ≡ is_live r t o.cache (kept_at s.kept o.node) o.first i
+    stay : (i : ℕ) → i < 256 → i ≢ o.index → is_live after t o.cache (kept_at s.kept o.machine_frame) o.first i ≡ is_live r t o.cache (kept_at s.kept o.machine_frame) o.first i
     stay i less other =
-        live_small after t o.cache (kept_at s.kept o.node) o.first i small
+        live_small after t o.cache (kept_at s.kept o.machine_frame) o.first i small
         ∙ word_of (cases_eq (i / 8) (o.index / 8))
-        ∙ sym (live_small r t o.cache (kept_at s.kept o.node) o.first i small)
+        ∙ sym (live_small r t o.cache (kept_at s.kept o.machine_frame) o.first i small)
       where
         word_of : ◌⊎◌ (i / 8 ≡ o.index / 8) (i / 8 ≢ o.index / 8) → is_set (record_byte after t o.first (i / 8)) (i % 8) ≡ is_set (record_byte r t o.first (i / 8)) (i % 8)
         word_of (inl same) =
@@ -62,10 +62,10 @@ module _ (r : spaces.Content) (s : Content) (t : ℕ) (o : Found) where
 
     pub turned_by : IsTurned r after s s t o
     turned_by = record {
-      turned = live_small after t o.cache (kept_at s.kept o.node) o.first o.index small
+      turned = live_small after t o.cache (kept_at s.kept o.machine_frame) o.first o.index small
           ∙ ap (λ w. is_set w (o.index % 8)) (now_byte ∙ is_flipped) ∙ bit_turned byte (o.index % 8)
           ∙ ap (λ w. not (is_set w (o.index % 8))) (sym was_byte)
-          ∙ ap not (sym (live_small r t o.cache (kept_at s.kept o.node) o.first o.index small));
+          ∙ ap not (sym (live_small r t o.cache (kept_at s.kept o.machine_frame) o.first o.index small));
       stay = stay;
       space = same;
       others = others;
@@ -73,7 +73,7 @@ module _ (r : spaces.Content) (s : Content) (t : ℕ) (o : Found) where
       bytes = λ p out. elsewhere p (λ e. out (o.index / 8) (omega arith) (e ∙ at));
       large = λ big. absurd (big small);
       tables = refl;
-      nodes = refl;
+      machine_frames = refl;
       kept = λ n other. refl;
       colour = refl;
       live = refl;
@@ -143,30 +143,30 @@ module _ (r : spaces.Content) (s : Content) (t : ℕ) (o : Found) where
         (turned_by (with_window r t place 32 k.after) few small bit_place byte word (omega (arith, at)) (read.each (o.index / 8) (omega arith)) refl
         after_now refl (λ u other. laws.others.window t place 32 k.after u other) (laws.spare.window t place 32 k.after))
 
-  module _ (large : is_small (layout_numbers o.cache).chunk ≡ false) (few : o.index < 16) (within : o.node < length s.kept) (word : ℕ)
-      (is : word ≡ bit_xor (kept_at s.kept o.node).outside (1 * 2 ^ o.index % 65536)) where
-    now_kept : kept_at (with_outside s o.node word).kept o.node ≡ record (kept_at s.kept o.node) { outside = word }
-    now_kept = get_or-set_same s.kept o.node (record (kept_at s.kept o.node) { outside = word }) blank within
+  module _ (large : is_small (layout_numbers o.cache).chunk ≡ false) (few : o.index < 16) (within : o.machine_frame < length s.kept) (word : ℕ)
+      (is : word ≡ bit_xor (kept_at s.kept o.machine_frame).outside (1 * 2 ^ o.index % 65536)) where
+    now_kept : kept_at (with_outside s o.machine_frame word).kept o.machine_frame ≡ record (kept_at s.kept o.machine_frame) { outside = word }
+    now_kept = get_or-set_same s.kept o.machine_frame (record (kept_at s.kept o.machine_frame) { outside = word }) blank within
 
-    is_word : (kept_at (with_outside s o.node word).kept o.node).outside ≡ bit_xor (kept_at s.kept o.node).outside (2 ^ o.index)
-    is_word = ap (λ (k : Kept). k.outside) now_kept ∙ is ∙ ap (bit_xor (kept_at s.kept o.node).outside) (one_shl o.index 16 few)
+    is_word : (kept_at (with_outside s o.machine_frame word).kept o.machine_frame).outside ≡ bit_xor (kept_at s.kept o.machine_frame).outside (2 ^ o.index)
+    is_word = ap (λ (k : Kept). k.outside) now_kept ∙ is ∙ ap (bit_xor (kept_at s.kept o.machine_frame).outside) (one_shl o.index 16 few)
 
-    pub turned_outside : IsTurned r r s (with_outside s o.node word) t o
+    pub turned_outside : IsTurned r r s (with_outside s o.machine_frame word) t o
     turned_outside = record {
-      turned = live_large r t o.cache (kept_at (with_outside s o.node word).kept o.node) o.first o.index large
-          ∙ ap (λ w. is_set w o.index) is_word ∙ bit_turned (kept_at s.kept o.node).outside o.index
-          ∙ ap not (sym (live_large r t o.cache (kept_at s.kept o.node) o.first o.index large));
-      stay = λ i less other. live_large r t o.cache (kept_at (with_outside s o.node word).kept o.node) o.first i large
-          ∙ ap (λ w. is_set w i) is_word ∙ bit_stays (kept_at s.kept o.node).outside o.index i other
-          ∙ sym (live_large r t o.cache (kept_at s.kept o.node) o.first i large);
+      turned = live_large r t o.cache (kept_at (with_outside s o.machine_frame word).kept o.machine_frame) o.first o.index large
+          ∙ ap (λ w. is_set w o.index) is_word ∙ bit_turned (kept_at s.kept o.machine_frame).outside o.index
+          ∙ ap not (sym (live_large r t o.cache (kept_at s.kept o.machine_frame) o.first o.index large));
+      stay = λ i less other. live_large r t o.cache (kept_at (with_outside s o.machine_frame word).kept o.machine_frame) o.first i large
+          ∙ ap (λ w. is_set w i) is_word ∙ bit_stays (kept_at s.kept o.machine_frame).outside o.index i other
+          ∙ sym (live_large r t o.cache (kept_at s.kept o.machine_frame) o.first i large);
       space = refl;
       others = λ u other. record { slots = λ v. refl; banks = λ v m e. refl; bytes = λ p. refl; windows = λ p len. refl };
       spare = λ m none. refl;
       bytes = λ p out. refl;
       large = λ big p. refl;
       tables = refl;
-      nodes = length-set s.kept o.node (record (kept_at s.kept o.node) { outside = word });
-      kept = λ n other. get_or-set_other s.kept o.node n (record (kept_at s.kept o.node) { outside = word }) blank other;
+      machine_frames = length-set s.kept o.machine_frame (record (kept_at s.kept o.machine_frame) { outside = word });
+      kept = λ n other. get_or-set_other s.kept o.machine_frame n (record (kept_at s.kept o.machine_frame) { outside = word }) blank other;
       colour = ap (λ (k : Kept). k.colour) now_kept;
       live = ap (λ (k : Kept). k.live) now_kept;
     }

@@ -25,7 +25,7 @@ module _ (r : spaces.Content) (b : buddies.Content) (s : Content) (t c place byt
 
   pub has_range : IsSteady r b s t → IsLiveObject r s t c place o → bytes ≡ o.cache.layout.size → (x : Found) × HasRange r s t place bytes x
   has_range st is size =
-      let sized = (st.stands c o.first o.node o.cache is.slab).layout.sized in (
+      let sized = (st.stands c o.first o.machine_frame o.cache is.slab).layout.sized in (
         o,
         record {
           number = c;

@@ -11,7 +11,7 @@ use Rattle.space_core.specs.Content as spaces
 use Rattle.buddy_core.specs.Content as buddies
 use Rattle.slab_tables.specs.declared.cache.Cache as own
 use Rattle.slab_tables.specs.Content.{Content, kept_at, cache_at, index_of_cache, layout_numbers}
-use Rattle.machine_changes.specs.Shows.{node_of, is_of_cache, is_live}
+use Rattle.machine_changes.specs.Shows.{machine_frame_of, is_of_cache, is_live}
 use Rattle.machine_changes.specs.Slots.{HoldTogether}
 use Rattle.machine_changes.specs.Changes.{Found, found}
 use Rattle.machine_changes.specs.Objects.{IsLiveObject, IsNoObject}
@@ -58,26 +58,26 @@ module _ {r : spaces.Content} {b : buddies.Content} {s : Content} {t c : ℕ} {c
       around_frame f k (place / 4096) ((sound parts tenant).placed f k h.taken).0.1 has ∙ sym is_first
 
   -- an object that begins at the place is one of the slab there
-  pub there : (o : Found) → IsLiveObject r s t c place o → IsLiveObject r s t c place (found cache first o.node o.index)
+  pub there : (o : Found) → IsLiveObject r s t c place o → IsLiveObject r s t c place (found cache first o.machine_frame o.index)
   there o is =
-      let mine : IsLiveObject r s t c place (found cache o.first o.node o.index) =
-      subst (λ x. IsLiveObject r s t c place (found x o.first o.node o.index)) (some_same (sym is.slab.cached ∙ cached)) is in
-      subst (λ f. IsLiveObject r s t c place (found cache f o.node o.index)) (begins_there o.first o.node o.index mine) mine
+      let mine : IsLiveObject r s t c place (found cache o.first o.machine_frame o.index) =
+      subst (λ x. IsLiveObject r s t c place (found x o.first o.machine_frame o.index)) (some_same (sym is.slab.cached ∙ cached)) is in
+      subst (λ f. IsLiveObject r s t c place (found cache f o.machine_frame o.index)) (begins_there o.first o.machine_frame o.index mine) mine
 
-  pub no_node : node_of s.top r.slots t first ≡ None → IsNoObject r s t c place
-  no_node none o is = some_none (sym (there o is).slab.under ∙ none)
+  pub no_machine_frame : machine_frame_of s.top r.slots t first ≡ None → IsNoObject r s t c place
+  no_machine_frame none o is = some_none (sym (there o is).slab.under ∙ none)
 
-  module _ (n : ℕ) (under : node_of s.top r.slots t first ≡ Some n) where
-    at_node : (o : Found) → IsLiveObject r s t c place o → IsLiveObject r s t c place (found cache first n o.index)
-    at_node o is =
+  module _ (n : ℕ) (under : machine_frame_of s.top r.slots t first ≡ Some n) where
+    at_machine_frame : (o : Found) → IsLiveObject r s t c place o → IsLiveObject r s t c place (found cache first n o.index)
+    at_machine_frame o is =
         let x = there o is in
         subst (λ m. IsLiveObject r s t c place (found cache first m o.index)) (some_same (sym x.slab.under ∙ under)) x
 
     pub no_slab : is_of_cache (index_of_cache t c) first (place_at s.lists.places n) ≡ false → IsNoObject r s t c place
-    no_slab none o is = false≢true (sym none ∙ (at_node o is).slab.listed)
+    no_slab none o is = false≢true (sym none ∙ (at_machine_frame o is).slab.listed)
 
     begins_at : (o : Found) → IsLiveObject r s t c place o → Begins cache.layout (kept_at s.kept n).colour (place - 4096 * first) o.index
-    begins_at o is = let x = at_node o is in let e = x.begins in record { object = x.index; begins = omega arith }
+    begins_at o is = let x = at_machine_frame o is in let e = x.begins in record { object = x.index; begins = omega arith }
 
     pub none_begins : ((i : ℕ) → Begins cache.layout (kept_at s.kept n).colour (place - 4096 * first) i → ⊥) → IsNoObject r s t c place
     none_begins none o is = none o.index (begins_at o is)
@@ -86,4 +86,4 @@ module _ {r : spaces.Content} {b : buddies.Content} {s : Content} {t c : ℕ} {c
         → is_live r t cache (kept_at s.kept n) first i ≡ false → IsNoObject r s t c place
     not_live i only dead o is =
         let same : o.index ≡ i = only.only o.index (begins_at o is) in
-        false≢true (sym dead ∙ ap (is_live r t cache (kept_at s.kept n) first) (sym same) ∙ (at_node o is).live)
+        false≢true (sym dead ∙ ap (is_live r t cache (kept_at s.kept n) first) (sym same) ∙ (at_machine_frame o is).live)

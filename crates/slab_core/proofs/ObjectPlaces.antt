@@ -6,7 +6,7 @@ use Rattle.space_core.specs.Content as spaces
 use Rattle.slab_tables.specs.declared.cache.Cache as own
 use Rattle.slab_tables.specs.Content.{Content, IsSlabs, layout_numbers}
 use Rattle.machine_changes.specs.Shows.{IsSlab}
-use Rattle.machine_changes.proofs.Facts.{under_is, superblock_of_node}
+use Rattle.machine_changes.proofs.Facts.{under_is, superblock_of_machine_frame}
 use Rattle.slab_core.proofs.ObjectSlabs.{slab_cache}
 
 -- a place of a frame lies in the frame's slot
@@ -16,13 +16,13 @@ place_slot unit top f j e less =
     ∙ (sym (div-div-eq-div-mul (4096 * f + j) 4096 (2 ^ top))
     ∙ ap (λ x. x / 2 ^ top) (ap (λ x. (x + j) / 4096) (omega arith) ∙ div-mul-add f 4096 j less))
 
--- the superblock of a slab's record is that of its node
+-- the superblock of a slab's record is that of its machine frame
 pub record_under : (r : spaces.Content) (s : Content) (t c f n j : ℕ) (cache : own.Cache) → IsSlab r s t c f n cache → r.unit ≡ 4096 * 2 ^ s.top → j < 32
     → spaces.superblock_at r.slots t ((4096 * f + 4064 + j) / r.unit) ≡ Some (n / 2 ^ s.top)
 record_under r s t c f n j cache q unit less =
     let m = under_is s.top f n (spaces.superblock_at r.slots t (f / 2 ^ s.top)) q.under in
     let slot : (4096 * f + 4064 + j) / r.unit ≡ f / 2 ^ s.top = ap (λ x. x / r.unit) (omega arith) ∙ place_slot r.unit s.top f (4064 + j) unit (omega arith) in
-    let same : n / 2 ^ s.top ≡ m.0 = ap (λ x. x / 2 ^ s.top) m.2 ∙ superblock_of_node s.top m.0 f in
+    let same : n / 2 ^ s.top ≡ m.0 = ap (λ x. x / 2 ^ s.top) m.2 ∙ superblock_of_machine_frame s.top m.0 f in
     ap (spaces.superblock_at r.slots t) slot ∙ (m.1 ∙ ap (λ x. Some x) (sym same))
 
 -- so it is at the byte with the bit of an object

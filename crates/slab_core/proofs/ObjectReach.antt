@@ -10,7 +10,7 @@ use Rattle.space_core.specs.Content as spaces
 use Rattle.buddy_core.specs.Content as buddies
 use Rattle.slab_tables.specs.declared.cache.Cache as own
 use Rattle.slab_tables.specs.Content.{Content, kept_at, layout_numbers}
-use Rattle.machine_changes.specs.Shows.{node_of, has_slab, is_live, IsSlab}
+use Rattle.machine_changes.specs.Shows.{machine_frame_of, has_slab, is_live, IsSlab}
 use Rattle.machine_changes.specs.Steady.{IsSteady}
 use Rattle.machine_changes.specs.Changes.{Found, found}
 use Rattle.machine_changes.specs.Objects.{IsLiveObject, HasRange, HasNone}
@@ -25,11 +25,11 @@ nowhere none = (λ e. absurd (false≢true e), λ o. absurd (none o.0 o.1))
 module _ (r : spaces.Content) (b : buddies.Content) (s : Content) (t place len : ℕ) (st : IsSteady r b s t) where
   frame_in : (o : Found) → HasRange r s t place len o → HasFrame (block o.first (layout_numbers o.cache).order) (place / 4096)
   frame_in o h =
-      let fit = fit_of r b s t h.number st o.first o.node o.cache h.object.slab in
+      let fit = fit_of r b s t h.number st o.first o.machine_frame o.cache h.object.slab in
       let l = layout_numbers o.cache in
-      let colour = (kept_at s.kept o.node).colour in
+      let colour = (kept_at s.kept o.machine_frame).colour in
       let row : o.index * l.chunk + l.chunk ≤ l.count * l.chunk = row_fits o.index l.chunk l.count l.chunk h.object.index (omega arith) in
-      let small = (st.stands h.number o.first o.node o.cache h.object.slab).layout.chunked in
+      let small = (st.stands h.number o.first o.machine_frame o.cache h.object.slab).layout.chunked in
       let begins = h.object.begins in
       let inside = fit.inside in
       let within : l.room ≤ 4096 * 2 ^ l.order = fit.within in
@@ -41,16 +41,16 @@ module _ (r : spaces.Content) (b : buddies.Content) (s : Content) (t place len :
       subst (λ p. HasFrame (block o.first l.order) (p / 4096)) whole (in_frame o.first l.order off (omega arith))
 
   pub no_block : (IsTaken (buddies.taken_of (buddies.holding_of t b)) (place / 4096) → ⊥) → HasNone r s t place len
-  no_block none o h = none (o.first, (layout_numbers o.cache).order, (st.stands h.number o.first o.node o.cache h.object.slab).taken, frame_in o h)
+  no_block none o h = none (o.first, (layout_numbers o.cache).order, (st.stands h.number o.first o.machine_frame o.cache h.object.slab).taken, frame_in o h)
 
   module _ (first order : ℕ) (taken : buddies.taken_of (buddies.holding_of t b) first ≡ Some order) (has : HasFrame (block first order) (place / 4096)) where
     begins_there : (o : Found) → HasRange r s t place len o → o.first ≡ first
     begins_there o h =
-        st.sound.apart o.first (layout_numbers o.cache).order first order (place / 4096) (st.stands h.number o.first o.node o.cache h.object.slab).taken taken (frame_in o h) has
+        st.sound.apart o.first (layout_numbers o.cache).order first order (place / 4096) (st.stands h.number o.first o.machine_frame o.cache h.object.slab).taken taken (frame_in o h) has
 
-    pub no_slab : has_slab s (node_of s.top r.slots t first) ≡ false → HasNone r s t place len
+    pub no_slab : has_slab s (machine_frame_of s.top r.slots t first) ≡ false → HasNone r s t place len
     no_slab none o h =
-        false≢true (sym none ∙ subst (λ f. has_slab s (node_of s.top r.slots t f) ≡ true) (begins_there o h) (has_it r s t h.number o.first o.node o.cache h.object.slab))
+        false≢true (sym none ∙ subst (λ f. has_slab s (machine_frame_of s.top r.slots t f) ≡ true) (begins_there o h) (has_it r s t h.number o.first o.machine_frame o.cache h.object.slab))
 
     module _ (c n : ℕ) (cache : own.Cache) (q : IsSlab r s t c first n cache) where
       -- an object that has the range is one of this slab
@@ -64,12 +64,12 @@ module _ (r : spaces.Content) (b : buddies.Content) (s : Content) (t place len :
       here : (o : Found) → HasRange r s t place len o → IsHere o.index
       here o h =
           let e = begins_there o h in
-          let one = one_slab r s t c first n h.number o.first o.node cache o.cache q h.object.slab e in
+          let one = one_slab r s t c first n h.number o.first o.machine_frame cache o.cache q h.object.slab e in
           let object : IsLiveObject r s t c h.begin (found cache first n o.index) =
           subst (λ f. IsLiveObject r s t c h.begin (found cache f n o.index)) e
           (subst (λ k. IsLiveObject r s t k h.begin (found cache o.first n o.index)) one.number
-          (subst (λ m. IsLiveObject r s t h.number h.begin (found cache o.first m o.index)) one.node
-          (subst (λ x. IsLiveObject r s t h.number h.begin (found x o.first o.node o.index)) one.same h.object))) in
+          (subst (λ m. IsLiveObject r s t h.number h.begin (found cache o.first m o.index)) one.machine_frame
+          (subst (λ x. IsLiveObject r s t h.number h.begin (found x o.first o.machine_frame o.index)) one.same h.object))) in
           record { begin = h.begin; object = object; some = h.some; from = h.from; to = subst (λ (x : own.Cache). place + len ≤ h.begin + x.layout.size) one.same h.to }
 
       holds : (o : Found) → HasRange r s t place len o → Holds cache.layout (kept_at s.kept n).colour (place - 4096 * first) len o.index

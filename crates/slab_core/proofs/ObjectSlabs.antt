@@ -61,6 +61,6 @@ module _ {r : spaces.Content} {s : Content} {t c f n : ℕ} {cache : own.Cache} 
   pub slab_cache : IsSlabs s → IsInTables cache
   slab_cache w = in_tables s t c cache w q.cached
 
-  -- and its node is one of theirs
-  pub node_within : n < length s.lists.places
-  node_within = let p = placed_as r s t c f n cache q in within s.lists.places n (p.head, f) p.place
+  -- and its machine frame is one of theirs
+  pub machine_frame_within : n < length s.lists.places
+  machine_frame_within = let p = placed_as r s t c f n cache q in within s.lists.places n (p.head, f) p.place

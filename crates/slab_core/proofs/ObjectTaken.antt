@@ -13,16 +13,16 @@ use Rattle.machine_changes.proofs.Flags.{length_flags, flag_at}
 use Rattle.machine_changes.proofs.Marked.{slab_is}
 
 pub marked_object : {r r' : spaces.Content} {b : buddies.Content} {s s' : Content} {t c place : ℕ} {o : Found} → IsMarked r r' s s' t c o true → IsSteady r b s t
-    → IsSlab r s t c o.first o.node o.cache → o.index < (layout_numbers o.cache).count
-    → object_place (layout_numbers o.cache) o.first (kept_at s.kept o.node).colour o.index ≡ place → IsLiveObject r' s' t c place o
+    → IsSlab r s t c o.first o.machine_frame o.cache → o.index < (layout_numbers o.cache).count
+    → object_place (layout_numbers o.cache) o.first (kept_at s.kept o.machine_frame).colour o.index ≡ place → IsLiveObject r' s' t c place o
 marked_object {r = r} {r' = r'} {b = b} {s = s} {s' = s'} {t = t} {c = c} {o = o} marked st slab below is =
     let count = (layout_numbers o.cache).count in
-    let before = live_of r t o.cache (kept_at s.kept o.node) o.first in
-    let long = length_flags 0 count (is_live r t o.cache (kept_at s.kept o.node) o.first) in
+    let before = live_of r t o.cache (kept_at s.kept o.machine_frame) o.first in
+    let long = length_flags 0 count (is_live r t o.cache (kept_at s.kept o.machine_frame) o.first) in
     record {
-      slab = slab_is r r' b s s' t c o true marked st slab c o.first o.node o.cache slab;
+      slab = slab_is r r' b s s' t c o true marked st slab c o.first o.machine_frame o.cache slab;
       index = below;
-      live = sym (flag_at count o.index (is_live r' t o.cache (kept_at s'.kept o.node) o.first) false below)
+      live = sym (flag_at count o.index (is_live r' t o.cache (kept_at s'.kept o.machine_frame) o.first) false below)
           ∙ (ap (λ flags. get_or flags o.index false) marked.live ∙ get_or-set_same before o.index true false (omega (arith, long, below)));
       begins = ap (λ colour. object_place (layout_numbers o.cache) o.first colour o.index) marked.colour ∙ is;
     }

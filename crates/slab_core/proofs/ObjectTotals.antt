@@ -12,7 +12,7 @@ use Rattle.slab_tables.specs.Content.{kept_at, live_total}
 use Rattle.machine_changes.specs.Records.{count_true}
 use Rattle.machine_changes.proofs.Flags.{any_counts}
 
--- the counts of the nodes of a list
+-- the counts of the slabs of a list
 abbrev pub sum_of : (ℕ → ℕ) → List (ℕ × ℕ) → ℕ
 sum_of live [] = 0
 sum_of live (p ∷ ps) = live p.1 + sum_of live ps

@@ -97,7 +97,7 @@ module _ {r r' : spaces.Content} {b b' : buddies.Content} {s s' : Content} {t k 
           ap (λ v. cond v None (buddies.taken_of (buddies.holding_of t b) g)) (sym is) ∙ sym (gone.taken g) ∙ e in
           let i = room.idle x has (g, j, was, there) in
           let same : g ≡ i.first =
-          st.sound.apart g j i.first (layout_numbers i.cache).order x was (st.stands i.number i.first i.node i.cache i.slab).taken there i.within in
+          st.sound.apart g j i.first (layout_numbers i.cache).order x was (st.stands i.number i.first i.machine_frame i.cache i.slab).taken there i.within in
           false≢true (sym is ∙ ap (idle_at (λ y. true) r s t) same ∙ idle_begins r s t x i)
 
   pub served_then : IsSlabs s → Agree r b s → Agree r' b' s' → k ≤ s.top → HasRoom r b s t k

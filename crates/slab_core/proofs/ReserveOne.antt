@@ -17,7 +17,7 @@ use Rattle.buddy_core.specs.Content as buddies
 use Rattle.buddy_core.proofs.Holdings.{own_holding, other_holding, taken-with_block}
 use Rattle.klist_core.specs.Places.{place_at}
 use Rattle.slab_tables.specs.Content.{Content, layout_numbers}
-use Rattle.machine_changes.specs.Shows.{node_of, has_slab, ShowsMachine, IsAgreed, Agree}
+use Rattle.machine_changes.specs.Shows.{machine_frame_of, has_slab, ShowsMachine, IsAgreed, Agree}
 use Rattle.machine_changes.specs.Keeps.{Spares}
 use Rattle.machine_changes.specs.Steady.{IsSteady}
 use Rattle.machine_changes.proofs.Lookups.{some_none}
@@ -114,12 +114,12 @@ module _ (r : spaces.Content) (b : buddies.Content) (s : Content) (t k : ℕ) (a
           order = a.order;
           unit = a.unit;
           superblocks = a.superblocks;
-          nodes = a.nodes;
+          machine_frames = a.machine_frames;
           rows = a.rows ∙ sym rows;
           tenants = a.tenants ∙ ap (λ n. MOST_CACHES * n) (sym rows);
           slots = slots_now;
-          slabs = λ node head key cache placed cached.
-              let g : IsAgreed r b s node head key cache = a.slabs node head key cache placed cached in
+          slabs = λ machine_frame head key cache placed cached.
+              let g : IsAgreed r b s machine_frame head key cache = a.slabs machine_frame head key cache placed cached in
               record {
                 under = g.under;
                 taken = stays (head / 3 / MOST_CACHES) key (layout_numbers cache).order g.taken;
@@ -141,16 +141,16 @@ module _ (r : spaces.Content) (b : buddies.Content) (s : Content) (t k : ℕ) (a
     }
 
     -- no slab begins where no block is taken
-    no_slab : IsSteady r b s t → has_slab s (node_of s.top r.slots t f) ≡ false
-    no_slab st = under (node_of s.top r.slots t f) refl
+    no_slab : IsSteady r b s t → has_slab s (machine_frame_of s.top r.slots t f) ≡ false
+    no_slab st = under (machine_frame_of s.top r.slots t f) refl
       where
-        placed : (n : ℕ) → node_of s.top r.slots t f ≡ Some n → (p : Option (ℕ × ℕ)) → place_at s.lists.places n ≡ p → is_some p ≡ false
+        placed : (n : ℕ) → machine_frame_of s.top r.slots t f ≡ Some n → (p : Option (ℕ × ℕ)) → place_at s.lists.places n ≡ p → is_some p ≡ false
         placed n at None here = refl
         placed n at (Some p) here =
             let slab = st.listed f n p.0 p.1 at here in
             absurd (some_none (sym (st.stands slab.0 f n slab.1 slab.2).taken ∙ not_first))
 
-        under : (o : Option ℕ) → node_of s.top r.slots t f ≡ o → has_slab s o ≡ false
+        under : (o : Option ℕ) → machine_frame_of s.top r.slots t f ≡ o → has_slab s o ≡ false
         under None at = refl
         under (Some n) at = placed n at (place_at s.lists.places n) refl
 

@@ -20,7 +20,7 @@ use Rattle.buddy_core.specs.Content as buddies
 use Rattle.slab_tables.specs.declared.cache.Cache as own
 use Rattle.slab_tables.specs.Content.{Content, IsSlabs, IsPlacedIn, kept_at, cache_at, index_of_cache, head_of}
 use Rattle.slab_tables.specs.Changes.{with_cache}
-use Rattle.machine_changes.specs.Shows.{node_of, ShowsMachine, Agree, without_slabs}
+use Rattle.machine_changes.specs.Shows.{machine_frame_of, ShowsMachine, Agree, without_slabs}
 use Rattle.machine_changes.specs.Keeps.{Spares}
 use Rattle.machine_changes.specs.Steady.{IsSteady}
 use Rattle.machine_changes.specs.Changes.{IsReturned, kept_slabs, gone_blocks, returned}
@@ -76,11 +76,11 @@ bare_of s t c unused empty n head key placed index =
     (λ rest. ⊎_elim (λ partial. unused.1 n key (at_kind 1 partial)) (λ last. empty n key (at_kind 2 (omega arith))) (cases_eq (head % 3) 1))
     (cases_eq (head % 3) 0)
 
-pub unplaced : (s : Content) (t c : ℕ) → IsBare s (index_of_cache t c) → (first node : ℕ) → IsPlacedIn s t c first node → ⊥
-unplaced s t c none first node p =
+pub unplaced : (s : Content) (t c : ℕ) → IsBare s (index_of_cache t c) → (first machine_frame : ℕ) → IsPlacedIn s t c first machine_frame → ⊥
+unplaced s t c none first machine_frame p =
     let kind = p.few in
     let index : head_of t c p.kind / 3 ≡ index_of_cache t c = omega arith in
-    none node (head_of t c p.kind) first p.placed index
+    none machine_frame (head_of t c p.kind) first p.placed index
 
 module _ (r : spaces.Content) (b : buddies.Content) (s : Content) (t c : ℕ) (w : IsSlabs s) (a : Agree r b s) (m : Machine) (h : ShowsMachine r b s t m) where
   some_kind : (y : Slab) → is_empty y ≡ false → is_full y ≡ false → is_partial y ≡ true
@@ -89,19 +89,19 @@ module _ (r : spaces.Content) (b : buddies.Content) (s : Content) (t c : ℕ) (w
   -- .. and in the machine all slabs of an unused cache are empty
   pub all_empty : IsUnused s t c → (x : Cache) → cache_of m c ≡ Some x → (y : Slab) → IsIn y x.slabs → is_empty y ≡ true
   all_empty unused x ex y i = ⊎_elim (λ e. e) (λ e. ⊎_elim
-      (λ full. absurd (let l = to_list r b s w a t c 0 (omega arith) m x h ex y i full in unused.0 l.node y.first l.place))
-      (λ none. absurd (let l = to_list r b s w a t c 1 (omega arith) m x h ex y i (some_kind y e none) in unused.1 l.node y.first l.place))
+      (λ full. absurd (let l = to_list r b s w a t c 0 (omega arith) m x h ex y i full in unused.0 l.machine_frame y.first l.place))
+      (λ none. absurd (let l = to_list r b s w a t c 1 (omega arith) m x h ex y i (some_kind y e none) in unused.1 l.machine_frame y.first l.place))
       (cases_Bool (is_full y))) (cases_Bool (is_empty y))
 
   -- .. and where all are, it is unused
   pub unused_of : (x : Cache) → cache_of m c ≡ Some x → list_any (λ y. not (is_empty y)) x.slabs ≡ false → IsUnused s t c
   unused_of x ex none = (not_kind 0 (omega arith), not_kind 1 (omega arith))
     where
-      under : (k n key : ℕ) → k < 3 → place_at s.lists.places n ≡ Some (head_of t c k, key) → node_of s.top r.slots (index_of_cache t c / MOST_CACHES) key ≡ Some n
+      under : (k n key : ℕ) → k < 3 → place_at s.lists.places n ≡ Some (head_of t c k, key) → machine_frame_of s.top r.slots (index_of_cache t c / MOST_CACHES) key ≡ Some n
       under k n key less placed =
           let there = w.standing n (head_of t c k) key placed in
           let tenant : head_of t c k / 3 / MOST_CACHES ≡ index_of_cache t c / MOST_CACHES = omega arith in
-          subst (λ u. node_of s.top r.slots u key ≡ Some n) tenant (a.slabs n (head_of t c k) key there.0 placed there.1).under
+          subst (λ u. machine_frame_of s.top r.slots u key ≡ Some n) tenant (a.slabs n (head_of t c k) key there.0 placed there.1).under
 
       not_kind : (k : ℕ) → k < 2 → IsEmpty s.lists.places (head_of t c k)
       not_kind k less n key placed =
@@ -109,10 +109,10 @@ module _ (r : spaces.Content) (b : buddies.Content) (s : Content) (t c : ℕ) (w
           let y = is.slab in
           let empty : is_empty y ≡ true = not-false (is_empty y) (each_in (λ z. not (is_empty z) ≡ false) y x.slabs (none_any (λ z. not (is_empty z)) x.slabs none) is.listed) in
           let l = to_list r b s w a t c 2 (omega arith) m x h ex y is.listed empty in
-          let place : place_at s.lists.places l.node ≡ Some (head_of t c 2, key) = l.place ∙ ap (λ (f : ℕ). Some (head_of t c 2, f)) is.begins in
-          let node : l.node ≡ n = some_same (sym (under 2 l.node key (omega arith) place) ∙ under k n key (omega arith) placed) in
+          let place : place_at s.lists.places l.machine_frame ≡ Some (head_of t c 2, key) = l.place ∙ ap (λ (f : ℕ). Some (head_of t c 2, f)) is.begins in
+          let machine_frame : l.machine_frame ≡ n = some_same (sym (under 2 l.machine_frame key (omega arith) place) ∙ under k n key (omega arith) placed) in
           let same : head_of t c k ≡ head_of t c 2 = ap (λ (q : ℕ × ℕ). q.0)
-          (some_same (sym placed ∙ ap (place_at s.lists.places) (sym node) ∙ place)) in
+          (some_same (sym placed ∙ ap (place_at s.lists.places) (sym machine_frame) ∙ place)) in
           omega arith
 
 -- The steps
@@ -186,22 +186,22 @@ module _ {r : spaces.Content} {b : buddies.Content} {s : Content} {t : ℕ} (c :
     mine : (x : Cache) (y : Slab) → cache_of m c ≡ Some x → IsIn y x.slabs → gone y.first ≡ true
     mine x y ex i =
         let is = slab_of_machine r b s t m h c y.first x y ex (in_found (λ z. z.first) 0 y x.slabs (h.slabs_rise c x ex) i) in
-        let p = placed_as r s t c y.first is.node is.kept is.slab in
+        let p = placed_as r s t c y.first is.machine_frame is.kept is.slab in
         let any = idle_tells (λ z. true) r s t y.first
         (idle_empty r b s t m w a h c y.first x y ex (in_found (λ z. z.first) 0 y x.slabs (h.slabs_rise c x ex) i)
         ∙ all_empty r b s t c w a m h unused x ex y i) in
-        let node : any.node ≡ is.node = some_same (sym any.under ∙ is.slab.under) in
-        idle_is (this t c) r s t y.first is.node p.head y.first is.slab.under p.place (eq-eqb (p.head / 3) (index_of_cache t c) p.index)
-        (ap (λ n. (kept_at s.kept n).live) (sym node) ∙ any.empty)
+        let machine_frame : any.machine_frame ≡ is.machine_frame = some_same (sym any.under ∙ is.slab.under) in
+        idle_is (this t c) r s t y.first is.machine_frame p.head y.first is.slab.under p.place (eq-eqb (p.head / 3) (index_of_cache t c) p.index)
+        (ap (λ n. (kept_at s.kept n).live) (sym machine_frame) ∙ any.empty)
 
     others : (z : Cache) (y : Slab) → IsIn z m.caches → z.number ≢ c → IsIn y z.slabs → gone y.first ≡ false
     others z y i differ j = false_from_ne_true (gone y.first) (λ e.
         let ez : cache_of m z.number ≡ Some z = in_found (λ v. v.number) 0 z m.caches h.caches_rise i in
         let is = slab_of_machine r b s t m h z.number y.first z y ez (in_found (λ v. v.first) 0 y z.slabs (h.slabs_rise z.number z ez) j) in
-        let p = placed_as r s t z.number y.first is.node is.kept is.slab in
+        let p = placed_as r s t z.number y.first is.machine_frame is.kept is.slab in
         let idle = idle_tells (this t c) r s t y.first e in
-        let node : idle.node ≡ is.node = some_same (sym idle.under ∙ is.slab.under) in
-        let head : idle.head ≡ p.head = ap (λ (q : ℕ × ℕ). q.0) (some_same (sym idle.place ∙ ap (place_at s.lists.places) node ∙ p.place)) in
+        let machine_frame : idle.machine_frame ≡ is.machine_frame = some_same (sym idle.under ∙ is.slab.under) in
+        let head : idle.head ≡ p.head = ap (λ (q : ℕ × ℕ). q.0) (some_same (sym idle.place ∙ ap (place_at s.lists.places) machine_frame ∙ p.place)) in
         let index : idle.head / 3 ≡ index_of_cache t c = eqb-true (idle.head / 3) (index_of_cache t c) idle.one in
         let index' : p.head / 3 ≡ index_of_cache t z.number = p.index in
         let both : idle.head / 3 ≡ p.head / 3 = ap (λ n. n / 3) head in

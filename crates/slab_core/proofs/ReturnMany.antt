@@ -11,7 +11,7 @@ use Rattle.slab_tables.specs.declared.cache.Cache as own
 use Rattle.slab_tables.specs.Content.{Content, IsSlabs, kept_at, cache_in, cache_at, index_of_cache, head_of, kind_of, layout_numbers}
 use Rattle.slab_tables.specs.Changes.{without_slab}
 use Rattle.slab_tables.proofs.Reading.{kind_fresh}
-use Rattle.machine_changes.specs.Shows.{node_of, live_of, IsSlab, ShowsMachine, Agree}
+use Rattle.machine_changes.specs.Shows.{machine_frame_of, live_of, IsSlab, ShowsMachine, Agree}
 use Rattle.machine_changes.specs.Keeps.{Keeps, Spares}
 use Rattle.machine_changes.specs.Steady.{IsSteady}
 use Rattle.model_core.specs.Owners.{owned_by}
@@ -23,7 +23,7 @@ use Rattle.machine_changes.proofs.Facts.{slab_of_machine}
 use Rattle.machine_changes.proofs.Flags.{any_counts}
 use Rattle.model_core.specs.Machine.{Slab, Cache, Machine}
 use Rattle.model_core.specs.Slabs.{cache_of, slab_of, is_empty}
-use Rattle.machine_changes.proofs.Returned.{node_same}
+use Rattle.machine_changes.proofs.Returned.{machine_frame_same}
 use Rattle.machine_changes.proofs.Untouched
 use Rattle.machine_changes.proofs.Steady.{IsInTable, in_table, placed_as, slab_from, slab_listed, counted}
 use Rattle.machine_changes.proofs.Twice.{twice}
@@ -43,24 +43,24 @@ abbrev pub this : ℕ → ℕ → ℕ → Bool
 this t c i = eqb i (index_of_cache t c)
 
 pub record IsIdleAt (these : ℕ → Bool) (r : spaces.Content) (s : Content) (t f : ℕ) : Type 0 where
-  pub node : ℕ
+  pub machine_frame : ℕ
   pub head : ℕ
   pub key : ℕ
-  pub under : node_of s.top r.slots t f ≡ Some node
-  pub place : place_at s.lists.places node ≡ Some (head, key)
+  pub under : machine_frame_of s.top r.slots t f ≡ Some machine_frame
+  pub place : place_at s.lists.places machine_frame ≡ Some (head, key)
   pub one : these (head / 3) ≡ true
-  pub empty : (kept_at s.kept node).live ≡ 0
+  pub empty : (kept_at s.kept machine_frame).live ≡ 0
 
 pub idle_tells : (these : ℕ → Bool) (r : spaces.Content) (s : Content) (t f : ℕ) → idle_at these r s t f ≡ true → IsIdleAt these r s t f
-idle_tells these r s t f e = node (node_of s.top r.slots t f) refl e
+idle_tells these r s t f e = machine_frame (machine_frame_of s.top r.slots t f) refl e
   where
-    place : (n : ℕ) (p : Option (ℕ × ℕ)) → node_of s.top r.slots t f ≡ Some n → place_at s.lists.places n ≡ p
+    place : (n : ℕ) (p : Option (ℕ × ℕ)) → machine_frame_of s.top r.slots t f ≡ Some n → place_at s.lists.places n ≡ p
         → (is_of_these these p && (kept_at s.kept n).live == 0) ≡ true → IsIdleAt these r s t f
     place n None under at e = absurd (false≢true e)
     place n (Some p) under at e =
         let both = and_parts (these (p.0 / 3)) ((kept_at s.kept n).live == 0) e in
         record {
-          node = n;
+          machine_frame = n;
           head = p.0;
           key = p.1;
           under = under;
@@ -69,11 +69,11 @@ idle_tells these r s t f e = node (node_of s.top r.slots t f) refl e
           empty = eqb-true (kept_at s.kept n).live 0 both.1;
         }
 
-    node : (o : Option ℕ) → node_of s.top r.slots t f ≡ o → is_idle these s o ≡ true → IsIdleAt these r s t f
-    node None under e = absurd (false≢true e)
-    node (Some n) under e = place n (place_at s.lists.places n) under refl e
+    machine_frame : (o : Option ℕ) → machine_frame_of s.top r.slots t f ≡ o → is_idle these s o ≡ true → IsIdleAt these r s t f
+    machine_frame None under e = absurd (false≢true e)
+    machine_frame (Some n) under e = place n (place_at s.lists.places n) under refl e
 
-pub idle_is : (these : ℕ → Bool) (r : spaces.Content) (s : Content) (t f n head key : ℕ) → node_of s.top r.slots t f ≡ Some n
+pub idle_is : (these : ℕ → Bool) (r : spaces.Content) (s : Content) (t f n head key : ℕ) → machine_frame_of s.top r.slots t f ≡ Some n
     → place_at s.lists.places n ≡ Some (head, key) → these (head / 3) ≡ true → (kept_at s.kept n).live ≡ 0 → idle_at these r s t f ≡ true
 idle_is these r s t f n head key under place one empty =
     ap (is_idle these s) under
@@ -105,8 +105,8 @@ spares_none r b s t = record {
 module _ {r r' r'' : spaces.Content} {b b' b'' : buddies.Content} {s s' s'' : Content} where
   keeps_twice : (u : ℕ) → Keeps r r' b b' s s' u → Keeps r' r'' b' b'' s' s'' u → Keeps r r'' b b'' s s'' u
   keeps_twice u k k' =
-      let under : (f n : ℕ) → node_of s.top r.slots u f ≡ Some n → node_of s'.top r'.slots u f ≡ Some n =
-      λ f n e. Untouched.node_same r r' b b' s s' u k f ∙ e in
+      let under : (f n : ℕ) → machine_frame_of s.top r.slots u f ≡ Some n → machine_frame_of s'.top r'.slots u f ≡ Some n =
+      λ f n e. Untouched.machine_frame_same r r' b b' s s' u k f ∙ e in
       record {
         space = same_twice u r r' r'' k.space k'.space;
         buddy = k'.buddy ∙ k.buddy;
@@ -152,7 +152,7 @@ module _ {these : ℕ → Bool} {r r' : spaces.Content} {b b' : buddies.Content}
   k : IsReturned r r' b b' s s' t g.gone
   k = g.returned
 
-  still : (f n head key : ℕ) → node_of s.top r.slots t f ≡ Some n → place_at s'.lists.places n ≡ Some (head, key)
+  still : (f n head key : ℕ) → machine_frame_of s.top r.slots t f ≡ Some n → place_at s'.lists.places n ≡ Some (head, key)
       → (g.gone f ≡ false) × (place_at s.lists.places n ≡ Some (head, key))
   still f n head key under placed = go (g.gone f) refl (sym (k.lists f n under) ∙ placed)
     where
@@ -165,9 +165,9 @@ module _ {these : ℕ → Bool} {r r' : spaces.Content} {b b' : buddies.Content}
   was_idle : (f : ℕ) → idle_at these r' s' t f ≡ true → idle_at these r s t f ≡ true
   was_idle f e =
       let i = idle_tells these r' s' t f e in
-      let under : node_of s.top r.slots t f ≡ Some i.node = sym (node_same r r' b b' s s' t g.gone k st f) ∙ i.under in
-      idle_is these r s t f i.node i.head i.key under (still f i.node i.head i.key under i.place).1 i.one
-      (ap (λ x. x.live) (sym (k.kept f i.node under)) ∙ i.empty)
+      let under : machine_frame_of s.top r.slots t f ≡ Some i.machine_frame = sym (machine_frame_same r r' b b' s s' t g.gone k st f) ∙ i.under in
+      idle_is these r s t f i.machine_frame i.head i.key under (still f i.machine_frame i.head i.key under i.place).1 i.one
+      (ap (λ x. x.live) (sym (k.kept f i.machine_frame under)) ∙ i.empty)
 
   pub giving_more : {r'' : spaces.Content} {b'' : buddies.Content} {s'' : Content} {gone' : ℕ → Bool} → IsReturned r' r'' b' b'' s' s'' t gone'
       → ((f : ℕ) → gone' f ≡ true → idle_at these r' s' t f ≡ true) → Spares t r' r'' b' b'' s' s'' → Agree r'' b'' s'' → IsSlabs s''
@@ -200,24 +200,24 @@ module _ {these : ℕ → Bool} {r r' : spaces.Content} {b b' : buddies.Content}
       same f true e = e ∙ sym (g.only f e)
       same f false e = e ∙ sym (false_from_ne_true (idle_at these r s t f) (λ idle.
           let i = idle_tells these r s t f idle in
-          let stays : place_at s'.lists.places i.node ≡ Some (i.head, i.key) =
-          k.lists f i.node i.under ∙ ap (λ v. cond v None (place_at s.lists.places i.node)) e ∙ i.place in
-          none f (idle_is these r' s' t f i.node i.head i.key (node_same r r' b b' s s' t g.gone k st f ∙ i.under) stays i.one
-          (ap (λ x. x.live) (k.kept f i.node i.under) ∙ i.empty))))
+          let stays : place_at s'.lists.places i.machine_frame ≡ Some (i.head, i.key) =
+          k.lists f i.machine_frame i.under ∙ ap (λ v. cond v None (place_at s.lists.places i.machine_frame)) e ∙ i.place in
+          none f (idle_is these r' s' t f i.machine_frame i.head i.key (machine_frame_same r r' b b' s s' t g.gone k st f ∙ i.under) stays i.one
+          (ap (λ x. x.live) (k.kept f i.machine_frame i.under) ∙ i.empty))))
 
--- no list grows where a node is taken out of one
-pub empty_without : (s : Content) (node head : ℕ) → IsEmpty s.lists.places head → IsEmpty (without_slab s node).lists.places head
-empty_without s node head none i key placed =
+-- no list grows where a slab is taken out of one
+pub empty_without : (s : Content) (machine_frame head : ℕ) → IsEmpty s.lists.places head → IsEmpty (without_slab s machine_frame).lists.places head
+empty_without s machine_frame head none i key placed =
     ⊎_elim (λ same. ⊎_elim
-    (λ less. some_none (sym placed ∙ ap (place_at (without_slab s node).lists.places) same ∙ get_or-set_same s.lists.places node None None less))
-    (λ past. none i key (ap (λ places. place_at places i) (sym (set_past s.lists.places node None past)) ∙ placed)) (cases_lt node (length s.lists.places)))
-    (λ differ. none i key (sym (get_or-set_other s.lists.places node i None None differ) ∙ placed)) (cases_eq i node)
+    (λ less. some_none (sym placed ∙ ap (place_at (without_slab s machine_frame).lists.places) same ∙ get_or-set_same s.lists.places machine_frame None None less))
+    (λ past. none i key (ap (λ places. place_at places i) (sym (set_past s.lists.places machine_frame None past)) ∙ placed)) (cases_lt machine_frame (length s.lists.places)))
+    (λ differ. none i key (sym (get_or-set_other s.lists.places machine_frame i None None differ) ∙ placed)) (cases_eq i machine_frame)
 
 -- What stands in the list of a cache's empty slabs
 
-pub record IsEmptySlab (r : spaces.Content) (s : Content) (t c first node : ℕ) (cache : own.Cache) : Type 0 where
-  pub slab : IsSlab r s t c first node cache
-  pub empty : (kept_at s.kept node).live ≡ 0
+pub record IsEmptySlab (r : spaces.Content) (s : Content) (t c first machine_frame : ℕ) (cache : own.Cache) : Type 0 where
+  pub slab : IsSlab r s t c first machine_frame cache
+  pub empty : (kept_at s.kept machine_frame).live ≡ 0
 
 kind_empty : (count live kind : ℕ) → kind ≡ 2 → kind ≡ kind_of count live → live ≡ 0
 kind_empty count live kind two e = go (live == count) (live == 0) refl e
@@ -230,36 +230,36 @@ kind_empty count live kind two e = go (live == count) (live == 0) refl e
 -- what is idle stands in the list of its cache's empty slabs
 pub record IsInEmpty (s : Content) (t : ℕ) (these : ℕ → Bool) (f : ℕ) : Type 0 where
   pub number : ℕ
-  pub node : ℕ
+  pub machine_frame : ℕ
   pub small : number < MOST_CACHES
   pub one : these (index_of_cache t number) ≡ true
-  pub placed : place_at s.lists.places node ≡ Some (head_of t number 2, f)
+  pub placed : place_at s.lists.places machine_frame ≡ Some (head_of t number 2, f)
 
 module _ {r : spaces.Content} {b : buddies.Content} {s : Content} {t : ℕ} (w : IsSlabs s) (a : Agree r b s) where
-  pub listed_empty : {c first node : ℕ} {cache : own.Cache} → cache_at s t c ≡ Some cache → place_at s.lists.places node ≡ Some (head_of t c 2, first)
-      → IsEmptySlab r s t c first node cache
-  listed_empty {c = c} {first = first} {node = node} {cache = cache} cached placed =
+  pub listed_empty : {c first machine_frame : ℕ} {cache : own.Cache} → cache_at s t c ≡ Some cache → place_at s.lists.places machine_frame ≡ Some (head_of t c 2, first)
+      → IsEmptySlab r s t c first machine_frame cache
+  listed_empty {c = c} {first = first} {machine_frame = machine_frame} {cache = cache} cached placed =
       let is : IsInTable s t c cache = in_table s t c cache cached in
       let small : c < MOST_CACHES = is.number in
       let index : head_of t c 2 / 3 ≡ index_of_cache t c = omega arith in
       let kind : head_of t c 2 % 3 ≡ 2 = omega arith in
       let tenant : head_of t c 2 / 3 / MOST_CACHES ≡ t = omega arith in
       let at : cache_in s.caches (head_of t c 2 / 3) ≡ Some cache = ap (cache_in s.caches) index ∙ is.cached in
-      let there = w.standing node (head_of t c 2) first placed in
-      let under : node_of s.top r.slots t first ≡ Some node =
-      subst (λ u. node_of s.top r.slots u first ≡ Some node) tenant (a.slabs node (head_of t c 2) first cache placed at).under in
+      let there = w.standing machine_frame (head_of t c 2) first placed in
+      let under : machine_frame_of s.top r.slots t first ≡ Some machine_frame =
+      subst (λ u. machine_frame_of s.top r.slots u first ≡ Some machine_frame) tenant (a.slabs machine_frame (head_of t c 2) first cache placed at).under in
       record {
-        slab = slab_from r s t c first node (head_of t c 2) cache small index at under placed;
-        empty = kind_empty (layout_numbers there.0).count (kept_at s.kept node).live (head_of t c 2 % 3) kind there.2.kind;
+        slab = slab_from r s t c first machine_frame (head_of t c 2) cache small index at under placed;
+        empty = kind_empty (layout_numbers there.0).count (kept_at s.kept machine_frame).live (head_of t c 2 % 3) kind there.2.kind;
       }
 
-  pub idle_listed : ((f n head key : ℕ) → node_of s.top r.slots t f ≡ Some n → place_at s.lists.places n ≡ Some (head, key)
+  pub idle_listed : ((f n head key : ℕ) → machine_frame_of s.top r.slots t f ≡ Some n → place_at s.lists.places n ≡ Some (head, key)
       → (c : ℕ) × (cache : own.Cache) × IsSlab r s t c f n cache) → (these : ℕ → Bool) (f : ℕ) → idle_at these r s t f ≡ true → IsInEmpty s t these f
   idle_listed listed these f e =
       let i = idle_tells these r s t f e in
-      let sl = listed f i.node i.head i.key i.under i.place in
-      let p = placed_as r s t sl.0 f i.node sl.1 sl.2 in
-      let there = w.standing i.node p.head f p.place in
+      let sl = listed f i.machine_frame i.head i.key i.under i.place in
+      let p = placed_as r s t sl.0 f i.machine_frame sl.1 sl.2 in
+      let there = w.standing i.machine_frame p.head f p.place in
       let count : 0 < (layout_numbers there.0).count = ((w.fits (p.head / 3) there.0 there.1).layout.fits 0).some in
       let kind : p.head % 3 ≡ 2 = there.2.kind ∙ ap (kind_of (layout_numbers there.0).count) i.empty ∙ kind_fresh (layout_numbers there.0).count count in
       let index : p.head / 3 ≡ index_of_cache t sl.0 = p.index in
@@ -267,7 +267,7 @@ module _ {r : spaces.Content} {b : buddies.Content} {s : Content} {t : ℕ} (w :
       let same : i.head ≡ p.head = ap (λ (q : ℕ × ℕ). q.0) (some_same (sym i.place ∙ p.place)) in
       record {
         number = sl.0;
-        node = i.node;
+        machine_frame = i.machine_frame;
         small = p.number;
         one = sym (ap these (ap (λ h. h / 3) same ∙ index)) ∙ i.one;
         placed = p.place ∙ ap (λ (h : ℕ). Some (h, f)) is;
@@ -276,10 +276,10 @@ module _ {r : spaces.Content} {b : buddies.Content} {s : Content} {t : ℕ} (w :
 -- One cache, slab by slab
 module _ {r : spaces.Content} {s : Content} {t c : ℕ} where
   -- the slab at this frame is the cache's, and idle
-  pub one_idle : {first node : ℕ} {cache : own.Cache} → IsEmptySlab r s t c first node cache → (f : ℕ) → eqb f first ≡ true → idle_at (this t c) r s t f ≡ true
-  one_idle {first = first} {node = node} {cache = cache} is f e =
-      let p = placed_as r s t c first node cache is.slab in
-      idle_is (this t c) r s t f node p.head first (ap (node_of s.top r.slots t) (eqb-true f first e) ∙ is.slab.under) p.place
+  pub one_idle : {first machine_frame : ℕ} {cache : own.Cache} → IsEmptySlab r s t c first machine_frame cache → (f : ℕ) → eqb f first ≡ true → idle_at (this t c) r s t f ≡ true
+  one_idle {first = first} {machine_frame = machine_frame} {cache = cache} is f e =
+      let p = placed_as r s t c first machine_frame cache is.slab in
+      idle_is (this t c) r s t f machine_frame p.head first (ap (machine_frame_of s.top r.slots t) (eqb-true f first e) ∙ is.slab.under) p.place
       (eq-eqb (p.head / 3) (index_of_cache t c) p.index) is.empty
 
 pub none_idle : {r : spaces.Content} {b : buddies.Content} {s : Content} (t c : ℕ) → IsSlabs s → Agree r b s → IsOneToOne r
@@ -288,19 +288,19 @@ none_idle {r = r} {b = b} {s = s} t c w a apart small none f e =
     let i = idle_listed w a (λ g n head key. slab_listed r b s w a t g n head key apart) (this t c) f e in
     let index : index_of_cache t i.number ≡ index_of_cache t c = eqb-true (index_of_cache t i.number) (index_of_cache t c) i.one in
     let same : i.number ≡ c = omega arith in
-    none i.node f (i.placed ∙ ap (λ (x : ℕ). Some (head_of t x 2, f)) same)
+    none i.machine_frame f (i.placed ∙ ap (λ (x : ℕ). Some (head_of t x 2, f)) same)
 
 -- All caches
 pub any_idle : (r : spaces.Content) (s : Content) (t c f : ℕ) → idle_at (this t c) r s t f ≡ true → idle_at (λ i. true) r s t f ≡ true
 any_idle r s t c f e =
     let i = idle_tells (this t c) r s t f e in
-    idle_is (λ x. true) r s t f i.node i.head i.key i.under i.place refl i.empty
+    idle_is (λ x. true) r s t f i.machine_frame i.head i.key i.under i.place refl i.empty
 
 pub none_any : {r : spaces.Content} {b : buddies.Content} {s : Content} (t : ℕ) → IsSlabs s → Agree r b s → IsOneToOne r
     → ((d : ℕ) → d < MOST_CACHES → IsEmpty s.lists.places (head_of t d 2)) → (f : ℕ) → idle_at (λ i. true) r s t f ≡ true → ⊥
 none_any {r = r} {b = b} {s = s} t w a apart none f e =
     let i = idle_listed w a (λ g n head key. slab_listed r b s w a t g n head key apart) (λ x. true) f e in
-    none i.number i.small i.node f i.placed
+    none i.number i.small i.machine_frame f i.placed
 
 -- where there is no cache, its list is empty
 pub no_cache : (s : Content) (t c : ℕ) → IsSlabs s → c < MOST_CACHES → cache_at s t c ≡ None → IsEmpty s.lists.places (head_of t c 2)
@@ -343,9 +343,9 @@ pub idle_empty : (r : spaces.Content) (b : buddies.Content) (s : Content) (t : �
     → (c f : ℕ) (x : Cache) (y : Slab) → cache_of m c ≡ Some x → slab_of x f ≡ Some y → idle_at (λ i. true) r s t f ≡ is_empty y
 idle_empty r b s t m w a h c f x y ex ey =
     let is = slab_of_machine r b s t m h c f x y ex ey in
-    let p = placed_as r s t c f is.node is.kept is.slab in
+    let p = placed_as r s t c f is.machine_frame is.kept is.slab in
     ap (is_idle (λ i. true) s) is.slab.under
-    ∙ ap (λ o. is_of_these (λ i. true) o && (kept_at s.kept is.node).live == 0) p.place
+    ∙ ap (λ o. is_of_these (λ i. true) o && (kept_at s.kept is.machine_frame).live == 0) p.place
     ∙ sym (ap is_empty is.is
-    ∙ any_counts (live_of r t is.kept (kept_at s.kept is.node) f)
-    ∙ ap (λ k. k == 0) (sym (counted r b s w a t c f is.node is.kept is.slab)))
+    ∙ any_counts (live_of r t is.kept (kept_at s.kept is.machine_frame) f)
+    ∙ ap (λ k. k == 0) (sym (counted r b s w a t c f is.machine_frame is.kept is.slab)))

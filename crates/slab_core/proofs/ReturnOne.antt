@@ -19,12 +19,12 @@ use Rattle.buddy_core.proofs.Holdings.{own_holding, taken-without_block}
 use Rattle.slab_tables.specs.declared.cache.Cache as own
 use Rattle.slab_tables.specs.Content.{Content, IsSlabs, kept_at, cache_in, index_of_cache, layout_numbers}
 use Rattle.slab_tables.specs.Changes.{without_slab}
-use Rattle.machine_changes.specs.Shows.{node_of, is_of_cache, has_slab, is_inside, IsSlab, IsAgreed, Agree, byte_or_zero, is_live}
+use Rattle.machine_changes.specs.Shows.{machine_frame_of, is_of_cache, has_slab, is_inside, IsSlab, IsAgreed, Agree, byte_or_zero, is_live}
 use Rattle.machine_changes.specs.Keeps.{Spares}
 use Rattle.machine_changes.specs.Steady.{IsSteady}
 use Rattle.machine_changes.specs.Changes.{IsReturned}
 use Rattle.machine_changes.proofs.Lookups.{some_none, some_same}
-use Rattle.machine_changes.proofs.Facts.{has_it, one_slab, one_node, one_stays, record_inside}
+use Rattle.machine_changes.proofs.Facts.{has_it, one_slab, one_machine_frame, one_stays, record_inside}
 use Rattle.machine_changes.proofs.Returned.{not_gone}
 use Rattle.slab_core.proofs.Building.{in_range, out_of_range, inside_from}
 use Rattle.slab_core.proofs.BuildParts.{IsLocal, agreed_still, spares_of, agree_of}
@@ -53,9 +53,9 @@ module _ {r : spaces.Content} {b : buddies.Content} {s : Content} {t c f n : ℕ
       let some : 0 < 2 ^ k = pow_pos k in
       range_held r t s.top f k (4096 * f) (4096 * 2 ^ k) a.unit placed.0.0 placed.0.1 placed.1 (omega arith) (omega arith) (omega arith)
 
-  -- its node is one of the tables
-  pub node_within : n < length s.lists.places
-  node_within =
+  -- its machine frame is one of the tables
+  pub machine_frame_within : n < length s.lists.places
+  machine_frame_within =
       let is = some_place (index_of_cache t c) f (place_at s.lists.places n) q.listed in
       placed_within s.lists.places n is.0 is.1
 
@@ -90,19 +90,19 @@ module _ {r : spaces.Content} {b : buddies.Content} {s : Content} {t c f n : ℕ
         in_range r t (4096 * f) bytes (replicate bytes 0) laws.own_bytes slab_held sized place low high
         ∙ ap (λ x. Some x) (get_or-replicate bytes (place - 4096 * f) 0 0 (omega arith))
 
-    lists_now : (g x : ℕ) → node_of s.top r.slots t g ≡ Some x
+    lists_now : (g x : ℕ) → machine_frame_of s.top r.slots t g ≡ Some x
         → place_at (without_slab s n).lists.places x ≡ cond (eqb g f) None (place_at s.lists.places x)
     lists_now g x under = ⊎_elim here elsewhere (cases_eq g f)
       where
         here : g ≡ f → place_at (without_slab s n).lists.places x ≡ cond (eqb g f) None (place_at s.lists.places x)
         here e =
-            let same : x ≡ n = some_same (sym under ∙ ap (node_of s.top r.slots t) e ∙ q.under) in
-            ap (place_at (without_slab s n).lists.places) same ∙ get_or-set_same s.lists.places n None None node_within
+            let same : x ≡ n = some_same (sym under ∙ ap (machine_frame_of s.top r.slots t) e ∙ q.under) in
+            ap (place_at (without_slab s n).lists.places) same ∙ get_or-set_same s.lists.places n None None machine_frame_within
             ∙ sym (ap (λ v. cond v None (place_at s.lists.places x)) (eq-eqb g f e))
 
         elsewhere : (g ≡ f → ⊥) → place_at (without_slab s n).lists.places x ≡ cond (eqb g f) None (place_at s.lists.places x)
         elsewhere differ =
-            get_or-set_other s.lists.places n x None None (λ e. differ (one_node r b s t st g f n (under ∙ ap (λ y. Some y) e) q.under))
+            get_or-set_other s.lists.places n x None None (λ e. differ (one_machine_frame r b s t st g f n (under ∙ ap (λ y. Some y) e) q.under))
             ∙ sym (ap (λ v. cond v None (place_at s.lists.places x)) (ne_eqb g f differ))
 
     pub one_returned : IsReturned r zeroed_space b released s (without_slab s n) t (λ g. eqb g f)
@@ -112,7 +112,7 @@ module _ {r : spaces.Content} {b : buddies.Content} {s : Content} {t c f n : ℕ
       caches = λ d. refl;
       lists = lists_now;
       kept = λ g x under. refl;
-      begun = λ g e. ap (λ x. has_slab s (node_of s.top r.slots t x)) (eqb-true g f e) ∙ has_it r s t c f n cache q;
+      begun = λ g e. ap (λ x. has_slab s (machine_frame_of s.top r.slots t x)) (eqb-true g f e) ∙ has_it r s t c f n cache q;
       taken = taken_now;
       zeroed = λ place d g x other p goes inside.
           let same = one_slab r s t c f n d g x cache other q p (eqb-true g f goes) in
@@ -136,7 +136,7 @@ module _ {r : spaces.Content} {b : buddies.Content} {s : Content} {t c f n : ℕ
     }
 
     gone_now : (p : Option (ℕ × ℕ)) → place_at (without_slab s n).lists.places n ≡ p → p ≡ None
-    gone_now p e = sym e ∙ get_or-set_same s.lists.places n None None node_within
+    gone_now p e = sym e ∙ get_or-set_same s.lists.places n None None machine_frame_within
 
     -- the slabs that stay
     stays : (x head key : ℕ) (other : own.Cache) → place_at (without_slab s n).lists.places x ≡ Some (head, key)
@@ -145,10 +145,10 @@ module _ {r : spaces.Content} {b : buddies.Content} {s : Content} {t c f n : ℕ
         let away : x ≢ n = λ same. some_none (gone_now (Some (head, key)) (ap (place_at (without_slab s n).lists.places) (sym same) ∙ placed)) in
         let old : place_at s.lists.places x ≡ Some (head, key) = sym (alone.lists x away) ∙ placed in
         let g : IsAgreed r b s x head key other = a.slabs x head key other old cached in
-        let under : node_of s.top r.slots t key ≡ Some x = subst (λ u. node_of s.top r.slots u key ≡ Some x) e g.under in
+        let under : machine_frame_of s.top r.slots t key ≡ Some x = subst (λ u. machine_frame_of s.top r.slots u key ≡ Some x) e g.under in
         let there = st.listed key x head key under old in
         let p : IsSlab r s t there.0 key x there.1 = there.2 in
-        let differ : key ≡ f → ⊥ = λ same. away (some_same (sym under ∙ ap (node_of s.top r.slots t) same ∙ q.under)) in
+        let differ : key ≡ f → ⊥ = λ same. away (some_same (sym under ∙ ap (machine_frame_of s.top r.slots t) same ∙ q.under)) in
         let stand = ne_eqb key f differ in
         agreed_still r zeroed_space b released s (without_slab s n) x head key other ((w.fits (head / 3) other cached).layout.fits 0).few g
         refl

@@ -40,32 +40,32 @@ module _ (r : spaces.Content) (b : buddies.Content) (s : Content) (t c k : ℕ) 
     pub rest : MatchOption next (HasRoomAround r b s t c k → ⊥) (λ p. IsNextSlab p.0 p.1)
 
 module _ {r : spaces.Content} {b : buddies.Content} {s : Content} {t c k : ℕ} where
-  pub next_is : {next : Option (ℕ × ℕ)} {slab node : ℕ} → IsSearched r b s t c k next → next ≡ Some (slab, node) → IsNextSlab r b s t c k slab node
+  pub next_is : {next : Option (ℕ × ℕ)} {slab machine_frame : ℕ} → IsSearched r b s t c k next → next ≡ Some (slab, machine_frame) → IsNextSlab r b s t c k slab machine_frame
   next_is is e = subst (λ o. MatchOption o (HasRoomAround r b s t c k → ⊥) (λ p. IsNextSlab r b s t c k p.0 p.1)) e is.rest
 
-  module _ {slab node : ℕ} (here : IsNextSlab r b s t c k slab node) where
+  module _ {slab machine_frame : ℕ} (here : IsNextSlab r b s t c k slab machine_frame) where
     pub slab_small : IsSlabs s → Agree r b s → IsSteady r b s t → c < MOST_CACHES → slab < 65536
-    slab_small w a st less = let taken = listed_taken r b s t c slab node w a less here.placed in st.few slab taken.0 taken.1
+    slab_small w a st less = let taken = listed_taken r b s t c slab machine_frame w a less here.placed in st.few slab taken.0 taken.1
 
     -- the machine has its first frame
     pub slab_within : IsSlabs s → Agree r b s → IsSteady r b s t → buddies.IsSized b → t < length b.tenants → c < MOST_CACHES → slab < length s.lists.places
     slab_within w a st sized lt less =
-        let taken = listed_taken r b s t c slab node w a less here.placed in
+        let taken = listed_taken r b s t c slab machine_frame w a less here.placed in
         let held = ap is_some (a.slots t (slab / 2 ^ s.top)) ∙ (st.sound.placed slab taken.0 taken.1).1 in
         let below : slab < b.superblocks * 2 ^ s.top = (div-lt_iff_lt-mul (pow_pos s.top)).0 (held_within b t (slab / 2 ^ s.top) sized lt held) in
-        omega (arith, below, a.nodes)
+        omega (arith, below, a.machine_frames)
 
     -- what follows the slab in its list
     abbrev pub IsAfter : Option (ℕ × ℕ) → Type 0
     IsAfter next = Follows s.lists.places next (head_of t c 2, slab)
 
     pub after_is : (places : List (Option (ℕ × ℕ))) (next : Option (ℕ × ℕ)) → places ≡ s.lists.places
-        → IfSome (place_at places node) (Follows places next) → IsAfter next
+        → IfSome (place_at places machine_frame) (Follows places next) → IsAfter next
     after_is places next same after =
         subst (λ (o : Option (ℕ × ℕ)). IfSome o (Follows s.lists.places next)) here.placed
-        (subst (λ (xs : List (Option (ℕ × ℕ))). IfSome (place_at xs node) (Follows xs next)) same after)
+        (subst (λ (xs : List (Option (ℕ × ℕ))). IfSome (place_at xs machine_frame) (Follows xs next)) same after)
 
-    pub left_less : (next : Option (ℕ × ℕ)) → slab < 65536 → IsAfter next → left next < left (Some (slab, node))
+    pub left_less : (next : Option (ℕ × ℕ)) → slab < 65536 → IsAfter next → left next < left (Some (slab, machine_frame))
     left_less None small after = omega arith
     left_less (Some q) small after = let above = after.above in omega arith
 
@@ -82,7 +82,7 @@ module _ {r : spaces.Content} {b : buddies.Content} {s : Content} {t c k : ℕ} 
             (cases_lt f slab)
 
         go : (o : Option (ℕ × ℕ)) → IsAfter o → MatchOption o (HasRoomAround r b s t c k → ⊥) (λ p. IsNextSlab r b s t c k p.0 p.1)
-        go None above = λ h. up_to h.first h.node h.empty (above h.node h.first h.empty) h.unused
+        go None above = λ h. up_to h.first h.machine_frame h.empty (above h.machine_frame h.first h.empty) h.unused
         go (Some q) is = record {
           placed = is.here;
           none = λ f n placed before. ⊎_elim

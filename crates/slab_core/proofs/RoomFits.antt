@@ -52,7 +52,7 @@ module _ {r : spaces.Content} {b : buddies.Content} {s : Content} {t k : ℕ} (w
 
     room_of_slab : HasRoomInSlabs r b s t k → HasRoom r b s t k
     room_of_slab (c, less, h) =
-        let taken = listed_taken r b s t c h.first h.node w a less h.empty in
+        let taken = listed_taken r b s t c h.first h.machine_frame w a less h.empty in
         let slot : (around h.first k).first / 2 ^ s.top ≡ h.first / 2 ^ s.top =
         same_slot s.top k (around h.first k).first h.first fits (number_around h.first k) in
         record {
@@ -65,7 +65,7 @@ module _ {r : spaces.Content} {b : buddies.Content} {s : Content} {t k : ℕ} (w
   -- where a frame of the room lies in an empty slab, there is room around the slab
   module _ (room : HasRoom r b s t k) (x : ℕ) (has : HasFrame (block room.first k) x) (i : IsIdle r s t x) where
     aligned : i.first % 2 ^ (layout_numbers i.cache).order ≡ 0
-    aligned = (st.sound.placed i.first (layout_numbers i.cache).order (st.stands i.number i.first i.node i.cache i.slab).taken).0.1
+    aligned = (st.sound.placed i.first (layout_numbers i.cache).order (st.stands i.number i.first i.machine_frame i.cache i.slab).taken).0.1
 
     -- a slab no smaller than the block has all of it
     in_slab : k ≤ (layout_numbers i.cache).order → IsUnusedBlock r b s t (around i.first k).first k
@@ -75,7 +75,7 @@ module _ {r : spaces.Content} {b : buddies.Content} {s : Content} {t k : ℕ} (w
         record {
           number = i.number;
           first = i.first;
-          node = i.node;
+          machine_frame = i.machine_frame;
           cache = i.cache;
           slab = i.slab;
           empty = i.empty;
@@ -99,7 +99,7 @@ module _ {r : spaces.Content} {b : buddies.Content} {s : Content} {t k : ℕ} (w
           e.small,
           record {
             first = i.first;
-            node = e.node;
+            machine_frame = e.machine_frame;
             empty = e.placed;
             unused = ⊎_elim (λ less. in_room (omega arith)) (λ le. in_slab le) (cases_lt (layout_numbers i.cache).order k);
           },

@@ -25,8 +25,8 @@ small_size k small = let two : 0 < 2 = omega arith in pow-le-pow_right two small
 -- an empty slab begins at the first frame of the one in which an idle frame lies
 pub idle_begins : (r : spaces.Content) (s : Content) (t x : ℕ) (i : IsIdle r s t x) → idle_at (λ n. true) r s t i.first ≡ true
 idle_begins r s t x i =
-    let p = placed_as r s t i.number i.first i.node i.cache i.slab in
-    idle_is (λ n. true) r s t i.first i.node p.head i.first i.slab.under p.place refl i.empty
+    let p = placed_as r s t i.number i.first i.machine_frame i.cache i.slab in
+    idle_is (λ n. true) r s t i.first i.machine_frame p.head i.first i.slab.under p.place refl i.empty
 
 module _ (r : spaces.Content) (b : buddies.Content) (s : Content) (t : ℕ) (st : IsSteady r b s t) where
   -- a superblock has all of a taken block
@@ -38,12 +38,12 @@ module _ (r : spaces.Content) (b : buddies.Content) (s : Content) (t : ℕ) (st 
       → idle_at (λ n. true) r s t f ≡ true → IsIdle r s t x
   idle_in f k x taken has idle =
       let i = idle_tells (λ n. true) r s t f idle in
-      let there = st.listed f i.node i.head i.key i.under i.place in
-      let order : k ≡ (layout_numbers there.1).order = some_same (sym taken ∙ (st.stands there.0 f i.node there.1 there.2).taken) in
+      let there = st.listed f i.machine_frame i.head i.key i.under i.place in
+      let order : k ≡ (layout_numbers there.1).order = some_same (sym taken ∙ (st.stands there.0 f i.machine_frame there.1 there.2).taken) in
       record {
         number = there.0;
         first = f;
-        node = i.node;
+        machine_frame = i.machine_frame;
         cache = there.1;
         slab = there.2;
         empty = i.empty;
@@ -78,7 +78,7 @@ module _ (r : spaces.Content) (b : buddies.Content) (s : Content) (t : ℕ) (st 
         let has : HasFrame (block f k) f = (omega arith, omega arith) in
         let i = unused (f, k, taken, has) in
         let same : i.first ≡ f =
-        st.sound.apart i.first (layout_numbers i.cache).order f k f (st.stands i.number i.first i.node i.cache i.slab).taken taken i.within has in
+        st.sound.apart i.first (layout_numbers i.cache).order f k f (st.stands i.number i.first i.machine_frame i.cache i.slab).taken taken i.within has in
         false≢true (sym busy ∙ ap (idle_at (λ n. true) r s t) (sym same) ∙ idle_begins r s t f i)
 
 -- what stands in the list of the empty slabs of a tenant's cache is a taken block of the tenant

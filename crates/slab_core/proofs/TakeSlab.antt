@@ -9,7 +9,7 @@ use Rattle.buddy_core.specs.Content as buddies
 use Rattle.slab_tables.specs.declared.cache.Cache as own
 use Rattle.slab_tables.specs.Content.{Content, IsSlabs, kept_at, cache_in, cache_at, index_of_cache, head_of, kind_of, layout_numbers}
 use Rattle.slab_tables.proofs.Reading.{head_parts, listed}
-use Rattle.machine_changes.specs.Shows.{node_of, IsSlab, Agree}
+use Rattle.machine_changes.specs.Shows.{machine_frame_of, IsSlab, Agree}
 use Rattle.machine_changes.specs.Objects.{IsToUse}
 use Rattle.machine_changes.proofs.Steady.{in_table, slab_from, tenant_is}
 
@@ -22,12 +22,12 @@ module _ {r : spaces.Content} {b : buddies.Content} {s : Content} (t c : ℕ) {c
       let here : cache_in s.caches (head_of t c kind / 3) ≡ Some cache = ap (cache_in s.caches) index ∙ there.cached in
       let tenant : head_of t c kind / 3 / MOST_CACHES ≡ t = tenant_is (head_of t c kind / 3) t c index there.number in
       slab_from r s t c f n (head_of t c kind) cache there.number index here
-      (sym (ap (λ u. node_of s.top r.slots u f) tenant) ∙ (a.slabs n (head_of t c kind) f cache place here).under) place
+      (sym (ap (λ u. machine_frame_of s.top r.slots u f) tenant) ∙ (a.slabs n (head_of t c kind) f cache place here).under) place
 
-  pub use_partial : (f n : ℕ) → IsFirst s.lists.places (head_of t c 1) f n → IsToUse r s t c cache (record { first = f; node = n })
+  pub use_partial : (f n : ℕ) → IsFirst s.lists.places (head_of t c 1) f n → IsToUse r s t c cache (record { first = f; machine_frame = n })
   use_partial f n first = record { slab = slab_in_list 1 f n (omega arith) first.here; first = inl first }
 
-  pub use_empty : (f n : ℕ) → IsEmpty s.lists.places (head_of t c 1) → IsFirst s.lists.places (head_of t c 2) f n → IsToUse r s t c cache (record { first = f; node = n })
+  pub use_empty : (f n : ℕ) → IsEmpty s.lists.places (head_of t c 1) → IsFirst s.lists.places (head_of t c 2) f n → IsToUse r s t c cache (record { first = f; machine_frame = n })
   use_empty f n none first = record { slab = slab_in_list 2 f n (omega arith) first.here; first = inr (none, first) }
 
   -- the slab of a list of partial or of empty ones has an object that is not live

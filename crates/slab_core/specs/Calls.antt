@@ -11,7 +11,7 @@ use Rattle.slab_tables.specs.declared.cache.Cache as own
 use Rattle.klist_core.specs.Places.{place_at, IsEmpty}
 use Rattle.slab_tables.specs.Content.{Content, kept_at, head_of, layout_numbers}
 use Rattle.slab_tables.specs.Changes.{made_more}
-use Rattle.machine_changes.specs.Shows.{node_of, is_inside, record_byte, IsSlab}
+use Rattle.machine_changes.specs.Shows.{machine_frame_of, is_inside, record_byte, IsSlab}
 
 -- the range of tenant t holds the pattern now, over and over, and all else of the memory is as before
 pub record IsFilled (r r' : spaces.Content) (t place len : ℕ) (pattern : List ℕ) : Type 0 where
@@ -37,14 +37,14 @@ abbrev pub is_of_these : (ℕ → Bool) → Option (ℕ × ℕ) → Bool
 is_of_these these None = false
 is_of_these these (Some p) = these (p.0 / 3)
 
--- a slab of one of these caches begins at the node, and no object of it is live
+-- a slab of one of these caches begins at machine frame n, and no object of it is live
 abbrev pub is_idle : (ℕ → Bool) → Content → Option ℕ → Bool
 is_idle these s None = false
-is_idle these s (Some node) = is_of_these these (place_at s.lists.places node) && (kept_at s.kept node).live == 0
+is_idle these s (Some n) = is_of_these these (place_at s.lists.places n) && (kept_at s.kept n).live == 0
 
 -- .. at frame f of tenant t
 abbrev pub idle_at : (ℕ → Bool) → spaces.Content → Content → ℕ → ℕ → Bool
-idle_at these r s t f = is_idle these s (node_of s.top r.slots t f)
+idle_at these r s t f = is_idle these s (machine_frame_of s.top r.slots t f)
 
 -- the frames of the cache's empty slabs
 abbrev pub empty_frames_in : Option Cache → ℕ
@@ -55,7 +55,7 @@ empty_frames_in (Some c) = frames_of (empty_blocks c)
 abbrev pub IsUnused : Content → ℕ → ℕ → Type 0
 IsUnused s t c = IsEmpty s.lists.places (head_of t c 0) × IsEmpty s.lists.places (head_of t c 1)
 
--- an empty slab of cache c of tenant t stands at this frame and node, and was the last that the cache, as it was before, made
-pub record IsNew (r : spaces.Content) (s : Content) (t c : ℕ) (before : own.Cache) (first node : ℕ) : Type 0 where
-  pub slab : IsSlab r s t c first node (made_more before)
-  pub empty : (kept_at s.kept node).live ≡ 0
+-- an empty slab of cache c of tenant t begins at machine frame n, and was the last that the cache, as it was before, made
+pub record IsNew (r : spaces.Content) (s : Content) (t c : ℕ) (before : own.Cache) (first n : ℕ) : Type 0 where
+  pub slab : IsSlab r s t c first n (made_more before)
+  pub empty : (kept_at s.kept n).live ≡ 0

@@ -6,7 +6,7 @@ use Rattle.model_core.specs.CacheOperations.{give_step}
 use Rattle.space_core.specs.Content as spaces
 use Rattle.buddy_core.specs.Content as buddies
 use Rattle.slab_tables.specs.Content.{Content}
-use Rattle.machine_changes.specs.Shows.{node_of, has_slab}
+use Rattle.machine_changes.specs.Shows.{machine_frame_of, has_slab}
 
 -- a live object of cache c begins at the place, and has this many bytes
 pub record HasObject (m : Machine) (c place bytes : ℕ) : Type 0 where
@@ -18,4 +18,4 @@ pub record HasObject (m : Machine) (c place bytes : ℕ) : Type 0 where
 -- a page block of 2 ^ k frames of tenant t begins at frame f
 pub record IsPageAt (r : spaces.Content) (b : buddies.Content) (s : Content) (t f k : ℕ) : Type 0 where
   pub taken : buddies.taken_of (buddies.holding_of t b) f ≡ Some k
-  pub page : has_slab s (node_of s.top r.slots t f) ≡ false
+  pub page : has_slab s (machine_frame_of s.top r.slots t f) ≡ false

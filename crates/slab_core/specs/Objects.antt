@@ -19,7 +19,7 @@ use Rattle.slab_core.specs.declared.objects.Object.{Object}
 
 -- a slab and an object as the parts have them
 abbrev pub standing : Slab → Standing
-standing slab = record { first = slab.first; node = slab.machine_frame }
+standing slab = record { first = slab.first; machine_frame = slab.machine_frame }
 
 abbrev pub found_in : own.Cache → Object → Found
 found_in cache o = found cache o.slab.first o.slab.machine_frame o.index
@@ -27,20 +27,21 @@ found_in cache o = found cache o.slab.first o.slab.machine_frame o.index
 -- In the record of its slab object o of tenant t is live now where it was not, and the other way round. No other object's bit
 -- has changed, no other byte of the memory, and nothing that is kept of any slab but the record where that is kept outside.
 pub record IsTurned (r r' : spaces.Content) (s s' : Content) (t : ℕ) (o : Found) : Type 0 where
-  pub turned : is_live r' t o.cache (kept_at s'.kept o.node) o.first o.index
-      ≡ not (is_live r t o.cache (kept_at s.kept o.node) o.first o.index)
+  pub turned : is_live r' t o.cache (kept_at s'.kept o.machine_frame) o.first o.index
+      ≡ not (is_live r t o.cache (kept_at s.kept o.machine_frame) o.first o.index)
   pub stay : (i : ℕ) → i < 256 → i ≢ o.index
-      → is_live r' t o.cache (kept_at s'.kept o.node) o.first i ≡ is_live r t o.cache (kept_at s.kept o.node) o.first i
+      → is_live r' t o.cache (kept_at s'.kept o.machine_frame) o.first i
+      ≡ is_live r t o.cache (kept_at s.kept o.machine_frame) o.first i
   pub space : r' ≡ record r { banks = r'.banks }
   pub others : (u : ℕ) → u ≢ t → IsSameFor u r r'
   pub spare : SpareStays r r'
   pub bytes : (place : ℕ) → ((k : ℕ) → k < RECORD_BYTES → place ≢ FRAME_BYTES * o.first + RECORD_OFFSET + k) → byte_at r' t place ≡ byte_at r t place
   pub large : is_small (layout_numbers o.cache).chunk ≢ true → (place : ℕ) → byte_at r' t place ≡ byte_at r t place
   pub tables : s' ≡ record s { kept = s'.kept }
-  pub nodes : length s'.kept ≡ length s.kept
-  pub kept : (n : ℕ) → n ≢ o.node → kept_at s'.kept n ≡ kept_at s.kept n
-  pub colour : (kept_at s'.kept o.node).colour ≡ (kept_at s.kept o.node).colour
-  pub live : (kept_at s'.kept o.node).live ≡ (kept_at s.kept o.node).live
+  pub machine_frames : length s'.kept ≡ length s.kept
+  pub kept : (n : ℕ) → n ≢ o.machine_frame → kept_at s'.kept n ≡ kept_at s.kept n
+  pub colour : (kept_at s'.kept o.machine_frame).colour ≡ (kept_at s.kept o.machine_frame).colour
+  pub live : (kept_at s'.kept o.machine_frame).live ≡ (kept_at s.kept o.machine_frame).live
 
 -- Object o of a slab of cache c of tenant t is turned, and its slab is still to be counted. Before, in r and s, the parts agreed,
 -- and the object was live where it is not to be, and the other way round.
@@ -49,9 +50,9 @@ pub record IsToCount (r r' : spaces.Content) (b : buddies.Content) (s s' : Conte
   pub laws : SpaceLaws r
   pub slabs : IsSlabs s
   pub agree : Agree r b s
-  pub slab : IsSlab r s t c o.first o.node o.cache
+  pub slab : IsSlab r s t c o.first o.machine_frame o.cache
   pub index : o.index < (layout_numbers o.cache).count
-  pub was : is_live r t o.cache (kept_at s.kept o.node) o.first o.index ≡ not live
+  pub was : is_live r t o.cache (kept_at s.kept o.machine_frame) o.first o.index ≡ not live
   pub turned : IsTurned r r' s s' t o
 
 -- .. and once it is counted

@@ -42,8 +42,8 @@ IsUnusedBlock r b s t f k = (x : ℕ) → HasFrame (block f k) x → IsUnusedFra
 -- so are the frames of the aligned block of order k in which some empty slab of cache c begins
 pub record HasRoomAround (r : spaces.Content) (b : buddies.Content) (s : Content) (t c k : ℕ) : Type 0 where
   pub first : ℕ
-  pub node : ℕ
-  pub empty : place_at s.lists.places node ≡ Some (head_of t c 2, first)
+  pub machine_frame : ℕ
+  pub empty : place_at s.lists.places machine_frame ≡ Some (head_of t c 2, first)
   pub unused : IsUnusedBlock r b s t (around first k).first k
 
 -- .. of some cache of tenant t

@@ -92,7 +92,7 @@ impl Slabs {
             return None;
         }
         let first = buddy.reserve(cache.tenant, order)?;
-        let Some(machine_frame) = self.node(space, cache.tenant, first) else {
+        let Some(machine_frame) = self.machine_frame(space, cache.tenant, first) else {
             unreachable!()
         };
         self.tables.add_slab(cache.tenant, cache.number, cache.kept, first, machine_frame);

@@ -105,8 +105,7 @@ impl Slabs {
         self.tables.order()
     }
 
-    /// The lists of the slabs of all caches: each has the slabs of one kind of one cache, by first frame, with their nodes. A
-    /// [`slab_tables::ListId`] has the number of each.
+    /// The lists of all caches' slabs, by first frame, with their machine frames. A [`slab_tables::ListId`] has each list's number.
     pub fn lists(&self) -> &Lists
         ensures same { result.now ≡ self.now.lists }
         ensures hold { ListsHold self.now }

@@ -4,7 +4,7 @@ ghost use Rattle.std.specs.Prelude.{◌≡◌, ℕ, ◌*◌, ◌+◌, ◌/◌, �
 ghost use Rattle.model_core.specs.Blocks.{around};
 ghost use Rattle.model_core.specs.declared.limits.TheConstants.{FRAME_BYTES, RECORD_OFFSET, MOST_CACHES};
 ghost use Rattle.slab_tables.specs.Content.{Content, IsSlabs, kept_at, cache_at, index_of_cache, layout_numbers};
-ghost use Rattle.machine_changes.specs.Shows.{node_of, has_slab, is_of_cache, is_live, IsSlab};
+ghost use Rattle.machine_changes.specs.Shows.{machine_frame_of, has_slab, is_of_cache, is_live, IsSlab};
 ghost use Rattle.machine_changes.specs.Objects.{IsLiveObject, IsNoObject};
 ghost use Rattle.buddy_core.specs.Content as buddies;
 ghost use Rattle.slab_core.specs.Objects.{found_in, IsTurned, IsToCount, IsRecounted};
@@ -59,11 +59,11 @@ pub(crate) fn block_around(place: u32, order: u8) -> u32
 }
 
 /// The machine frame at a frame of tenant `t`, if it holds the slot.
-pub(crate) fn node_in(tables: &Tables, space: &Space, t: u8, frame: u32) -> Option<u32>
+pub(crate) fn machine_frame_in(tables: &Tables, space: &Space, t: u8, frame: u32) -> Option<u32>
     requires tenant { t < length space.now.slots }
-    requires nodes { length tables.now.lists.places ≡ length space.now.owners * 2 ^ tables.now.top }
-    ensures value { result ≡ node_of tables.now.top space.now.slots t frame }
-    ensures below { IfSome result (λ node. node < length tables.now.lists.places) }
+    requires machine_frames { length tables.now.lists.places ≡ length space.now.owners * 2 ^ tables.now.top }
+    ensures value { result ≡ machine_frame_of tables.now.top space.now.slots t frame }
+    ensures below { IfSome result (λ machine_frame. machine_frame < length tables.now.lists.places) }
 {
     tables.laws();
     let order = tables.order();
@@ -73,52 +73,52 @@ pub(crate) fn node_in(tables: &Tables, space: &Space, t: u8, frame: u32) -> Opti
 
 impl Slabs {
     /// The machine frame at a frame of tenant `t`, if it holds the slot.
-    pub(crate) fn node(&self, space: &Space, t: u8, frame: u32) -> Option<u32>
+    pub(crate) fn machine_frame(&self, space: &Space, t: u8, frame: u32) -> Option<u32>
         requires tenant { t < length space.now.slots }
-        requires nodes { length self.now.lists.places ≡ length space.now.owners * 2 ^ self.now.top }
-        ensures value { result ≡ node_of self.now.top space.now.slots t frame }
-        ensures below { IfSome result (λ node. node < length self.now.lists.places) }
+        requires machine_frames { length self.now.lists.places ≡ length space.now.owners * 2 ^ self.now.top }
+        ensures value { result ≡ machine_frame_of self.now.top space.now.slots t frame }
+        ensures below { IfSome result (λ machine_frame. machine_frame < length self.now.lists.places) }
     {
-        node_in(&self.tables, space, t, frame)
+        machine_frame_in(&self.tables, space, t, frame)
     }
 
     /// The superblock that has the machine frame.
     #[inline(always)]
-    pub(crate) fn superblock(&self, node: u32) -> u16
+    pub(crate) fn superblock(&self, machine_frame: u32) -> u16
         requires tables { IsSlabs self.now }
-        requires node { node < length self.now.lists.places }
-        ensures { result ≡ node / 2 ^ self.now.top }
+        requires machine_frame { machine_frame < length self.now.lists.places }
+        ensures { result ≡ machine_frame / 2 ^ self.now.top }
     {
-        (node >> self.tables.order()) as u16
+        (machine_frame >> self.tables.order()) as u16
     }
 
     /// Returns whether a slab begins at frame `frame` of tenant `t`. False if the tenant does not hold the slot of the frame.
     ///
-    /// `space` is the memory on which these slabs lie: it has as many frames as there are nodes here.
+    /// `space` is the memory on which these slabs lie: it has as many frames as these tables have machine frames.
     pub fn is_slab(&self, space: &Space, t: u8, frame: u32) -> bool
         requires tenant { t < length space.now.slots }
-        requires nodes { length self.now.lists.places ≡ length space.now.owners * 2 ^ self.now.top }
-        ensures { result ≡ has_slab self.now (node_of self.now.top space.now.slots t frame) }
+        requires machine_frames { length self.now.lists.places ≡ length space.now.owners * 2 ^ self.now.top }
+        ensures { result ≡ has_slab self.now (machine_frame_of self.now.top space.now.slots t frame) }
     {
-        match self.node(space, t, frame) {
+        match self.machine_frame(space, t, frame) {
             None => false,
-            Some(node) => self.is_slab_in(node),
+            Some(machine_frame) => self.is_slab_in(machine_frame),
         }
     }
 
-    /// Returns whether a slab begins at machine frame `node`: [`Slabs::is_slab`] for a caller that has looked up the superblock.
+    /// Returns whether a slab begins at a machine frame: [`Slabs::is_slab`] for a caller that has looked up the superblock.
     #[inline(always)]
-    pub fn is_slab_in(&self, node: u32) -> bool
-        requires { node < length self.now.lists.places }
-        ensures { result ≡ has_slab self.now (Some node) }
+    pub fn is_slab_in(&self, machine_frame: u32) -> bool
+        requires { machine_frame < length self.now.lists.places }
+        ensures { result ≡ has_slab self.now (Some machine_frame) }
     {
-        self.tables.place_of(node).is_some()
+        self.tables.place_of(machine_frame).is_some()
     }
 
     /// Whether there is such a slab of the cache.
     fn is_of_cache(&self, cache: TenantCache<'_>, slab: Slab) -> bool
         requires cache { cache.number < MOST_CACHES }
-        requires node { slab.machine_frame < length self.now.lists.places }
+        requires machine_frame { slab.machine_frame < length self.now.lists.places }
         ensures { result ≡ is_of_cache (index_of_cache cache.entry.tenant cache.entry.number) slab.first
             (place_at self.now.lists.places slab.machine_frame) }
     {
@@ -168,7 +168,7 @@ impl Slabs {
     {
         let order = cache.kept.layout.order();
         let first = block_around(place, order);
-        let machine_frame = self.node(space, cache.tenant, first)?;
+        let machine_frame = self.machine_frame(space, cache.tenant, first)?;
         let slab = Slab {
             first,
             machine_frame,
@@ -200,15 +200,15 @@ impl Slabs {
         requires index { object.index < (layout_numbers cache.kept.now).count }
         ensures { IsTurned space.old space.new self.old self.new cache.entry.tenant (found_in cache.entry.kept.now object) }
     {
-        let node = object.slab.machine_frame;
+        let machine_frame = object.slab.machine_frame;
         if cache.kept.layout.in_page() {
-            let superblock = self.superblock(node);
+            let superblock = self.superblock(machine_frame);
             let place = record_place(object.slab.first, object.index);
             let byte = space.byte_in(superblock, cache.tenant, place) ^ 1 << (object.index % 8);
             space.set_byte_in(superblock, cache.tenant, place, byte);
         } else {
-            let outside = self.tables.kept_of(node).outside ^ 1 << object.index;
-            self.tables.set_outside(node, outside);
+            let outside = self.tables.kept_of(machine_frame).outside ^ 1 << object.index;
+            self.tables.set_outside(machine_frame, outside);
         }
     }
 

@@ -6,7 +6,7 @@ ghost use Rattle.model_core.specs.declared.limits.TheConstants.{FRAME_BYTES};
 ghost use Rattle.buddy_core.specs.Content as buddies;
 ghost use Rattle.buddy_core.specs.Content.{holding_of, taken_of};
 ghost use Rattle.slab_tables.specs.declared.cache.Cache as own;
-ghost use Rattle.machine_changes.specs.Shows.{node_of, has_slab, IsSlab, Agree};
+ghost use Rattle.machine_changes.specs.Shows.{machine_frame_of, has_slab, IsSlab, Agree};
 ghost use Rattle.machine_changes.specs.Changes.{Found};
 ghost use Rattle.machine_changes.specs.Steady.{IsSteady};
 ghost use Rattle.machine_changes.specs.Objects.{HasRange};
@@ -29,29 +29,29 @@ impl Slabs {
         let Some((first, order)) = buddy.block_of(t, place / FRAME_BYTES) else {
             return false;
         };
-        let Some(node) = self.node(space, t, first) else {
+        let Some(machine_frame) = self.machine_frame(space, t, first) else {
             return false;
         };
-        self.object_in(space, buddy, t, first, node, order, place, len)
+        self.object_in(space, buddy, t, first, machine_frame, order, place, len)
     }
 
     /// Returns whether a range lies inside one live object: [`Slabs::object_at`] for a caller that has looked up the taken block
-    /// around `place`. The block has `2^order` frames and begins at frame `first`, which is machine frame `node`.
+    /// around `place`. The block has `2^order` frames and begins at frame `first`, which is `machine_frame`.
     pub fn object_in(
         &self,
         space: &Space,
         buddy: &Buddy,
         t: u8,
         first: u32,
-        node: u32,
+        machine_frame: u32,
         order: u8,
         place: u32,
         len: u32,
     ) -> bool
         requires tenant { t < length space.now.slots }
         requires agree { Agree space.now buddy.now self.now }
-        requires node { node_of self.now.top space.now.slots t first ≡ Some node }
-        requires below { node < length self.now.lists.places }
+        requires machine_frame { machine_frame_of self.now.top space.now.slots t first ≡ Some machine_frame }
+        requires below { machine_frame < length self.now.lists.places }
         requires taken { taken_of (holding_of t buddy.now) first ≡ Some order }
         requires around { HasFrame (block first order) (place / FRAME_BYTES) }
         ensures { (result ≡ true) ↔ ((o : Found) × HasRange space.now self.now t place len o) }
@@ -60,13 +60,13 @@ impl Slabs {
         let _ = order;
         let slab = Slab {
             first,
-            machine_frame: node,
+            machine_frame,
         };
         let Some(c) = self.slab_at(space, t, slab) else {
             return false;
         };
         let kept = self.tables.cache(t, c).unwrap();
-        let colour = u32::from(self.tables.kept_of(node).colour);
+        let colour = u32::from(self.tables.kept_of(machine_frame).colour);
         let Some(index) = kept.layout.holder(colour, place - FRAME_BYTES * first, len) else {
             return false;
         };
@@ -82,7 +82,7 @@ impl Slabs {
     /// the contract alone.
     fn slab_at(&self, space: &Space, t: u8, slab: Slab) -> Option<u32>
         requires steady { (b : buddies.Content) × IsSteady space.now b self.now t }
-        requires node { node_of self.now.top space.now.slots t slab.first ≡ Some slab.machine_frame }
+        requires machine_frame { machine_frame_of self.now.top space.now.slots t slab.first ≡ Some slab.machine_frame }
         requires below { slab.machine_frame < length self.now.lists.places }
         ensures { MatchOption result (has_slab self.now (Some slab.machine_frame) ≡ false)
             (λ c. (cache : own.Cache) × IsSlab space.now self.now t c slab.first slab.machine_frame cache) }

@@ -16,7 +16,7 @@ ghost use Rattle.slab_core.specs.Room.{HasFreeBlock, IsUnusedFrame, IsBorder, Is
 
 use crate::Slabs;
 use crate::block_set::{MOST_WORDS, add_block, has_block};
-use crate::objects::node_in;
+use crate::objects::machine_frame_in;
 use buddy_core::Buddy;
 use slab_tables::{Kind, Tables};
 use space_core::Space;
@@ -159,7 +159,7 @@ impl View<'_> {
             (has_number refused.new) }
     {
         let mut next = self.tables.first(self.tenant, c, Kind::Empty);
-        while let Some((slab, node)) = next {
+        while let Some((slab, machine_frame)) = next {
             let number = slab >> k;
             if !has_block(refused, number) {
                 if self.is_unused_block(number << k, k) {
@@ -167,7 +167,7 @@ impl View<'_> {
                 }
                 add_block(refused, number);
             }
-            next = self.tables.lists().after(node);
+            next = self.tables.lists().after(machine_frame);
         }
         false
     }
@@ -221,13 +221,13 @@ impl View<'_> {
     /// Whether an empty slab begins at a frame.
     fn is_idle(self, frame: u32) -> bool
         requires tenant { self.tenant < length self.space.now.slots }
-        requires nodes { length self.tables.now.lists.places ≡ length self.space.now.owners * 2 ^ self.tables.now.top }
+        requires machine_frames { length self.tables.now.lists.places ≡ length self.space.now.owners * 2 ^ self.tables.now.top }
         ensures { result ≡ idle_at (λ i. true) self.entry.space.now self.entry.tables.now self.entry.tenant frame }
     {
-        match node_in(self.tables, self.space, self.tenant, frame) {
+        match machine_frame_in(self.tables, self.space, self.tenant, frame) {
             None => false,
-            Some(node) => self.tables.place_of(node).is_some()
-                && self.tables.kept_of(node).live == 0,
+            Some(machine_frame) => self.tables.place_of(machine_frame).is_some()
+                && self.tables.kept_of(machine_frame).live == 0,
         }
     }
 }

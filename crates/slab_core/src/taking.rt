@@ -201,14 +201,14 @@ impl Slabs {
         ensures turned { IsTurned space.old space.new self.old self.new cache.entry.tenant
             (found cache.entry.kept.now slab.first slab.machine_frame result) }
     {
-        let node = slab.machine_frame;
+        let machine_frame = slab.machine_frame;
         if cache.kept.layout.in_page() {
-            let superblock = self.superblock(node);
+            let superblock = self.superblock(machine_frame);
             raise_in_record(space, superblock, cache.tenant, record_place(slab.first, 0))
         } else {
-            let outside = self.tables.kept_of(node).outside;
+            let outside = self.tables.kept_of(machine_frame).outside;
             let index = u32::from(outside).trailing_ones();
-            self.tables.set_outside(node, outside ^ 1 << index);
+            self.tables.set_outside(machine_frame, outside ^ 1 << index);
             index
         }
     }

@@ -84,10 +84,10 @@ cleared s i lists = record { top = s.top; lists = lists; kept = s.kept; caches =
 
 pub slabs_cleared : (s : Content) (i : ℕ) (lists : Placed) → IsSlabs s → i < length s.caches → lists.heads ≡ s.lists.heads → length lists.places ≡ length s.lists.places
     → ((n : ℕ) → place_at lists.places n ≡ unless_gone (this i) (place_at s.lists.places n)) → IsSlabs (cleared s i lists)
-slabs_cleared s i lists w lt heads nodes places = record {
+slabs_cleared s i lists w lt heads machine_frames places = record {
   order = w.order;
-  paired = w.paired ∙ sym nodes;
-  small = omega (arith, w.small, nodes);
+  paired = w.paired ∙ sym machine_frames;
+  small = omega (arith, w.small, machine_frames);
   few = omega (arith, w.few, length-set s.caches i None);
   heads = omega (arith, heads, w.heads, length-set s.caches i None);
   totals = length-set s.live i 0 ∙ (w.totals ∙ sym (length-set s.caches i None));
@@ -95,9 +95,9 @@ slabs_cleared s i lists w lt heads nodes places = record {
     | inl is ↦ absurd (let f : ◌≡◌ {A = Option Cache} None (Some c) = sym (ap (cache_in (set s.caches i None)) is ∙ get_or-set_same s.caches i None None lt) ∙ e in cc)
     | inr ne ↦ w.fits n c (sym (get_or-set_other s.caches i n None None ne) ∙ e)
   ];
-  standing = λ node head key e.
-      let l = left (this i) (place_at s.lists.places node) head key (sym (places node) ∙ e) in
-      let x = w.standing node head key l.here in
+  standing = λ machine_frame head key e.
+      let l = left (this i) (place_at s.lists.places machine_frame) head key (sym (places machine_frame) ∙ e) in
+      let x = w.standing machine_frame head key l.here in
       (x.0, get_or-set_other s.caches i (head / 3) None None (eqb-false (head / 3) i l.stays) ∙ x.1, x.2);
   counted = λ n below. counted n (omega (arith, length-set s.caches i None));
 }
@@ -109,7 +109,7 @@ slabs_cleared s i lists w lt heads nodes places = record {
           ∙ sym (total_none n lists.places s.kept (λ k. ap (is_of_index n) (places k) ∙ (ap (λ x. is_of_index x (unless_gone (this i) (place_at s.lists.places k))) is ∙ index_gone i (place_at s.lists.places k)))))
       | inr ne ↦
           get_or-set_other s.live i n 0 0 ne ∙ (w.counted n below
-          ∙ sym (total_along n s.lists.places lists.places s.kept nodes (λ k. ap (is_of_index n) (places k) ∙ index_stays i n (place_at s.lists.places k) ne)))
+          ∙ sym (total_along n s.lists.places lists.places s.kept machine_frames (λ k. ap (is_of_index n) (places k) ∙ index_stays i n (place_at s.lists.places k) ne)))
     ]
 
 -- the caches of a tenant, one after the other
@@ -132,7 +132,7 @@ pub cleared_more : (s s' s'' : Content) (f g h : ℕ → Bool) → IsCleared s s
 cleared_more s s' s'' f g h a b e = record {
   top = b.top ∙ a.top;
   heads = b.heads ∙ a.heads;
-  nodes = b.nodes ∙ a.nodes;
+  machine_frames = b.machine_frames ∙ a.machine_frames;
   places = λ n. b.places n ∙ (ap (unless_gone g) (a.places n) ∙ unless_either f g h (place_at s.lists.places n) e);
   kept = b.kept ∙ a.kept;
   tenants = b.tenants ∙ a.tenants;
@@ -149,7 +149,7 @@ pub cleared_none : (s : Content) (t : ℕ) → IsCleared s s (those_below t 0)
 cleared_none s t = record {
   top = refl;
   heads = refl;
-  nodes = refl;
+  machine_frames = refl;
   places = λ n. sym (unless_none (place_at s.lists.places n));
   kept = refl;
   tenants = refl;
@@ -196,7 +196,7 @@ pub cleared_all : (s s' : Content) (t c : ℕ) → IsSlabs s → ((d : ℕ) → 
 cleared_all s s' t c w none a = record {
   top = a.top;
   heads = a.heads;
-  nodes = a.nodes;
+  machine_frames = a.machine_frames;
   places = λ n. a.places n ∙ place_same n (place_at s.lists.places n) refl;
   kept = a.kept;
   tenants = a.tenants;

@@ -1,4 +1,4 @@
--- Slabs stand on other nodes.
+-- Slabs are at other machine frames.
 use Rattle.std.proofs.Common.{◌≡◌, ℕ, ◌+◌, ◌*◌, ◌/◌, ◌%◌, ◌^◌, ◌<◌, ◌≤◌, Option, Some, None, length, set, refl, sym, ap, ◌∙◌, ◌⊎◌, subst, inl, inr, arith}
 use Rattle.std.proofs.Math.Nat.{pow-le-pow_right, add-mul}
 use Rattle.std.proofs.lemmas.Bool.{cases_eq}
@@ -8,27 +8,27 @@ use Rattle.klist_core.specs.Places.{place_at, replaced}
 use Rattle.slab_tables.specs.declared.cache.Cache.{Cache}
 use Rattle.slab_tables.specs.declared.cache.Kept.{Kept}
 use Rattle.slab_tables.specs.Content.{Content, IsSlabs, IsListed, blank, kept_at, cache_in, live_total}
-use Rattle.slab_tables.specs.Changes.{IsMoved, with_node_moved}
+use Rattle.slab_tables.specs.Changes.{IsMoved, with_slab_moved}
 use Rattle.slab_tables.proofs.Totals.{part, total_set, total_placed}
 
 module _ (s : Content) (a b : ℕ) (paired : length s.kept ≡ length s.lists.places) (from : a < length s.lists.places) (to : b < length s.lists.places) (ne : a ≡ b → ⊥) (free : place_at s.lists.places b ≡ None) where
-  pub here : place_at (with_node_moved s a b).lists.places b ≡ place_at s.lists.places a
+  pub here : place_at (with_slab_moved s a b).lists.places b ≡ place_at s.lists.places a
   here = get_or-set_same (set s.lists.places a None) b (place_at s.lists.places a) None (omega (arith, length-set s.lists.places a None))
 
-  pub gone : place_at (with_node_moved s a b).lists.places a ≡ None
+  pub gone : place_at (with_slab_moved s a b).lists.places a ≡ None
   gone = get_or-set_other (set s.lists.places a None) b a (place_at s.lists.places a) None ne ∙ get_or-set_same s.lists.places a None None from
 
-  pub stays : (n : ℕ) → (n ≡ a → ⊥) → (n ≡ b → ⊥) → place_at (with_node_moved s a b).lists.places n ≡ place_at s.lists.places n
+  pub stays : (n : ℕ) → (n ≡ a → ⊥) → (n ≡ b → ⊥) → place_at (with_slab_moved s a b).lists.places n ≡ place_at s.lists.places n
   stays n off_a off_b = get_or-set_other (set s.lists.places a None) b n (place_at s.lists.places a) None off_b ∙ get_or-set_other s.lists.places a n None None off_a
 
-  pub kept_here : kept_at (with_node_moved s a b).kept b ≡ kept_at s.kept a
+  pub kept_here : kept_at (with_slab_moved s a b).kept b ≡ kept_at s.kept a
   kept_here = get_or-set_same s.kept b (kept_at s.kept a) blank (omega (arith, paired))
 
-  pub kept_stays : (n : ℕ) → (n ≡ b → ⊥) → kept_at (with_node_moved s a b).kept n ≡ kept_at s.kept n
+  pub kept_stays : (n : ℕ) → (n ≡ b → ⊥) → kept_at (with_slab_moved s a b).kept n ≡ kept_at s.kept n
   kept_stays n off = get_or-set_other s.kept b n (kept_at s.kept a) blank off
 
-  -- the total stays: the node's part is taken away here and added there
-  total_stays : (n : ℕ) → live_total n (with_node_moved s a b).lists.places (with_node_moved s a b).kept ≡ live_total n s.lists.places s.kept
+  -- the total stays: the machine frame's part is taken away here and added there
+  total_stays : (n : ℕ) → live_total n (with_slab_moved s a b).lists.places (with_slab_moved s a b).kept ≡ live_total n s.lists.places s.kept
   total_stays n =
       let less = set s.lists.places a None in
       let put = total_set n b (place_at s.lists.places a) (kept_at s.kept a) less s.kept (omega (arith, length-set s.lists.places a None)) (omega (arith, paired)) in
@@ -36,7 +36,7 @@ module _ (s : Content) (a b : ℕ) (paired : length s.kept ≡ length s.lists.pl
       let nothing : part n (place_at less b) (kept_at s.kept b) ≡ 0 = ap (λ o. part n o (kept_at s.kept b)) (get_or-set_other s.lists.places a b None None (λ e. ne (sym e)) ∙ free) in
       omega (arith, put, taken, nothing)
 
-  pub slabs_moved : IsSlabs s → IsSlabs (with_node_moved s a b)
+  pub slabs_moved : IsSlabs s → IsSlabs (with_slab_moved s a b)
   slabs_moved w = record {
     order = w.order;
     paired = length-set s.kept b _ ∙ (w.paired ∙ sym (length-set (set s.lists.places a None) b _ ∙ length-set s.lists.places a None));
@@ -49,32 +49,32 @@ module _ (s : Content) (a b : ℕ) (paired : length s.kept ≡ length s.lists.pl
     counted = λ n below. w.counted n below ∙ sym (total_stays n);
   }
     where
-      standing : (n head key : ℕ) → place_at (with_node_moved s a b).lists.places n ≡ Some (head, key)
-          → (c : Cache) × (cache_in s.caches (head / 3) ≡ Some c) × IsListed (kept_at (with_node_moved s a b).kept n) c head
+      standing : (n head key : ℕ) → place_at (with_slab_moved s a b).lists.places n ≡ Some (head, key)
+          → (c : Cache) × (cache_in s.caches (head / 3) ≡ Some c) × IsListed (kept_at (with_slab_moved s a b).kept n) c head
       standing n head key e = elim (cases_eq n b) [
         | inl is ↦
-            let x = w.standing a head key (sym (ap (place_at (with_node_moved s a b).lists.places) is ∙ here) ∙ e) in
-            (x.0, x.1, subst (λ (k : Kept). IsListed k x.0 head) (sym (ap (kept_at (with_node_moved s a b).kept) is ∙ kept_here)) x.2)
+            let x = w.standing a head key (sym (ap (place_at (with_slab_moved s a b).lists.places) is ∙ here) ∙ e) in
+            (x.0, x.1, subst (λ (k : Kept). IsListed k x.0 head) (sym (ap (kept_at (with_slab_moved s a b).kept) is ∙ kept_here)) x.2)
         | inr off ↦ elsewhere n head key off e (cases_eq n a)
       ]
         where
-          elsewhere : (n head key : ℕ) → (n ≡ b → ⊥) → place_at (with_node_moved s a b).lists.places n ≡ Some (head, key) → (n ≡ a) ⊎ (n ≡ a → ⊥)
-              → (c : Cache) × (cache_in s.caches (head / 3) ≡ Some c) × IsListed (kept_at (with_node_moved s a b).kept n) c head
+          elsewhere : (n head key : ℕ) → (n ≡ b → ⊥) → place_at (with_slab_moved s a b).lists.places n ≡ Some (head, key) → (n ≡ a) ⊎ (n ≡ a → ⊥)
+              → (c : Cache) × (cache_in s.caches (head / 3) ≡ Some c) × IsListed (kept_at (with_slab_moved s a b).kept n) c head
           elsewhere n head key off e (inl is) =
-              absurd (let f : ◌≡◌ {A = Option (ℕ × ℕ)} None (Some (head, key)) = sym (ap (place_at (with_node_moved s a b).lists.places) is ∙ gone) ∙ e in cc)
+              absurd (let f : ◌≡◌ {A = Option (ℕ × ℕ)} None (Some (head, key)) = sym (ap (place_at (with_slab_moved s a b).lists.places) is ∙ gone) ∙ e in cc)
           elsewhere n head key off e (inr off_a) =
               let x = w.standing n head key (sym (stays n off_a off) ∙ e) in
               (x.0, x.1, subst (λ (k : Kept). IsListed k x.0 head) (sym (kept_stays n off)) x.2)
 
--- the nodes of two superblocks differ
+-- the machine frames of two superblocks differ
 pub apart : (z x y i j : ℕ) → (x ≡ y → ⊥) → i < z → j < z → x * z + i ≡ y * z + j → ⊥
 apart z x y i j ne lt lt' e = ne (sym (div-mul-add x z i lt) ∙ (ap (λ n. n / z) e ∙ div-mul-add y z j lt'))
 
--- the first i nodes of a superblock are moved
+-- the first i machine frames of a superblock are moved
 pub record IsMoving (s s' : Content) (from to i : ℕ) : Type 0 where
   pub top : s'.top ≡ s.top
   pub heads : s'.lists.heads ≡ s.lists.heads
-  pub nodes : length s'.lists.places ≡ length s.lists.places
+  pub machine_frames : length s'.lists.places ≡ length s.lists.places
   pub paired : length s'.kept ≡ length s'.lists.places
   pub caches : s'.caches ≡ s.caches
   pub live : s'.live ≡ s.live
@@ -88,7 +88,7 @@ pub moving_none : (s : Content) (from to : ℕ) → length s.kept ≡ length s.l
 moving_none s from to paired = record {
   top = refl;
   heads = refl;
-  nodes = refl;
+  machine_frames = refl;
   paired = paired;
   caches = refl;
   live = refl;
@@ -102,7 +102,7 @@ module _ (s s' : Content) (from to i : ℕ) (ne : from ≡ to → ⊥) (lt : i <
   off_own : (x j k : ℕ) → (j ≡ k → ⊥) → x * 2 ^ s.top + j ≡ x * 2 ^ s.top + k → ⊥
   off_own x j k off e = off (omega arith)
 
-  -- the next node stands as it did
+  -- the next machine frame stands as it did
   from_stays : (place_at s'.lists.places (from * 2 ^ s.top + i) ≡ place_at s.lists.places (from * 2 ^ s.top + i))
       × (kept_at s'.kept (from * 2 ^ s.top + i) ≡ kept_at s.kept (from * 2 ^ s.top + i))
   from_stays = m.others (from * 2 ^ s.top + i) (λ j below. off_own from i j (λ e. omega arith)) (λ j below. apart (2 ^ s.top) from to i j ne lt (omega arith))
@@ -112,12 +112,12 @@ module _ (s s' : Content) (from to i : ℕ) (ne : from ≡ to → ⊥) (lt : i <
   to_stays = (m.others (to * 2 ^ s.top + i) (λ j below. apart (2 ^ s.top) to from i j (λ e. ne (sym e)) lt (omega arith)) (λ j below. off_own to i j (λ e. omega arith))).0
 
   pub moving_more : from * 2 ^ s.top + i < length s'.lists.places → to * 2 ^ s.top + i < length s'.lists.places → place_at s'.lists.places (to * 2 ^ s.top + i) ≡ None
-      → IsMoving s (with_node_moved s' (from * 2 ^ s.top + i) (to * 2 ^ s.top + i)) from to (i + 1)
+      → IsMoving s (with_slab_moved s' (from * 2 ^ s.top + i) (to * 2 ^ s.top + i)) from to (i + 1)
   moving_more a_lt b_lt free = record {
     top = m.top;
     heads = m.heads;
-    nodes = nodes ∙ m.nodes;
-    paired = length-set s'.kept (to * 2 ^ s.top + i) _ ∙ (m.paired ∙ sym nodes);
+    machine_frames = machine_frames ∙ m.machine_frames;
+    paired = length-set s'.kept (to * 2 ^ s.top + i) _ ∙ (m.paired ∙ sym machine_frames);
     caches = m.caches;
     live = m.live;
     left = λ j below. left j below (cases_eq j i);
@@ -134,8 +134,8 @@ module _ (s s' : Content) (from to i : ℕ) (ne : from ≡ to → ⊥) (lt : i <
       differ : from * 2 ^ s.top + i ≡ to * 2 ^ s.top + i → ⊥
       differ = apart (2 ^ s.top) from to i i ne lt lt
 
-      nodes : length (replaced s'.lists (from * 2 ^ s.top + i) (to * 2 ^ s.top + i)).places ≡ length s'.lists.places
-      nodes = length-set (set s'.lists.places (from * 2 ^ s.top + i) None) (to * 2 ^ s.top + i) _ ∙ length-set s'.lists.places (from * 2 ^ s.top + i) None
+      machine_frames : length (replaced s'.lists (from * 2 ^ s.top + i) (to * 2 ^ s.top + i)).places ≡ length s'.lists.places
+      machine_frames = length-set (set s'.lists.places (from * 2 ^ s.top + i) None) (to * 2 ^ s.top + i) _ ∙ length-set s'.lists.places (from * 2 ^ s.top + i) None
 
       left : (j : ℕ) → j < i + 1 → (j ≡ i) ⊎ (j ≡ i → ⊥) → place_at (replaced s'.lists (from * 2 ^ s.top + i) (to * 2 ^ s.top + i)).places (from * 2 ^ s.top + j) ≡ None
       left j below (inl is) = ap (λ x. place_at (replaced s'.lists (from * 2 ^ s.top + i) (to * 2 ^ s.top + i)).places (from * 2 ^ s.top + x)) is ∙ gone s' (from * 2 ^ s.top + i) (to * 2 ^ s.top + i) m.paired a_lt b_lt differ free
@@ -148,8 +148,8 @@ module _ (s s' : Content) (from to i : ℕ) (ne : from ≡ to → ⊥) (lt : i <
       moved j below (inr off) = stays s' (from * 2 ^ s.top + i) (to * 2 ^ s.top + i) m.paired a_lt b_lt differ free (to * 2 ^ s.top + j) (apart (2 ^ s.top) to from j i (λ e. ne (sym e)) (omega arith) lt) (off_own to j i off)
           ∙ m.moved j (omega arith)
 
-      kept : (j : ℕ) → j < i + 1 → (j ≡ i) ⊎ (j ≡ i → ⊥) → kept_at (with_node_moved s' (from * 2 ^ s.top + i) (to * 2 ^ s.top + i)).kept (to * 2 ^ s.top + j) ≡ kept_at s.kept (from * 2 ^ s.top + j)
-      kept j below (inl is) = ap (λ x. kept_at (with_node_moved s' (from * 2 ^ s.top + i) (to * 2 ^ s.top + i)).kept (to * 2 ^ s.top + x)) is
+      kept : (j : ℕ) → j < i + 1 → (j ≡ i) ⊎ (j ≡ i → ⊥) → kept_at (with_slab_moved s' (from * 2 ^ s.top + i) (to * 2 ^ s.top + i)).kept (to * 2 ^ s.top + j) ≡ kept_at s.kept (from * 2 ^ s.top + j)
+      kept j below (inl is) = ap (λ x. kept_at (with_slab_moved s' (from * 2 ^ s.top + i) (to * 2 ^ s.top + i)).kept (to * 2 ^ s.top + x)) is
           ∙ (kept_here s' (from * 2 ^ s.top + i) (to * 2 ^ s.top + i) m.paired a_lt b_lt differ free ∙ (from_stays.1 ∙ ap (λ x. kept_at s.kept (from * 2 ^ s.top + x)) (sym is)))
       kept j below (inr off) = kept_stays s' (from * 2 ^ s.top + i) (to * 2 ^ s.top + i) m.paired a_lt b_lt differ free (to * 2 ^ s.top + j) (off_own to j i off) ∙ m.kept j (omega arith)
 
@@ -158,7 +158,7 @@ pub moving_all : (s s' : Content) (from to i : ℕ) → i ≡ 2 ^ s.top → IsMo
 moving_all s s' from to i all m = record {
   top = m.top;
   heads = m.heads;
-  nodes = m.nodes;
+  machine_frames = m.machine_frames;
   caches = m.caches;
   live = m.live;
   left = λ j lt. m.left j (omega arith);
@@ -170,7 +170,7 @@ moving_all s s' from to i all m = record {
     off : (n x : ℕ) → (n / 2 ^ s.top ≡ x → ⊥) → (j : ℕ) → j < i → n ≡ x * 2 ^ s.top + j → ⊥
     off n x ne j lt e = ne (ap (λ y. y / 2 ^ s.top) e ∙ div-mul-add x (2 ^ s.top) j (omega arith))
 
--- what the code reads at the next frame: its node in each superblock
+-- what the code reads at the next frame: its machine frame in each superblock
 pub record IsStep (s s' : Content) (from to i a b : ℕ) : Type 0 where
   pub lt : i < 2 ^ s.top
   pub from_is : a ≡ from * 2 ^ s.top + i
@@ -186,7 +186,7 @@ frames_are order top same few =
 pub step : (s s' : Content) (from to i order a b : ℕ) → order ≡ s.top → s.top ≤ 8 → i < 1 * 2 ^ order % 4294967296 → a ≡ from * 2 ^ order + i → b ≡ to * 2 ^ order + i
     → (from + 1) * 2 ^ s.top ≤ length s.lists.places → (to + 1) * 2 ^ s.top ≤ length s.lists.places → length s'.lists.places ≡ length s.lists.places
     → IsStep s s' from to i a b
-step s s' from to i order a b same few lt from_is to_is from_in to_in nodes =
+step s s' from to i order a b same few lt from_is to_is from_in to_in machine_frames =
     let below : i < 2 ^ s.top = omega (arith, frames_are order s.top same few) in
     record {
       lt = below;

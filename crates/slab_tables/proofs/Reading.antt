@@ -1,4 +1,4 @@
--- What stands in the tables, read by tenant, number and node.
+-- What stands in the tables, read by tenant, number and machine frame.
 use Rattle.std.proofs.Common.{◌≡◌, ℕ, ◌/◌, ◌%◌, ◌<◌, ◌≤◌, Bool, true, false, cond, eqb, Option, Some, None, length, sym, ap, ◌∙◌, subst, inl, inr, arith}
 use Rattle.std.specs.Prelude.{IsSome}
 use Rattle.std.proofs.lemmas.Bool.{cases_lt, lt-ltb, le-ltb, ne_eqb, false≢true}
@@ -35,8 +35,8 @@ pub head_parts : (t c kind : ℕ) → kind < 3 → (head_of t c kind / 3 ≡ ind
 head_parts t c kind lt = (omega arith, omega arith)
 
 -- a place in a list of the cache
-pub placed_at : (s : Content) (t c head key node : ℕ) → place_at s.lists.places node ≡ Some (head, key) → head / 3 ≡ index_of_cache t c → IsPlacedIn s t c key node
-placed_at s t c head key node e is =
+pub placed_at : (s : Content) (t c head key machine_frame : ℕ) → place_at s.lists.places machine_frame ≡ Some (head, key) → head / 3 ≡ index_of_cache t c → IsPlacedIn s t c key machine_frame
+placed_at s t c head key machine_frame e is =
     let parts : head ≡ head_of t c (head % 3) = omega arith in
     record { kind = head % 3; few = omega arith; placed = e ∙ ap (λ (x : ℕ). Some (x, key)) parts }
 
@@ -50,19 +50,19 @@ some_below s t c some = elim (cases_lt c MOST_CACHES) [
   | inr ge ↦ absurd (false≢true (subst IsSome (ap (λ b. cond b (cache_in s.caches (index_of_cache t c)) None) (le-ltb c MOST_CACHES ge)) some))
 ]
 
--- the slab at a node of the cache is in order
-pub listed : (s : Content) → IsSlabs s → (t c first node : ℕ) (cache : Cache) → cache_at s t c ≡ Some cache → (kind : ℕ) → kind < 3
-    → place_at s.lists.places node ≡ Some (head_of t c kind, first) → IsListed (kept_at s.kept node) cache (head_of t c kind)
-listed s w t c first node cache e kind lt placed =
-    let k = w.standing node (head_of t c kind) first placed in
+-- the slab at a machine frame of the cache is in order
+pub listed : (s : Content) → IsSlabs s → (t c first machine_frame : ℕ) (cache : Cache) → cache_at s t c ≡ Some cache → (kind : ℕ) → kind < 3
+    → place_at s.lists.places machine_frame ≡ Some (head_of t c kind, first) → IsListed (kept_at s.kept machine_frame) cache (head_of t c kind)
+listed s w t c first machine_frame cache e kind lt placed =
+    let k = w.standing machine_frame (head_of t c kind) first placed in
     let same : k.0 ≡ cache = same_cache (sym (ap (cache_in s.caches) (head_parts t c kind lt).0) ∙ k.1) (cached s t c cache e).cached in
-    subst (λ x. IsListed (kept_at s.kept node) x (head_of t c kind)) same k.2
+    subst (λ x. IsListed (kept_at s.kept machine_frame) x (head_of t c kind)) same k.2
 
 -- a slab stands in the list of its kind
-pub placed_by_kind : (s : Content) → IsSlabs s → (t c first node : ℕ) (cache : Cache) → cache_at s t c ≡ Some cache → IsPlacedIn s t c first node
-    → place_at s.lists.places node ≡ Some (head_of t c (kind_of (layout_numbers cache).count (kept_at s.kept node).live), first)
-placed_by_kind s w t c first node cache e slab =
-    let stands = listed s w t c first node cache e slab.kind slab.few slab.placed in
+pub placed_by_kind : (s : Content) → IsSlabs s → (t c first machine_frame : ℕ) (cache : Cache) → cache_at s t c ≡ Some cache → IsPlacedIn s t c first machine_frame
+    → place_at s.lists.places machine_frame ≡ Some (head_of t c (kind_of (layout_numbers cache).count (kept_at s.kept machine_frame).live), first)
+placed_by_kind s w t c first machine_frame cache e slab =
+    let stands = listed s w t c first machine_frame cache e slab.kind slab.few slab.placed in
     slab.placed ∙ ap (λ (k : ℕ). Some (head_of t c k, first)) (sym (head_parts t c slab.kind slab.few).1 ∙ stands.kind)
 
 -- no slab has more than 256 objects

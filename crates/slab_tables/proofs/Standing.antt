@@ -1,9 +1,9 @@
--- A walk along a list that is linked by key comes to nodes that stand in it.
+-- A walk along a list that is linked by key comes to slabs that are in it.
 use Rattle.std.proofs.Common.{ℕ, List, Option, Some, None, IfSome}
 use Rattle.std.specs.Prelude.{MatchOption}
 use Rattle.klist_core.specs.Places.{IsByKey, IsPlacedByKey, IsEmpty, IsFirst, NoneAbove, IsNext}
 
--- the node of this pair of key and node, if it is one, stands in such a list
+-- the slab of this pair of key and machine frame, if it is one, is in such a list
 abbrev pub IsThere : List (Option (ℕ × ℕ)) → Option (ℕ × ℕ) → Type 0
 IsThere places o = IfSome o (λ p. IsPlacedByKey places p.1)
 

@@ -6,11 +6,11 @@ use Rattle.klist_core.specs.Places.{place_at}
 use Rattle.slab_tables.specs.declared.cache.Kept.{Kept}
 use Rattle.slab_tables.specs.Content.{blank, kept_at, is_of_index, live_total}
 
--- what a node adds to the total of cache n of all
+-- what a machine frame adds to the total of cache n of all
 abbrev pub part : ℕ → Option (ℕ × ℕ) → Kept → ℕ
 part n p k = cond (is_of_index n p) k.live 0
 
--- one node is replaced
+-- one machine frame is replaced
 pub total_set : (n i : ℕ) (p : Option (ℕ × ℕ)) (k : Kept) (ps : List (Option (ℕ × ℕ))) (ks : List Kept) → i < length ps → i < length ks
     → live_total n (set ps i p) (set ks i k) + part n (place_at ps i) (kept_at ks i) ≡ live_total n ps ks + part n p k
 total_set n i p k [] ks lt there = absurd (omega arith)
@@ -26,12 +26,12 @@ total_placed n i p ps ks lt there =
     subst (λ (xs : List Kept). live_total n (set ps i p) xs + part n (place_at ps i) (kept_at ks i) ≡ live_total n ps ks + part n p (kept_at ks i)) same
     (total_set n i p (kept_at ks i) ps ks lt there)
 
--- a node adds no more than the total
+-- a machine frame adds no more than the total
 pub part_within : (n i : ℕ) (ps : List (Option (ℕ × ℕ))) (ks : List Kept) → i < length ps → i < length ks
     → part n (place_at ps i) (kept_at ks i) ≤ live_total n ps ks
 part_within n i ps ks lt there = let h = total_placed n i None ps ks lt there in omega (arith, h)
 
--- the same nodes are the cache's
+-- the same machine frames are the cache's
 pub total_along : (n : ℕ) (ps qs : List (Option (ℕ × ℕ))) (ks : List Kept) → length qs ≡ length ps
     → ((i : ℕ) → is_of_index n (place_at qs i) ≡ is_of_index n (place_at ps i)) → live_total n qs ks ≡ live_total n ps ks
 total_along n [] [] ks same along = refl
@@ -43,7 +43,7 @@ total_along n (p ∷ ps) (q ∷ qs) (k ∷ ks) same along =
     let rest = total_along n ps qs ks (omega arith) (λ i. along (suc i)) in
     ap (λ b. cond b k.live 0 + live_total n qs ks) here ∙ ap (λ x. cond (is_of_index n p) k.live 0 + x) rest
 
--- no node is the cache's
+-- no machine frame is the cache's
 pub total_none : (n : ℕ) (ps : List (Option (ℕ × ℕ))) (ks : List Kept) → ((i : ℕ) → is_of_index n (place_at ps i) ≡ false) → live_total n ps ks ≡ 0
 total_none n [] ks none = refl
 total_none n (p ∷ ps) [] none = refl

@@ -16,29 +16,29 @@ fresh_kept cache = record { colour = colour_offset cache.layout.align cache.made
 abbrev pub made_more : Cache → Cache
 made_more cache = record cache { made = (cache.made + 1) % (layout_numbers cache).colours }
 
--- the next slab of cache c of tenant t, an empty one, begins at this frame and node
+-- the next slab of cache c of tenant t, an empty one, begins at frame `first`, machine frame n
 abbrev pub with_new_slab : Content → ℕ → ℕ → Cache → ℕ → ℕ → Content
-with_new_slab s t c cache first node = record s {
-  lists = inserted s.lists (head_of t c 2) node first;
-  kept = slice_set s.kept node (fresh_kept cache);
+with_new_slab s t c cache first n = record s {
+  lists = inserted s.lists (head_of t c 2) n first;
+  kept = slice_set s.kept n (fresh_kept cache);
   caches = slice_set s.caches (index_of_cache t c) (Some (made_more cache));
 }
 
 -- the slab has so many live objects now, and stands in the list of its kind
 abbrev pub with_count : Content → ℕ → ℕ → Cache → ℕ → ℕ → ℕ → Content
-with_count s t c cache first node count = record s {
-  lists = record s.lists { places = slice_set s.lists.places node (Some (head_of t c (kind_of (layout_numbers cache).count count), first)) };
-  kept = slice_set s.kept node (record (kept_at s.kept node) { live = count });
-  live = slice_set s.live (index_of_cache t c) (slice_index s.live (index_of_cache t c) + count - (kept_at s.kept node).live);
+with_count s t c cache first n count = record s {
+  lists = record s.lists { places = slice_set s.lists.places n (Some (head_of t c (kind_of (layout_numbers cache).count count), first)) };
+  kept = slice_set s.kept n (record (kept_at s.kept n) { live = count });
+  live = slice_set s.live (index_of_cache t c) (slice_index s.live (index_of_cache t c) + count - (kept_at s.kept n).live);
 }
 
 -- these of the slab's large objects are live
 abbrev pub with_outside : Content → ℕ → ℕ → Content
-with_outside s node outside = record s { kept = slice_set s.kept node (record (kept_at s.kept node) { outside = outside }) }
+with_outside s n outside = record s { kept = slice_set s.kept n (record (kept_at s.kept n) { outside = outside }) }
 
 -- the slab is gone
 abbrev pub without_slab : Content → ℕ → Content
-without_slab s node = record s { lists = removed s.lists node }
+without_slab s n = record s { lists = removed s.lists n }
 
 -- cache c of tenant t is this one, or there is none
 abbrev pub with_cache : Content → ℕ → ℕ → Option Cache → Content
@@ -61,7 +61,7 @@ new_cache layout pattern = record { layout = layout; pattern = pattern; made = 0
 -- list h is empty now, and every other list is as before
 pub record IsEmptied (s s' : Placed) (h : ℕ) : Type 0 where
   pub heads : s'.heads ≡ s.heads
-  pub nodes : length s'.places ≡ length s.places
+  pub machine_frames : length s'.places ≡ length s.places
   pub places : (n : ℕ) → place_at s'.places n ≡ (if is_in h (place_at s.places n) then None else place_at s.places n)
 
 -- the place, unless its cache is one of those that the test names
@@ -73,7 +73,7 @@ unless_gone gone (Some p) = if gone (p.0 / 3) then None else Some p
 pub record IsCleared (s s' : Content) (gone : ℕ → Bool) : Type 0 where
   pub top : s'.top ≡ s.top
   pub heads : s'.lists.heads ≡ s.lists.heads
-  pub nodes : length s'.lists.places ≡ length s.lists.places
+  pub machine_frames : length s'.lists.places ≡ length s.lists.places
   pub places : (n : ℕ) → place_at s'.lists.places n ≡ unless_gone gone (place_at s.lists.places n)
   pub kept : s'.kept ≡ s.kept
   pub tenants : length s'.caches ≡ length s.caches
@@ -83,15 +83,15 @@ pub record IsCleared (s s' : Content) (gone : ℕ → Bool) : Type 0 where
 abbrev pub IsReset : Content → Content → ℕ → Type 0
 IsReset s s' t = IsCleared s s' (λ n. n / MOST_CACHES == t)
 
--- what stands at one node stands at another one, with what is kept of it
-abbrev pub with_node_moved : Content → ℕ → ℕ → Content
-with_node_moved s from to = record s { lists = replaced s.lists from to; kept = slice_set s.kept to (kept_at s.kept from) }
+-- the slab at one machine frame is at another one, with what is kept of it
+abbrev pub with_slab_moved : Content → ℕ → ℕ → Content
+with_slab_moved s from to = record s { lists = replaced s.lists from to; kept = slice_set s.kept to (kept_at s.kept from) }
 
--- the slabs of superblock `from` stand on the nodes of superblock `to` now, with all that is kept of them
+-- the slabs of superblock `from` are at the machine frames of superblock `to` now, with all that is kept of them
 pub record IsMoved (s s' : Content) (from to : ℕ) : Type 0 where
   pub top : s'.top ≡ s.top
   pub heads : s'.lists.heads ≡ s.lists.heads
-  pub nodes : length s'.lists.places ≡ length s.lists.places
+  pub machine_frames : length s'.lists.places ≡ length s.lists.places
   pub caches : s'.caches ≡ s.caches
   pub live : s'.live ≡ s.live
   pub left : (i : ℕ) → i < 2 ^ s.top → place_at s'.lists.places (from * 2 ^ s.top + i) ≡ None

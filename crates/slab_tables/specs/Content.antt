@@ -1,4 +1,4 @@
--- The tables of all tenants' caches. A slab is named by its node, the machine frame at which it begins.
+-- The tables of all tenants' caches. A slab is named by the machine frame at which it begins.
 use Rattle.std.specs.Prelude.{◌≡◌, ℕ, ◌+◌, ◌*◌, ◌/◌, ◌%◌, ◌^◌, ◌<◌, ◌≤◌, ◌==◌, Bool, true, false, nat_lt, if◌then◌else◌, List, [], ◌∷◌, Option, Some, None, length, replicate, slice_index, slice_index_or}
 use Rattle.model_core.specs.Layouts.{Layout, IsLayout, is_size, is_alignment, is_pattern}
 use Rattle.model_core.specs.declared.limits.TheConstants.{MOST_CACHES, MOST_ORDER}
@@ -13,9 +13,9 @@ use Rattle.slab_tables.specs.declared.kind.Kind.TheVariants.{Full, Partial, Empt
 pub record Content : Type 0 where
   -- a superblock has 2 ^ top frames
   pub top : ℕ
-  -- by node the list of its slab, and the slab's first frame there; each cache has three lists, one for each kind of slab
+  -- by machine frame its slab's list and first frame; each cache has three lists, one for each kind of slab
   pub lists : Placed
-  -- by node
+  -- by machine frame
   pub kept : List Kept
   -- by tenant and number
   pub caches : List (Option Cache)
@@ -27,7 +27,7 @@ abbrev pub blank : Kept
 blank = record { colour = 0; live = 0; outside = 0 }
 
 abbrev pub kept_at : List Kept → ℕ → Kept
-kept_at kept node = slice_index_or kept node blank
+kept_at kept n = slice_index_or kept n blank
 
 abbrev pub cache_in : List (Option Cache) → ℕ → Option Cache
 cache_in caches n = slice_index_or caches n None
@@ -95,8 +95,8 @@ pub record IsSlabs (s : Content) : Type 0 where
   pub heads : s.lists.heads ≡ length s.caches * 3
   pub totals : length s.live ≡ length s.caches
   pub fits : (n : ℕ) (c : Cache) → cache_in s.caches n ≡ Some c → IsTableCache c
-  pub standing : (node head key : ℕ) → place_at s.lists.places node ≡ Some (head, key)
-      → (c : Cache) × (cache_in s.caches (head / 3) ≡ Some c) × IsListed (kept_at s.kept node) c head
+  pub standing : (n head key : ℕ) → place_at s.lists.places n ≡ Some (head, key)
+      → (c : Cache) × (cache_in s.caches (head / 3) ≡ Some c) × IsListed (kept_at s.kept n) c head
   pub counted : (n : ℕ) → n < length s.caches → slice_index s.live n ≡ live_total n s.lists.places s.kept
 
 -- by tenant a number above those of its caches
@@ -120,8 +120,8 @@ empty_tables top superblocks tenants = record {
   live = replicate (MOST_CACHES * tenants) 0;
 }
 
--- a slab of cache c of tenant t begins at this frame and node
-pub record IsPlacedIn (s : Content) (t c first node : ℕ) : Type 0 where
+-- a slab of cache c of tenant t begins at frame `first`, machine frame n
+pub record IsPlacedIn (s : Content) (t c first n : ℕ) : Type 0 where
   pub kind : ℕ
   pub few : kind < 3
-  pub placed : place_at s.lists.places node ≡ Some (head_of t c kind, first)
+  pub placed : place_at s.lists.places n ≡ Some (head_of t c kind, first)

@@ -1,5 +1,4 @@
-//! Where to look for the slabs of a list. Nothing rests on it but what a change of a list costs: who is told where a slab may
-//! stand looks whether it does.
+//! Where to look for the slabs of a list: hints, on which only the cost of a change of a list depends.
 
 ghost use Rattle.std.specs.Prelude.{◌≡◌, ◌^◌, ◌<◌, ◌≤◌};
 ghost use Rattle.model_core.specs.declared.limits.TheConstants.{MOST_ORDER};
@@ -123,11 +122,11 @@ impl Groups {
         }
     }
 
-    /// The frame of the list's tenant stands at the node.
-    pub(crate) fn see(&mut self, list: u32, frame: u32, node: u32) {
+    /// The frame of the list's tenant is this machine frame now.
+    pub(crate) fn see(&mut self, list: u32, frame: u32, machine_frame: u32) {
         let i = self.slot_of(list, frame);
         if i < self.superblocks.len() {
-            self.superblocks[i] = node >> self.order;
+            self.superblocks[i] = machine_frame >> self.order;
         }
     }
 
@@ -147,8 +146,8 @@ impl Groups {
         None
     }
 
-    /// The node at which the frame of the list's tenant stood when a slab was last made in its slot.
-    pub(crate) fn node_of(&self, list: u32, frame: u32) -> Option<u32> {
+    /// The machine frame that the frame of the list's tenant was when a slab was last made in its slot.
+    pub(crate) fn seen_at(&self, list: u32, frame: u32) -> Option<u32> {
         let superblock = *self.superblocks.get(self.slot_of(list, frame))?;
         Some(superblock << self.order | frame % (1 << self.order))
     }

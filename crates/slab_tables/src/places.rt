@@ -20,8 +20,8 @@ pub(crate) fn index_of(t: u8, c: u32) -> usize
     usize::from(MOST_CACHES) * usize::from(t) + c as usize
 }
 
-/// The node of frame `i` of a superblock of `2^order` frames.
-pub(crate) fn node_at(order: u8, superblock: u16, i: u32) -> u32
+/// The machine frame at frame `i` of a superblock of `2^order` frames.
+pub(crate) fn machine_frame_at(order: u8, superblock: u16, i: u32) -> u32
     requires order { order ≤ MOST_ORDER }
     requires frame { i < 2 ^ order }
     ensures { result ≡ superblock * 2 ^ order + i }
@@ -29,14 +29,13 @@ pub(crate) fn node_at(order: u8, superblock: u16, i: u32) -> u32
     (u32::from(superblock) << order) + i
 }
 
-/// A list of fewer nodes is walked at once.
+/// A list of fewer slabs is walked at once.
 const SHORT: u32 = 8;
 
-/// A list that comes to have as many nodes is kept in groups: to walk one of fewer costs no more than to look at its groups.
+/// A list that comes to have as many slabs is kept in groups: to walk one of fewer costs no more than to look at its groups.
 const LONG: u32 = 128;
 
-/// A list of fewer nodes is not kept in groups any more. There are many changes from here to `LONG`, where a list is walked to
-/// put it into groups.
+/// A list of fewer slabs is not kept in groups any more. Many changes lie between: a list is walked to put it into groups.
 const NOT_LONG: u32 = 64;
 
 /// The lists of the slabs of all caches, and where to look for their slabs.
@@ -55,7 +54,7 @@ impl Model for SlabLists {
 }
 
 impl SlabLists {
-    /// Three empty lists for each cache of each tenant, and a node for each frame, which stands in none.
+    /// Three empty lists for each cache of each tenant: no slab begins at any machine frame.
     pub(crate) fn new(
         alloc: Global,
         order: u8,
@@ -67,10 +66,10 @@ impl SlabLists {
         requires tenants { tenants ≤ MOST_TENANTS }
         ensures { IfOk result (λ s. s ≡ record { heads = MOST_CACHES * tenants * 3; places = replicate (superblocks * 2 ^ order) None }) }
     {
-        let nodes = u32::from(superblocks) << order;
+        let machine_frames = u32::from(superblocks) << order;
         let caches = u32::from(MOST_CACHES) * u32::from(tenants);
         Ok(SlabLists {
-            lists: Lists::new(alloc, nodes, caches * 3)?,
+            lists: Lists::new(alloc, machine_frames, caches * 3)?,
             groups: Groups::new(alloc, order, superblocks, tenants)?,
         })
     }
@@ -91,37 +90,37 @@ impl SlabLists {
     }
 
     /// As [`Lists::insert`], into a list that is not loose.
-    pub(crate) fn insert(&mut self, head: u32, node: u32, key: u32)
+    pub(crate) fn insert(&mut self, head: u32, machine_frame: u32, key: u32)
         requires head { head < self.old.heads }
         requires by_key { IsByKey head }
-        requires node { node < length self.old.places }
-        requires free { place_at self.old.places node ≡ None }
+        requires machine_frame { machine_frame < length self.old.places }
+        requires free { place_at self.old.places machine_frame ≡ None }
         requires fresh { (i : ℕ) → place_at self.old.places i ≢ Some (head, key) }
-        ensures { self.new ≡ inserted self.old head node key }
+        ensures { self.new ≡ inserted self.old head machine_frame key }
     {
-        self.lists.insert(head, node, key);
-        self.groups.see(head, key, node);
+        self.lists.insert(head, machine_frame, key);
+        self.groups.see(head, key, machine_frame);
         self.note(head, key);
     }
 
     /// As [`Lists::remove`].
     #[inline(always)]
-    pub(crate) fn remove(&mut self, node: u32)
-        requires node { node < length self.old.places }
-        requires placed { IsSome (place_at self.old.places node) }
-        ensures { self.new ≡ removed self.old node }
+    pub(crate) fn remove(&mut self, machine_frame: u32)
+        requires machine_frame { machine_frame < length self.old.places }
+        requires placed { IsSome (place_at self.old.places machine_frame) }
+        ensures { self.new ≡ removed self.old machine_frame }
     {
         self.lists.laws();
-        let Some((list, key)) = self.lists.place_of(node) else {
+        let Some((list, key)) = self.lists.place_of(machine_frame) else {
             unreachable!()
         };
         if self.lists.len(list) >= NOT_LONG && self.groups.is_kept(list) {
-            self.forget(list, node, key);
+            self.forget(list, machine_frame, key);
         }
-        self.lists.remove(node);
+        self.lists.remove(machine_frame);
     }
 
-    /// A node stands in the list under the key now.
+    /// A slab is in the list under the key now.
     #[inline(always)]
     fn note(&mut self, head: u32, key: u32)
         requires head { head < self.old.heads }
@@ -134,8 +133,7 @@ impl SlabLists {
         }
     }
 
-    /// A node stands in the list under the key now: one that is kept in groups has one in the group of the key, and one that has
-    /// become long is kept from now on.
+    /// As `note`, for a list that is kept in groups, or has become long: then it is kept from now on.
     #[inline(never)]
     fn note_in_groups(&mut self, head: u32, key: u32)
         requires head { head < self.old.heads }
@@ -149,107 +147,108 @@ impl SlabLists {
         }
     }
 
-    /// The node is to leave the list, which is kept in groups.
+    /// The slab is to leave the list, which is kept in groups.
     #[inline(never)]
-    fn forget(&mut self, list: u32, node: u32, key: u32)
+    fn forget(&mut self, list: u32, machine_frame: u32, key: u32)
         requires list { list < self.old.heads }
-        requires node { node < length self.old.places }
-        requires placed { place_at self.old.places node ≡ Some (list, key) }
+        requires machine_frame { machine_frame < length self.old.places }
+        requires placed { place_at self.old.places machine_frame ≡ Some (list, key) }
         ensures { self.new ≡ self.old }
     {
         if self.lists.len(list) <= NOT_LONG || is_loose(list) {
             self.groups.leave(list);
-        } else if self.is_alone(node, key) {
+        } else if self.is_alone(machine_frame, key) {
             self.groups.take(list, key);
         }
     }
 
-    /// Whether the node's neighbours in its list are of other groups than its key.
-    fn is_alone(&self, node: u32, key: u32) -> bool
-        requires node { node < length self.now.places }
-        requires placed { IsPlacedByKey self.now.places node }
+    /// Whether the slab's neighbours in its list are of other groups than its key.
+    fn is_alone(&self, machine_frame: u32, key: u32) -> bool
+        requires machine_frame { machine_frame < length self.now.places }
+        requires placed { IsPlacedByKey self.now.places machine_frame }
     {
-        if let Some((next, _)) = self.lists.after(node)
+        if let Some((next, _)) = self.lists.after(machine_frame)
             && self.groups.is_one(next, key)
         {
             return false;
         }
-        match self.lists.before(node) {
+        match self.lists.before(machine_frame) {
             Some((previous, _)) => !self.groups.is_one(previous, key),
             None => true,
         }
     }
 
-    /// Moves the node, which stands in the list `from`, into the list `to` under the same key. Nothing is done where these are
-    /// one.
+    /// Moves the slab, which is in the list `from`, into the list `to` under the same key. Does nothing if these are one.
     ///
-    /// `slab` is the order of its slab: it decides the cost alone.
+    /// `slab` is its order: it decides the cost alone.
     #[inline(always)]
-    pub(crate) fn relist(&mut self, from: u32, to: u32, node: u32, key: u32, slab: u8)
+    pub(crate) fn relist(&mut self, from: u32, to: u32, machine_frame: u32, key: u32, slab: u8)
         requires to { to < self.old.heads }
         requires slab { slab ≤ 3 }
-        requires placed { place_at self.old.places node ≡ Some (from, key) }
-        requires alone { (i : ℕ) → place_at self.old.places i ≡ Some (to, key) → i ≡ node }
-        ensures { self.new ≡ inserted self.old to node key }
+        requires placed { place_at self.old.places machine_frame ≡ Some (from, key) }
+        requires alone { (i : ℕ) → place_at self.old.places i ≡ Some (to, key) → i ≡ machine_frame }
+        ensures { self.new ≡ inserted self.old to machine_frame key }
     {
         if from != to {
-            self.move_to(to, node, key, slab);
+            self.move_to(to, machine_frame, key, slab);
         }
     }
 
-    /// Moves the node, which stands in a list, into the list `head` under the same key.
+    /// Moves the slab, which is in a list, into the list `head` under the same key.
     ///
-    /// Into a loose list it goes at once. A short list is walked, unless the node comes at an end of it. In a longer one, a node
+    /// Into a loose list it goes at once. A short list is walked, unless the slab comes at an end of it. In a longer one, a slab
     /// that comes before it is looked for.
     #[inline(never)]
-    fn move_to(&mut self, head: u32, node: u32, key: u32, slab: u8)
+    fn move_to(&mut self, head: u32, machine_frame: u32, key: u32, slab: u8)
         requires head { head < self.old.heads }
         requires slab { slab ≤ 3 }
-        requires placed { IsSome (place_at self.old.places node) }
-        requires alone { (i : ℕ) → place_at self.old.places i ≡ Some (head, key) → i ≡ node }
-        ensures { self.new ≡ inserted self.old head node key }
+        requires placed { IsSome (place_at self.old.places machine_frame) }
+        requires alone { (i : ℕ) → place_at self.old.places i ≡ Some (head, key) → i ≡ machine_frame }
+        ensures { self.new ≡ inserted self.old head machine_frame key }
     {
-        self.remove(node);
+        self.remove(machine_frame);
         if is_loose(head) {
-            self.lists.append(head, node, key);
+            self.lists.append(head, machine_frame, key);
         } else if self.lists.len(head) < SHORT {
-            self.lists.insert(head, node, key);
+            self.lists.insert(head, machine_frame, key);
         } else {
-            self.insert_among(head, node, key, 1 << slab);
+            self.insert_among(head, machine_frame, key, 1 << slab);
             self.note(head, key);
         }
     }
 
-    /// As [`Lists::insert`], into a list that is not short: behind a node that comes before, where one is found near by.
+    /// As [`Lists::insert`], into a list that is not short: behind a slab that comes before, if one is found near by.
     #[inline(always)]
-    fn insert_among(&mut self, head: u32, node: u32, key: u32, step: u32)
+    fn insert_among(&mut self, head: u32, machine_frame: u32, key: u32, step: u32)
         requires head { head < self.old.heads }
         requires by_key { IsByKey head }
-        requires node { node < length self.old.places }
-        requires free { place_at self.old.places node ≡ None }
+        requires machine_frame { machine_frame < length self.old.places }
+        requires free { place_at self.old.places machine_frame ≡ None }
         requires fresh { (i : ℕ) → place_at self.old.places i ≢ Some (head, key) }
         requires step { 0 < step }
-        ensures { self.new ≡ inserted self.old head node key }
+        ensures { self.new ≡ inserted self.old head machine_frame key }
     {
-        match self.near(head, node, key, step) {
-            Some(near) => self.lists.insert_by(head, node, key, near),
-            None => self.lists.insert_near(head, node, key, node),
+        match self.near(head, machine_frame, key, step) {
+            Some(near) => self.lists.insert_by(head, machine_frame, key, near),
+            None => self
+                .lists
+                .insert_near(head, machine_frame, key, machine_frame),
         }
     }
 
-    /// A node of the list whose key is below the key of the node and not far from it, if one is found.
+    /// The machine frame of a slab of the list whose key is below this one and not far from it, if one is found.
     ///
-    /// It is looked for below the node in its group, at a fourth as many nodes as the list has, since a short list is walked
-    /// sooner, and then in the last group before in which the list has a slab.
-    fn near(&self, head: u32, node: u32, key: u32, step: u32) -> Option<u32>
+    /// It is looked for below `machine_frame` in its group, at a fourth as many frames as the list has slabs, since a short list
+    /// is walked sooner, and then in the last group before in which the list has a slab.
+    fn near(&self, head: u32, machine_frame: u32, key: u32, step: u32) -> Option<u32>
         requires head { head < self.now.heads }
-        requires node { node < length self.now.places }
+        requires machine_frame { machine_frame < length self.now.places }
         requires step { 0 < step }
         ensures { IfSome result (λ n. is_in head (place_at self.now.places n) ≡ true) }
     {
         let len = self.lists.len(head);
-        let room = self.groups.before_in_group(node);
-        if let Some(near) = near_below(&self.lists, head, node, step, room, len / 4) {
+        let room = self.groups.before_in_group(machine_frame);
+        if let Some(near) = near_below(&self.lists, head, machine_frame, step, room, len / 4) {
             return Some(near);
         }
         if !self.groups.is_kept(head) {
@@ -258,7 +257,7 @@ impl SlabLists {
         self.near_in_groups(head, key, step)
     }
 
-    /// The last node of the list in the last group before that of the key in which the list has a node.
+    /// The machine frame of the list's last slab in the last group before that of the key in which the list has one.
     #[inline(never)]
     fn near_in_groups(&self, head: u32, key: u32, step: u32) -> Option<u32>
         requires head { head < self.now.heads }
@@ -267,14 +266,14 @@ impl SlabLists {
     {
         let size = self.groups.size();
         let first = self.groups.before(head, key)?;
-        let end = self.groups.node_of(head, first)?.checked_add(size)?;
+        let end = self.groups.seen_at(head, first)?.checked_add(size)?;
         if end > self.lists.nodes() {
             return None;
         }
         near_below(&self.lists, head, end, step, size, size)
     }
 
-    /// Puts the node `to`, which stands in no list, into the place of the node `from`, if that has one.
+    /// Puts machine frame `to`, which is in no list, into the place of machine frame `from`, if that is in a list.
     pub(crate) fn replace(&mut self, from: u32, to: u32)
         requires from { from < length self.old.places }
         requires to { to < length self.old.places }
@@ -288,18 +287,18 @@ impl SlabLists {
         }
     }
 
-    /// Takes all nodes out of the list.
+    /// Takes all slabs out of the list.
     pub(crate) fn clear(&mut self, head: u32)
         requires { head < self.old.heads }
         ensures { IsEmptied self.old self.new head }
     {
-        while let Some(node) = self.any(head) {
-            self.remove(node);
+        while let Some(machine_frame) = self.any(head) {
+            self.remove(machine_frame);
         }
     }
 }
 
-/// Keeps the list, which has no more nodes than a long one, in groups from now on.
+/// Keeps the list, which has no more slabs than a long one, in groups from now on.
 #[cold]
 #[inline(never)]
 fn keep(lists: &Lists, groups: &mut Groups, head: u32)
@@ -309,11 +308,11 @@ fn keep(lists: &Lists, groups: &mut Groups, head: u32)
     groups.keep(head);
     let mut next = lists.first_by_key(head);
     for _ in 0..LONG {
-        let Some((key, node)) = next else {
+        let Some((key, machine_frame)) = next else {
             return;
         };
         groups.put(head, key);
-        next = lists.after(node);
+        next = lists.after(machine_frame);
     }
 }
 

@@ -5,12 +5,12 @@ ghost use Rattle.klist_core.specs.Places.{ArePlaces, IsEmpty, IsFirst, place_at,
 ghost use Rattle.klist_core.specs.Lists.{keys_of};
 ghost use Rattle.model_core.specs.declared.limits.TheConstants.{MOST_CACHES, MOST_ORDER, MOST_SUPERBLOCKS, MOST_TENANTS};
 ghost use Rattle.slab_tables.specs.Content.{IsSlabs, IsTenant, IsPlacedIn, empty_tables, kept_at, cache_at, index_of_cache, head_of, kind_number, layout_numbers};
-ghost use Rattle.slab_tables.specs.Changes.{with_new_slab, with_count, with_outside, without_slab, with_cache, new_cache, IsLeastNumber, IsAllUsed, IsCleared, IsReset, IsMoved, with_node_moved};
+ghost use Rattle.slab_tables.specs.Changes.{with_new_slab, with_count, with_outside, without_slab, with_cache, new_cache, IsLeastNumber, IsAllUsed, IsCleared, IsReset, IsMoved, with_slab_moved};
 
 use crate::cache::{Cache, Kept};
 use crate::kind::Kind;
 use crate::list::ListId;
-use crate::places::{SlabLists, index_of, node_at};
+use crate::places::{SlabLists, index_of, machine_frame_at};
 use klist_core::Lists;
 use layout_core::{Layout, Pattern};
 use model_core::limits::MOST_CACHES;
@@ -55,7 +55,7 @@ impl Tables {
         requires tenants { tenants ≤ MOST_TENANTS }
         ensures { IfOk result (λ s. s ≡ empty_tables order superblocks tenants) }
     {
-        let nodes = u32::from(superblocks) << order;
+        let machine_frames = u32::from(superblocks) << order;
         let caches = u32::from(MOST_CACHES) * u32::from(tenants);
         let blank = Kept {
             colour: 0,
@@ -64,7 +64,7 @@ impl Tables {
         };
         Ok(Tables {
             order,
-            kept: vec![in alloc; blank; nodes as usize]?,
+            kept: vec![in alloc; blank; machine_frames as usize]?,
             caches: vec![in alloc; None; caches as usize]?,
             live: vec![in alloc; 0; caches as usize]?,
             below: vec![in alloc; 0; usize::from(tenants)]?,
@@ -87,7 +87,7 @@ impl Tables {
         self.order
     }
 
-    /// The lists of the slabs of all caches, by first frame, with their nodes. A [`ListId`] has the number of each.
+    /// The lists of the slabs of all caches, by first frame, with their machine frames. A [`ListId`] has the number of each.
     pub fn lists(&self) -> &Lists
         ensures { result.now ≡ self.now.lists }
     {
@@ -114,24 +114,23 @@ impl Tables {
         u32::from(self.below[usize::from(t)])
     }
 
-    /// What is kept of the slab that begins at the node.
-    pub fn kept_of(&self, node: u32) -> Kept
-        requires { node < length self.now.lists.places }
-        ensures { result ≡ kept_at self.now.kept node }
+    /// What is kept of the slab that begins at the machine frame.
+    pub fn kept_of(&self, machine_frame: u32) -> Kept
+        requires { machine_frame < length self.now.lists.places }
+        ensures { result ≡ kept_at self.now.kept machine_frame }
     {
-        self.kept[node as usize]
+        self.kept[machine_frame as usize]
     }
 
-    /// List and first frame of the slab that begins at the node; None where none does.
-    pub fn place_of(&self, node: u32) -> Option<(u32, u32)>
-        requires { node < length self.now.lists.places }
-        ensures { result ≡ place_at self.now.lists.places node }
+    /// List and first frame of the slab that begins at the machine frame; None if none does.
+    pub fn place_of(&self, machine_frame: u32) -> Option<(u32, u32)>
+        requires { machine_frame < length self.now.lists.places }
+        ensures { result ≡ place_at self.now.lists.places machine_frame }
     {
-        self.lists.lists().place_of(node)
+        self.lists.lists().place_of(machine_frame)
     }
 
-    /// First frame and node of the slab of least frame among those of one kind of cache `c` of tenant `t`. A full one is looked
-    /// for among all nodes.
+    /// Frame and machine frame of the first slab of one kind of cache `c` of tenant `t`. A full one is looked for in all frames.
     pub fn first(&self, t: u8, c: u32, kind: Kind) -> Option<(u32, u32)>
         requires tenant { IsTenant self.now t }
         requires cache { c < MOST_CACHES }
@@ -205,7 +204,7 @@ impl Tables {
     pub fn remove_cache(&mut self, t: u8, c: u32)
         requires tenant { IsTenant self.old t }
         requires cache { IsSome (cache_at self.old t c) }
-        requires without_slabs { (first node : ℕ) → ¬ IsPlacedIn self.old t c first node }
+        requires without_slabs { (first machine_frame : ℕ) → ¬ IsPlacedIn self.old t c first machine_frame }
         ensures { self.new ≡ with_cache self.old t c None }
     {
         self.caches[index_of(t, c)] = None;
@@ -223,64 +222,72 @@ impl Tables {
         self.below[usize::from(t)] = below;
     }
 
-    /// Lets the next slab of cache `c` of tenant `t`, an empty one, begin at frame `first` and node `node`. The cache has made
-    /// one slab more then, so what was read of it before is out of date.
-    pub fn add_slab(&mut self, t: u8, c: u32, cache: &Cache, first: u32, node: u32)
+    /// Lets the next slab of cache `c` of tenant `t`, an empty one, begin at frame `first`, which is `machine_frame`. The cache
+    /// has made one slab more then, so what was read of it before is out of date.
+    pub fn add_slab(&mut self, t: u8, c: u32, cache: &Cache, first: u32, machine_frame: u32)
         requires tenant { IsTenant self.old t }
         requires cache { cache_at self.old t c ≡ Some cache.now }
-        requires node { node < length self.old.lists.places }
-        requires free { place_at self.old.lists.places node ≡ None }
+        requires machine_frame { machine_frame < length self.old.lists.places }
+        requires free { place_at self.old.lists.places machine_frame ≡ None }
         requires fresh { (n : ℕ) → place_at self.old.lists.places n ≢ Some (head_of t c 2, first) }
-        ensures { self.new ≡ with_new_slab self.old t c cache.now first node }
+        ensures { self.new ≡ with_new_slab self.old t c cache.now first machine_frame }
     {
         let colours = cache.layout.colours();
         self.lists
-            .insert(ListId::of(t, c, Kind::Empty).number, node, first);
-        self.kept[node as usize] = cache.next_slab();
+            .insert(ListId::of(t, c, Kind::Empty).number, machine_frame, first);
+        self.kept[machine_frame as usize] = cache.next_slab();
         let made = (cache.made + 1) % colours;
         self.caches[index_of(t, c)] = Some(Cache { made, ..*cache });
     }
 
-    /// Counts the live objects of the slab of cache `c` of tenant `t` that begins at frame `first` and node `node`: they are
-    /// `count` now. The slab goes to the list of its kind; where the kind stays, no list is touched. Its place in a list is found in
-    /// a number of steps that does not grow with the list.
+    /// Sets how many objects are live in the slab of cache `c` of tenant `t` at frame `first`, which is `machine_frame`. If its
+    /// kind changes, it goes to the list of the new kind, in a number of steps that does not grow with the list.
     #[inline(always)]
-    pub fn set_count(&mut self, t: u8, c: u32, cache: &Cache, first: u32, node: u32, count: u32)
+    pub fn set_count(
+        &mut self,
+        t: u8,
+        c: u32,
+        cache: &Cache,
+        first: u32,
+        machine_frame: u32,
+        count: u32,
+    )
         requires tenant { IsTenant self.old t }
         requires cache { cache_at self.old t c ≡ Some cache.now }
-        requires slab { IsPlacedIn self.old t c first node }
-        requires alone { (n : ℕ) → IsPlacedIn self.old t c first n → n ≡ node }
+        requires slab { IsPlacedIn self.old t c first machine_frame }
+        requires alone { (n : ℕ) → IsPlacedIn self.old t c first n → n ≡ machine_frame }
         requires few { count ≤ (layout_numbers cache.now).count }
-        ensures { self.new ≡ with_count self.old t c cache.now first node count }
+        ensures { self.new ≡ with_count self.old t c cache.now first machine_frame count }
     {
         cache.layout.laws();
         let total = cache.layout.count();
-        let before = u32::from(self.kept[node as usize].live);
+        let before = u32::from(self.kept[machine_frame as usize].live);
         let from = ListId::of(t, c, Kind::of(total, before));
         let to = ListId::of(t, c, Kind::of(total, count));
         let slab = cache.layout.order();
-        self.lists.relist(from.number, to.number, node, first, slab);
-        let kept = &mut self.kept[node as usize];
+        self.lists
+            .relist(from.number, to.number, machine_frame, first, slab);
+        let kept = &mut self.kept[machine_frame as usize];
         kept.live = count as u16;
         let i = index_of(t, c);
         self.live[i] = self.live[i] + count - before;
     }
 
-    /// Keeps which objects of the slab at the node are live, where they are large.
-    pub fn set_outside(&mut self, node: u32, outside: u16)
-        requires { node < length self.old.lists.places }
-        ensures { self.new ≡ with_outside self.old node outside }
+    /// Keeps which objects of the slab at the machine frame are live, where they are large.
+    pub fn set_outside(&mut self, machine_frame: u32, outside: u16)
+        requires { machine_frame < length self.old.lists.places }
+        ensures { self.new ≡ with_outside self.old machine_frame outside }
     {
-        self.kept[node as usize].outside = outside;
+        self.kept[machine_frame as usize].outside = outside;
     }
 
-    /// Takes the slab at the node, of which no object is live, out of its list.
-    pub fn remove_slab(&mut self, node: u32)
-        requires placed { IsSome (place_at self.old.lists.places node) }
-        requires empty { (kept_at self.old.kept node).live ≡ 0 }
-        ensures { self.new ≡ without_slab self.old node }
+    /// Takes the slab at the machine frame, of which no object is live, out of its list.
+    pub fn remove_slab(&mut self, machine_frame: u32)
+        requires placed { IsSome (place_at self.old.lists.places machine_frame) }
+        requires empty { (kept_at self.old.kept machine_frame).live ≡ 0 }
+        ensures { self.new ≡ without_slab self.old machine_frame }
     {
-        self.lists.remove(node);
+        self.lists.remove(machine_frame);
     }
 
     /// Lets go of all caches and slabs of tenant `t`.
@@ -319,17 +326,20 @@ impl Tables {
     {
         let order = self.order;
         for i in 0..1u32 << order {
-            self.move_node(node_at(order, from, i), node_at(order, to, i));
+            self.move_slab(
+                machine_frame_at(order, from, i),
+                machine_frame_at(order, to, i),
+            );
         }
     }
 
-    /// Moves what stands at the node `from` to the node `to`, at which no slab begins.
-    fn move_node(&mut self, from: u32, to: u32)
+    /// Moves the slab at machine frame `from`, if one begins there, to machine frame `to`, at which none begins.
+    fn move_slab(&mut self, from: u32, to: u32)
         requires from { from < length self.old.lists.places }
         requires to { to < length self.old.lists.places }
         requires apart { from ≢ to }
         requires free { place_at self.old.lists.places to ≡ None }
-        ensures { self.new ≡ with_node_moved self.old from to }
+        ensures { self.new ≡ with_slab_moved self.old from to }
     {
         self.lists.replace(from, to);
         self.kept[to as usize] = self.kept[from as usize];

@@ -51,7 +51,7 @@ left c =
 
 pub remove_cache-requires-clause-without_slabs : goal.remove_cache-requires-clause-without_slabs
 remove_cache-requires-clause-without_slabs c =
-    subst (λ s. (first node : ℕ) → IsPlacedIn s c.args.t c.args.c first node → ⊥) (sym c.self-2.view_is)
+    subst (λ s. (first machine_frame : ℕ) → IsPlacedIn s c.args.t c.args.c first machine_frame → ⊥) (sym c.self-2.view_is)
     (unplaced c.give_back_empty.new.self c.args.t c.args.c (left (goal.at.remove_cache-requires-clause-without_slabs c).After-give_back_empty).bare)
 
 removed : (c : goal.After-remove_cache) → c.remove_cache.new.self ≡ with_cache c.give_back_empty.new.self c.args.t c.args.c None

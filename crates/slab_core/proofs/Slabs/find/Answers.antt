@@ -4,7 +4,7 @@ use Rattle.layout_core.specs.Objects.{Begins, IsOnly}
 use Rattle.slab_tables.specs.declared.cache.Kept.{Kept}
 use Rattle.slab_tables.specs.Content.{Content, kept_at, layout_numbers}
 use Rattle.slab_core.proofs.ObjectSlabs.{in_tables}
-use Rattle.slab_core.proofs.ObjectFinding.{no_node, no_slab, none_begins, not_live}
+use Rattle.slab_core.proofs.ObjectFinding.{no_machine_frame, no_slab, none_begins, not_live}
 use Rattle.slab_core.proofs.Slabs.find.Goals as goal
 use Rattle.slab_core.proofs.Slabs.find.Goals.{After-block_around-first, After-from-colour}
 
@@ -24,7 +24,7 @@ pub returns-in_err-machine_frame : goal.returns-in_err-machine_frame
 returns-in_err-machine_frame c =
     let a = goal.at.returns-in_err-machine_frame c in
     rw c.from_residual.ensures
-    (no_node c.requires.parts.1 c.requires.tenant c.requires.cache c.args.place c.block_around-first.result (first_is a.After-block_around-first)
+    (no_machine_frame c.requires.parts.1 c.requires.tenant c.requires.cache c.args.place c.block_around-first.result (first_is a.After-block_around-first)
     (sym c.in_err-machine_frame.ensures.value))
 
 pub returns-then-not-is_of_cache : goal.returns-then-not-is_of_cache

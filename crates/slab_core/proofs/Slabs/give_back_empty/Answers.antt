@@ -4,7 +4,7 @@ use Rattle.klist_core.proofs.Tables.{placed_within, count_removed}
 use Rattle.slab_tables.specs.Content.{IsSlabs, head_of}
 use Rattle.slab_tables.proofs.Keeping.{slabs_without}
 use Rattle.machine_changes.proofs.Steady.{in_table}
-use Rattle.slab_core.proofs.ObjectSlabs.{node_within}
+use Rattle.slab_core.proofs.ObjectSlabs.{machine_frame_within}
 use Rattle.slab_core.proofs.ReturnMany.{giving_none, giving_more, still_apart, giving_all, IsEmptySlab, listed_empty, one_idle, none_idle, empty_without}
 use Rattle.slab_core.proofs.Slabs.give_back_empty.Goals as goal
 use Rattle.slab_core.proofs.Slabs.give_back_empty.Goals.{In-Some}
@@ -40,7 +40,7 @@ loop-first-preserved c =
       giving = giving_more c.laws_with.ensures.steady c.loop-first.invariant.giving c.give_back.ensures.returned (one_idle is)
           c.give_back.ensures.spares c.give_back.ensures.agree
           (subst IsSlabs (sym c.give_back.ensures.tables)
-          (slabs_without c.loop-first.self c.in-Some.machine_frame c.loop-first.invariant.giving.tables (node_within is.slab) is.empty));
+          (slabs_without c.loop-first.self c.in-Some.machine_frame c.loop-first.invariant.giving.tables (machine_frame_within is.slab) is.empty));
       lists = λ head none. subst (λ s. IsEmpty s.lists.places head) (sym c.give_back.ensures.tables)
           (empty_without c.loop-first.self c.in-Some.machine_frame head (c.loop-first.invariant.lists head none));
     }

@@ -1,10 +1,10 @@
 use Rattle.std.proofs.Common.{sym, ◌∙◌, arith}
 use Rattle.slab_core.proofs.ObjectPlaces.{object_under}
-use Rattle.slab_core.proofs.ObjectSlabs.{node_within, slab_cache}
+use Rattle.slab_core.proofs.ObjectSlabs.{machine_frame_within, slab_cache}
 use Rattle.slab_core.proofs.Slabs.is_live_object.Goals as goal
 
-pub superblock-superblock-requires-clause-node : goal.superblock-superblock-requires-clause-node
-superblock-superblock-requires-clause-node c = node_within c.requires.slab
+pub superblock-superblock-requires-clause-machine_frame : goal.superblock-superblock-requires-clause-machine_frame
+superblock-superblock-requires-clause-machine_frame c = machine_frame_within c.requires.slab
 
 pub record_place-place-requires-clause-index : goal.record_place-place-requires-clause-index
 record_place-place-requires-clause-index c = omega (arith, (slab_cache c.requires.slab c.requires.tables).few, c.requires.index)

@@ -10,7 +10,7 @@ use Rattle.slab_core.specs.declared.objects.Slab.{Slab}
 use Rattle.slab_core.specs.Calls.{IsConstructed}
 use Rattle.slab_core.proofs.Slabs.make_slab.Goals as goal
 use Rattle.slab_core.proofs.Slabs.make_slab.Goals.{Then-order, In_err-first, In-Some, After-kept_of-colour, After-construct}
-use Rattle.slab_core.proofs.GrowOne.{has_node, choice_some, choice_none, choice_large, none_large, chosen_for, none_free, some_free, IsChosen, cut, in_reach, few, vacant, fresh, node_within, kept_now, IsMade, made}
+use Rattle.slab_core.proofs.GrowOne.{has_machine_frame, choice_some, choice_none, choice_large, none_large, chosen_for, none_free, some_free, IsChosen, cut, in_reach, few, vacant, fresh, machine_frame_within, kept_now, IsMade, made}
 
 -- No block is large enough
 
@@ -50,9 +50,9 @@ returns-in_err-first-clause-free c =
 
 pub unreachable-unreachable : goal.unreachable-unreachable
 unreachable-unreachable c =
-    has_node c.args.cache.tenant (layout_numbers c.args.cache.kept.now).order c.requires.agree
+    has_machine_frame c.args.cache.tenant (layout_numbers c.args.cache.kept.now).order c.requires.agree
     c.in_ok-first.first c.in_ok-first.ensures.done.0 (chosen_for c.args.buddy.now c.args.cache.tenant _ _ _ _ c.order-order.ensures c.in_ok-first.ensures.done.1.0)
-    (sym c.node.ensures.value ∙ c.in_default.is)
+    (sym c.machine_frame.ensures.value ∙ c.in_default.is)
 
 chosen : (c : In-Some) → IsChosen c.args.space.now c.args.buddy.now c.args.self.now c.args.cache.tenant c.args.cache.number c.args.cache.kept.now
     c.in_ok-first.first c.in_ok-first.ensures.done.0 c.in-Some.machine_frame
@@ -62,11 +62,11 @@ chosen c = record {
   tenant = c.requires.tenant;
   cached = c.requires.cache;
   block = chosen_for c.args.buddy.now c.args.cache.tenant _ _ _ _ c.order-order.ensures c.in_ok-first.ensures.done.1.0;
-  under = sym c.node.ensures.value ∙ c.in-Some.is;
+  under = sym c.machine_frame.ensures.value ∙ c.in-Some.is;
 }
 
-pub add_slab-requires-clause-node : goal.add_slab-requires-clause-node
-add_slab-requires-clause-node c = subst (λ s. c.in-Some.machine_frame < length s.lists.places) (sym c.self.view_is) (node_within (chosen (goal.at.add_slab-requires-clause-node c).In-Some))
+pub add_slab-requires-clause-machine_frame : goal.add_slab-requires-clause-machine_frame
+add_slab-requires-clause-machine_frame c = subst (λ s. c.in-Some.machine_frame < length s.lists.places) (sym c.self.view_is) (machine_frame_within (chosen (goal.at.add_slab-requires-clause-machine_frame c).In-Some))
 
 pub add_slab-requires-clause-free : goal.add_slab-requires-clause-free
 add_slab-requires-clause-free c = subst (λ s. place_at s.lists.places c.in-Some.machine_frame ≡ None) (sym c.self.view_is) (vacant (chosen (goal.at.add_slab-requires-clause-free c).In-Some))
@@ -109,7 +109,7 @@ pub kept_of-colour-requires : goal.kept_of-colour-requires
 kept_of-colour-requires c =
     subst (λ s. c.in-Some.machine_frame < length s.lists.places) (sym c.add_slab.ensures)
     (subst (λ l. c.in-Some.machine_frame < l) (sym (length-set c.self.inside.tables.lists.places c.in-Some.machine_frame (Some (head_of c.args.cache.tenant c.args.cache.number 2, c.in_ok-first.first))))
-    (subst (λ s. c.in-Some.machine_frame < length s.lists.places) (sym c.self.view_is) (node_within (chosen (goal.at.kept_of-colour-requires c).In-Some))))
+    (subst (λ s. c.in-Some.machine_frame < length s.lists.places) (sym c.self.view_is) (machine_frame_within (chosen (goal.at.kept_of-colour-requires c).In-Some))))
 
 pub construct-requires-clause-colour : goal.construct-requires-clause-colour
 construct-requires-clause-colour c = (

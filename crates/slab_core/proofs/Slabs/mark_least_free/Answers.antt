@@ -8,15 +8,15 @@ use Rattle.slab_tables.specs.Content.{Content, layout_numbers, kept_at}
 use Rattle.slab_tables.specs.Changes.{with_outside}
 use Rattle.machine_changes.specs.Changes.{found}
 use Rattle.slab_core.specs.Objects.{IsTurned}
-use Rattle.slab_core.proofs.ObjectSlabs.{node_within, slab_cache}
+use Rattle.slab_core.proofs.ObjectSlabs.{machine_frame_within, slab_cache}
 use Rattle.slab_core.proofs.MarkTurned.{turned_window, turned_outside}
 use Rattle.slab_core.proofs.TakeBits.{IsClear, clear_half}
 use Rattle.slab_core.proofs.TakeNext.{record_home, has_clear, claimed_inside, claimed_outside}
 use Rattle.slab_core.proofs.Slabs.mark_least_free.Goals as goal
 use Rattle.slab_core.proofs.Slabs.mark_least_free.Goals.{After-record_place, After-trailing_ones-index}
 
-pub superblock-superblock-requires-clause-node : goal.superblock-superblock-requires-clause-node
-superblock-superblock-requires-clause-node c = node_within c.requires.slab
+pub superblock-superblock-requires-clause-machine_frame : goal.superblock-superblock-requires-clause-machine_frame
+superblock-superblock-requires-clause-machine_frame c = machine_frame_within c.requires.slab
 
 -- where the record stands in the frame
 place_is : (c : After-record_place) → c.record_place.result ≡ 4096 * c.args.slab.first + 4064
@@ -88,8 +88,8 @@ returns-else-in_page-clause-turned c =
     let a = (goal.at.returns-else-in_page-clause-turned c).After-trailing_ones-index in
     let o = found x.cache.kept.now x.slab.first x.slab.machine_frame c.trailing_ones-index.result in
     subst (λ (s : Content). IsTurned x.space.now x.space.now x.self.now s x.cache.tenant o)
-    (sym (c.set_outside.ensures ∙ ap (λ (s : Content). with_outside s o.node (bit_xor c.kept_of-outside.result.outside (1 * 2 ^ o.index % 65536))) c.self.view_is))
+    (sym (c.set_outside.ensures ∙ ap (λ (s : Content). with_outside s o.machine_frame (bit_xor c.kept_of-outside.result.outside (1 * 2 ^ o.index % 65536))) c.self.view_is))
     (turned_outside x.space.now x.self.now x.cache.tenant o
     (sym c.in_page.ensures ∙ c.if-in_page.false) (omega (arith, least a, few_large a, c.requires.free))
-    (omega (arith, node_within c.requires.slab, c.requires.tables.paired)) _
+    (omega (arith, machine_frame_within c.requires.slab, c.requires.tables.paired)) _
     (ap (λ (k : Kept). bit_xor k.outside (1 * 2 ^ o.index % 65536)) (kept_is a)))

@@ -6,7 +6,7 @@ use Rattle.buddy_core.specs.Content as buddies
 use Rattle.slab_tables.specs.Content.{Content, kept_at, cache_in}
 use Rattle.slab_tables.specs.Changes.{IsReset}
 use Rattle.machine_changes.specs.Records.{count_true}
-use Rattle.machine_changes.specs.Shows.{node_of, is_live, live_of, Agree}
+use Rattle.machine_changes.specs.Shows.{machine_frame_of, is_live, live_of, Agree}
 use Rattle.machine_changes.proofs.SlotEmptied.{unless_some}
 use Rattle.slab_core.proofs.Slabs.reset.Goals as goal
 
@@ -15,7 +15,7 @@ agrees r b s s' t k a = record {
   order = a.order ∙ sym k.top;
   unit = a.unit ∙ ap (λ top. 4096 * 2 ^ top) (sym k.top);
   superblocks = a.superblocks;
-  nodes = k.nodes ∙ a.nodes ∙ ap (λ top. b.superblocks * 2 ^ top) (sym k.top);
+  machine_frames = k.machine_frames ∙ a.machine_frames ∙ ap (λ top. b.superblocks * 2 ^ top) (sym k.top);
   rows = a.rows;
   tenants = k.tenants ∙ a.tenants;
   slots = a.slots;
@@ -25,7 +25,7 @@ agrees r b s s' t k a = record {
       let g = a.slabs n head key cache was.0 (sym left ∙ cached) in
       let u : ℕ = head / 3 / MOST_CACHES in
       record {
-        under = ap (λ top. node_of top r.slots u key) k.top ∙ g.under;
+        under = ap (λ top. machine_frame_of top r.slots u key) k.top ∙ g.under;
         taken = g.taken;
         counted = ap (λ kept. (kept_at kept n).live) k.kept ∙ g.counted ∙ ap (λ kept. count_true (live_of r u cache (kept_at kept n) key)) (sym k.kept);
         rest = λ i low high. ap (λ kept. is_live r u cache (kept_at kept n) key i) k.kept ∙ g.rest i low high;

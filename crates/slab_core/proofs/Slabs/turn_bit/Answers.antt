@@ -5,13 +5,13 @@ use Rattle.slab_tables.specs.declared.cache.Kept.{Kept}
 use Rattle.slab_tables.specs.Content.{Content, kept_at}
 use Rattle.slab_tables.specs.Changes.{with_outside}
 use Rattle.slab_core.specs.Objects.{found_in, IsTurned}
-use Rattle.slab_core.proofs.ObjectSlabs.{node_within, slab_cache}
+use Rattle.slab_core.proofs.ObjectSlabs.{machine_frame_within, slab_cache}
 use Rattle.slab_core.proofs.ObjectPlaces.{object_under}
 use Rattle.slab_core.proofs.MarkTurned.{turned_inside, turned_outside}
 use Rattle.slab_core.proofs.Slabs.turn_bit.Goals as goal
 
-pub superblock-superblock-requires-clause-node : goal.superblock-superblock-requires-clause-node
-superblock-superblock-requires-clause-node c = node_within c.requires.slab
+pub superblock-superblock-requires-clause-machine_frame : goal.superblock-superblock-requires-clause-machine_frame
+superblock-superblock-requires-clause-machine_frame c = machine_frame_within c.requires.slab
 
 pub record_place-place-requires-clause-index : goal.record_place-place-requires-clause-index
 record_place-place-requires-clause-index c = omega (arith, (slab_cache c.requires.slab c.requires.tables).few, c.requires.index)
@@ -38,12 +38,12 @@ returns-else-in_page c =
     let x = c.args in
     let o = found_in x.cache.kept.now x.object in
     let large = sym c.in_page.ensures ∙ c.if-in_page.false in
-    let old : c.kept_of.result ≡ kept_at x.self.now.kept o.node = c.kept_of.ensures ∙ ap (λ (s : Content). kept_at s.kept o.node) c.self.view_is in
+    let old : c.kept_of.result ≡ kept_at x.self.now.kept o.machine_frame = c.kept_of.ensures ∙ ap (λ (s : Content). kept_at s.kept o.machine_frame) c.self.view_is in
     subst (λ (s : Content). IsTurned x.space.now x.space.now x.self.now s x.cache.tenant o)
-    (sym (c.set_outside.ensures ∙ ap (λ (s : Content). with_outside s o.node (bit_xor c.kept_of.result.outside (1 * 2 ^ o.index % 65536))) c.self.view_is))
+    (sym (c.set_outside.ensures ∙ ap (λ (s : Content). with_outside s o.machine_frame (bit_xor c.kept_of.result.outside (1 * 2 ^ o.index % 65536))) c.self.view_is))
     (turned_outside x.space.now x.self.now x.cache.tenant o large
     (omega (arith, (slab_cache c.requires.slab c.requires.tables).few_large large, c.requires.index))
-    (omega (arith, node_within c.requires.slab, c.requires.tables.paired)) _
+    (omega (arith, machine_frame_within c.requires.slab, c.requires.tables.paired)) _
     (ap (λ (k : Kept). bit_xor k.outside (1 * 2 ^ o.index % 65536)) old))
 
 pub overflow_cast-outside : goal.overflow_cast-outside

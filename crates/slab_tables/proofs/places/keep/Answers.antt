@@ -10,5 +10,5 @@ after-next-requires-clause-placed c = rw c.in-Some.is at c.loop.invariant
 
 pub loop-preserved : goal.loop-preserved
 loop-preserved c =
-    let here : IsPlacedByKey c.args.lists.now.places c.in-Some.node = rw c.in-Some.is at c.loop.invariant in
+    let here : IsPlacedByKey c.args.lists.now.places c.in-Some.machine_frame = rw c.in-Some.is at c.loop.invariant in
     after_there c.args.lists.now.places here.list here.key c.after-next.result here.by_key (rw here.here at c.after-next.ensures)

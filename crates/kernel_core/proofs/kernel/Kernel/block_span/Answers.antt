@@ -6,7 +6,7 @@ use Rattle.words_core.specs.declared.reply.Refusal.TheVariants.{OutOfReach}
 use Rattle.kernel_core.specs.Shows.{ShowsMachine}
 use Rattle.kernel_core.specs.Lending.{IsNotLent, HasBlock}
 use Rattle.space_core.specs.Content.{superblock_at}
-use Rattle.machine_changes.specs.Shows.{node_of, has_slab}
+use Rattle.machine_changes.specs.Shows.{machine_frame_of, has_slab}
 use Rattle.kernel_core.specs.Content as content
 use Rattle.kernel_core.specs.Content.{KernelContent}
 use Rattle.kernel_core.proofs.Changing.{steady, opened, known}
@@ -44,9 +44,9 @@ returns-in_default-block_in-clause-refused c =
     not_lent c.args.self.now c.in-Some.t c.args.tenant c.args.place c.in-Some.ensures
     (rw (← c.self.view_is) (free_no_page _ _ _ c.in-Some.t c.args.place (asked a) c.in_default-block_in.ensures))
 
-pub node_in-node-requires : goal.node_in-node-requires
-node_in-node-requires c =
-    let a = (goal.at.node_in-node-requires c).After-machine_of in
+pub machine_frame_in-machine_frame-requires : goal.machine_frame_in-machine_frame-requires
+machine_frame_in-machine_frame-requires c =
+    let a = (goal.at.machine_frame_in-machine_frame-requires c).After-machine_of in
     let k = c.self.inside in
     let same = block_slot k.space k.buddy k.slabs c.in-Some.t c.in-Some-block_in.first c.in-Some-block_in.order (c.args.place / 4096)
     (steady k.space k.buddy k.slabs c.in-Some.t (asked a).together (asked a).tenant) c.in-Some-block_in.ensures.0 c.in-Some-block_in.ensures.1 in
@@ -55,9 +55,9 @@ node_in-node-requires c =
     ∙ (ap (superblock_at k.space.slots c.in-Some.t) same ∙ (read a ∙ c.in-Some-machine_of.is)))
 
 -- whether a slab begins at the block
-told : (c : After-is_slab_in) → has_slab c.self.inside.slabs (node_of c.self.inside.slabs.top c.self.inside.space.slots c.in-Some.t c.in-Some-block_in.first) ≡ c.is_slab_in.result
+told : (c : After-is_slab_in) → has_slab c.self.inside.slabs (machine_frame_of c.self.inside.slabs.top c.self.inside.space.slots c.in-Some.t c.in-Some-block_in.first) ≡ c.is_slab_in.result
 told c =
-    ap (has_slab c.self.inside.slabs) (ap (λ (k : KernelContent). node_of k.slabs.top k.space.slots c.in-Some.t c.in-Some-block_in.first) c.self.view_is ∙ c.node_in-node.ensures.value)
+    ap (has_slab c.self.inside.slabs) (ap (λ (k : KernelContent). machine_frame_of k.slabs.top k.space.slots c.in-Some.t c.in-Some-block_in.first) c.self.view_is ∙ c.machine_frame_in-machine_frame.ensures.value)
     ∙ sym c.is_slab_in.ensures
 
 pub returns-then-is_slab_in-clause-refused : goal.returns-then-is_slab_in-clause-refused

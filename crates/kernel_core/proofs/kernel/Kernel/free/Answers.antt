@@ -1,6 +1,6 @@
 use Rattle.std.proofs.Common.{◌≡◌, sym, ap, ◌∙◌, ◌/◌, ◌^◌, None}
 use Rattle.space_core.specs.Content as spaces
-use Rattle.machine_changes.specs.Shows.{node_of, has_slab}
+use Rattle.machine_changes.specs.Shows.{machine_frame_of, has_slab}
 use Rattle.words_core.specs.declared.reply.Body.TheVariants.{Freed}
 use Rattle.kernel_core.specs.Content.{KernelContent}
 use Rattle.kernel_core.specs.Steps.{body_of}
@@ -19,9 +19,9 @@ returns-in_default c =
     rw (← c.self.view_is) (free_unheld k.space k.buddy k.slabs c.args.t c.args.frame (steady _ _ _ c.args.t together (known _ _ _ _ c.args.t c.self.view_is c.requires)) none)
 
 -- whether a slab begins at the frame
-told : (c : After-is_slab_in) → has_slab c.self.inside.slabs (node_of c.self.inside.slabs.top c.self.inside.space.slots c.args.t c.args.frame) ≡ c.is_slab_in.result
+told : (c : After-is_slab_in) → has_slab c.self.inside.slabs (machine_frame_of c.self.inside.slabs.top c.self.inside.space.slots c.args.t c.args.frame) ≡ c.is_slab_in.result
 told c =
-    ap (has_slab c.self.inside.slabs) (ap (λ (k : KernelContent). node_of k.slabs.top k.space.slots c.args.t c.args.frame) c.self.view_is ∙ c.node_in-node.ensures.value)
+    ap (has_slab c.self.inside.slabs) (ap (λ (k : KernelContent). machine_frame_of k.slabs.top k.space.slots c.args.t c.args.frame) c.self.view_is ∙ c.machine_frame_in-machine_frame.ensures.value)
     ∙ sym c.is_slab_in.ensures
 
 pub returns-then-is_slab_in : goal.returns-then-is_slab_in

@@ -3,13 +3,13 @@ use Rattle.std.proofs.lemmas.Bool.{false≢true, le-leb, leb-true}
 use Rattle.machine_changes.specs.Steady.{IsSteady}
 use Rattle.slab_core.proofs.ObjectReach.{no_block, no_slab}
 use Rattle.machine_changes.proofs.PageBlocks.{block_decides, no_block_decides}
-use Rattle.machine_changes.specs.Shows.{node_of, has_slab}
+use Rattle.machine_changes.specs.Shows.{machine_frame_of, has_slab}
 use Rattle.kernel_core.specs.Content.{KernelContent, superblock_at}
 use Rattle.kernel_core.proofs.Changing.{steady, opened, known}
 use Rattle.kernel_core.proofs.PageCalls.{block_slot}
 use Rattle.kernel_core.proofs.FrameKinds.{small_shift}
 use Rattle.kernel_core.proofs.kernel.Kernel.is_in_reach.Goals as goal
-use Rattle.kernel_core.proofs.kernel.Kernel.is_in_reach.Goals.{After-block_in, After-node_in-node, After-is_slab_in}
+use Rattle.kernel_core.proofs.kernel.Kernel.is_in_reach.Goals.{After-block_in, After-machine_frame_in-machine_frame, After-is_slab_in}
 
 -- neither of the two
 neither : {P Q : Type 0} → P ⊎ Q → (P → ⊥) → (Q → ⊥) → ⊥
@@ -28,7 +28,7 @@ lent : (c : After-block_in) → IsSteady c.self.inside.space c.self.inside.buddy
 lent c = steady _ _ _ c.args.t (opened _ _ _ _ c.self.view_is c.laws.ensures.together) (known _ _ _ _ c.args.t c.self.view_is c.requires.tenant)
 
 -- a taken block has at most 256 frames
-small : (c : After-node_in-node) → (1 * 2 ^ c.in-Some.order % 18446744073709551616 ≡ 2 ^ c.in-Some.order) × (0 < 2 ^ c.in-Some.order) × (2 ^ c.in-Some.order ≤ 256)
+small : (c : After-machine_frame_in-machine_frame) → (1 * 2 ^ c.in-Some.order % 18446744073709551616 ≡ 2 ^ c.in-Some.order) × (0 < 2 ^ c.in-Some.order) × (2 ^ c.in-Some.order ≤ 256)
     × (c.in-Some.order ≤ 8) × (c.in-Some.first < 65536)
 small c =
     let together = opened _ _ _ _ c.self.view_is c.laws.ensures.together in
@@ -38,16 +38,16 @@ small c =
     (shift.0, shift.1, shift.2, few, st.few c.in-Some.first c.in-Some.order c.in-Some.ensures.0)
 
 -- whether a slab begins at the block
-told : (c : After-is_slab_in) → has_slab c.self.inside.slabs (node_of c.self.inside.slabs.top c.self.inside.space.slots c.args.t c.in-Some.first) ≡ c.is_slab_in.result
+told : (c : After-is_slab_in) → has_slab c.self.inside.slabs (machine_frame_of c.self.inside.slabs.top c.self.inside.space.slots c.args.t c.in-Some.first) ≡ c.is_slab_in.result
 told c =
-    ap (has_slab c.self.inside.slabs) (ap (λ (k : KernelContent). node_of k.slabs.top k.space.slots c.args.t c.in-Some.first) c.self.view_is ∙ c.node_in-node.ensures.value)
+    ap (has_slab c.self.inside.slabs) (ap (λ (k : KernelContent). machine_frame_of k.slabs.top k.space.slots c.args.t c.in-Some.first) c.self.view_is ∙ c.machine_frame_in-machine_frame.ensures.value)
     ∙ sym c.is_slab_in.ensures
 
 -- it lies in the slot of the range
-pub node_in-node-requires : goal.node_in-node-requires
-node_in-node-requires c =
+pub machine_frame_in-machine_frame-requires : goal.machine_frame_in-machine_frame-requires
+machine_frame_in-machine_frame-requires c =
     let k = c.self.inside in
-    let same = block_slot k.space k.buddy k.slabs c.args.t c.in-Some.first c.in-Some.order (c.args.place / 4096) (lent (goal.at.node_in-node-requires c).After-block_in) c.in-Some.ensures.0 c.in-Some.ensures.1 in
+    let same = block_slot k.space k.buddy k.slabs c.args.t c.in-Some.first c.in-Some.order (c.args.place / 4096) (lent (goal.at.machine_frame_in-machine_frame-requires c).After-block_in) c.in-Some.ensures.0 c.in-Some.ensures.1 in
     ap (superblock_at c.args.self.now c.args.t)
     (subst (λ n. c.in-Some.first / 2 ^ n ≡ c.args.place / 4096 / 2 ^ n) (sym c.self.invariant.order ∙ ap (λ (x : KernelContent). x.order) c.self.view_is) same)
     ∙ c.requires.under
@@ -77,16 +77,16 @@ returns-then-is_slab_in c =
     )
 
 pub overflow_shl-result : goal.overflow_shl-result
-overflow_shl-result c = let few = (small (goal.at.overflow_shl-result c).After-node_in-node).3 in omega arith
+overflow_shl-result c = let few = (small (goal.at.overflow_shl-result c).After-machine_frame_in-machine_frame).3 in omega arith
 
 pub overflow_add-result : goal.overflow_add-result
 overflow_add-result c =
-    let is = small (goal.at.overflow_add-result c).After-node_in-node in
+    let is = small (goal.at.overflow_add-result c).After-machine_frame_in-machine_frame in
     omega (arith, is.0, is.2, is.4, c.from-4.ensures)
 
 pub overflow_mul-result : goal.overflow_mul-result
 overflow_mul-result c =
-    let is = small (goal.at.overflow_mul-result c).After-node_in-node in
+    let is = small (goal.at.overflow_mul-result c).After-machine_frame_in-machine_frame in
     rw (c.from-3.ensures, c.from-4.ensures, is.0) (omega (arith, is.2, is.4))
 
 pub returns : goal.returns
@@ -95,7 +95,7 @@ returns c =
     let k = c.self.inside in
     let g = goal.at.returns c in
     let lends = lent g.After-block_in in
-    let is = small g.After-node_in-node in
+    let is = small g.After-machine_frame_in-machine_frame in
     let page = told g.After-is_slab_in ∙ c.if-is_slab_in.false in
     let some : 0 < x.len = omega arith in
     let tells = block_decides k.space k.buddy k.slabs x.t x.place x.len c.in-Some.first c.in-Some.order lends some

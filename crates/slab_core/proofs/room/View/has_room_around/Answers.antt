@@ -32,6 +32,6 @@ returns-clause-room c = (
   λ e. absurd (false≢true e),
   λ (d, less, h). ⊎_elim (λ low. absurd (c.loop-c.invariant.none d low h))
       (λ from. absurd (no_cache c.args.self.tables.now c.args.self.tenant d c.requires.parts.slabs less
-      (c.caches_below-c-end.ensures.none d (omega (arith, from, c.loop-c-test.false))) h.node h.first h.empty))
+      (c.caches_below-c-end.ensures.none d (omega (arith, from, c.loop-c-test.false))) h.machine_frame h.first h.empty))
       (cases_lt d c.loop-c.c),
 )

@@ -13,7 +13,7 @@ use Rattle.slab_core.proofs.room.View.has_room_in_cache.Goals as goal
 use Rattle.slab_core.proofs.room.View.has_room_in_cache.Goals.{In-Some, then-not-has_block+else-is_unused_block, else-not-has_block}
 
 -- the slab at which the search is
-here : (c : In-Some) → IsNextSlab c.args.self.space.now c.args.self.buddy.now c.args.self.tables.now c.args.self.tenant c.args.c c.args.k c.in-Some.slab c.in-Some.node
+here : (c : In-Some) → IsNextSlab c.args.self.space.now c.args.self.buddy.now c.args.self.tables.now c.args.self.tenant c.args.c c.args.k c.in-Some.slab c.in-Some.machine_frame
 here c = next_is c.loop-next.invariant.searched c.in-Some.is
 
 small : (c : In-Some) → c.in-Some.slab < 65536
@@ -43,7 +43,7 @@ pub is_unused_block-requires-clause-block : goal.is_unused_block-requires-clause
 is_unused_block-requires-clause-block c =
     let x = c.args in
     let at = (goal.at.is_unused_block-requires-clause-block c).In-Some in
-    let taken = listed_taken x.self.space.now x.self.buddy.now x.self.tables.now x.self.tenant x.c c.in-Some.slab c.in-Some.node c.requires.parts.slabs c.requires.parts.agree c.requires.cache (here at).placed in
+    let taken = listed_taken x.self.space.now x.self.buddy.now x.self.tables.now x.self.tenant x.c c.in-Some.slab c.in-Some.machine_frame c.requires.parts.slabs c.requires.parts.agree c.requires.cache (here at).placed in
     subst (λ n. IsWhole x.self.buddy.now x.self.tenant n x.k) (sym (first_is at))
     (whole_around x.self.space.now x.self.buddy.now x.self.tables.now x.self.tenant c.requires.parts.agree c.requires.steady c.in-Some.slab x.k c.requires.order taken.0 taken.1)
 
@@ -54,7 +54,7 @@ returns-then-is_unused_block-clause-room c =
     let yes : true ≡ true = refl in (
       λ e. record {
         first = c.in-Some.slab;
-        node = c.in-Some.node;
+        machine_frame = c.in-Some.machine_frame;
         empty = (here at).placed;
         unused = subst (λ n. IsUnusedBlock x.self.space.now x.self.buddy.now x.self.tables.now x.self.tenant n x.k) (first_is at) (c.is_unused_block.ensures.0 c.if-is_unused_block.true);
       },
@@ -67,7 +67,7 @@ add_block-requires c = number_within (goal.at.add_block-requires c).In-Some
 pub after-next-requires-clause-placed : goal.after-next-requires-clause-placed
 after-next-requires-clause-placed c =
     let at = (goal.at.after-next-requires-clause-placed c).In-Some in
-    subst (λ places. IsPlacedByKey places c.in-Some.node) (sym (ap (λ l. l.places) c.lists.ensures))
+    subst (λ places. IsPlacedByKey places c.in-Some.machine_frame) (sym (ap (λ l. l.places) c.lists.ensures))
     (record { list = head_of c.args.self.tenant c.args.c 2; key = c.in-Some.slab; here = (here at).placed; by_key = omega arith })
 
 pub loop-next-smaller : goal.loop-next-smaller

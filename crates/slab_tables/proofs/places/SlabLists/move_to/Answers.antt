@@ -3,7 +3,7 @@ use Rattle.std.proofs.lemmas.List.{set-set}
 use Rattle.klist_core.specs.Places.{Placed, inserted, removed}
 use Rattle.slab_tables.proofs.places.SlabLists.move_to.Goals as goal
 
--- a node that is taken out and put in again is put in
+-- a slab that is taken out and put in again is put in
 put_anew : (s t : Placed) (h i k : ℕ) → t ≡ removed s i → inserted t h i k ≡ inserted s h i k
 put_anew s t h i k e =
     let with_places : List (Option (ℕ × ℕ)) → Placed = λ xs. record { heads = s.heads; places = xs } in
@@ -11,13 +11,13 @@ put_anew s t h i k e =
 
 pub returns-then-is_loose : goal.returns-then-is_loose
 returns-then-is_loose c =
-    c.append.ensures ∙ put_anew c.args.self.now c.self.inside.lists c.args.head c.args.node c.args.key (c.self.view_is ∙ c.remove.ensures)
+    c.append.ensures ∙ put_anew c.args.self.now c.self.inside.lists c.args.head c.args.machine_frame c.args.key (c.self.view_is ∙ c.remove.ensures)
 
 pub returns-then-len-lt-SHORT : goal.returns-then-len-lt-SHORT
 returns-then-len-lt-SHORT c =
-    c.insert.ensures ∙ put_anew c.args.self.now c.self-else-is_loose.inside.lists c.args.head c.args.node c.args.key (c.self-else-is_loose.view_is ∙ c.remove.ensures)
+    c.insert.ensures ∙ put_anew c.args.self.now c.self-else-is_loose.inside.lists c.args.head c.args.machine_frame c.args.key (c.self-else-is_loose.view_is ∙ c.remove.ensures)
 
 pub returns-else-len-lt-SHORT : goal.returns-else-len-lt-SHORT
 returns-else-len-lt-SHORT c =
     c.note.ensures
-    ∙ (c.insert_among.ensures ∙ put_anew c.args.self.now c.remove.new.self c.args.head c.args.node c.args.key c.remove.ensures)
+    ∙ (c.insert_among.ensures ∙ put_anew c.args.self.now c.remove.new.self c.args.head c.args.machine_frame c.args.key c.remove.ensures)

@@ -26,8 +26,8 @@ invariant_of-self c =
     let lt = cache_within (shown c.self.inside) c.args.t c.args.c (rw (← c.self.view_is) at c.requires.tenant) below in
     rw (c.insert.ensures, c.of.ensures, c.next_slab.ensures, c.index_of.ensures, c.colours-colours.ensures)
     (record {
-      slabs = slabs_slab (shown c.self.inside) c.args.t c.args.c c.args.cache.now c.args.first c.args.node c.self.invariant.slabs e lt
-          (rw (← c.self.view_is) at c.requires.node) (rw (← c.self.view_is) at c.requires.free);
+      slabs = slabs_slab (shown c.self.inside) c.args.t c.args.c c.args.cache.now c.args.first c.args.machine_frame c.self.invariant.slabs e lt
+          (rw (← c.self.view_is) at c.requires.machine_frame) (rw (← c.self.view_is) at c.requires.free);
       ends = below_cache c.self.inside.caches.items c.self.inside.below.items (index_of_cache c.args.t c.args.c) (Some (made_more c.args.cache.now)) lt
           (below_standing c.self.inside.caches.items c.self.inside.below.items (index_of_cache c.args.t c.args.c) c.args.cache.now
           (cached (shown c.self.inside) c.args.t c.args.c c.args.cache.now e).cached c.self.invariant.ends (Some (made_more c.args.cache.now))) c.self.invariant.ends;

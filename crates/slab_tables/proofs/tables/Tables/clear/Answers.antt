@@ -19,7 +19,7 @@ invariant_of-self c =
     let lt = cache_within (shown c.self.inside) c.args.t c.args.c (rw (← c.self.view_is) at c.requires.tenant) c.requires.cache in
     rw c.index_of-i.ensures
     (record {
-      slabs = slabs_cleared (shown c.self.inside) i z c.self.invariant.slabs lt (w.heads ∙ (y.heads ∙ x.heads)) (w.nodes ∙ (y.nodes ∙ x.nodes))
+      slabs = slabs_cleared (shown c.self.inside) i z c.self.invariant.slabs lt (w.heads ∙ (y.heads ∙ x.heads)) (w.machine_frames ∙ (y.machine_frames ∙ x.machine_frames))
           (emptied_all c.self.inside.lists a b z i x y w);
       ends = below_cache c.self.inside.caches.items c.self.inside.below.items i None lt (λ le. refl) c.self.invariant.ends;
     })

@@ -13,7 +13,7 @@ invariant_of-result c =
     let kept = c.in_ok-vec.ensures.items_if_clones_equal (λ y h. search rules) in
     let caches = c.in_ok-vec-2.ensures.items_if_clones_equal (λ y h. search rules) in
     let live = c.in_ok-vec-3.ensures.items_if_clones_equal (λ y h. search rules) in
-    let nodes : c.args.superblocks * 2 ^ c.args.order % 4294967296 ≡ c.args.superblocks * 2 ^ c.args.order = omega (arith, most) in
+    let machine_frames : c.args.superblocks * 2 ^ c.args.order % 4294967296 ≡ c.args.superblocks * 2 ^ c.args.order = omega (arith, most) in
     let below = c.in_ok-vec-4.ensures.items_if_clones_equal (λ y h. search rules) in
-    rw (lists, kept, caches, live, below, c.from.ensures, c.from-2.ensures, c.from-3.ensures, c.from-4.ensures, nodes)
+    rw (lists, kept, caches, live, below, c.from.ensures, c.from-2.ensures, c.from-3.ensures, c.from-4.ensures, machine_frames)
     (record { slabs = whole; ends = below_opening c.args.tenants })

@@ -10,14 +10,14 @@ listed_as : (c : After-of-to) → c.of-to.result.number ≡ head_of c.args.t c.a
 listed_as c = c.of-to.ensures ∙ ap (head_of c.args.t c.args.c) (c.of-2.ensures ∙ ap (λ n. kind_of n c.args.count) c.count-total.ensures)
 
 -- what is kept of the slab
-read_as : (c : After-of-to) → c.index.result.now ≡ kept_at c.self.inside.kept.items c.args.node
+read_as : (c : After-of-to) → c.index.result.now ≡ kept_at c.self.inside.kept.items c.args.machine_frame
 read_as c =
-    kept_read (shown c.self.inside) c.args.t c.args.c c.args.first c.args.node c.index.result.now c.self.invariant.slabs
+    kept_read (shown c.self.inside) c.args.t c.args.c c.args.first c.args.machine_frame c.index.result.now c.self.invariant.slabs
     (rw (← c.self.view_is) at c.requires.slab) c.index.ensures
 
 -- the list in which it stands
 listed_from : (c : After-of-to)
-    → c.of-from.result.number ≡ head_of c.args.t c.args.c (kind_of (layout_numbers c.args.cache.now).count (kept_at c.self.inside.kept.items c.args.node).live)
+    → c.of-from.result.number ≡ head_of c.args.t c.args.c (kind_of (layout_numbers c.args.cache.now).count (kept_at c.self.inside.kept.items c.args.machine_frame).live)
 listed_from c =
     c.of-from.ensures ∙ ap (head_of c.args.t c.args.c) (c.of.ensures ∙ ap (λ n. kind_of n c.from-before.result) c.count-total.ensures
     ∙ ap (kind_of (layout_numbers c.args.cache.now).count) (c.from-before.ensures ∙ ap (λ k. k.live) (read_as c)))
@@ -25,7 +25,7 @@ listed_from c =
 pub relist-requires-clause-placed : goal.relist-requires-clause-placed
 relist-requires-clause-placed c =
     let place = goal.at.relist-requires-clause-placed c in
-    placed_by_kind (shown c.self.inside) c.self.invariant.slabs c.args.t c.args.c c.args.first c.args.node c.args.cache.now
+    placed_by_kind (shown c.self.inside) c.self.invariant.slabs c.args.t c.args.c c.args.first c.args.machine_frame c.args.cache.now
     (rw (← c.self.view_is) at c.requires.cache) (rw (← c.self.view_is) at c.requires.slab)
     ∙ ap (λ (x : ℕ). Some (x, c.args.first)) (sym (listed_from place.After-of-to))
 
@@ -38,7 +38,7 @@ relist-requires-clause-alone c = λ i e.
 
 pub overflow_add-index : goal.overflow_add-index
 overflow_add-index c =
-    let k = counting (shown c.self.inside) c.args.t c.args.c c.args.cache.now c.args.first c.args.node c.args.count c.index-2.result.now c.index.result.now c.self.invariant.slabs
+    let k = counting (shown c.self.inside) c.args.t c.args.c c.args.cache.now c.args.first c.args.machine_frame c.args.count c.index-2.result.now c.index.result.now c.self.invariant.slabs
     (rw (← c.self.view_is) at c.requires.tenant) (rw (← c.self.view_is) at c.requires.cache) (rw (← c.self.view_is) at c.requires.slab) c.requires.few
     (rw c.index_of-i.ensures at c.index-2.ensures) c.index.ensures in
     let fits = k.fits in
@@ -46,7 +46,7 @@ overflow_add-index c =
 
 pub overflow_sub-index : goal.overflow_sub-index
 overflow_sub-index c =
-    let k = counting (shown c.self.inside) c.args.t c.args.c c.args.cache.now c.args.first c.args.node c.args.count c.index-2.result.now c.index.result.now c.self.invariant.slabs
+    let k = counting (shown c.self.inside) c.args.t c.args.c c.args.cache.now c.args.first c.args.machine_frame c.args.count c.index-2.result.now c.index.result.now c.self.invariant.slabs
     (rw (← c.self.view_is) at c.requires.tenant) (rw (← c.self.view_is) at c.requires.cache) (rw (← c.self.view_is) at c.requires.slab) c.requires.few
     (rw c.index_of-i.ensures at c.index-2.ensures) c.index.ensures in
     omega (arith, k.enough, c.from-before.ensures)
@@ -57,12 +57,12 @@ invariant_of-self c =
     let tenant = rw (← c.self.view_is) at c.requires.tenant in
     let slab = rw (← c.self.view_is) at c.requires.slab in
     let place = goal.at.invariant_of-self c in
-    let k = counting (shown c.self.inside) c.args.t c.args.c c.args.cache.now c.args.first c.args.node c.args.count c.index-2.result.now c.index_mut-kept.result.now c.self.invariant.slabs
+    let k = counting (shown c.self.inside) c.args.t c.args.c c.args.cache.now c.args.first c.args.machine_frame c.args.count c.index-2.result.now c.index_mut-kept.result.now c.self.invariant.slabs
     tenant e slab c.requires.few (rw c.index_of-i.ensures at c.index-2.ensures) c.index_mut-kept.ensures.value in
     let below = cache_within (shown c.self.inside) c.args.t c.args.c tenant (cached (shown c.self.inside) c.args.t c.args.c c.args.cache.now e).below in
     rw (c.relist.ensures, listed_as place.After-of-to, c.from-before.ensures, read_as place.After-of-to, k.kept_is, k.total_is, c.index_of-i.ensures)
     (record {
-      slabs = slabs_count (shown c.self.inside) c.args.t c.args.c c.args.cache.now c.args.first c.args.node c.args.count c.self.invariant.slabs e below slab c.requires.few;
+      slabs = slabs_count (shown c.self.inside) c.args.t c.args.c c.args.cache.now c.args.first c.args.machine_frame c.args.count c.self.invariant.slabs e below slab c.requires.few;
       ends = c.self.invariant.ends;
     })
 

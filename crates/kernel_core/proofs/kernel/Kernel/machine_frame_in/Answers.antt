@@ -1,6 +1,6 @@
 use Rattle.std.proofs.Common.{◌<◌, ◌/◌, ◌^◌, length, rules}
 use Rattle.kernel_core.proofs.Changing.{superblock_there}
-use Rattle.kernel_core.proofs.kernel.Kernel.node_in.Goals as goal
+use Rattle.kernel_core.proofs.kernel.Kernel.machine_frame_in.Goals as goal
 
 pub returns-clause-below : goal.returns-clause-below
 returns-clause-below c =
