@@ -7,9 +7,9 @@ ghost use Rattle.check_core.specs.Replies.{bytes_of};
 
 use model_core::limits::MOST_BYTES;
 
-/// Returns the bytes that a word is in lower case hex, in `room`. `None` if it is no hex or has more than 64 bytes.
+/// Returns the bytes that a word is in lower case hex, in `buffer`. `None` if it is no hex or has more than 64 bytes.
 #[tactic(auto, unfolding(crate::specs::Replies::bytes_of))]
-pub fn bytes_of<'a>(word: &[u8], room: &'a mut [u8; MOST_BYTES]) -> Option<&'a [u8]>
+pub fn bytes_of<'a>(word: &[u8], buffer: &'a mut [u8; MOST_BYTES]) -> Option<&'a [u8]>
     ensures value { Gives (λ bytes. bytes.now) result (bytes_of word.now) }
     ensures few { IfSome result (λ bytes. length bytes.now ≤ MOST_BYTES) }
 {
@@ -19,12 +19,12 @@ pub fn bytes_of<'a>(word: &[u8], room: &'a mut [u8; MOST_BYTES]) -> Option<&'a [
     let mut count = 0;
     let mut rest = word;
     'pairs: while let Some((pair, behind)) = rest.split_first_chunk::<2>() {
-        room[count] = byte_of(pair)?;
+        buffer[count] = byte_of(pair)?;
         count += 1;
         rest = behind;
     }
     if rest.is_empty() {
-        Some(&room[..count])
+        Some(&buffer[..count])
     } else {
         None
     }

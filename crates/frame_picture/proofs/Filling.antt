@@ -22,21 +22,21 @@ more_filled P xs i v within before here k x less is =
     (more_set x P xs i v within (λ j below. before j (get_or xs j x) below (slice_get-get_or xs j x (omega arith))) here k less)
 
 -- where one element may be added behind the others, each is an old one or the new one
-pub old_or_new : {X : Type 0} (P : X → Type 0) (old new : List X) (room : ℕ) → (length old < room → length new ≡ length old + 1)
-    → (room ≤ length old → new ≡ old) → ((i : ℕ) → i < length old → slice_get new i ≡ slice_get old i)
-    → ((x : X) → length old < room → slice_get new (length old) ≡ Some x → P x)
+pub old_or_new : {X : Type 0} (P : X → Type 0) (old new : List X) (most : ℕ) → (length old < most → length new ≡ length old + 1)
+    → (most ≤ length old → new ≡ old) → ((i : ℕ) → i < length old → slice_get new i ≡ slice_get old i)
+    → ((x : X) → length old < most → slice_get new (length old) ≡ Some x → P x)
     → (i : ℕ) (x : X) → slice_get new i ≡ Some x → ((k : ℕ) × (slice_get old k ≡ Some x)) ⊎ P x
-old_or_new {X} P old new room one none before last i x there = go (cases_order (length old) room)
+old_or_new {X} P old new most one none before last i x there = go (cases_order (length old) most)
   where
-    kept : room ≤ length old → ((k : ℕ) × (slice_get old k ≡ Some x)) ⊎ P x
+    kept : most ≤ length old → ((k : ℕ) × (slice_get old k ≡ Some x)) ⊎ P x
     kept full = inl (i, subst (λ xs. slice_get xs i ≡ Some x) (none full) there)
 
-    among : length old < room → (i ≡ length old) ⊎ ((i < length old) ⊎ (length old < i)) → ((k : ℕ) × (slice_get old k ≡ Some x)) ⊎ P x
+    among : length old < most → (i ≡ length old) ⊎ ((i < length old) ⊎ (length old < i)) → ((k : ℕ) × (slice_get old k ≡ Some x)) ⊎ P x
     among free (inl e) = inr (last x free (subst (λ j. slice_get new j ≡ Some x) e there))
     among free (inr (inl below)) = inl (i, sym (before i below) ∙ there)
     among free (inr (inr above)) = absurd (omega (arith, slice_get_within new i x there, one free))
 
-    go : (length old ≡ room) ⊎ ((length old < room) ⊎ (room < length old)) → ((k : ℕ) × (slice_get old k ≡ Some x)) ⊎ P x
+    go : (length old ≡ most) ⊎ ((length old < most) ⊎ (most < length old)) → ((k : ℕ) × (slice_get old k ≡ Some x)) ⊎ P x
     go (inl e) = kept (omega arith)
     go (inr (inl free)) = among free (cases_order i (length old))
     go (inr (inr above)) = kept (omega arith)

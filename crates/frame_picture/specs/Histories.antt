@@ -18,7 +18,7 @@ tenants_of h = h.tenants
 abbrev pub columns_of : History → List Column
 columns_of h = take h.kept h.columns.items
 
--- how many columns there is room for
+-- how many columns there are at most
 abbrev pub most_columns_of : History → ℕ
 most_columns_of h = vec_len h.columns
 
@@ -34,12 +34,12 @@ line_count h = h.lines
 abbrev pub refusals_of : History → List ℕ
 refusals_of h = h.refused.items
 
--- the machine and the room are as they were, and nothing was refused
+-- the machine and the most columns are as they were, and nothing was refused
 pub record SameShape (old new : History) : Type 0 where
   pub order : drawn_order new ≡ drawn_order old
   pub superblocks : superblocks_of new ≡ superblocks_of old
   pub tenants : tenants_of new ≡ tenants_of old
-  pub room : most_columns_of new ≡ most_columns_of old
+  pub most_columns : most_columns_of new ≡ most_columns_of old
   pub refused : refusals_of new ≡ refusals_of old
 
 -- After so many lines, each line that is a multiple of the width has a column, and no other line has one.

@@ -41,7 +41,7 @@ pub fn is_tone(tone: Tone, cell: Tone) -> bool
     rank(cell.kind) == rank(tone.kind) && cell.quarters == tone.quarters
 }
 
-/// Sets the rows of tenant `t` in each of the columns that there is room for.
+/// Sets the rows of tenant `t` in as many of the columns as there are cells for.
 pub fn set_cells(cells: &mut [[Tone; MOST_ROWS]], columns: &[Column], t: u8, grid: Grid)
     ensures { (at row : ℕ) (column : Column) (rows : List Tone) → slice_get columns.now at ≡ Some column → slice_get cells.new at ≡ Some rows
         → row < 256 → row < grid.rows → IsRowTone column t grid row (slice_index_or rows row not_held) }

@@ -8,7 +8,7 @@ use kernel_core::{FrameKind, Kernel};
 use model_core::owner::Owner;
 use std::alloc::{AllocError, Global};
 
-/// A history should be given room for at most so many columns, so that what is kept of them is never more than the machine's own memory.
+/// A history should have at most so many columns, so that what is kept of them is never more than the machine's own memory.
 pub const MOST_COLUMNS: u32 = 4096;
 
 /// A superblock at some time.
@@ -78,19 +78,19 @@ impl History {
     ghost use Rattle.frame_picture.specs.Columns.{IsColumnAfter};
     ghost use Rattle.frame_picture.specs.Histories.{drawn_order, superblocks_of, tenants_of, columns_of, most_columns_of, width_of, line_count, refusals_of, SameShape, IsEven};
 
-    /// No line has been run yet; there is room for so many columns.
-    pub fn new(alloc: Global, kernel: &Kernel, room: u32) -> Result<History, AllocError>
+    /// No line has been run yet; there are at most so many columns.
+    pub fn new(alloc: Global, kernel: &Kernel, most_columns: u32) -> Result<History, AllocError>
         ensures order { IfOk result (λ history. drawn_order history ≡ kernel.now.order) }
         ensures superblocks { IfOk result (λ history. superblocks_of history ≡ kernel.now.superblocks) }
         ensures tenants { IfOk result (λ history. tenants_of history ≡ kernel.now.tenants) }
-        ensures room { IfOk result (λ history. most_columns_of history ≡ room) }
+        ensures most_columns { IfOk result (λ history. most_columns_of history ≡ most_columns) }
         ensures lines { IfOk result (λ history. line_count history ≡ 0) }
         ensures width { IfOk result (λ history. width_of history ≡ 1) }
         ensures even { IfOk result (λ history. IsEven (columns_of history) (width_of history) (line_count history)) }
     {
         kernel.parts_agree();
-        let mut columns = Vec::with_capacity(alloc, room as usize)?;
-        for _column in 0..room {
+        let mut columns = Vec::with_capacity(alloc, most_columns as usize)?;
+        for _column in 0..most_columns {
             columns.push(Column::new(alloc, kernel)?)?;
         }
         Ok(History {
@@ -128,8 +128,8 @@ impl History {
         self.tenants
     }
 
-    /// How many columns there is room for.
-    pub fn room(&self) -> usize
+    /// How many columns there are at most.
+    pub fn most_columns(&self) -> usize
         ensures { result ≡ most_columns_of self.now }
     {
         self.columns.len()
@@ -183,7 +183,7 @@ impl History {
             → ((k : ℕ) × (slice_get (columns_of self.old) k ≡ Some column)) ⊎ IsColumnAfter kernel.now (line_count self.new) (refusals_of self.new) column }
     {
         let line = self.lines.saturating_add(1);
-        self.make_room(line);
+        self.halve_if_full(line);
         self.lines = line;
         if line % self.width == 0 {
             self.keep(kernel);
@@ -191,7 +191,7 @@ impl History {
     }
 
     /// Where this line, the next one, is to have a column and all are used, every second one is given up.
-    fn make_room(&mut self, line: u32)
+    fn halve_if_full(&mut self, line: u32)
         ensures lines { line_count self.new ≡ line_count self.old }
         ensures sizes { SameShape self.old self.new }
         ensures width { width_of self.old ≤ width_of self.new }
@@ -276,7 +276,7 @@ impl Column {
     ghost use Rattle.world_core.specs.World.{World};
     ghost use Rattle.frame_picture.specs.Columns.{IsColumnOf, IsColumnAfter};
 
-    /// Room for what a machine is like.
+    /// A column that shows no machine yet.
     fn new(alloc: Global, kernel: &Kernel) -> Result<Column, AllocError> {
         kernel.parts_agree();
         let mut sheets = Vec::with_capacity(alloc, kernel.superblocks() as usize)?;

@@ -34,9 +34,9 @@ impl Watched {
         ensures left { self.new.events + length result.now ≤ self.old.events + length piece.now }
     {
         // The bytes of a write: one buffer for all lines.
-        let mut room = [0; MOST_BYTES];
+        let mut buffer = [0; MOST_BYTES];
         let mut rest = piece;
-        'lines: while let Some(line) = read_ended_request::<RETURNS>(rest, &mut room) {
+        'lines: while let Some(line) = read_ended_request::<RETURNS>(rest, &mut buffer) {
             let len = line.len;
             if let Some((t, answer)) = kernel.ask(line.tenant, line.request) {
                 self.note_refusal(Addressee::Tenant(t), answer);

@@ -23,14 +23,14 @@ ends_within l colour chunk i sized aligned is same object =
     omega arith
 
 -- the fields of a layout are the numbers of its size and alignment
-pub is_cut : (size align chunk order room : ℕ) → is_size size ≡ true → is_alignment align ≡ true
-    → chunk ≡ chunk_of size align → order ≡ slab_order chunk → room ≡ usable_bytes chunk
-    → AreLayoutFields size align chunk order (room / chunk) ((room - room / chunk * chunk) / align + 1)
+pub is_cut : (size align chunk order usable : ℕ) → is_size size ≡ true → is_alignment align ≡ true
+    → chunk ≡ chunk_of size align → order ≡ slab_order chunk → usable ≡ usable_bytes chunk
+    → AreLayoutFields size align chunk order (usable / chunk) ((usable - usable / chunk * chunk) / align + 1)
 unfolding layout_of
-is_cut size align chunk order room sized aligned same same_order same_room =
+is_cut size align chunk order usable sized aligned same same_order same_usable =
     let fits = layouts_fit size align sized aligned in
     let chunked = (fits.fits 0).chunked in
-    let at : room ≡ usable_bytes (chunk_of size align) = same_room ∙ ap usable_bytes same in
+    let at : usable ≡ usable_bytes (chunk_of size align) = same_usable ∙ ap usable_bytes same in
     record {
       accepted_size = sized;
       accepted_align = aligned;

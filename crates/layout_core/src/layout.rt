@@ -1,6 +1,6 @@
 ghost use Rattle.std.specs.Prelude.{◌≡◌, ℕ, ◌+◌, ◌-◌, ◌*◌, ◌/◌, ◌%◌, ◌<◌, ◌≤◌, true, IsTrue, MatchOption};
 ghost use Rattle.model_core.specs.Layouts.{is_size, is_alignment, is_small, object_offset, IsLayout};
-ghost use Rattle.model_core.specs.Layouts.{chunk_of as model_chunk_of, is_thrifty as model_is_thrifty, slab_order as model_slab_order, usable_bytes as model_slab_room};
+ghost use Rattle.model_core.specs.Layouts.{chunk_of as model_chunk_of, is_thrifty as model_is_thrifty, slab_order as model_slab_order, usable_bytes as model_usable_bytes};
 ghost use Rattle.layout_core.specs.Cut.{Cut, cut, numbers_of, layout_or_refusal};
 ghost use Rattle.layout_core.specs.Objects.{IsColour, Begins, Holds, IsOnly};
 
@@ -57,9 +57,9 @@ impl Layout {
         }
         let chunk = chunk_of(size, align);
         let order = slab_order(chunk);
-        let room = usable_bytes(chunk, order);
-        let count = room / chunk;
-        let colours = (room - count * chunk) / align + 1;
+        let usable = usable_bytes(chunk, order);
+        let count = usable / chunk;
+        let colours = (usable - count * chunk) / align + 1;
         Ok(Layout {
             size,
             align,
@@ -206,7 +206,7 @@ fn slab_order(chunk: u32) -> u8
 fn usable_bytes(chunk: u32, order: u8) -> u32
     requires order { order ≡ model_slab_order chunk }
     requires few { order ≤ 3 }
-    ensures { result ≡ model_slab_room chunk }
+    ensures { result ≡ model_usable_bytes chunk }
 {
     if chunk < SMALL {
         RECORD_OFFSET

@@ -15,7 +15,7 @@ pub mod Objects
 pub mod ByKind
 pub mod Using
 pub mod KindLists
-pub mod Room
+pub mod Fitting
 pub mod SlotLists
 pub mod SlotNext
 pub mod SlotAgreed

@@ -20,7 +20,7 @@ use Rattle.machine_changes.specs.Keeps.{Keeps}
 use Rattle.machine_changes.specs.Steady.{IsSteady}
 use Rattle.machine_changes.specs.Changes.{Found, IsMarked, IsReturned, IsGrown, returned}
 use Rattle.machine_changes.specs.Objects.{IsLiveObject, IsNoObject, Standing, IsToUse, IsAllFull}
-use Rattle.machine_changes.specs.Room.{HasRoom}
+use Rattle.machine_changes.specs.Fitting.{WouldFit}
 
 -- parts that keep all that a tenant has show the same machine of it
 abbrev pub KeptShowsSame : Type 0
@@ -102,11 +102,11 @@ abbrev pub AreObjectsCounted : spaces.Content → Content → ℕ → Type 0
 AreObjectsCounted r s t = (c f n : ℕ) (cache : own.Cache) → IsSlab r s t c f n cache
     → (kept_at s.kept n).live ≡ count_true (live_of r t cache (kept_at s.kept n) f)
 
--- there is room for a block exactly where the reaped machine finds one
-abbrev pub RoomMeets : Type 0
-RoomMeets = (r : spaces.Content) (b : buddies.Content) (s : Content) (t k : ℕ) (m : Machine)
+-- a block would fit exactly where the reaped machine finds one
+abbrev pub FittingMeets : Type 0
+FittingMeets = (r : spaces.Content) (b : buddies.Content) (s : Content) (t k : ℕ) (m : Machine)
     → IsSteady r b s t → AreObjectsCounted r s t → ShowsMachine r b s t m → k ≤ s.top
-    → HasRoom r b s t k ↔ (is_some (choice s.top (reaped m) k) ≡ true)
+    → WouldFit r b s t k ↔ (is_some (choice s.top (reaped m) k) ≡ true)
 
 -- the test of a kind of slab: 0 full, 1 partial, 2 empty
 abbrev pub is_kind : ℕ → Slab → Bool

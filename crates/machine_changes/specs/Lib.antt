@@ -4,7 +4,7 @@ pub mod Keeps
 pub mod Steady
 pub mod Changes
 pub mod Objects
-pub mod Room
+pub mod Fitting
 pub mod Laws
 pub mod Slots
 pub mod Pages

@@ -146,12 +146,12 @@ fn keep_own<R: Read + Drop>(
     let alloc = rt.alloc();
     let outcome = match Vec::with_capacity(alloc, BUFFER_BYTES) {
         Err(_) => Outcome::NoMemory,
-        Ok(room) => run_own(
+        Ok(buffer) => run_own(
             alloc,
             machine,
             tenant,
             &mut ReaderFeed::new(reader),
-            &mut WriterDrain::holding(io::writer(rt), room),
+            &mut WriterDrain::holding(io::writer(rt), buffer),
         ),
     };
     Ran {
@@ -173,14 +173,14 @@ fn run_between<R: Read + Drop, W: Write + Drop, N: Notes>(
     notes: &mut N,
 ) -> Ended {
     let alloc = rt.alloc();
-    let Ok(room) = Vec::with_capacity(alloc, BUFFER_BYTES) else {
+    let Ok(buffer) = Vec::with_capacity(alloc, BUFFER_BYTES) else {
         return Ended::at_once(Outcome::NoMemory);
     };
     run(
         alloc,
         machine,
         &mut ReaderFeed::new(reader),
-        &mut WriterDrain::holding(writer, room),
+        &mut WriterDrain::holding(writer, buffer),
         notes,
     )
 }

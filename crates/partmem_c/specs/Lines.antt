@@ -57,7 +57,7 @@ pub record AnswersWhole (old : KernelContent) (line buffer : List ℕ) (new : Ke
 pub record IsNoLine (old : KernelContent) (line buffer : List ℕ) (new : KernelContent) (buffer' : List ℕ) : Type 0 where
   pub several : has_line_feed line ≡ true
   pub kernel : new ≡ old
-  pub same_room : buffer' ≡ buffer
+  pub same_buffer : buffer' ≡ buffer
 
 -- one of the two, by whether there is a count
 abbrev pub AnswersOrNot : KernelContent → List ℕ → List ℕ → KernelContent → List ℕ → Option ℕ → Type 0

@@ -81,7 +81,7 @@ fn status_without_buffer(line: &[u8]) -> u32
     }
 }
 
-/// Room for a line that makes up a load with its line feed: a tenant, a word, a place, and bytes in hex.
+/// Size of a buffer for a line that makes up a load with its line feed: a tenant, a word, a place, and bytes in hex.
 const MOST_SHORT_LINE: usize = 160;
 
 /// Runs a line on the kernel, writes what it is answered over the first bytes of `buffer`, and answers how many; None, and

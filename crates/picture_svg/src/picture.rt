@@ -14,7 +14,7 @@ use std::ops::Range;
 /// So many bands may have 256 rows; where there are more, each has fewer.
 const TALL_BANDS: u32 = 4;
 
-/// Which tenants are drawn, with room for the cells of one band.
+/// Which tenants are drawn, and the cells of one band.
 #[derive(Drop)]
 pub struct Picture {
     /// The first tenant who is drawn, and the number above the last.
@@ -26,11 +26,11 @@ pub struct Picture {
 }
 
 impl Picture {
-    /// Room for a picture of a history, when it is at its end: of the tenant `only`, or of all without it.
+    /// A picture of a history, drawn when it is at its end: of the tenant `only`, or of all without it.
     pub fn new(alloc: Global, history: &History, only: Option<u8>) -> Result<Picture, AllocError>
         ensures one { IfOk result (λ picture. IfSome only (λ t. t < 255 → (picture.first ≡ t) × (picture.end ≡ t + 1))) }
         ensures all { IfOk result (λ picture. IfNone only ((picture.first ≡ 0) × (picture.end ≡ tenants_of history.now))) }
-        ensures room { IfOk result (λ picture. vec_len picture.cells ≡ most_columns_of history.now) }
+        ensures cells { IfOk result (λ picture. vec_len picture.cells ≡ most_columns_of history.now) }
     {
         let (first, end) = match only {
             Some(t) => (t, t.saturating_add(1)),
@@ -39,7 +39,7 @@ impl Picture {
         Ok(Picture {
             first,
             end,
-            cells: vec![in alloc; [Tone::NOT_HELD; MOST_ROWS]; history.room()]?,
+            cells: vec![in alloc; [Tone::NOT_HELD; MOST_ROWS]; history.most_columns()]?,
             label_gap: 0,
         })
     }

@@ -5,7 +5,7 @@ ghost use Rattle.quick_core.specs.Pairs.{Decodes};
 
 use model_core::limits::MOST_BYTES;
 
-/// Decodes the pairs of hex digits from index `from` on into the front of `out`, as long as there are some and room is left, and
+/// Decodes the pairs of hex digits from index `from` on into the front of `out`, as long as there are some and they fit, and
 /// answers how many they are.
 #[inline(always)]
 pub fn decode_at(bytes: &[u8], from: usize, out: &mut [u8; MOST_BYTES]) -> usize
@@ -22,7 +22,7 @@ pub fn decode_at(bytes: &[u8], from: usize, out: &mut [u8; MOST_BYTES]) -> usize
 /// Decodes at most so many pairs, four at a time, and answers how many they are.
 #[inline(always)]
 fn decode_fours(bytes: &[u8], from: usize, most: usize, out: &mut [u8; MOST_BYTES]) -> usize
-    requires room { most ≤ MOST_BYTES }
+    requires few { most ≤ MOST_BYTES }
     requires within { from + 2 * most ≤ length bytes.now }
     ensures decoded { Decodes bytes.now from (from + 2 * result) (take result out.new) }
     ensures few { result ≤ most }
@@ -55,7 +55,7 @@ fn decode_singly(
     most: usize,
     out: &mut [u8; MOST_BYTES],
 ) -> usize
-    requires room { most ≤ MOST_BYTES }
+    requires few { most ≤ MOST_BYTES }
     requires within { from + 2 * most ≤ length bytes.now }
     requires some { done ≤ most }
     requires decoded { Decodes bytes.now from (from + 2 * done) (take done out.old) }

@@ -22,7 +22,7 @@ pub struct Number {
 pub fn number_at(bytes: &[u8], from: usize, most: usize) -> Option<Number>
     requires few { most ≤ MOST_READ_DIGITS }
     requires some { 0 < most }
-    requires room { from + most ≤ length bytes.now }
+    requires within { from + most ≤ length bytes.now }
     ensures value { IfSome result (λ number. number_of (slice_range bytes.now from number.end) ≡ Some number.value) }
     ensures some { IfSome result (λ number. from < number.end) }
     ensures within { IfSome result (λ number. number.end ≤ from + most) }

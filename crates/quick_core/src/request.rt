@@ -43,26 +43,26 @@ const READ: u32 = 0x6461_6572;
 const WRIT: u32 = 0x7469_7277;
 
 /// The line at the front of these bytes, where it is an `alloc`, `free`, `take`, `give`, `read` or `write` with its words parted
-/// by one blank, and ended by a line feed; what it writes lies in `room` then. `None` where it isn't, or where that is not sure.
+/// by one blank, and ended by a line feed; what it writes lies in `buffer` then. `None` if it isn't, or if that is not sure.
 #[inline(always)]
-pub fn read_request<'a>(bytes: &[u8], room: &'a mut [u8; MOST_BYTES]) -> Option<RequestLine<'a>>
+pub fn read_request<'a>(bytes: &[u8], buffer: &'a mut [u8; MOST_BYTES]) -> Option<RequestLine<'a>>
     ensures reads { IfSome result (λ line. ReadsAs bytes.now line.tenant (command_of line.request) line.len) }
     ensures askable { IfSome result (λ line. IsAskable line.request) }
 {
-    read_ended_request::<LF>(bytes, room)
+    read_ended_request::<LF>(bytes, buffer)
 }
 
 /// [`read_request`] of a line that ends in LF, or in CR LF if `RETURNS`.
 #[inline(always)]
 pub fn read_ended_request<'a, const RETURNS: bool>(
     bytes: &[u8],
-    room: &'a mut [u8; MOST_BYTES],
+    buffer: &'a mut [u8; MOST_BYTES],
 ) -> Option<RequestLine<'a>>
     ensures reads { IfSome result (λ line. ReadsAs bytes.now line.tenant (command_of line.request) line.len) }
     ensures askable { IfSome result (λ line. IsAskable line.request) }
 {
     let tenant = read_tenant(bytes)?;
-    read_known_request::<RETURNS>(bytes, tenant, room)
+    read_known_request::<RETURNS>(bytes, tenant, buffer)
 }
 
 /// Returns false if no request stands at the front of these bytes, as their first byte says: it is the number of a tenant.
@@ -89,7 +89,7 @@ pub fn read_tenant(bytes: &[u8]) -> Option<Number>
 pub fn read_known_request<'a, const RETURNS: bool>(
     bytes: &[u8],
     tenant: Number,
-    room: &'a mut [u8; MOST_BYTES],
+    buffer: &'a mut [u8; MOST_BYTES],
 ) -> Option<RequestLine<'a>>
     requires size { WINDOW ≤ length bytes.now }
     requires names { NamesTenant bytes.now tenant }
@@ -103,7 +103,7 @@ pub fn read_known_request<'a, const RETURNS: bool>(
         TAKE => take_line::<RETURNS>(bytes, tenant),
         GIVE => give_line::<RETURNS>(bytes, tenant),
         READ => read_line::<RETURNS>(bytes, tenant),
-        WRIT => write_line::<RETURNS>(bytes, tenant, room),
+        WRIT => write_line::<RETURNS>(bytes, tenant, buffer),
         _ => None,
     }
 }
@@ -236,12 +236,12 @@ fn read_line<const RETURNS: bool>(bytes: &[u8], tenant: Number) -> Option<Reques
     })
 }
 
-/// A line that writes bytes, which lie in `room` then.
+/// A line that writes bytes, which lie in `buffer` then.
 #[inline(always)]
 fn write_line<'a, const RETURNS: bool>(
     bytes: &[u8],
     tenant: Number,
-    room: &'a mut [u8; MOST_BYTES],
+    buffer: &'a mut [u8; MOST_BYTES],
 ) -> Option<RequestLine<'a>>
     requires size { WINDOW ≤ length bytes.now }
     requires begins { BeginsLine bytes.now tenant (codes "writ") }
@@ -259,7 +259,7 @@ fn write_line<'a, const RETURNS: bool>(
         return None;
     }
     let from = place.end + 1;
-    let count = decode_at(bytes, from, room);
+    let count = decode_at(bytes, from, buffer);
     let end = from + 2 * count;
     if count == 0 || end + usize::from(RETURNS) >= bytes.len() {
         return None;
@@ -269,7 +269,7 @@ fn write_line<'a, const RETURNS: bool>(
         tenant: tenant.value,
         request: Request::Write {
             place: place.value,
-            bytes: &room[..count],
+            bytes: &buffer[..count],
         },
         len,
     })

@@ -16,27 +16,27 @@ use Rattle.std.proofs.Math.Seq.{take-append-add}
 pub take-short : (line : List ℕ) → length line ≤ 256 → take 256 line ≡ line
 take-short line few = take_all 256 line few
 
-pub take-more : (line bytes : List ℕ) (room : ℕ) → room ≡ 256 - length (take 256 line) → take 256 (line ++ bytes) ≡ take 256 line ++ take room bytes
-take-more line bytes room is = elim (cases_lt 256 (length line)) [
+pub take-more : (line bytes : List ℕ) (free : ℕ) → free ≡ 256 - length (take 256 line) → take 256 (line ++ bytes) ≡ take 256 line ++ take free bytes
+take-more line bytes free is = elim (cases_lt 256 (length line)) [
   | inl over ↦
       let len : length (take 256 line) ≡ 256 = omega (arith, length-take 256 line) in
-      let none : room ≡ 0 = omega arith in
+      let none : free ≡ 0 = omega arith in
       take-append-le 256 line bytes (omega arith) ∙ sym (ap (λ n. take 256 line ++ take n bytes) none ∙ append-nil (take 256 line))
   | inr within ↦
       let short = take-short line within in
       let len = ap length short in
-      let e : 256 ≡ length line + room = omega arith in
-      ap (λ n. take n (line ++ bytes)) e ∙ take-append-add line bytes room ∙ ap (λ xs. xs ++ take room bytes) (sym short)
+      let e : 256 ≡ length line + free = omega arith in
+      ap (λ n. take n (line ++ bytes)) e ∙ take-append-add line bytes free ∙ ap (λ xs. xs ++ take free bytes) (sym short)
 ]
 
--- 256 bytes that have room for more bytes hold the longer line
+-- 256 bytes behind which more bytes fit hold the longer line
 pub holds_fitting : (line bytes : List ℕ) → length bytes ≤ 256 - length (take 256 line)
     → (take 256 line ++ bytes ≡ take 256 (line ++ bytes)) × (nat_lt 256 (length line) ≡ nat_lt 256 (length (line ++ bytes)))
 holds_fitting line bytes fits =
-    let room : ℕ = 256 - length (take 256 line) in
+    let free : ℕ = 256 - length (take 256 line) in
     let len = length-append line bytes in
     let beginning = length-take 256 line in (
-      sym (take-more line bytes room refl ∙ ap (λ xs. take 256 line ++ xs) (take_all room bytes fits)),
+      sym (take-more line bytes free refl ∙ ap (λ xs. take 256 line ++ xs) (take_all free bytes fits)),
       elim (cases_lt 256 (length line)) [
         | inl over ↦ lt-ltb 256 (length line) over ∙ sym (lt-ltb 256 (length (line ++ bytes)) (omega arith))
         | inr within ↦ le-ltb 256 (length line) within ∙ sym (le-ltb 256 (length (line ++ bytes)) (omega arith))

@@ -15,9 +15,9 @@ abbrev pub IsWholeAtOk : Result (Unit {0}) Stopped → List ℕ → Type 0
 IsWholeAtOk result rest = MatchResult result (λ _. rest ≡ []) (λ _. 0 < length rest)
 
 -- the drain has not failed, and so many bytes more can be counted
-pub record HasRoomToWrite (failed : Bool) (written len : ℕ) : Type 0 where
+pub record CanWrite (failed : Bool) (written len : ℕ) : Type 0 where
   pub fine : failed ≡ false
-  pub room : written + len < 2 ^ 128
+  pub counted : written + len < 2 ^ 128
 
 -- of the text these bytes were taken, and counted; the drain has failed where they are not all
 pub record HasPushed (old new : Option (List ℕ)) (failing : Bool) (text : List ℕ) (written written' : ℕ)

@@ -50,11 +50,11 @@ impl<N: Notes> Run<N> {
         ensures within { length result.now ≤ length piece.now }
         ensures failed { D.has_failed drain.new ≡ false }
     {
-        // What a write stores: one room for all lines, filled anew by each.
-        let mut room = [0; MOST_BYTES];
+        // The bytes of a write: one buffer for all lines.
+        let mut buffer = [0; MOST_BYTES];
         let mut rest = piece;
         'lines: while drain.has_space() {
-            let Some(len) = self.answer_line::<RETURNS, D>(rest, &mut room, kernel, drain) else {
+            let Some(len) = self.answer_line::<RETURNS, D>(rest, &mut buffer, kernel, drain) else {
                 return rest;
             };
             rest = &rest[len..];
@@ -68,7 +68,7 @@ impl<N: Notes> Run<N> {
     fn answer_line<const RETURNS: bool, D: Drain>(
         &mut self,
         bytes: &[u8],
-        room: &mut [u8; MOST_BYTES],
+        buffer: &mut [u8; MOST_BYTES],
         kernel: &mut Kernel,
         drain: &mut D,
     ) -> Option<usize>
@@ -82,7 +82,7 @@ impl<N: Notes> Run<N> {
         if !self.replies.is_shown(Addressee::Tenant(tenant)) {
             return None;
         }
-        let line = read_known_request::<RETURNS>(bytes, number, room)?;
+        let line = read_known_request::<RETURNS>(bytes, number, buffer)?;
         self.answer_request::<RETURNS, D>(tenant, line.request, kernel, drain);
         Some(line.len)
     }

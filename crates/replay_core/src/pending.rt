@@ -38,12 +38,12 @@ impl Pending {
     pub fn add(&mut self, bytes: &[u8])
         ensures { (line : List ℕ) → HoldsLine line self.old → HoldsLine (line ++ bytes.now) self.new }
     {
-        let room = self.held.capacity() - self.held.len();
-        if bytes.len() <= room {
+        let free = self.held.capacity() - self.held.len();
+        if bytes.len() <= free {
             let taken = self.held.try_extend_from_slice(bytes);
             prove!(taken.is_ok());
         } else {
-            let taken = self.held.try_extend_from_slice(&bytes[..room]);
+            let taken = self.held.try_extend_from_slice(&bytes[..free]);
             prove!(taken.is_ok());
             self.longer = true;
         }

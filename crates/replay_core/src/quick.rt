@@ -36,11 +36,14 @@ impl<N: Notes> Run<N> {
         ensures left { IfOk result (λ rest. self.new.lines + length rest.now ≤ self.old.lines + length piece.now) }
         ensures failed { D.has_failed drain.new ≡ is_err result }
     {
-        // What a write stores: one room for all lines, filled anew by each.
-        let mut room = [0; MOST_BYTES];
+        // The bytes of a write: one buffer for all lines.
+        let mut buffer = [0; MOST_BYTES];
         let mut rest = self.run_in_place::<RETURNS, D>(piece, kernel, drain);
         'lines: while let Some(line) = self.read_left::<RETURNS, D>(
-            rest, &mut room, kernel, drain,
+            rest,
+            &mut buffer,
+            kernel,
+            drain,
         ) {
             let len = line.len;
             self.answer_apart(line.tenant, line.request, kernel, drain)?;
@@ -57,7 +60,7 @@ impl<N: Notes> Run<N> {
     fn read_left<'a, const RETURNS: bool, D: Drain>(
         &self,
         bytes: &[u8],
-        room: &'a mut [u8; MOST_BYTES],
+        buffer: &'a mut [u8; MOST_BYTES],
         kernel: &Kernel,
         drain: &D,
     ) -> Option<RequestLine<'a>>
@@ -67,7 +70,7 @@ impl<N: Notes> Run<N> {
         let number = read_tenant(bytes)?;
         match kernel.tenant(number.value) {
             Some(t) if self.replies.is_shown(Addressee::Tenant(t)) && drain.has_space() => None,
-            _ => read_known_request::<RETURNS>(bytes, number, room),
+            _ => read_known_request::<RETURNS>(bytes, number, buffer),
         }
     }
 
@@ -90,10 +93,10 @@ impl<N: Notes> Run<N> {
         ensures left { IfOk result (λ rest. self.new.lines + length rest.now ≤ self.old.lines + length piece.now) }
         ensures failed { D.has_failed drain.new ≡ is_err result }
     {
-        let mut room = [0; MOST_BYTES];
+        let mut buffer = [0; MOST_BYTES];
         let mut rest = piece;
         'lines: while let Some(end) = line_end(rest) {
-            let Some(read) = read_alone(&rest[..end], &mut room) else {
+            let Some(read) = read_alone(&rest[..end], &mut buffer) else {
                 return Ok(rest);
             };
             self.answer_apart(read.tenant, read.request, kernel, drain)?;
@@ -135,21 +138,21 @@ impl<N: Notes> Run<N> {
 
 /// A line by itself, without its line feed, where it has less than `WINDOW` bytes and is read the short way; `None` where it isn't,
 /// or where that is not sure.
-fn read_alone<'a>(line: &[u8], room: &'a mut [u8; MOST_BYTES]) -> Option<RequestLine<'a>>
+fn read_alone<'a>(line: &[u8], buffer: &'a mut [u8; MOST_BYTES]) -> Option<RequestLine<'a>>
     ensures reads { IfSome result (λ read. reading_of line.now ≡ Ok (Some (Tenant read.tenant (command_of read.request)))) }
     ensures askable { IfSome result (λ read. IsAskable read.request) }
 {
     if line.ends_with(b"\r") {
-        read_in_window::<CR_LF>(line, room)
+        read_in_window::<CR_LF>(line, buffer)
     } else {
-        read_in_window::<LF>(line, room)
+        read_in_window::<LF>(line, buffer)
     }
 }
 
 /// [`read_alone`] of a line that ends in LF, or in CR LF if `RETURNS`: it is read with other bytes behind it.
 fn read_in_window<'a, const RETURNS: bool>(
     line: &[u8],
-    room: &'a mut [u8; MOST_BYTES],
+    buffer: &'a mut [u8; MOST_BYTES],
 ) -> Option<RequestLine<'a>>
     ensures reads { IfSome result (λ read. reading_of line.now ≡ Ok (Some (Tenant read.tenant (command_of read.request)))) }
     ensures askable { IfSome result (λ read. IsAskable read.request) }
@@ -160,7 +163,7 @@ fn read_in_window<'a, const RETURNS: bool>(
     let mut window = [0; WINDOW];
     window[..line.len()].copy_from_slice(line);
     window[line.len()] = b'\n';
-    let read = read_ended_request::<RETURNS>(&window, room)?;
+    let read = read_ended_request::<RETURNS>(&window, buffer)?;
     if read.len != line.len() + 1 {
         return None;
     }

@@ -4,7 +4,7 @@ ghost use Rattle.std.specs.Prelude.{◌≡◌, ◌+◌, ◌≤◌, true, Ok, len
 ghost use Rattle.words_core.specs.declared.reply.Addressee.TheVariants as Addressee;
 ghost use Rattle.words_core.specs.Requests.{reply_of_answer, reply_to, HasFewBytes};
 ghost use Rattle.world_core.specs.Output.{is_shown, shown_text};
-ghost use Rattle.replay_core.specs.Pushes.{HasRoomToWrite, HasPushed, most_reply_bytes};
+ghost use Rattle.replay_core.specs.Pushes.{CanWrite, HasPushed, most_reply_bytes};
 ghost use Rattle.replay_core.specs.Shown.{HasShown};
 ghost use Rattle.replay_core.specs.Noting.{noted_reply};
 
@@ -50,7 +50,7 @@ impl Replies {
         requires few { HasFewBytes answer }
         requires shown { is_shown self.old.only (Addressee.Tenant tenant) ≡ true }
         requires space { D.is_roomy drain.old ≡ true }
-        requires room { HasRoomToWrite (D.has_failed drain.old) self.old.written most_reply_bytes }
+        requires can_write { CanWrite (D.has_failed drain.old) self.old.written most_reply_bytes }
         ensures { HasShown (D.contents drain.old) (D.contents drain.new) (D.has_failed drain.new)
             (shown_text self.old.only (reply_of_answer tenant answer.entry)) self.old self.new (Ok tt) }
     {
@@ -69,7 +69,7 @@ impl Replies {
         notes: &mut N,
     ) -> Result<(), Stopped>
         requires few { HasFewBytes answer }
-        requires room { HasRoomToWrite (D.has_failed drain.old) self.old.written most_reply_bytes }
+        requires can_write { CanWrite (D.has_failed drain.old) self.old.written most_reply_bytes }
         ensures shown { HasShown (D.contents drain.old) (D.contents drain.new) (D.has_failed drain.new)
             (shown_text self.old.only (reply_to addressee answer.entry)) self.old self.new result }
         ensures noted { notes.new ≡ noted_reply N.noting self.old.only (reply_to addressee answer.entry) notes.old }
@@ -93,7 +93,7 @@ impl Replies {
         drain: &mut D,
         notes: &mut N,
     ) -> Result<(), Stopped>
-        requires { HasRoomToWrite (D.has_failed drain.old) self.old.written most_reply_bytes }
+        requires { CanWrite (D.has_failed drain.old) self.old.written most_reply_bytes }
         ensures shown { HasShown (D.contents drain.old) (D.contents drain.new) (D.has_failed drain.new)
             (shown_text self.old.only reply.now) self.old self.new result }
         ensures noted { notes.new ≡ noted_reply N.noting self.old.only reply.now notes.old }
@@ -134,14 +134,14 @@ impl Text for AnswerText<'_> {
     ghost bytes = { λ text. text };
 
     #[inline(always)]
-    fn write(self, room: &mut [u8]) -> usize {
-        write_answer(self.tenant, self.answer, room)
+    fn write(self, buffer: &mut [u8]) -> usize {
+        write_answer(self.tenant, self.answer, buffer)
     }
 }
 
 /// Pushes all of the bytes, the rest again after a push that took less, and counts those that were taken.
 pub fn push_all<D: Drain>(bytes: &[u8], drain: &mut D, written: &mut u128) -> Result<(), Stopped>
-    requires { HasRoomToWrite (D.has_failed drain.old) written.old (length bytes.now) }
+    requires { CanWrite (D.has_failed drain.old) written.old (length bytes.now) }
     ensures { HasPushed (D.contents drain.old) (D.contents drain.new) (D.has_failed drain.new)
         bytes.now written.old written.new result }
 {

@@ -35,7 +35,7 @@ use Rattle.model_core.proofs.Chosen.{choices_meet}
 use Rattle.model_core.proofs.Lists.{some_of}
 use Rattle.machine_changes.proofs.Taken.{taken_meets}
 use Rattle.slab_core.specs.Calls.{IsConstructed}
-use Rattle.slab_core.specs.Room.{HasFreeBlock}
+use Rattle.slab_core.specs.Fitting.{HasFreeBlock}
 use Rattle.slab_core.proofs.BuildParts.{IsLocal, agreed_still, spares_of, agree_of}
 use Rattle.slab_core.proofs.BuildCache.{cache_here, cache_there, in_other}
 use Rattle.slab_core.proofs.ObjectSlabs.{in_tables}

@@ -28,11 +28,11 @@ pub mod ObjectReach
 pub mod ObjectTotals
 pub mod ObjectRows
 pub mod ObjectReport
-pub mod RoomFree
-pub mod RoomFrames
-pub mod RoomWhole
-pub mod RoomSets
-pub mod RoomCache
-pub mod RoomFits
+pub mod FittingFree
+pub mod FittingFrames
+pub mod FittingWhole
+pub mod FittingSets
+pub mod FittingCache
+pub mod FittingAround
 pub mod ReserveOne
 pub mod ReserveByNeed

@@ -16,11 +16,11 @@ use Rattle.slab_tables.specs.Content.{Content, IsSlabs, layout_numbers}
 use Rattle.machine_changes.specs.Shows.{ShowsMachine, Agree}
 use Rattle.machine_changes.specs.Steady.{IsSteady}
 use Rattle.machine_changes.specs.Changes.{IsReturned}
-use Rattle.machine_changes.specs.Room.{HasRoom}
+use Rattle.machine_changes.specs.Fitting.{WouldFit}
 use Rattle.machine_changes.proofs.Lookups.{some_none}
 use Rattle.slab_core.specs.Calls.{idle_at}
-use Rattle.slab_core.specs.Room.{HasFreeBlock}
-use Rattle.slab_core.proofs.RoomFrames.{idle_begins}
+use Rattle.slab_core.specs.Fitting.{HasFreeBlock}
+use Rattle.slab_core.proofs.FittingFrames.{idle_begins}
 use Rattle.slab_core.proofs.ReserveOne.{vacant_free}
 use Rattle.slab_core.proofs.ReturnMany.{idle_empty}
 
@@ -52,9 +52,9 @@ module _ (order k : ℕ) (m : Machine) where
     pub refused_step : None ≡ choice order m k → false ≡ is_some (choice order (reaped m) k) → (alloc_step order k m).machine ≡ m
     refused_step none still = ap (λ z. z.machine) ((alloc_reaps order k m fits).stays (sym none) (no_choice (choice order (reaped m) k) still))
 
--- what is free is room
-pub free_room : (r : spaces.Content) (b : buddies.Content) (s : Content) (t k : ℕ) → Agree r b s → HasFreeBlock b t k → HasRoom r b s t k
-free_room r b s t k a h =
+-- what is free would fit
+pub free_fits : (r : spaces.Content) (b : buddies.Content) (s : Content) (t k : ℕ) → Agree r b s → HasFreeBlock b t k → WouldFit r b s t k
+free_fits r b s t k a h =
     let out = reserved_is_untaken b.top (buddies.is_held (buddies.holding_of t b)) (buddies.taken_of (buddies.holding_of t b)) h.found.first h.found.order k h.free h.enough in
     record {
       first = h.found.first;
@@ -77,38 +77,38 @@ pub record IsServedThen (r r' : spaces.Content) (b b' : buddies.Content) (s s' :
 -- All empty slabs given back
 module _ {r r' : spaces.Content} {b b' : buddies.Content} {s s' : Content} {t k : ℕ} (st : IsSteady r b s t)
     (gone : IsReturned r r' b b' s s' t (idle_at (λ i. true) r s t)) where
-  -- room is free now
-  pub room_free : Agree r' b' s' → HasRoom r b s t k → HasFreeBlock b' t k
-  room_free a' room =
+  -- what would fit is free now
+  pub fits_free : Agree r' b' s' → WouldFit r b s t k → HasFreeBlock b' t k
+  fits_free a' fit =
       let order : b'.top ≡ s.top = a'.order ∙ gone.top in
-      vacant_free b' t room.first k (record {
-        aligned = subst (λ top. IsAligned top (block room.first k)) (sym order) room.aligned;
-        slot = subst (λ top. buddies.is_held (buddies.holding_of t b') (room.first / 2 ^ top) ≡ true) (sym order)
-            (ap is_some (a'.slots t (room.first / 2 ^ s.top) ∙ gone.slots (room.first / 2 ^ s.top)) ∙ room.held);
+      vacant_free b' t fit.first k (record {
+        aligned = subst (λ top. IsAligned top (block fit.first k)) (sym order) fit.aligned;
+        slot = subst (λ top. buddies.is_held (buddies.holding_of t b') (fit.first / 2 ^ top) ≡ true) (sym order)
+            (ap is_some (a'.slots t (fit.first / 2 ^ s.top) ∙ gone.slots (fit.first / 2 ^ s.top)) ∙ fit.held);
         untaken = λ x has is. by x has is.0 is.1 is.2 is.3 (idle_at (λ i. true) r s t is.0) refl;
       })
     where
-      by : (x : ℕ) → HasFrame (block room.first k) x → (g j : ℕ) → buddies.taken_of (buddies.holding_of t b') g ≡ Some j
+      by : (x : ℕ) → HasFrame (block fit.first k) x → (g j : ℕ) → buddies.taken_of (buddies.holding_of t b') g ≡ Some j
           → HasFrame (block g j) x → (v : Bool) → idle_at (λ i. true) r s t g ≡ v → ⊥
       by x has g j e there true is =
           some_none (sym e ∙ gone.taken g ∙ ap (λ v. cond v None (buddies.taken_of (buddies.holding_of t b) g)) is)
       by x has g j e there false is =
           let was : buddies.taken_of (buddies.holding_of t b) g ≡ Some j =
           ap (λ v. cond v None (buddies.taken_of (buddies.holding_of t b) g)) (sym is) ∙ sym (gone.taken g) ∙ e in
-          let i = room.idle x has (g, j, was, there) in
+          let i = fit.idle x has (g, j, was, there) in
           let same : g ≡ i.first =
           st.sound.apart g j i.first (layout_numbers i.cache).order x was (st.stands i.number i.first i.machine_frame i.cache i.slab).taken there i.within in
           false≢true (sym is ∙ ap (idle_at (λ y. true) r s t) same ∙ idle_begins r s t x i)
 
-  pub served_then : IsSlabs s → Agree r b s → Agree r' b' s' → k ≤ s.top → HasRoom r b s t k
+  pub served_then : IsSlabs s → Agree r b s → Agree r' b' s' → k ≤ s.top → WouldFit r b s t k
       → ((m : Machine) → ShowsMachine r b s t m → None ≡ choice s.top m k) → {b'' : buddies.Content} (o : Option ℕ)
       → ((m : Machine) → ShowsMachine r' b' s' t m → o ≡ choice s'.top m k)
       → IfSome o (λ f. (m : Machine) → ShowsMachine r' b' s' t m → ShowsMachine r' b'' s' t (with_block (block f k) m))
       → (IsSome o ↔ HasFreeBlock b' t k) → IsServedThen r r' b b'' s s' t k o
-  served_then w a a' fits room none {b'' = b''} o answer shows free = record {
-    some = free.1 (room_free a' room);
+  served_then w a a' fits fit none {b'' = b''} o answer shows free = record {
+    some = free.1 (fits_free a' fit);
     answer = λ m h. choice_then m h ∙ sym (next_choice s.top k m (none m h));
-    shows = λ m h. go o (free.1 (room_free a' room)) shows m h (choice_then m h);
+    shows = λ m h. go o (free.1 (fits_free a' fit)) shows m h (choice_then m h);
   }
     where
       reaped_then : (m : Machine) → ShowsMachine r b s t m → ShowsMachine r' b' s' t (reaped m)

@@ -27,7 +27,7 @@ use Rattle.model_core.proofs.FreeBlocks.{reserved_is_untaken}
 use Rattle.model_core.proofs.Lists.{some_of}
 use Rattle.machine_changes.proofs.Reserved.{reserved_shows}
 use Rattle.machine_changes.proofs.PageHoldings.{same_space}
-use Rattle.slab_core.specs.Room.{HasFreeBlock}
+use Rattle.slab_core.specs.Fitting.{HasFreeBlock}
 use Rattle.slab_core.specs.Lending.{IsPageAt}
 use Rattle.slab_core.proofs.GrowOne.{choice_some, choice_none}
 use Rattle.slab_core.proofs.ReturnMany.{spares_none}

@@ -1,4 +1,4 @@
 pub mod Calls
 pub mod Objects
-pub mod Room
+pub mod Fitting
 pub mod Lending

@@ -1,7 +1,7 @@
 //! Sets of blocks, of one order, by their numbers: a bit each.
 
 ghost use Rattle.std.specs.Prelude.{◌≡◌, ℕ, ◌<◌, ◌*◌, ◌==◌, ◌||◌, length};
-ghost use Rattle.slab_core.specs.Room.{has_number};
+ghost use Rattle.slab_core.specs.Fitting.{has_number};
 
 /// How many words have a bit for each frame that a tenant may have.
 pub(crate) const MOST_WORDS: usize = 1024;

@@ -16,7 +16,7 @@ ghost use Rattle.space_core.specs.Laws.{SpaceLaws};
 ghost use Rattle.space_core.specs.Windows.{home_of};
 ghost use Rattle.slab_tables.specs.Content.{layout_numbers};
 ghost use Rattle.slab_core.specs.Calls.{IsFilled, IsConstructed, IsNew};
-ghost use Rattle.slab_core.specs.Room.{HasFreeBlock};
+ghost use Rattle.slab_core.specs.Fitting.{HasFreeBlock};
 
 use crate::Slabs;
 use crate::objects::{Slab, TenantCache};

@@ -35,6 +35,7 @@ ghost use Rattle.machine_changes.specs.Laws.{ListsHold};
 
 mod block_set;
 mod creating;
+mod fitting;
 mod giving;
 mod growing;
 mod laws;
@@ -44,7 +45,6 @@ mod objects;
 mod reaching;
 mod reserving;
 mod returning;
-mod room;
 mod rows;
 mod taking;
 
@@ -59,7 +59,7 @@ use std::marker::Model;
 #[derive(Drop)]
 pub struct Slabs {
     tables: Tables,
-    /// Room for the set of the blocks that a search refuses: a bit for each frame of the machine.
+    /// The set of the blocks that a search refuses: a bit for each frame of the machine.
     refused: Vec<u64>,
 }
 

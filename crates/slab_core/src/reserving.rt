@@ -7,8 +7,8 @@ ghost use Rattle.model_core.specs.Slabs.{choice_by_need};
 ghost use Rattle.model_core.specs.Operations.{with_block, alloc_step};
 ghost use Rattle.machine_changes.specs.Shows.{ShowsMachine, Agree};
 ghost use Rattle.machine_changes.specs.Keeps.{Spares};
-ghost use Rattle.machine_changes.specs.Room.{HasRoom};
-ghost use Rattle.slab_core.specs.Room.{HasFreeBlock};
+ghost use Rattle.machine_changes.specs.Fitting.{WouldFit};
+ghost use Rattle.slab_core.specs.Fitting.{HasFreeBlock};
 ghost use Rattle.slab_core.specs.Lending.{IsPageAt};
 
 use crate::Slabs;
@@ -35,7 +35,7 @@ impl Slabs {
         ensures shows { (m : Machine) → ShowsMachine space.old buddy.old self.old t m
             → ShowsMachine space.new buddy.new self.new t (alloc_step self.old.top k m).machine }
         ensures page { IfSome result (λ f. IsPageAt space.new buddy.new self.new t f k) }
-        ensures room { IsSome result ↔ HasRoom space.old buddy.old self.old t k }
+        ensures fits { IsSome result ↔ WouldFit space.old buddy.old self.old t k }
         ensures spares { Spares t space.old space.new buddy.old buddy.new self.old self.new }
         ensures agree { Agree space.new buddy.new self.new }
         ensures refused { IfNone result ((space.new ≡ space.old) × ((buddy.new ≡ buddy.old) × (self.new ≡ self.old))) }

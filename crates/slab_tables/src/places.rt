@@ -247,8 +247,8 @@ impl SlabLists {
         ensures { IfSome result (λ n. is_in head (place_at self.now.places n) ≡ true) }
     {
         let len = self.lists.len(head);
-        let room = self.groups.before_in_group(machine_frame);
-        if let Some(near) = near_below(&self.lists, head, machine_frame, step, room, len / 4) {
+        let reach = self.groups.before_in_group(machine_frame);
+        if let Some(near) = near_below(&self.lists, head, machine_frame, step, reach, len / 4) {
             return Some(near);
         }
         if !self.groups.is_kept(head) {
@@ -316,16 +316,16 @@ fn keep(lists: &Lists, groups: &mut Groups, head: u32)
     }
 }
 
-/// The first of `above - step`, `above - 2 * step` and so on that stands in the list, as far as `room` below and at most so many.
-fn near_below(lists: &Lists, head: u32, above: u32, step: u32, room: u32, most: u32) -> Option<u32>
+/// The first of `above - step`, `above - 2 * step` and so on that is in the list, as far as `reach` below and at most so many.
+fn near_below(lists: &Lists, head: u32, above: u32, step: u32, reach: u32, most: u32) -> Option<u32>
     requires head { head < lists.now.heads }
     requires above { above ≤ length lists.now.places }
     requires step { 0 < step }
-    requires room { room ≤ above }
+    requires reach { reach ≤ above }
     ensures { IfSome result (λ n. is_in head (place_at lists.now.places n) ≡ true) }
 {
     let mut below = above;
-    for _ in 0..(room / step).min(most) {
+    for _ in 0..(reach / step).min(most) {
         below -= step;
         if lists.is_in(below, head) {
             return Some(below);

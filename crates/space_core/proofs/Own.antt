@@ -94,12 +94,12 @@ own_window {s} facts t place len w has_home size p = go (home_of s t place len) 
         let from = place % s.unit in
         let xs = bank s.banks m in
         let home = home_is s t place len m h in
-        let room = size_of facts t (place / s.unit) m home.2 in
+        let sized = size_of facts t (place / s.unit) m home.2 in
         let test = nat_le place p && nat_lt p (place + len) in
         let apart : superblock_at s.slots t (p / s.unit) ≡ Some m → p + from ≡ place + p % s.unit = λ e. same_slot s.unit place p facts.some (same_slot_number facts t (p / s.unit) (place / s.unit) m e home.2) in
         elim (cases_lt p place) [
           | inl below ↦
-              byte_at_kept-with_bank s t m (put_within xs from w) p room.0 (λ e. put_within-before xs from w (p % s.unit) (omega (arith, room.1, home.1)) (omega (arith, apart e)))
+              byte_at_kept-with_bank s t m (put_within xs from w) p sized.0 (λ e. put_within-before xs from w (p % s.unit) (omega (arith, sized.1, home.1)) (omega (arith, apart e)))
               ∙ sym (if_false test _ _ (test_below place p (place + len) below))
           | inr low ↦ elim (cases_lt p (place + len)) [
             | inl high ↦
@@ -107,11 +107,11 @@ own_window {s} facts t place len w has_home size p = go (home_of s t place len) 
                 let there : place + (p - place) ≡ p = omega arith in
                 let slot : p / s.unit ≡ place / s.unit = ap (λ q. q / s.unit) (sym there) ∙ at.0 in
                 let offset : p % s.unit ≡ from + (p - place) = ap (λ q. q % s.unit) (sym there) ∙ at.1 in
-                byte_at-with_bank s t m (from + (p - place)) (put_within xs from w) p room.0 (ap (superblock_at s.slots t) slot ∙ home.2) offset
-                ∙ (ap Some (put_within-at xs from w (from + (p - place)) (omega (arith, room.1, home.1, size)) (omega arith) (omega (arith, size)) ∙ ap (λ n. get_or w n 0) (omega arith))
+                byte_at-with_bank s t m (from + (p - place)) (put_within xs from w) p sized.0 (ap (superblock_at s.slots t) slot ∙ home.2) offset
+                ∙ (ap Some (put_within-at xs from w (from + (p - place)) (omega (arith, sized.1, home.1, size)) (omega arith) (omega (arith, size)) ∙ ap (λ n. get_or w n 0) (omega arith))
                 ∙ sym (if_true test _ _ (test_inside place p (place + len) low high)))
             | inr above ↦
-                byte_at_kept-with_bank s t m (put_within xs from w) p room.0 (λ e. put_within-after xs from w (p % s.unit) (omega (arith, apart e, size)) (omega (arith, room.1, facts.some)))
+                byte_at_kept-with_bank s t m (put_within xs from w) p sized.0 (λ e. put_within-after xs from w (p % s.unit) (omega (arith, apart e, size)) (omega (arith, sized.1, facts.some)))
                 ∙ sym (if_false test _ _ (test_above place p (place + len) above))
           ]
         ]
@@ -124,14 +124,14 @@ own_byte {s} facts t place b held p = go (superblock_at s.slots t (place / s.uni
     go (Some m) h some =
         let i = place % s.unit in
         let xs = bank s.banks m in
-        let room = size_of facts t (place / s.unit) m h in
-        let within : i < length xs = omega (arith, room.1, facts.some) in
+        let sized = size_of facts t (place / s.unit) m h in
+        let within : i < length xs = omega (arith, sized.1, facts.some) in
         elim (cases_eq p place) [
           | inl same ↦
-              byte_at-with_bank s t m i (set xs i b) p room.0 (ap (λ q. superblock_at s.slots t (q / s.unit)) same ∙ h) (ap (λ q. q % s.unit) same)
+              byte_at-with_bank s t m i (set xs i b) p sized.0 (ap (λ q. superblock_at s.slots t (q / s.unit)) same ∙ h) (ap (λ q. q % s.unit) same)
               ∙ (ap Some (get_or-set_same xs i b 0 within) ∙ sym (if_true (p == place) _ _ (grind (arith, nat_tests))))
           | inr differ ↦
-              byte_at_kept-with_bank s t m (set xs i b) p room.0 (λ e.
+              byte_at_kept-with_bank s t m (set xs i b) p sized.0 (λ e.
               let apart = same_slot s.unit place p facts.some (same_slot_number facts t (p / s.unit) (place / s.unit) m e h) in
               get_or-set_other xs i (p % s.unit) b 0 (λ q. differ (omega (arith, apart, q))))
               ∙ sym (if_false (p == place) _ _ (grind (arith, nat_tests)))

@@ -41,9 +41,9 @@ bytes_of-copied v all from to source row written within read same =
     ap lists_of (with_items_is v all (ap length written ∙ omega (arith, length-set v.items to row, v.ok.0)) ∙ written)
     ∙ (lists_of-set v.items to row ∙ ap (λ (bytes : List ℕ). set (lists_of v.items) to bytes) (same ∙ sym (get_or-lists_of v.items from source within read)))
 
--- and as much room as before
-pub HasRoom-written : (v : Vec (Vec ℕ)) (all : List (Vec ℕ)) (to : ℕ) (target row : Vec ℕ) → all ≡ set v.items to row → to < length v.items → target ≡ get_or v.items to target → target.cap ≤ row.cap → (unit : ℕ) → HaveCapacity unit v.items → HaveCapacity unit (with_items v all).items
-HasRoom-written v all to target row written within read more unit room =
-    let was : unit ≤ target.cap = subst (λ (bank : Vec ℕ). unit ≤ bank.cap) (sym read) (room to target within) in
+-- and as much capacity as before
+pub HaveCapacity-written : (v : Vec (Vec ℕ)) (all : List (Vec ℕ)) (to : ℕ) (target row : Vec ℕ) → all ≡ set v.items to row → to < length v.items → target ≡ get_or v.items to target → target.cap ≤ row.cap → (unit : ℕ) → HaveCapacity unit v.items → HaveCapacity unit (with_items v all).items
+HaveCapacity-written v all to target row written within read more unit capacity =
+    let was : unit ≤ target.cap = subst (λ (bank : Vec ℕ). unit ≤ bank.cap) (sym read) (capacity to target within) in
     subst (HaveCapacity unit) (sym (with_items_is v all (ap length written ∙ omega (arith, length-set v.items to row, v.ok.0)) ∙ written))
-    (All-set (λ (bank : Vec ℕ). unit ≤ bank.cap) v.items to row (omega arith) room)
+    (All-set (λ (bank : Vec ℕ). unit ≤ bank.cap) v.items to row (omega arith) capacity)

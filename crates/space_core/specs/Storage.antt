@@ -12,7 +12,7 @@ or_zeros unit (x ∷ xs) = x ∷ xs
 abbrev pub shown_banks : ℕ → List (List ℕ) → List (List ℕ)
 shown_banks unit stored = map (or_zeros unit) stored
 
--- each superblock has room for unit bytes
+-- each superblock has capacity for unit bytes
 abbrev pub HaveCapacity : ℕ → List (Vec ℕ) → Type 0
 HaveCapacity unit banks = All (λ bank. unit ≤ vec_capacity bank) banks
 
@@ -20,5 +20,5 @@ HaveCapacity unit banks = All (λ bank. unit ≤ vec_capacity bank) banks
 pub record IsStored (unit bits : ℕ) (banks : List (Vec ℕ)) (zeros : List ℕ) : Type 0 where
   pub few : bits < 32
   pub size : unit ≡ 2 ^ bits
-  pub room : HaveCapacity unit banks
+  pub capacity : HaveCapacity unit banks
   pub blank : zeros ≡ replicate unit 0

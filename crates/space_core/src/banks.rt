@@ -11,7 +11,7 @@ use std::alloc::{AllocError, Global};
 pub(crate) fn clear_bank(banks: &mut Vec<Vec<u8>>, m: usize)
     requires { m < vec_len banks.old }
     ensures bytes { stored_bytes banks.new ≡ slice_set (stored_bytes banks.old) m [] }
-    ensures room { (unit : ℕ) → HaveCapacity unit banks.old.items → HaveCapacity unit banks.new.items }
+    ensures capacity { (unit : ℕ) → HaveCapacity unit banks.old.items → HaveCapacity unit banks.new.items }
 {
     banks[m].clear();
 }
@@ -20,10 +20,10 @@ pub(crate) fn clear_bank(banks: &mut Vec<Vec<u8>>, m: usize)
 #[inline(always)]
 pub(crate) fn write_out(banks: &mut Vec<Vec<u8>>, m: usize, unit: usize)
     requires bank { m < vec_len banks.old }
-    requires room { HaveCapacity unit banks.old.items }
+    requires capacity { HaveCapacity unit banks.old.items }
     ensures banks { stored_bytes banks.new
         ≡ slice_set (stored_bytes banks.old) m (or_zeros unit (bank (stored_bytes banks.old) m)) }
-    ensures room { HaveCapacity unit banks.new.items }
+    ensures capacity { HaveCapacity unit banks.new.items }
 {
     if banks[m].is_empty() {
         zero_fill(&mut banks[m], unit);
@@ -39,7 +39,7 @@ const CLEARED: usize = 1536;
 fn zero_fill(bytes: &mut Vec<u8>, unit: usize)
     requires { unit ≤ vec_capacity bytes.old }
     ensures items { bytes.new.items ≡ replicate unit 0 }
-    ensures room { unit ≤ vec_capacity bytes.new }
+    ensures capacity { unit ≤ vec_capacity bytes.new }
 {
     bytes.clear();
     for i in 0..unit / CLEARED {
@@ -53,9 +53,9 @@ pub(crate) fn copy_bank(banks: &mut Vec<Vec<u8>>, from: usize, to: usize)
     requires from { from < vec_len banks.old }
     requires to { to < vec_len banks.old }
     requires apart { from ≢ to }
-    requires room { HaveCapacity (length (bank (stored_bytes banks.old) from)) banks.old.items }
+    requires capacity { HaveCapacity (length (bank (stored_bytes banks.old) from)) banks.old.items }
     ensures bytes { stored_bytes banks.new ≡ slice_set (stored_bytes banks.old) to (bank (stored_bytes banks.old) from) }
-    ensures room { (unit : ℕ) → HaveCapacity unit banks.old.items → HaveCapacity unit banks.new.items }
+    ensures capacity { (unit : ℕ) → HaveCapacity unit banks.old.items → HaveCapacity unit banks.new.items }
 {
     if from < to {
         let (low, high) = banks.split_at_mut(to);
@@ -70,7 +70,7 @@ pub(crate) fn copy_bank(banks: &mut Vec<Vec<u8>>, from: usize, to: usize)
 fn copy_bytes(bytes: &mut Vec<u8>, source: &[u8])
     requires { length source.now ≤ vec_capacity bytes.old }
     ensures items { bytes.new.items ≡ source.now }
-    ensures room { vec_capacity bytes.old ≤ vec_capacity bytes.new }
+    ensures capacity { vec_capacity bytes.old ≤ vec_capacity bytes.new }
 {
     bytes.clear();
     bytes.extend_from_slice(source).unwrap();
@@ -82,7 +82,7 @@ pub(crate) fn set_byte_at(banks: &mut Vec<Vec<u8>>, m: usize, i: usize, byte: u8
     requires byte { i < length (bank (stored_bytes banks.old) m) }
     ensures bytes { stored_bytes banks.new
         ≡ slice_set (stored_bytes banks.old) m (slice_set (bank (stored_bytes banks.old) m) i byte) }
-    ensures room { (unit : ℕ) → HaveCapacity unit banks.old.items → HaveCapacity unit banks.new.items }
+    ensures capacity { (unit : ℕ) → HaveCapacity unit banks.old.items → HaveCapacity unit banks.new.items }
 {
     banks[m][i] = byte;
 }
@@ -96,7 +96,7 @@ pub(crate) fn make_banks(
 ) -> Result<Vec<Vec<u8>>, AllocError>
     requires { unit < 2 ^ 32 }
     ensures bytes { IfOk result (λ banks. stored_bytes banks ≡ replicate count []) }
-    ensures room { IfOk result (λ banks. HaveCapacity unit banks.items) }
+    ensures capacity { IfOk result (λ banks. HaveCapacity unit banks.items) }
 {
     let mut banks = Vec::with_capacity(alloc, count)?;
     for _ in 0..count {

@@ -5,7 +5,7 @@
 //! and gets a mark. A marked one is emptied before it is granted again, and written over whole
 //! where a slot moves to it. So no tenant reads what another one left.
 //!
-//! Room for the bytes of every superblock is reserved at boot. A superblock that is granted reads as
+//! Memory for the bytes of every superblock is reserved at boot. A superblock that is granted reads as
 //! zero, and its bytes are written out when one of them is first written: a grant costs no filling.
 //!
 //! Only [`Space::new`] allocates.
@@ -59,7 +59,7 @@ pub struct Space {
     bits: u8,
     owners: Vec<Option<Owner>>,
     slots: Vec<Vec<Option<u16>>>,
-    // A superblock's vector has its bytes, or is empty, with room for them, while all of them are zero since it was granted.
+    // A superblock's vector has its bytes, or is empty, with capacity for them, while all of them are zero since it was granted.
     banks: Vec<Vec<u8>>,
     marks: Vec<bool>,
     // What a superblock reads as whose vector is empty.

@@ -10,10 +10,10 @@ pub const TEXT_BYTES: usize = 160;
 pub trait Text {
     ghost bytes: { Self → List ℕ };
 
-    /// Writes its bytes over the first of the room, and answers how many they are. What stands behind them may change.
-    fn write(self, room: &mut [u8]) -> usize
-        requires room { TEXT_BYTES ≤ length room.old }
-        ensures text { take result room.new ≡ bytes self }
+    /// Writes its bytes over the first of the buffer, and answers how many they are. What stands behind them may change.
+    fn write(self, buffer: &mut [u8]) -> usize
+        requires space { TEXT_BYTES ≤ length buffer.old }
+        ensures text { take result buffer.new ≡ bytes self }
         ensures short { result ≤ TEXT_BYTES };
 }
 
@@ -28,7 +28,7 @@ pub trait Drain {
     // A push has failed.
     ghost has_failed: { Self → Bool };
 
-    // It has room at hand for a text, however long.
+    // It has space at hand for a text, however long.
     ghost is_roomy: { Self → Bool };
 
     // A send has failed.
@@ -44,7 +44,7 @@ pub trait Drain {
         ensures stopped { has_failed_to_send self.old ≡ true → (is_err result ≡ true) × (held_back self.new ≡ held_back self.old) }
         ensures sends { has_failed_to_send self.new ≡ has_failed_to_send self.old };
 
-    /// It has room at hand for a text: for `TEXT_BYTES` bytes.
+    /// It has space at hand for a text: for `TEXT_BYTES` bytes.
     fn has_space(&self) -> bool
         ensures space { result ≡ is_roomy self.now }
         ensures stopped { has_failed_to_send self.now ≡ true → result ≡ false };

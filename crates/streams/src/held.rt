@@ -3,10 +3,10 @@ ghost use Rattle.std.specs.Prelude.{◌≡◌, ◌≤◌, ◌-◌, nat_le, true,
 use crate::drain::{TEXT_BYTES, Text};
 use std::marker::Model;
 
-/// Bytes in a room of fixed size.
+/// Bytes in a buffer of fixed size.
 #[derive(Drop)]
 pub struct Held {
-    // The room: the bytes behind the first `len` are of no meaning.
+    // The buffer: the bytes behind the first `len` are of no meaning.
     bytes: Vec<u8>,
     len: usize,
 }
@@ -17,22 +17,22 @@ impl Model for Held {
 
     ghost Value = { HeldBytes };
 
-    ghost view = { λ a. record { bytes = take a.len a.bytes.items; room = length a.bytes.items - a.len } };
+    ghost view = { λ a. record { bytes = take a.len a.bytes.items; free = length a.bytes.items - a.len } };
 
     ghost invariant = { λ a. a.len ≤ length a.bytes.items };
 }
 
 impl Held {
-    /// No bytes, in the capacity of `room`: nothing is allocated.
-    pub fn new(room: Vec<u8>) -> Self
+    /// No bytes, in the capacity of `buffer`: nothing is allocated.
+    pub fn new(buffer: Vec<u8>) -> Self
         ensures { result.bytes ≡ [] }
     {
-        let mut bytes = room;
+        let mut bytes = buffer;
         bytes.resize(bytes.capacity(), 0).unwrap();
         Held { bytes, len: 0 }
     }
 
-    /// Appends bytes, and answers whether there was room for them.
+    /// Appends bytes if they fit, and answers whether they did.
     #[inline(always)]
     pub fn append(&mut self, more: &[u8]) -> bool
         ensures appended { result ≡ true → self.new.bytes ≡ self.old.bytes ++ more.now }
@@ -47,10 +47,10 @@ impl Held {
         true
     }
 
-    /// There is room for a text.
+    /// A text fits.
     #[inline(always)]
     pub fn has_space(&self) -> bool
-        ensures { result ≡ nat_le TEXT_BYTES self.now.room }
+        ensures { result ≡ nat_le TEXT_BYTES self.now.free }
     {
         self.bytes.len() - self.len >= TEXT_BYTES
     }
@@ -58,7 +58,7 @@ impl Held {
     /// Appends a text, and answers how many bytes it has.
     #[inline(always)]
     pub fn append_text<T: Text>(&mut self, text: T) -> usize
-        requires { TEXT_BYTES ≤ self.old.room }
+        requires { TEXT_BYTES ≤ self.old.free }
         ensures appended { self.new.bytes ≡ self.old.bytes ++ T.bytes text }
         ensures len { result ≡ length (T.bytes text) }
         ensures short { result ≤ TEXT_BYTES }

@@ -7,8 +7,8 @@ use crate::feed::Stopped;
 use crate::held::Held;
 use std::io::Write;
 
-/// A drain over one of std's writers. It may have room to hold bytes: these are written where it sends, where it is
-/// flushed, and where there is no room for more.
+/// A drain over one of std's writers. It may have a buffer, whose bytes are written when it sends, when it is flushed, and when
+/// no more fit.
 ///
 /// A writer that takes no byte has failed, and so has an interrupted write. Where a write or a flush fails while it
 /// sends, the next push or `flush` fails. The drain then holds exactly those bytes that it took and the writer did not:
@@ -16,7 +16,7 @@ use std::io::Write;
 #[derive(Drop)]
 pub struct WriterDrain<W> {
     writer: W,
-    // What was taken and is not written yet; with no room each push is a write.
+    // What was taken and is not written yet; without a buffer each push is a write.
     held: Option<Held>,
     // Bytes were written since the last flush.
     unsent: bool,
@@ -42,9 +42,9 @@ impl<W: Write> WriterDrain<W> {
         }
     }
 
-    /// A drain into this writer that holds as many bytes as the capacity of `room`, which is empty.
-    pub fn holding(writer: W, room: Vec<u8>) -> Self
-        requires { vec_len room ≡ 0 }
+    /// A drain into this writer that holds as many bytes as the capacity of `buffer`, which is empty.
+    pub fn holding(writer: W, buffer: Vec<u8>) -> Self
+        requires { vec_len buffer ≡ 0 }
         ensures contents { ⟦<WriterDrain<W> as Drain>⟧.contents result ≡ W.contents writer }
         ensures empty { ⟦<WriterDrain<W> as Drain>⟧.held_back result ≡ [] }
         ensures fine { ⟦<WriterDrain<W> as Drain>⟧.has_failed result ≡ false }
@@ -52,7 +52,7 @@ impl<W: Write> WriterDrain<W> {
     {
         WriterDrain {
             writer,
-            held: Some(Held::new(room)),
+            held: Some(Held::new(buffer)),
             unsent: false,
             send_failed: false,
             failed: false,
@@ -97,7 +97,7 @@ impl<W: Write> WriterDrain<W> {
         self.send_failed
     }
 
-    /// Takes bytes for which there was no room: what is held is written first.
+    /// Takes bytes that did not fit: what is held is written first.
     #[cold]
     #[inline(never)]
     fn push_beyond(&mut self, bytes: &[u8]) -> Result<usize, Stopped>

@@ -199,21 +199,21 @@ impl Write for LogWriter<'_> {
 /// How many reads, writes and flushes are good.
 type Good = (u32, u32, u32);
 
-/// The room of a drain, in bytes: none, less than a reply, less than two, and more than are written.
-const ROOMS_HELD: [usize; 4] = [0, 16, 64, 4096];
+/// The size of a drain's buffer, in bytes: none, less than a reply, less than two, and more than are written.
+const SIZES: [usize; 4] = [0, 16, 64, 4096];
 
 /// A drain that holds so many bytes; with 0, one that holds none.
 fn drain_into<'a>(
     alloc: Global,
-    room: usize,
+    size: usize,
     writer: LogWriter<'a>,
 ) -> Result<WriterDrain<LogWriter<'a>>, Fail>
     ensures { IfOk result (λ drain. ⟦<WriterDrain<LogWriter<'a>> as Drain>⟧.has_failed drain ≡ false) }
 {
-    if room == 0 {
+    if size == 0 {
         return Ok(WriterDrain::new(writer));
     }
-    Ok(WriterDrain::holding(writer, Vec::with_capacity(alloc, room)?))
+    Ok(WriterDrain::holding(writer, Vec::with_capacity(alloc, size)?))
 }
 
 /// How a replay ended, whether the flush at its end was good, and how many bytes were then not written.
@@ -225,7 +225,7 @@ struct Told {
 }
 
 /// A replay between such ends.
-fn between(alloc: Global, trace: &[u8], room: usize, log: &Log, good: Good) -> Result<Told, Fail> {
+fn between(alloc: Global, trace: &[u8], size: usize, log: &Log, good: Good) -> Result<Told, Fail> {
     let (good_reads, good_writes, good_flushes) = good;
     let mut kernel = Kernel::boot(alloc, MACHINE)?;
     let mut feed = ReaderFeed::new(LineReader {
@@ -235,7 +235,7 @@ fn between(alloc: Global, trace: &[u8], room: usize, log: &Log, good: Good) -> R
     });
     let mut drain = drain_into(
         alloc,
-        room,
+        size,
         LogWriter {
             good_writes,
             good_flushes,
@@ -289,16 +289,16 @@ const STAYING: [(Good, [Ending; 4]); 9] = [
 #[test]
 fn failures_stay(rt: HostRuntime) -> Result<(), Fail> {
     for (good, endings) in STAYING {
-        for (room, ending) in ROOMS_HELD.into_iter().zip(endings) {
+        for (size, ending) in SIZES.into_iter().zip(endings) {
             let (end, lines, written, flushed, unwritten) = ending;
-            let told = between(rt.alloc(), TRACE, room, &no_calls(), good)?;
+            let told = between(rt.alloc(), TRACE, size, &no_calls(), good)?;
             let fits = is_ended(told.ran, end, lines, written)
                 && told.flushed == flushed
                 && told.unwritten == unwritten;
             let (good_reads, good_writes, good_flushes) = good;
             assert!(rt;
                 fits,
-                "{good_reads} {good_writes} {good_flushes}, room for {room} bytes"
+                "{good_reads} {good_writes} {good_flushes}, a buffer of {size} bytes"
             );
         }
     }
@@ -317,9 +317,9 @@ const CALLS: [(&[u8], u32, u32); 4] = [
 #[test]
 fn answers_at_once(rt: HostRuntime) -> Result<(), Fail> {
     for (trace, writes, flushes) in CALLS {
-        for room in ROOMS_HELD {
+        for size in SIZES {
             let log = no_calls();
-            let told = between(rt.alloc(), trace, room, &log, (ALL, ALL, ALL))?;
+            let told = between(rt.alloc(), trace, size, &log, (ALL, ALL, ALL))?;
             assert!(rt; told.ran.is_ok() && told.flushed);
             assert!(rt; !log.late.get());
             assert!(rt; log.writes.get() == writes);
@@ -329,15 +329,15 @@ fn answers_at_once(rt: HostRuntime) -> Result<(), Fail> {
     Ok(())
 }
 
-/// The room of a program's drain, in bytes.
+/// The size of the buffer of a program's drain, in bytes.
 const FULL: usize = 65_536;
 
 /// How many bytes are pushed, and how many of them the drain holds then.
 const FILLINGS: [(usize, usize); 3] = [(FULL - 1, FULL - 1), (FULL, FULL), (FULL + 1, 1)];
 
-/// A drain is flushed without an error if its room is full, if it lacks a byte, and if a byte found no room.
+/// A drain is flushed without an error if its buffer is full, if it lacks a byte, and if a byte did not fit.
 #[test]
-fn full_room_is_flushed(rt: HostRuntime) -> Result<(), Fail> {
+fn full_buffer_is_flushed(rt: HostRuntime) -> Result<(), Fail> {
     for (len, held) in FILLINGS {
         let replies = vec![in rt.alloc(); b'0'; len]?;
         let mut written = Vec::new(rt.alloc());

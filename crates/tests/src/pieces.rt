@@ -1,13 +1,13 @@
 //! A feed and a drain over memory, in pieces, each of which can fail.
 
 ghost use Rattle.std.specs.Prelude.{◌≡◌, ◌≤◌, true, false, [], length};
-ghost use Rattle.tests.specs.declared.pieces.TheConstants.{ROOM};
+ghost use Rattle.tests.specs.declared.pieces.TheConstants.{BUFFER_BYTES};
 
 use replay_core::{Drain, Feed, Stopped};
 use streams::{TEXT_BYTES, Text};
 
 /// More than any worked trace writes.
-const ROOM: usize = 8192;
+const BUFFER_BYTES: usize = 8192;
 
 /// Gives a slice in pieces of at most `piece` bytes, at least one, and fails after so many good pulls.
 #[derive(Drop)]
@@ -79,12 +79,12 @@ impl<'a> Feed for PieceFeed<'a> {
 /// Takes at most `piece` bytes a push, at least one, into a fixed array, and fails after so many good pushes.
 #[derive(Drop)]
 pub struct PieceDrain {
-    bytes: [u8; ROOM],
+    bytes: [u8; BUFFER_BYTES],
     len: usize,
     piece: usize,
     good_pushes: u32,
     failed: bool,
-    ghost within: { len ≤ ROOM },
+    ghost within: { len ≤ BUFFER_BYTES },
 }
 
 /// Such a drain, with nothing taken.
@@ -93,7 +93,7 @@ pub fn taking(piece: usize, good_pushes: u32) -> PieceDrain
     ensures fine { ⟦<PieceDrain as Drain>⟧.has_failed result ≡ false }
 {
     PieceDrain {
-        bytes: [0; ROOM],
+        bytes: [0; BUFFER_BYTES],
         len: 0,
         piece,
         good_pushes,
@@ -119,7 +119,7 @@ impl Drain for PieceDrain {
     ghost has_failed = { λ s. s.failed };
 
     // A text is one push, where a push may be as long.
-    ghost is_roomy = { λ s. nat_le 1 s.good_pushes && (nat_le TEXT_BYTES s.piece && nat_le (s.len + TEXT_BYTES) ROOM) };
+    ghost is_roomy = { λ s. nat_le 1 s.good_pushes && (nat_le TEXT_BYTES s.piece && nat_le (s.len + TEXT_BYTES) BUFFER_BYTES) };
 
     fn push(&mut self, bytes: &[u8]) -> Result<usize, Stopped> {
         let count = bytes
@@ -137,7 +137,7 @@ impl Drain for PieceDrain {
     }
 
     fn has_space(&self) -> bool {
-        self.good_pushes >= 1 && self.piece >= TEXT_BYTES && self.len + TEXT_BYTES <= ROOM
+        self.good_pushes >= 1 && self.piece >= TEXT_BYTES && self.len + TEXT_BYTES <= BUFFER_BYTES
     }
 
     fn take_text<T: Text>(&mut self, text: T) -> usize {

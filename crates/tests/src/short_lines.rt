@@ -46,16 +46,16 @@ fn reads_lines_of_a_load(rt: HostRuntime) -> Result<(), Fail> {
 }
 
 fn expect_read(rt: &impl Abort, line: &str) {
-    let mut room = [0; MOST_BYTES];
-    let len = read_request(&window_of(line.as_bytes()), &mut room).map(|read| read.len);
+    let mut buffer = [0; MOST_BYTES];
+    let len = read_request(&window_of(line.as_bytes()), &mut buffer).map(|read| read.len);
     assert!(rt; len == Some(line.len() + 1), "{line}");
 }
 
 #[test]
 fn reads_writes(rt: HostRuntime) {
-    let mut room = [0; MOST_BYTES];
+    let mut buffer = [0; MOST_BYTES];
     let rest = b"3 write 4096 00ff10aB\n0 alloc 0\n0 alloc 0\n";
-    let line = read_request(rest, &mut room).expect(&rt, "a write is read");
+    let line = read_request(rest, &mut buffer).expect(&rt, "a write is read");
     assert!(rt; line.len == 22);
     match line.request {
         Request::Write {

@@ -125,6 +125,6 @@ is_long (Answer.WasReset tenant superblocks) = true
 is_long (Answer.Moved tenant slot superblock) = true
 is_long other = false
 
--- the room that the text of an answer is given
+-- the size of the buffer that the text of an answer is given
 abbrev pub buffer_of : Answer → ℕ
 buffer_of answer = if is_long answer then MOST_ANSWER_BYTES else SHORT_ANSWER_BYTES

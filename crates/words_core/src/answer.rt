@@ -50,10 +50,10 @@ pub enum Answer<'a> {
     Fault(LineFault),
 }
 
-/// Room for the text of any answer, with its line feed: the longest is of 64 bytes that were read.
+/// Size of a buffer for the text of any answer, with its line feed: the longest is of 64 bytes that were read.
 pub const MOST_ANSWER_BYTES: usize = 160;
 
-/// Room for the text of an answer that is not [`Answer::is_long`].
+/// Size of a buffer for the text of an answer that is not [`Answer::is_long`].
 pub const SHORT_ANSWER_BYTES: usize = 32;
 
 /// Before what it says the line of a reply has no more bytes than these.
@@ -208,12 +208,12 @@ fn copied(bytes: &[u8]) -> ArrayVec<u8, MOST_BYTES>
     copied
 }
 
-/// Writes the whole text of the answer to a tenant, one line with its line feed, and answers its length. The room is
-/// `MOST_ANSWER_BYTES` where it is long, else `SHORT_ANSWER_BYTES`.
+/// Writes the whole text of the answer to a tenant, one line with its line feed, and answers its length. The buffer has
+/// `MOST_ANSWER_BYTES` bytes if the answer is long, else `SHORT_ANSWER_BYTES`.
 #[inline(always)]
 pub fn write_answer(tenant: u8, answer: Answer<'_>, out: &mut [u8]) -> usize
     requires few { HasFewBytes answer }
-    requires room { buffer_of answer ≤ length out.old }
+    requires space { buffer_of answer ≤ length out.old }
     ensures text { take result out.new ≡ text_of (reply_of_answer tenant answer.entry) }
     ensures some { 0 < result }
     ensures within { result ≤ buffer_of answer.entry }
@@ -234,7 +234,7 @@ pub fn write_answer(tenant: u8, answer: Answer<'_>, out: &mut [u8]) -> usize
 #[inline(always)]
 fn write_other(tenant: u8, answer: Answer<'_>, out: &mut [u8]) -> usize
     requires few { HasFewBytes answer }
-    requires room { buffer_of answer ≤ length out.old }
+    requires space { buffer_of answer ≤ length out.old }
     ensures text { take result out.new ≡ text_of (reply_of_answer tenant answer.entry) }
     ensures some { 0 < result }
     ensures within { result ≤ buffer_of answer.entry }
@@ -253,7 +253,7 @@ fn write_other(tenant: u8, answer: Answer<'_>, out: &mut [u8]) -> usize
 /// [`write_answer`] to anyone.
 pub fn write_answer_to(addressee: Addressee, answer: Answer<'_>, out: &mut [u8]) -> usize
     requires few { HasFewBytes answer }
-    requires room { buffer_of answer ≤ length out.old }
+    requires space { buffer_of answer ≤ length out.old }
     ensures text { take result out.new ≡ text_of (reply_to addressee answer.entry) }
     ensures some { 0 < result }
     ensures within { result ≤ buffer_of answer.entry }
@@ -267,7 +267,7 @@ pub fn write_answer_to(addressee: Addressee, answer: Answer<'_>, out: &mut [u8])
 #[inline(never)]
 fn put_line(addressee: Addressee, answer: Answer<'_>, out: &mut [u8]) -> usize
     requires few { HasFewBytes answer }
-    requires room { buffer_of answer ≤ length out.old }
+    requires space { buffer_of answer ≤ length out.old }
     ensures text { body_texts (addressee_text addressee) (body_of_answer answer.entry) ≡ take result out.new ∷ [] }
     ensures short { result < buffer_of answer.entry }
 {
@@ -298,7 +298,7 @@ pub(crate) fn put_addressee(addressee: Addressee, out: &mut [u8]) -> usize
 pub(crate) fn put_answer(answer: Answer<'_>, at: usize, out: &mut [u8]) -> usize
     requires few { HasFewBytes answer }
     requires front { at ≤ MOST_FRONT_BYTES }
-    requires room { buffer_of answer ≤ length out.old }
+    requires space { buffer_of answer ≤ length out.old }
     ensures text { body_texts (take at out.old) (body_of_answer answer.entry) ≡ take result out.new ∷ [] }
     ensures short { result < buffer_of answer.entry }
 {
@@ -365,7 +365,7 @@ pub(crate) fn put_answer(answer: Answer<'_>, at: usize, out: &mut [u8]) -> usize
 fn put_bytes(bytes: &[u8], at: usize, out: &mut [u8]) -> usize
     requires few { length bytes.now ≤ MOST_BYTES }
     requires front { at ≤ MOST_FRONT_BYTES }
-    requires room { MOST_ANSWER_BYTES ≤ length out.old }
+    requires space { MOST_ANSWER_BYTES ≤ length out.old }
     ensures text { take result out.new ≡ take at out.old ++ codes "bytes " ++ encode_lower bytes.now }
     ensures short { result < MOST_ANSWER_BYTES }
 {
@@ -388,7 +388,7 @@ fn put_digits(bytes: &[u8], at: usize, out: &mut [u8]) -> usize
 #[inline(never)]
 fn put_slot(tenant: u8, slot: u16, superblock: u16, at: usize, out: &mut [u8]) -> usize
     requires front { at ≤ MOST_FRONT_BYTES + 8 }
-    requires room { MOST_ANSWER_BYTES ≤ length out.old }
+    requires space { MOST_ANSWER_BYTES ≤ length out.old }
     ensures text { take result out.new
         ≡ take at out.old ++ decimal tenant ++ codes " slot " ++ decimal slot ++ codes " superblock " ++ decimal superblock }
     ensures short { result < MOST_ANSWER_BYTES }
@@ -411,7 +411,7 @@ fn put_cache(
     out: &mut [u8],
 ) -> usize
     requires front { at ≤ MOST_FRONT_BYTES }
-    requires room { MOST_ANSWER_BYTES ≤ length out.old }
+    requires space { MOST_ANSWER_BYTES ≤ length out.old }
     ensures text { body_texts (take at out.old) (Cache cache chunk order objects colours) ≡ take result out.new ∷ [] }
     ensures short { result < MOST_ANSWER_BYTES }
 {
@@ -428,7 +428,7 @@ fn put_cache(
 #[inline(never)]
 fn put_refused(refusal: Refusal, at: usize, out: &mut [u8]) -> usize
     requires front { at ≤ MOST_FRONT_BYTES }
-    requires room { SHORT_ANSWER_BYTES ≤ length out.old }
+    requires space { SHORT_ANSWER_BYTES ≤ length out.old }
     ensures text { body_texts (take at out.old) (Refused refusal) ≡ take result out.new ∷ [] }
     ensures short { result < SHORT_ANSWER_BYTES }
 {
@@ -443,7 +443,7 @@ fn put_refused(refusal: Refusal, at: usize, out: &mut [u8]) -> usize
 #[inline(never)]
 fn put_fault(fault: LineFault, at: usize, out: &mut [u8]) -> usize
     requires front { at ≤ MOST_FRONT_BYTES }
-    requires room { SHORT_ANSWER_BYTES ≤ length out.old }
+    requires space { SHORT_ANSWER_BYTES ≤ length out.old }
     ensures text { body_texts (take at out.old) (Fault fault) ≡ take result out.new ∷ [] }
     ensures short { result < SHORT_ANSWER_BYTES }
 {

@@ -8,7 +8,7 @@ use arrayvec::ArrayVec;
 use model_core::limits::{MOST_BYTES, MOST_SUPERBLOCKS};
 use model_core::owner::Owner;
 
-/// Room for the owners of all superblocks of a machine.
+/// Capacity for the owners of all superblocks of a machine.
 pub const OWNERS: usize = MOST_SUPERBLOCKS as usize;
 
 /// The answer to an event or to a faulty line: to whom, and what.

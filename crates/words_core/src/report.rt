@@ -11,10 +11,10 @@ use arrayvec::ArrayVec;
 use model_core::limits::{MOST_CACHES, MOST_ORDER};
 use model_core::report::{CacheRow, OrderRow};
 
-/// Room for a row of each order that a block may have.
+/// Capacity for a row of each order that a block may have.
 pub const ORDERS: usize = MOST_ORDER as usize + 1;
 
-/// Room for a row of each cache of a tenant.
+/// Capacity for a row of each cache of a tenant.
 pub const CACHES: usize = MOST_CACHES as usize;
 
 /// The figures of a tenant's memory.
@@ -40,7 +40,7 @@ pub struct Report {
 pub(crate) fn put_report(report: &Report, row: usize, at: usize, out: &mut [u8]) -> usize
     requires row { row < length (report_texts (take at out.old) report.now) }
     requires front { at ≤ MOST_FRONT_BYTES }
-    requires room { MOST_REPLY_BYTES ≤ length out.old }
+    requires space { MOST_REPLY_BYTES ≤ length out.old }
     ensures text { slice_get (report_texts (take at out.old) report.now) row ≡ Some (take result out.new) }
     ensures short { result < MOST_REPLY_BYTES }
 {
@@ -59,7 +59,7 @@ pub(crate) fn put_report(report: &Report, row: usize, at: usize, out: &mut [u8])
 #[inline(never)]
 fn put_frames(report: &Report, at: usize, out: &mut [u8]) -> usize
     requires front { at ≤ MOST_FRONT_BYTES }
-    requires room { MOST_REPLY_BYTES ≤ length out.old }
+    requires space { MOST_REPLY_BYTES ≤ length out.old }
     ensures text { take result out.new ≡ frames_text (take at out.old) report.now }
     ensures short { result < MOST_REPLY_BYTES }
 {
@@ -86,7 +86,7 @@ fn put_top(top: Option<u8>, at: usize, out: &mut [u8]) -> usize
 #[inline(never)]
 fn put_order(order: u32, row: OrderRow, at: usize, out: &mut [u8]) -> usize
     requires front { at ≤ MOST_FRONT_BYTES }
-    requires room { MOST_REPLY_BYTES ≤ length out.old }
+    requires space { MOST_REPLY_BYTES ≤ length out.old }
     ensures text { take result out.new ≡ order_text (take at out.old) order row }
     ensures short { result < MOST_REPLY_BYTES }
 {
@@ -99,7 +99,7 @@ fn put_order(order: u32, row: OrderRow, at: usize, out: &mut [u8]) -> usize
 #[inline(never)]
 fn put_cache_row(row: CacheRow, at: usize, out: &mut [u8]) -> usize
     requires front { at ≤ MOST_FRONT_BYTES }
-    requires room { MOST_REPLY_BYTES ≤ length out.old }
+    requires space { MOST_REPLY_BYTES ≤ length out.old }
     ensures text { take result out.new ≡ cache_text (take at out.old) row }
     ensures short { result < MOST_REPLY_BYTES }
 {

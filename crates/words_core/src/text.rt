@@ -12,7 +12,7 @@ use arrayvec::ArrayVec;
 use model_core::limits::MOST_SUPERBLOCKS;
 use model_core::owner::Owner;
 
-/// Room for the longest line of a reply, its line feed included.
+/// Size of a buffer for the longest line of a reply, its line feed included.
 pub const MOST_REPLY_BYTES: usize = 256;
 
 /// A reply has at most this many lines: those of the table of owners.
@@ -46,7 +46,7 @@ pub fn write_line(reply: &Reply, row: usize, out: &mut ArrayVec<u8, MOST_REPLY_B
 /// [`write_line`] over the first of the bytes; answers how many they are.
 pub fn write_row(reply: &Reply, row: usize, out: &mut [u8]) -> usize
     requires row { row < length (lines_of reply.now) }
-    requires room { MOST_REPLY_BYTES ≤ length out.old }
+    requires space { MOST_REPLY_BYTES ≤ length out.old }
     ensures text { slice_get (lines_of reply.now) row ≡ Some (take result out.new) }
     ensures short { result ≤ MOST_REPLY_BYTES }
 {
@@ -82,7 +82,7 @@ impl Table<'_> {
     pub fn write_row(self, row: usize, out: &mut [u8]) -> usize
         requires rows { HasFewRows self }
         requires row { row < length (lines_of (reply_of_table self)) }
-        requires room { MOST_REPLY_BYTES ≤ length out.old }
+        requires space { MOST_REPLY_BYTES ≤ length out.old }
         ensures text { slice_get (lines_of (reply_of_table self.entry)) row ≡ Some (take result out.new) }
         ensures short { result ≤ MOST_REPLY_BYTES }
     {
@@ -105,7 +105,7 @@ impl Table<'_> {
         requires rows { HasFewRows self }
         requires row { row < length (body_texts (take at out.old) (reply_of_table self).body) }
         requires front { at ≤ MOST_FRONT_BYTES }
-        requires room { MOST_REPLY_BYTES ≤ length out.old }
+        requires space { MOST_REPLY_BYTES ≤ length out.old }
         ensures text { slice_get (body_texts (take at out.old) (reply_of_table self.entry).body) row ≡ Some (take result out.new) }
         ensures short { result < MOST_REPLY_BYTES }
     {
@@ -121,7 +121,7 @@ impl Table<'_> {
 fn put_body(body: &Body, row: usize, at: usize, out: &mut [u8]) -> usize
     requires row { row < length (body_texts (take at out.old) body.now) }
     requires front { at ≤ MOST_FRONT_BYTES }
-    requires room { MOST_REPLY_BYTES ≤ length out.old }
+    requires space { MOST_REPLY_BYTES ≤ length out.old }
     ensures text { slice_get (body_texts (take at out.old) body.now) row ≡ Some (take result out.new) }
     ensures short { result < MOST_REPLY_BYTES }
 {
@@ -138,7 +138,7 @@ fn put_owners(owners: &[Option<Owner>], row: usize, at: usize, out: &mut [u8]) -
     requires row { row < length owners.now + 1 }
     requires few { length owners.now ≤ MOST_SUPERBLOCKS }
     requires front { at ≤ MOST_FRONT_BYTES }
-    requires room { MOST_REPLY_BYTES ≤ length out.old }
+    requires space { MOST_REPLY_BYTES ≤ length out.old }
     ensures text { slice_get (pool_texts (take at out.old) owners.now) row ≡ Some (take result out.new) }
     ensures short { result < MOST_REPLY_BYTES }
 {
@@ -156,7 +156,7 @@ fn put_owners(owners: &[Option<Owner>], row: usize, at: usize, out: &mut [u8]) -
 #[inline(never)]
 fn put_owner(superblock: u32, owner: Option<Owner>, at: usize, out: &mut [u8]) -> usize
     requires front { at ≤ MOST_FRONT_BYTES }
-    requires room { MOST_REPLY_BYTES ≤ length out.old }
+    requires space { MOST_REPLY_BYTES ≤ length out.old }
     ensures text { take result out.new ≡ owner_text (take at out.old) superblock owner }
     ensures short { result < MOST_REPLY_BYTES }
 {

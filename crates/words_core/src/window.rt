@@ -26,7 +26,7 @@ const FRONT_BYTES: usize = 16;
 pub fn put_front(tenant: u8, front: &[u8; FRONT_BYTES], len: usize, out: &mut [u8]) -> usize
     requires some { 0 < len }
     requires within { len ≤ FRONT_BYTES }
-    requires room { FRONT_BYTES + 2 ≤ length out.old }
+    requires space { FRONT_BYTES + 2 ≤ length out.old }
     ensures text { take result out.new ≡ decimal tenant ++ slice_range front.now 1 len }
     ensures short { result ≤ len + 2 }
 {
@@ -43,7 +43,7 @@ pub fn put_front(tenant: u8, front: &[u8; FRONT_BYTES], len: usize, out: &mut [u
 fn put_long_front(tenant: u8, front: &[u8; FRONT_BYTES], len: usize, out: &mut [u8]) -> usize
     requires some { 0 < len }
     requires within { len ≤ FRONT_BYTES }
-    requires room { FRONT_BYTES + 2 ≤ length out.old }
+    requires space { FRONT_BYTES + 2 ≤ length out.old }
     ensures text { take result out.new ≡ decimal tenant ++ slice_range front.now 1 len }
     ensures short { result ≤ len + 2 }
 {
@@ -67,7 +67,7 @@ fn put_whole(front: &[u8; FRONT_BYTES], out: &mut [u8])
 #[inline(always)]
 fn put_digit(digit: u32, at: usize, out: &mut [u8]) -> usize
     requires digit { digit < 10 }
-    requires room { at < length out.old }
+    requires space { at < length out.old }
     ensures text { take result out.new ≡ take at out.old ++ (48 + digit) ∷ [] }
     ensures end { result ≡ at + 1 }
 {
@@ -79,7 +79,7 @@ fn put_digit(digit: u32, at: usize, out: &mut [u8]) -> usize
 #[inline(always)]
 fn put_two(number: u32, at: usize, out: &mut [u8]) -> usize
     requires two { number < 100 }
-    requires room { at + 2 ≤ length out.old }
+    requires space { at + 2 ≤ length out.old }
     ensures text { take result out.new ≡ take at out.old ++ two_digits number }
     ensures end { result ≡ at + 2 }
 {
@@ -107,7 +107,7 @@ static PAIRS: [u8; 200] = *b"\
 #[inline(always)]
 fn put_up_to_three(number: u32, at: usize, out: &mut [u8]) -> usize
     requires three { number < 1000 }
-    requires room { at + 3 ≤ length out.old }
+    requires space { at + 3 ≤ length out.old }
     ensures text { take result out.new ≡ take at out.old ++ decimal number }
     ensures short { result ≤ at + 3 }
 {
@@ -126,7 +126,7 @@ fn put_up_to_three(number: u32, at: usize, out: &mut [u8]) -> usize
 #[inline(always)]
 fn put_up_to_five(number: u32, at: usize, out: &mut [u8]) -> usize
     requires five { number < 100000 }
-    requires room { at + 5 ≤ length out.old }
+    requires space { at + 5 ≤ length out.old }
     ensures text { take result out.new ≡ take at out.old ++ decimal number }
     ensures short { result ≤ at + 5 }
 {
@@ -144,7 +144,7 @@ fn put_up_to_five(number: u32, at: usize, out: &mut [u8]) -> usize
 #[inline(always)]
 fn put_five(number: u32, at: usize, out: &mut [u8]) -> usize
     requires five { number < 100000 }
-    requires room { at + 5 ≤ length out.old }
+    requires space { at + 5 ≤ length out.old }
     ensures text { take result out.new ≡ take at out.old ++ five_digits number }
     ensures end { result ≡ at + 5 }
 {
@@ -159,7 +159,7 @@ fn put_five(number: u32, at: usize, out: &mut [u8]) -> usize
 #[tactic(auto, using(crate::proofs::DigitLemmas::digit_rules))]
 #[inline(always)]
 pub fn put_number_quickly(number: u32, at: usize, out: &mut [u8]) -> usize
-    requires room { at + MOST_DIGITS ≤ length out.old }
+    requires space { at + MOST_DIGITS ≤ length out.old }
     ensures text { take result out.new ≡ take at out.old ++ decimal number }
     ensures short { result ≤ at + MOST_DIGITS }
 {
@@ -173,7 +173,7 @@ pub fn put_number_quickly(number: u32, at: usize, out: &mut [u8]) -> usize
 /// Writes a number by `itoa`, which writes backwards: so its digits are counted first.
 #[inline(always)]
 pub fn put_number(number: u32, at: usize, out: &mut [u8]) -> usize
-    requires room { at + MOST_DIGITS ≤ length out.old }
+    requires space { at + MOST_DIGITS ≤ length out.old }
     ensures text { take result out.new ≡ take at out.old ++ decimal number }
     ensures end { result ≡ at + length (decimal number) }
     ensures short { result ≤ at + MOST_DIGITS }

@@ -5,10 +5,10 @@ use Rattle.check_core.proofs.hexed.bytes_of.Given as goal
 -- the digits of the bytes so far, and those to come
 abbrev pub invariant-pairs : goal.invariant-pairs
 invariant-pairs l = record {
-  text : encode_lower (take l.count l.room) ++ l.rest ≡ l.word;
+  text : encode_lower (take l.count l.buffer) ++ l.rest ≡ l.word;
   size : 2 * l.count + length l.rest ≡ length l.word;
-  bytes : IsBytes (take l.count l.room);
-  full : length l.room ≡ 64;
+  bytes : IsBytes (take l.count l.buffer);
+  full : length l.buffer ≡ 64;
 }
 
 abbrev pub decreases-pairs : goal.decreases-pairs

@@ -15,7 +15,7 @@ returns-in_err-count g c =
 pub overflow_add-written : goal.overflow_add-written
 overflow_add-written g c =
     let had = c.loop-rest.invariant.0 in
-    omega (arith, had.counted, ap length had.split, length-append had.taken c.loop-rest.rest.now, c.in_ok-count.ensures.count, c.requires.room)
+    omega (arith, had.counted, ap length had.split, length-append had.taken c.loop-rest.rest.now, c.in_ok-count.ensures.count, c.requires.counted)
 
 pub loop-rest-smaller : goal.loop-rest-smaller
 loop-rest-smaller g c =

@@ -5,12 +5,12 @@ use Rattle.model_core.specs.Machine.{Machine, choice}
 use Rattle.model_core.specs.Slabs.{reaped}
 use Rattle.slab_tables.specs.Content.{layout_numbers}
 use Rattle.machine_changes.specs.Shows.{ShowsMachine}
-use Rattle.machine_changes.specs.Room.{HasRoom}
+use Rattle.machine_changes.specs.Fitting.{WouldFit}
 use Rattle.machine_changes.specs.Changes.{IsReturned}
 use Rattle.slab_core.specs.Calls.{idle_at}
-use Rattle.slab_core.specs.Room.{HasFreeBlock}
+use Rattle.slab_core.specs.Fitting.{HasFreeBlock}
 use Rattle.slab_core.proofs.GrowNeed.{choice_above, need_none, unmoved, grown_by_need, chosen_by_need, grown_at_once}
-use Rattle.slab_core.proofs.ReserveByNeed.{found_choice, next_choice, room_free, is_there}
+use Rattle.slab_core.proofs.ReserveByNeed.{found_choice, next_choice, fits_free, is_there}
 use Rattle.slab_core.proofs.ReturnMany.{spares_twice}
 use Rattle.slab_core.proofs.Slabs.grow.Goals as goal
 use Rattle.slab_core.proofs.Slabs.grow.Goals.{then-order-via-then-order, then-order-via-else-order+then-not-fits_by_need}
@@ -74,8 +74,8 @@ returns-clause-spares c =
 pub returns-clause-refused : goal.returns-clause-refused
 returns-clause-refused c =
     let x = c.args in
-    let room : HasRoom x.space.now x.buddy.now x.self.now x.cache.tenant (layout_numbers x.cache.kept.now).order =
-    subst (λ k. HasRoom x.space.now x.buddy.now x.self.now x.cache.tenant k) c.order-order.ensures
-    (unmoved (λ r b s. HasRoom r b s x.cache.tenant c.order-order.result) c.in_default.ensures.refused (c.fits_by_need.ensures.room.0 c.if-not-fits_by_need.false)) in
+    let fits : WouldFit x.space.now x.buddy.now x.self.now x.cache.tenant (layout_numbers x.cache.kept.now).order =
+    subst (λ k. WouldFit x.space.now x.buddy.now x.self.now x.cache.tenant k) c.order-order.ensures
+    (unmoved (λ r b s. WouldFit r b s x.cache.tenant c.order-order.result) c.in_default.ensures.refused (c.fits_by_need.ensures.fits.0 c.if-not-fits_by_need.false)) in
     is_there c.make_slab-2.result _
-    (c.make_slab-2.ensures.free.1 (room_free c.laws_with.ensures.steady (returned c) c.give_back_all.ensures.agree room))
+    (c.make_slab-2.ensures.free.1 (fits_free c.laws_with.ensures.steady (returned c) c.give_back_all.ensures.agree fits))

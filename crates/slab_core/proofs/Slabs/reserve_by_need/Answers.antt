@@ -7,11 +7,11 @@ use Rattle.model_core.specs.Slabs.{reaped}
 use Rattle.machine_changes.specs.Shows.{ShowsMachine}
 use Rattle.machine_changes.specs.Keeps.{Spares}
 use Rattle.machine_changes.specs.Changes.{IsReturned}
-use Rattle.machine_changes.specs.Room.{HasRoom}
+use Rattle.machine_changes.specs.Fitting.{WouldFit}
 use Rattle.slab_core.specs.Calls.{idle_at}
-use Rattle.slab_core.specs.Room.{HasFreeBlock}
+use Rattle.slab_core.specs.Fitting.{HasFreeBlock}
 use Rattle.slab_core.proofs.ReturnMany.{spares_twice}
-use Rattle.slab_core.proofs.ReserveByNeed.{found_choice, found_step, free_room, next_choice, no_choice, refused_step, is_there, IsServedThen, served_then}
+use Rattle.slab_core.proofs.ReserveByNeed.{found_choice, found_step, free_fits, next_choice, no_choice, refused_step, is_there, IsServedThen, served_then}
 use Rattle.slab_core.proofs.Slabs.reserve_by_need.Goals as goal
 
 -- found at once
@@ -24,11 +24,11 @@ returns-in-Some-clause-shows c = λ m h.
     (sym (found_step c.args.self.now.top c.args.k m c.requires.order c.in-Some.first (c.in-Some.ensures.answer m h)))
     (c.in-Some.ensures.shows m h)
 
-pub returns-in-Some-clause-room : goal.returns-in-Some-clause-room
-returns-in-Some-clause-room c =
+pub returns-in-Some-clause-fits : goal.returns-in-Some-clause-fits
+returns-in-Some-clause-fits c =
     let found : true ≡ true = refl in (
-      λ e. free_room c.args.space.now c.args.buddy.now c.args.self.now c.args.t c.args.k c.requires.agree (c.in-Some.ensures.free.0 e),
-      λ room. found,
+      λ e. free_fits c.args.space.now c.args.buddy.now c.args.self.now c.args.t c.args.k c.requires.agree (c.in-Some.ensures.free.0 e),
+      λ fits. found,
     )
 
 pub fits_by_need-requires-clause-none : goal.fits_by_need-requires-clause-none
@@ -54,11 +54,11 @@ returns-then-not-fits_by_need-clause-shows c = λ m h.
     (subst (ShowsMachine c.args.space.now c.args.buddy.now c.args.self.now c.args.t)
     (sym (refused_step c.args.self.now.top c.args.k m c.requires.order (c.in_default.ensures.answer m h) (still_none c m h))) h))
 
-pub returns-then-not-fits_by_need-clause-room : goal.returns-then-not-fits_by_need-clause-room
-returns-then-not-fits_by_need-clause-room c = (
+pub returns-then-not-fits_by_need-clause-fits : goal.returns-then-not-fits_by_need-clause-fits
+returns-then-not-fits_by_need-clause-fits c = (
   λ e. absurd (false≢true e),
-  λ room. sym c.if-not-fits_by_need.true
-      ∙ c.fits_by_need.ensures.room.1 (subst (λ b. HasRoom c.args.space.now b c.args.self.now c.args.t c.args.k) (sym c.in_default.ensures.refused) room),
+  λ fits. sym c.if-not-fits_by_need.true
+      ∙ c.fits_by_need.ensures.fits.1 (subst (λ b. WouldFit c.args.space.now b c.args.self.now c.args.t c.args.k) (sym c.in_default.ensures.refused) fits),
 )
 
 -- found once they are given back
@@ -68,16 +68,16 @@ gone c =
     subst (λ b. IsReturned c.args.space.now c.give_back_all.new.space b c.give_back_all.new.buddy c.args.self.now c.give_back_all.new.self c.args.t
     (idle_at (λ i. true) c.args.space.now c.args.self.now c.args.t)) c.in_default.ensures.refused (rw c.fits_by_need.ensures.same at c.give_back_all.ensures.returned)
 
-room : (c : goal.After-reserve-2) → HasRoom c.args.space.now c.args.buddy.now c.args.self.now c.args.t c.args.k
-room c =
-    subst (λ b. HasRoom c.args.space.now b c.args.self.now c.args.t c.args.k) c.in_default.ensures.refused
-    (c.fits_by_need.ensures.room.0 c.if-not-fits_by_need.false)
+fits : (c : goal.After-reserve-2) → WouldFit c.args.space.now c.args.buddy.now c.args.self.now c.args.t c.args.k
+fits c =
+    subst (λ b. WouldFit c.args.space.now b c.args.self.now c.args.t c.args.k) c.in_default.ensures.refused
+    (c.fits_by_need.ensures.fits.0 c.if-not-fits_by_need.false)
 
 served : (c : goal.After-reserve-2) → IsServedThen c.args.space.now c.give_back_all.new.space c.args.buddy.now c.reserve-2.new.buddy
     c.args.self.now c.give_back_all.new.self c.args.t c.args.k c.reserve-2.result
 served c =
     served_then c.laws_with.ensures.steady (gone c) c.laws_with.ensures.parts.slabs c.requires.agree c.give_back_all.ensures.agree
-    c.requires.order (room c) c.in_default.ensures.answer c.reserve-2.result c.reserve-2.ensures.answer c.reserve-2.ensures.shows c.reserve-2.ensures.free
+    c.requires.order (fits c) c.in_default.ensures.answer c.reserve-2.result c.reserve-2.ensures.answer c.reserve-2.ensures.shows c.reserve-2.ensures.free
 
 pub returns-clause-answer : goal.returns-clause-answer
 returns-clause-answer c = (served c).answer
@@ -85,8 +85,8 @@ returns-clause-answer c = (served c).answer
 pub returns-clause-shows : goal.returns-clause-shows
 returns-clause-shows c = (served c).shows
 
-pub returns-clause-room : goal.returns-clause-room
-returns-clause-room c = (λ e. room c, λ r. (served c).some)
+pub returns-clause-fits : goal.returns-clause-fits
+returns-clause-fits c = (λ e. fits c, λ r. (served c).some)
 
 pub returns-clause-refused : goal.returns-clause-refused
 returns-clause-refused c = is_there c.reserve-2.result _ (served c).some

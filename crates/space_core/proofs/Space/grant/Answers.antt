@@ -21,7 +21,7 @@ invariant_of-self c =
     let banks = ap (shown_banks s.unit) (rw c.from.ensures at c.clear_bank.ensures.bytes) ∙ shown-set s.unit (stored_bytes c.self.inside.banks) c.in_ok-m.m [] in
     rw (c.from-2.ensures, c.from-3.ensures, rw c.from-4.ensures at c.set_slot.ensures, banks) (
       granted-IsSpace facts c.args.t c.least_slot-u.result c.in_ok-m.m tenant short within least.vacant unowned,
-      record { few = c.self.invariant.1.few; size = c.self.invariant.1.size; room = c.clear_bank.ensures.room s.unit c.self.invariant.1.room; blank = c.self.invariant.1.blank },
+      record { few = c.self.invariant.1.few; size = c.self.invariant.1.size; capacity = c.clear_bank.ensures.capacity s.unit c.self.invariant.1.capacity; blank = c.self.invariant.1.blank },
     )
 
 pub returns-clause-ok : goal.returns-clause-ok

@@ -22,8 +22,8 @@ copy_bank-requires-clause-apart c =
     let found = rw (← c.self.view_is) at (sym c.least_unowned.ensures.value ∙ c.in_ok-to.ensures.ok_part) in
     rw (c.from-source.ensures, c.from-target.ensures) (not_unowned c.self.invariant.0 c.args.t c.args.slot c.in_ok-from.from c.in_ok-to.to under (unowned-from_position s.owners c.in_ok-to.to found))
 
-pub copy_bank-requires-clause-room : goal.copy_bank-requires-clause-room
-copy_bank-requires-clause-room c =
+pub copy_bank-requires-clause-capacity : goal.copy_bank-requires-clause-capacity
+copy_bank-requires-clause-capacity c =
     let s = the_view c.self.inside in
     let facts = c.self.invariant.0 in
     let m = c.in_ok-from.from in
@@ -32,7 +32,7 @@ copy_bank-requires-clause-room c =
     let within : m < length stored = omega (arith, facts.paired, superblock-lt facts c.args.t c.args.slot m under, length-shown s.unit stored) in
     let short = stored-short s.unit stored m within in
     let size = facts.sized m (omega (arith, within, length-shown s.unit stored)) in
-    rw c.from-source.ensures (λ k d lt. omega (arith, short, size, c.self.invariant.1.room k d lt))
+    rw c.from-source.ensures (λ k d lt. omega (arith, short, size, c.self.invariant.1.capacity k d lt))
 
 -- the owner of the old superblock passes to the one that had none
 owner_passes : (owners : List (Option Owner)) (from to : ℕ) (o : Owner) → from < length owners → to < length owners → owner_at owners from ≡ Some o → owner_at owners to ≡ None → swap owners from to ≡ set (set owners from None) to (Some o)
@@ -57,7 +57,7 @@ invariant_of-self c =
     let owners = rw (c.from-source.ensures, c.from-target.ensures) at c.swap.ensures.items ∙ owner_passes s.owners from to (owned_by c.args.t c.args.slot) within below owned unowned in
     rw (c.from-source.ensures, c.from-target.ensures, c.set_slot.ensures, banks, owners) (
       moved-IsSpace facts c.args.t c.args.slot from to under below unowned,
-      record { few = c.self.invariant.1.few; size = c.self.invariant.1.size; room = c.copy_bank.ensures.room s.unit c.self.invariant.1.room; blank = c.self.invariant.1.blank },
+      record { few = c.self.invariant.1.few; size = c.self.invariant.1.size; capacity = c.copy_bank.ensures.capacity s.unit c.self.invariant.1.capacity; blank = c.self.invariant.1.blank },
     )
 
 pub returns-clause-ok : goal.returns-clause-ok

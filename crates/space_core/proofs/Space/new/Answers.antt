@@ -20,7 +20,7 @@ invariant_of-result c =
     let zeros = c.in_ok-zeros.ensures.items_if_clones_equal (λ y same. search rules) in
     rw (owners, slots, banks, marks) (
       empty_space-IsSpace unit c.args.superblocks c.args.tenants (omega (arith, most)) (omega (arith, most)) c.requires.superblocks c.requires.tenants,
-      record { few = omega arith; size = (let whole : unit ≡ 2 ^ 12 * 2 ^ c.args.order = omega (arith, most) in whole ∙ sym (pow-add 2 12 c.args.order)); room = c.in_ok-banks.ensures.room; blank = zeros },
+      record { few = omega arith; size = (let whole : unit ≡ 2 ^ 12 * 2 ^ c.args.order = omega (arith, most) in whole ∙ sym (pow-add 2 12 c.args.order)); capacity = c.in_ok-banks.ensures.capacity; blank = zeros },
     )
 
 pub returns : goal.returns

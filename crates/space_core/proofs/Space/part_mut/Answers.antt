@@ -37,11 +37,11 @@ invariant_of-self-lent c = λ w.
     let here = shown-read s.unit banks c.args.m read short c.index_mut-bank.ensures.value full in
     let size : read.len ≡ s.unit = read.ok.0 ∙ length-shown_read facts banks (sym whole) c.args.m read owned (ap (λ (bs : List (List ℕ)). get_or bs c.args.m []) (sym whole) ∙ here) in
     let same = shown-written s.unit banks c.args.m read c.args.from w (omega (arith, facts.some)) (omega arith) ∙ ap (λ (bs : List (List ℕ)). set bs c.args.m (put_within read.items c.args.from w)) whole in
-    let room = subst (λ (bank : Vec ℕ). s.unit ≤ bank.cap) (sym c.index_mut-bank.ensures.value) (c.write_out.ensures.room c.args.m read short) in
+    let capacity = subst (λ (bank : Vec ℕ). s.unit ≤ bank.cap) (sym c.index_mut-bank.ensures.value) (c.write_out.ensures.capacity c.args.m read short) in
     let long = length-put_within read.items c.args.from w (omega (arith, read.ok.0)) in (
       subst (λ bs. IsSpace (with_banks s bs)) (sym same) (with_bank-IsSpace facts c.args.m has_owner owned (put_within read.items c.args.from w) (long ∙ (sym read.ok.0 ∙ size))),
       record {
-        room = All-set (λ (bank : Vec ℕ). s.unit ≤ bank.cap) banks c.args.m (with_items_from read c.args.from w) room c.write_out.ensures.room;
+        capacity = All-set (λ (bank : Vec ℕ). s.unit ≤ bank.cap) banks c.args.m (with_items_from read c.args.from w) capacity c.write_out.ensures.capacity;
         blank = c.self.invariant.1.blank;
         few = c.self.invariant.1.few;
         size = c.self.invariant.1.size;

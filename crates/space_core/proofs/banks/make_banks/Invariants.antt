@@ -4,4 +4,4 @@ use Rattle.space_core.specs.Storage.{HaveCapacity}
 use Rattle.space_core.proofs.banks.make_banks.Given as goal
 
 abbrev pub invariant-loop : goal.invariant-loop
-invariant-loop l = record { bytes : stored_bytes l.banks ≡ replicate l.counter []; room : HaveCapacity l.unit l.banks.items }
+invariant-loop l = record { bytes : stored_bytes l.banks ≡ replicate l.counter []; capacity : HaveCapacity l.unit l.banks.items }

@@ -15,7 +15,7 @@ loop-i-preserved c =
     let items : c.resize.new.self.items ≡ replicate {A = ℕ} ((c.loop-i.i + 1) * 1536) 0 =
     rw (c.unwrap.ensures, c.loop-i.invariant.items) at c.resize.ensures.items
     ∙ grown (c.loop-i.i * 1536) ((c.loop-i.i + 1) * 1536) 0 c.loop-i.bytes.len (omega arith) (c.loop-i.bytes.ok.0 ∙ ap length c.loop-i.invariant.items) in
-    record { items = items; room = omega (arith, c.loop-i.invariant.room, c.resize.ensures.capacity) }
+    record { items = items; capacity = omega (arith, c.loop-i.invariant.capacity, c.resize.ensures.capacity) }
 
 pub returns-clause-items : goal.returns-clause-items
 returns-clause-items c =

@@ -11,7 +11,7 @@ invariant-loop-i l = record {
   superblocks : l.self.superblocks ≡ l.initial.self.superblocks;
   tenants : l.self.tenants ≡ l.initial.self.tenants;
   refused : l.self.refused.items ≡ l.initial.self.refused.items;
-  room : vec_len l.self.columns ≡ vec_len l.initial.self.columns;
+  most_columns : vec_len l.self.columns ≡ vec_len l.initial.self.columns;
   passed : (j : ℕ) → j < l.i → slice_get l.self.columns.items j ≡ slice_get l.initial.self.columns.items (2 * j + 1);
   ahead : (j : ℕ) → 2 * l.i ≤ j → slice_get l.self.columns.items j ≡ slice_get l.initial.self.columns.items j;
 }

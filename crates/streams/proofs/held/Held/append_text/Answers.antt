@@ -15,11 +15,11 @@ pub returns-clause-appended : goal.returns-clause-appended
 returns-clause-appended g c =
     let len = c.self.inside.len in
     let n = c.write-len.result in
-    let room = c.deref_mut.result.now in
-    let text = c.write-len.new.room in
-    let size : length (take len room) ≡ len = length-take-le len room (omega (arith, c.self.invariant, ap length c.deref_mut.ensures.value)) in
+    let buffer = c.deref_mut.result.now in
+    let text = c.write-len.new.buffer in
+    let size : length (take len buffer) ≡ len = length-take-le len buffer (omega (arith, c.self.invariant, ap length c.deref_mut.ensures.value)) in
     let fits : n ≤ length text = omega (arith, c.write-len.ensures.short) in
-    ap (take (len + n)) (with_items_is c.self.inside.bytes (take len room ++ (text ++ _)) (search (rules, places)))
-    ∙ taken (take len room) text _ len n size fits
-    ∙ ap (λ xs. take len room ++ xs) c.write-len.ensures.text
+    ap (take (len + n)) (with_items_is c.self.inside.bytes (take len buffer ++ (text ++ _)) (search (rules, places)))
+    ∙ taken (take len buffer) text _ len n size fits
+    ∙ ap (λ xs. take len buffer ++ xs) c.write-len.ensures.text
     ∙ ap (λ xs. xs ++ g.T.Text.bytes c.args.text) (ap (take len) c.deref_mut.ensures.value ∙ ap (λ (h : HeldBytes). h.bytes) c.self.view_is)

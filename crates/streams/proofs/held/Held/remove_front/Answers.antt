@@ -8,14 +8,14 @@ use Rattle.streams.proofs.held.Held.remove_front.Goals as goal
 
 pub returns : goal.returns
 returns c =
-    let room = c.as_mut_slice.result.now in
+    let buffer = c.as_mut_slice.result.now in
     let len = c.self.inside.len in
     let left = len - c.args.count in
     let same : left ≡ 0 + left = omega arith in
-    let within : left ≤ length (drop c.args.count room) = omega (arith, length-drop c.args.count room) in
+    let within : left ≤ length (drop c.args.count buffer) = omega (arith, length-drop c.args.count buffer) in
     ap (take left) (with_items_is c.self.inside.bytes c.copy_within.new.self (search (rules, places)) ∙ c.copy_within.ensures.after)
-    ∙ ap (λ n. take n (paste room 0 (drop c.args.count room) left)) same
-    ∙ take-paste room 0 (drop c.args.count room) left (omega arith) within
-    ∙ between_is room c.args.count len
+    ∙ ap (λ n. take n (paste buffer 0 (drop c.args.count buffer) left)) same
+    ∙ take-paste buffer 0 (drop c.args.count buffer) left (omega arith) within
+    ∙ between_is buffer c.args.count len
     ∙ ap (λ xs. drop c.args.count (take len xs)) c.as_mut_slice.ensures.value
     ∙ ap (λ (h : HeldBytes). drop c.args.count h.bytes) c.self.view_is

@@ -1,5 +1,0 @@
-use Rattle.slab_core.proofs.RoomFree.{IsNoneTo}
-use Rattle.slab_core.proofs.room.has_free.Given as goal
-
-abbrev pub invariant-loop-order : goal.invariant-loop-order
-invariant-loop-order l = IsNoneTo l.buddy l.t l.k l.order

@@ -1,0 +1,232 @@
+//! Whether a block would fit, empty slabs left out of account.
+
+ghost use Rattle.std.specs.Prelude.{◌≡◌, ◌↔◌, ℕ, ◌-◌, ◌*◌, ◌^◌, ◌<◌, ◌≤◌, true, false, is_some, length, MatchOption};
+ghost use Rattle.model_core.specs.Machine.{Machine, choice};
+ghost use Rattle.model_core.specs.Slabs.{reaped};
+ghost use Rattle.model_core.specs.declared.limits.TheConstants.{MOST_CACHES, MOST_ORDER};
+ghost use Rattle.machine_changes.specs.Fitting.{WouldFit};
+ghost use Rattle.machine_changes.specs.Shows.{ShowsMachine, Agree};
+ghost use Rattle.machine_changes.specs.Slots.{HoldTogether};
+ghost use Rattle.machine_changes.specs.Steady.{IsSteady};
+ghost use Rattle.klist_core.specs.Places.{IsEmpty};
+ghost use Rattle.slab_tables.specs.Content.{IsTenant, head_of};
+ghost use Rattle.buddy_core.specs.Content.{BuddyLaws, holding_of, taken_of};
+ghost use Rattle.slab_core.specs.Calls.{idle_at};
+ghost use Rattle.slab_core.specs.Fitting.{HasFreeBlock, IsUnusedFrame, IsBorder, IsUnusedTo, IsWhole, IsUnusedBlock, WouldFitAround, WouldFitInSlabs, AreRefused, has_number};
+
+use crate::Slabs;
+use crate::block_set::{MOST_WORDS, add_block, has_block};
+use crate::objects::machine_frame_in;
+use buddy_core::Buddy;
+use slab_tables::{Kind, Tables};
+use space_core::Space;
+
+/// Whether tenant `t` has a free block of order `k` or more.
+fn has_free(buddy: &Buddy, t: u8, k: u8) -> bool
+    requires tenant { t < length buddy.now.tenants }
+    requires laws { BuddyLaws buddy.now }
+    ensures { (result ≡ true) ↔ HasFreeBlock buddy.now t k }
+{
+    for order in k..=buddy.order() {
+        if buddy.free_count(t, order) > 0 {
+            return true;
+        }
+    }
+    false
+}
+
+impl Slabs {
+    /// Whether a block of order `k` would be found for tenant `t` once all its empty slabs were given back.
+    ///
+    /// Where a block is free that is large enough, or no slab is empty, counts and the heads of lists tell. Else only the
+    /// frames of the blocks of order `k` in which empty slabs begin are looked at.
+    pub fn would_fit(&self, space: &Space, buddy: &Buddy, t: u8, k: u8) -> bool
+        requires tenant { t < length space.now.slots }
+        requires order { k ≤ self.now.top }
+        requires agree { Agree space.now buddy.now self.now }
+        ensures fits { (result ≡ true) ↔ WouldFit space.now buddy.now self.now t k }
+        ensures answer { (m : Machine) → ShowsMachine space.now buddy.now self.now t m
+            → result ≡ is_some (choice self.now.top (reaped m) k) }
+    {
+        self.laws_with(space, buddy, t);
+        let view = View {
+            tables: &self.tables,
+            space,
+            buddy,
+            tenant: t,
+        };
+        has_free(buddy, t, k) || view.would_fit_in_slabs(&mut [0; MOST_WORDS], k)
+    }
+
+    /// As [`Slabs::would_fit`], if no block is free that is large enough. It has the set that a search needs.
+    #[cold]
+    #[inline(never)]
+    pub(crate) fn fits_by_need(&mut self, space: &Space, buddy: &Buddy, t: u8, k: u8) -> bool
+        requires tenant { t < length space.now.slots }
+        requires order { k ≤ self.old.top }
+        requires agree { Agree space.now buddy.now self.old }
+        requires none { HasFreeBlock buddy.now t k → ⊥ }
+        ensures fits { (result ≡ true) ↔ WouldFit space.now buddy.now self.old t k }
+        ensures answer { (m : Machine) → ShowsMachine space.now buddy.now self.old t m
+            → result ≡ is_some (choice self.old.top (reaped m) k) }
+        ensures same { self.new ≡ self.old }
+    {
+        self.laws_with(space, buddy, t);
+        let view = View {
+            tables: &self.tables,
+            space,
+            buddy,
+            tenant: t,
+        };
+        view.would_fit_in_slabs(&mut self.refused, k)
+    }
+}
+
+/// What a search reads: the parts, and the tenant for whom it is made.
+#[derive(Clone, Copy)]
+struct View<'a> {
+    tables: &'a Tables,
+    space: &'a Space,
+    buddy: &'a Buddy,
+    tenant: u8,
+}
+
+impl View<'_> {
+    /// Whether a block of order `k` would fit around an empty slab.
+    fn would_fit_in_slabs(self, refused: &mut [u64], k: u8) -> bool
+        requires tenant { self.tenant < length self.space.now.slots }
+        requires order { k ≤ self.tables.now.top }
+        requires words { length self.tables.now.lists.places ≤ 64 * length refused.old }
+        requires parts { HoldTogether self.space.now self.buddy.now self.tables.now }
+        requires steady { IsSteady self.space.now self.buddy.now self.tables.now self.tenant }
+        ensures fits { (result ≡ true) ↔ WouldFitInSlabs self.entry.space.now self.entry.buddy.now self.entry.tables.now self.entry.tenant k }
+        ensures words { length refused.new ≡ length refused.old }
+    {
+        self.has_empty_slab() && self.would_fit_around(refused, k)
+    }
+
+    /// Whether a slab is empty.
+    fn has_empty_slab(self) -> bool
+        requires { IsTenant self.tables.now self.tenant }
+        ensures { (result ≡ false) ↔ ((c : ℕ) → c < MOST_CACHES
+            → IsEmpty self.entry.tables.now.lists.places (head_of self.entry.tenant c 2)) }
+    {
+        self.tables.laws();
+        for c in 0..self.tables.caches_below(self.tenant) {
+            if self.tables.first(self.tenant, c, Kind::Empty).is_some() {
+                return true;
+            }
+        }
+        false
+    }
+
+    /// Whether a block of order `k` would fit around an empty slab: each block in which one begins is walked.
+    #[inline(never)]
+    fn would_fit_around(self, refused: &mut [u64], k: u8) -> bool
+        requires tenant { self.tenant < length self.space.now.slots }
+        requires order { k ≤ self.tables.now.top }
+        requires words { length self.tables.now.lists.places ≤ 64 * length refused.old }
+        requires parts { HoldTogether self.space.now self.buddy.now self.tables.now }
+        requires steady { IsSteady self.space.now self.buddy.now self.tables.now self.tenant }
+        ensures fits { (result ≡ true) ↔ WouldFitInSlabs self.entry.space.now self.entry.buddy.now self.entry.tables.now self.entry.tenant k }
+        ensures words { length refused.new ≡ length refused.old }
+    {
+        // Blocks that have been walked, so that none is walked once more for another cache.
+        let words = refused.len().div_ceil(1 << k);
+        let refused = &mut refused[..words];
+        refused.fill(0);
+        for c in 0..self.tables.caches_below(self.tenant) {
+            if self.would_fit_in_cache(refused, c, k) {
+                return true;
+            }
+        }
+        false
+    }
+
+    /// As `would_fit_around`, for cache `c` alone. It skips the blocks that were refused, and adds those that it refuses.
+    fn would_fit_in_cache(self, refused: &mut [u64], c: u32, k: u8) -> bool
+        requires tenant { self.tenant < length self.space.now.slots }
+        requires cache { c < MOST_CACHES }
+        requires order { k ≤ self.tables.now.top }
+        requires words { length self.tables.now.lists.places ≤ 64 * length refused.old * 2 ^ k }
+        requires parts { HoldTogether self.space.now self.buddy.now self.tables.now }
+        requires steady { IsSteady self.space.now self.buddy.now self.tables.now self.tenant }
+        requires refused { AreRefused self.space.now self.buddy.now self.tables.now self.tenant k (has_number refused.old) }
+        ensures fits { (result ≡ true) ↔ WouldFitAround self.entry.space.now self.entry.buddy.now self.entry.tables.now self.entry.tenant c k }
+        ensures words { length refused.new ≡ length refused.old }
+        ensures refused { AreRefused self.entry.space.now self.entry.buddy.now self.entry.tables.now self.entry.tenant k
+            (has_number refused.new) }
+    {
+        let mut next = self.tables.first(self.tenant, c, Kind::Empty);
+        while let Some((slab, machine_frame)) = next {
+            let number = slab >> k;
+            if !has_block(refused, number) {
+                if self.is_unused_block(number << k, k) {
+                    return true;
+                }
+                add_block(refused, number);
+            }
+            next = self.tables.lists().after(machine_frame);
+        }
+        false
+    }
+
+    /// Whether no frame of the block of order `k` at frame `first` is taken, unless by an empty slab.
+    fn is_unused_block(self, first: u32, k: u8) -> bool
+        requires tenant { self.tenant < length self.space.now.slots }
+        requires first { first < 65536 }
+        requires block { IsWhole self.buddy.now self.tenant first k }
+        requires parts { HoldTogether self.space.now self.buddy.now self.tables.now }
+        requires steady { IsSteady self.space.now self.buddy.now self.tables.now self.tenant }
+        ensures { (result ≡ true) ↔ IsUnusedBlock self.entry.space.now self.entry.buddy.now self.entry.tables.now self.entry.tenant first k }
+    {
+        let order = self.buddy.order();
+        let orders = self.buddy.orders_under(self.tenant, first >> order);
+        let end = first + (1 << k);
+        let mut frame = first;
+        while frame < end {
+            let begins = orders[(frame % (1 << order)) as usize];
+            let Some(next) = self.past_unused(frame, begins) else {
+                return false;
+            };
+            frame = next;
+        }
+        true
+    }
+
+    /// A frame up to which no frame from this one on is taken, unless by an empty slab. None where this one is taken
+    /// otherwise. `begins` is the order of the taken block that begins here.
+    #[inline(always)]
+    fn past_unused(self, frame: u32, begins: Option<u8>) -> Option<u32>
+        requires tenant { self.tenant < length self.space.now.slots }
+        requires frame { frame < 2 ^ 32 - 1 }
+        requires border { IsBorder self.buddy.now self.tenant frame }
+        requires begins { begins ≡ taken_of (holding_of self.tenant self.buddy.now) frame }
+        requires parts { HoldTogether self.space.now self.buddy.now self.tables.now }
+        requires steady { IsSteady self.space.now self.buddy.now self.tables.now self.tenant }
+        ensures { MatchOption result (IsUnusedFrame self.entry.space.now self.entry.buddy.now self.entry.tables.now self.entry.tenant frame → ⊥)
+            (λ next. IsUnusedTo self.entry.space.now self.entry.buddy.now self.entry.tables.now self.entry.tenant frame next) }
+    {
+        let Some(order) = begins else {
+            return Some(frame + 1);
+        };
+        if self.is_idle(frame) {
+            Some(frame + (1 << order))
+        } else {
+            None
+        }
+    }
+
+    /// Whether an empty slab begins at a frame.
+    fn is_idle(self, frame: u32) -> bool
+        requires tenant { self.tenant < length self.space.now.slots }
+        requires machine_frames { length self.tables.now.lists.places ≡ length self.space.now.owners * 2 ^ self.tables.now.top }
+        ensures { result ≡ idle_at (λ i. true) self.entry.space.now self.entry.tables.now self.entry.tenant frame }
+    {
+        match machine_frame_in(self.tables, self.space, self.tenant, frame) {
+            None => false,
+            Some(machine_frame) => self.tables.place_of(machine_frame).is_some()
+                && self.tables.kept_of(machine_frame).live == 0,
+        }
+    }
+}
