@@ -84,17 +84,7 @@ impl Space {
         self.bytes(m)[at as usize]
     }
 
-    /// Writes one byte at a place of tenant `t`.
-    pub fn set_byte(&mut self, t: u8, place: u32, byte: u8)
-        requires tenant { t < length self.old.slots }
-        requires held { IsSome (superblock_at self.old.slots t (place / self.old.unit)) }
-        ensures { self.new ≡ with_byte self.old t place byte }
-    {
-        let m = self.held(t, self.slot_of(place));
-        self.set_byte_in(m, t, place, byte);
-    }
-
-    /// As [`Space::set_byte`], where the caller knows that superblock `m` stands there; `t` is named for the contract alone.
+    /// Writes one byte at a place of tenant `t`, which lies in superblock `m`; `t` is named for the contract alone.
     #[inline(always)]
     pub fn set_byte_in(&mut self, m: u16, t: u8, place: u32, byte: u8)
         requires { superblock_at self.old.slots t (place / self.old.unit) ≡ Some m }
