@@ -33,7 +33,7 @@ use Rattle.check_core.proofs.CheckLemmas.{Line, breaks, by_reply, goes_on}
 use Rattle.check_core.proofs.CountLemmas.{as_many_lines}
 use Rattle.check_core.proofs.FormLemmas.{bind_some}
 use Rattle.check_core.proofs.ReplyLemmas.{reply_takes, reply_again}
-use Rattle.check_core.proofs.TextLemmas.{lines_in, text_first, text_fits}
+use Rattle.check_core.proofs.TextLemmas.{text_first, text_fits}
 
 -- ---- the first lines, and what follows them
 

@@ -1,4 +1,4 @@
-use Rattle.std.proofs.Common.{◌≡◌, ℕ, suc, Bool, true, false, Ok, [], ◌∷◌, List, length, length-append, rules, ap, subst, arith}
+use Rattle.std.proofs.Common.{suc, Bool, Ok, [], ◌∷◌, length, length-append, rules, ap, subst, arith}
 use Rattle.streams.specs.declared.feed.Stopped.{Stopped}
 use Rattle.check_core.specs.Checking.{HasGathered}
 use Rattle.check_core.specs.Reading.{IsPartAtOk}

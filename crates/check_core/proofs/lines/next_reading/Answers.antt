@@ -1,8 +1,5 @@
-use Rattle.std.proofs.Common.{List, Option, [], Some, ap, sym, subst, ◌∙◌}
+use Rattle.std.proofs.Common.{[], ap, sym, subst, ◌∙◌}
 use Rattle.std.specs.Io.KnownBytes.{Consumes}
-use Rattle.words_core.specs.declared.event.Event.{Event}
-use Rattle.words_core.specs.declared.event.LineFault.{LineFault}
-use Rattle.check_core.specs.Reading.{IsNextReading}
 use Rattle.check_core.proofs.ReadingLemmas.{next_none, next_some, next_taken}
 use Rattle.check_core.proofs.lines.next_reading.Goals as goal
 

@@ -1,7 +1,5 @@
-use Rattle.std.proofs.Common.{◌≡◌, Option, Some, None, Result, Err, refl, ap, sym, subst, ◌∙◌}
-use Rattle.words_core.specs.declared.reply.Reply.{Reply}
+use Rattle.std.proofs.Common.{Option, Some, Result, Err, ap, sym, subst, ◌∙◌}
 use Rattle.promise_core.specs.declared.promise.Promise.{Promise}
-use Rattle.judge.specs.Adding.{IsAllowedAddition}
 use Rattle.check_core.specs.Checking.{IsTextVerdict}
 use Rattle.check_core.specs.Finding.{broken_by, text_read}
 use Rattle.check_core.proofs.CheckLemmas.{by_reply, no_reply_judged, read_there}

@@ -1,4 +1,4 @@
-use Rattle.std.proofs.Common.{Some, Ok, refl}
+use Rattle.std.proofs.Common.{refl}
 use Rattle.check_core.proofs.Ending.{ended_so}
 use Rattle.check_core.proofs.verdicts.judge_line.Goals as goal
 

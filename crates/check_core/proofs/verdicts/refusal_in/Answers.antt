@@ -1,9 +1,7 @@
-use Rattle.std.proofs.Common.{◌≡◌, Option, Some, refl, ap, sym, ◌∙◌}
+use Rattle.std.proofs.Common.{Some, refl, ap, sym, ◌∙◌}
 use Rattle.words_core.specs.Requests.{reply_to}
 use Rattle.words_core.specs.declared.answer.Answer.TheVariants as Answer
 use Rattle.words_core.specs.declared.reply.Reply.{Reply}
-use Rattle.check_core.specs.Finding.{refusal_told}
-use Rattle.check_core.specs.Forms.{◌>>=◌}
 use Rattle.check_core.specs.Tables.{table_of}
 use Rattle.check_core.proofs.CheckLemmas.{as_answer, as_table, no_refusal_told, read_so, table_refuses_nothing}
 use Rattle.check_core.proofs.verdicts.refusal_in.Goals as goal
