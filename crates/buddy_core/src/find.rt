@@ -12,7 +12,7 @@ use crate::tenant::Tenant;
 use crate::tree;
 
 /// A slot of a tenant, the superblock under it, and the order of a free block there.
-#[derive(Clone, Copy, Debug)]
+#[derive(Clone, Copy)]
 pub struct Source {
     pub slot: u16,
     pub superblock: u16,

@@ -48,7 +48,7 @@ use std::marker::Model;
 pub struct SlotBusy;
 
 /// The buddy systems of all tenants.
-#[derive(Debug, Drop)]
+#[derive(Drop)]
 pub struct Buddy {
     order: u8,
     superblocks: Vec<Superblock>,

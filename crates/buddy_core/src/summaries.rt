@@ -17,7 +17,7 @@ pub const ORDERS: usize = 16;
 
 /// For each order, the groups of a tenant's slots that may have a free block of it: a bit for each group. A bit stays 1 after the
 /// last such block went, until a search finds none.
-#[derive(Debug, Drop)]
+#[derive(Drop)]
 pub struct Summary {
     words: [u32; ORDERS],
 }

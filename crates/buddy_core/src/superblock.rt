@@ -12,7 +12,7 @@ use std::alloc::{AllocError, Global};
 use std::marker::Model;
 
 /// The tree of orders of one superblock, and at each of its frames the order of the taken block that begins there.
-#[derive(Debug, Drop)]
+#[derive(Drop)]
 pub struct Superblock {
     tree: Tree,
     orders: Vec<Option<u8>>,

@@ -9,7 +9,7 @@ use std::alloc::{AllocError, Global};
 use std::marker::Model;
 
 /// The slots of one tenant, and by order how many free and taken blocks it has.
-#[derive(Debug, Drop)]
+#[derive(Drop)]
 pub struct Tenant {
     slots: Vec<Option<u16>>,
     // Nothing is held from this slot on, so no search looks there.

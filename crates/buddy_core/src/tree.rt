@@ -15,7 +15,7 @@ use std::alloc::{AllocError, Global};
 use std::marker::Model;
 
 /// The words of the tree of a superblock of `2^order` frames.
-#[derive(Debug, Drop)]
+#[derive(Drop)]
 pub struct Tree {
     order: u8,
     words: Vec<u16>,

@@ -16,7 +16,7 @@ use std::alloc::{AllocError, Global};
 const VERSION: &str = "2.0.0";
 
 /// What a program that runs a trace tells of itself.
-#[derive(Clone, Copy, Debug)]
+#[derive(Clone, Copy)]
 pub struct Program<'a> {
     /// The word that it is called by.
     pub name: &'a str,

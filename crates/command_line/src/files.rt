@@ -20,7 +20,7 @@ pub fn open<R: Files + Input>(
 }
 
 /// Why a file gives nothing, or nothing more.
-#[derive(Clone, Copy, Debug)]
+#[derive(Clone, Copy)]
 pub enum FileError {
     /// It could not be opened.
     Open(io::Error),

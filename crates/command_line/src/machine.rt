@@ -13,7 +13,7 @@ use model_core::config::Config;
 use std::alloc::Global;
 
 /// A machine, and the tenant that is written or drawn.
-#[derive(Debug, Drop)]
+#[derive(Drop)]
 pub struct Machine {
     /// The sizes, each in its range.
     pub config: Config,

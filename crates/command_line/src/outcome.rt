@@ -22,7 +22,7 @@ use streams::{ReplayError, Tally};
 /// | `BadLine` | 2 | what is wrong with the command line, without the name |
 /// | `BadOnly` | 2 | `--only names no tenant` |
 /// | `NoMemory` | 3 | `not enough memory` |
-#[derive(Debug, Drop)]
+#[derive(Drop)]
 pub enum Outcome {
     /// The trace is done.
     Done,
@@ -146,7 +146,7 @@ pub(crate) fn not_parsed(alloc: Global, error: &Error) -> Outcome
 }
 
 /// A line on standard error: the program that prints it, and its text.
-#[derive(Clone, Copy, Debug)]
+#[derive(Clone, Copy)]
 pub struct Line<'a> {
     pub program: &'a str,
     pub text: &'a str,

@@ -17,7 +17,7 @@ const SMALL_BYTES: u64 = 64 << 20;
 const SECONDS_BETWEEN: u64 = 1;
 
 /// How far a run is in a file.
-#[derive(Clone, Copy, Debug)]
+#[derive(Clone, Copy)]
 struct Position {
     /// The line feeds that were read.
     lines: u64,

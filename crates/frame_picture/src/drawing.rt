@@ -18,7 +18,7 @@ use kernel_core::FrameKind;
 pub const MOST_ROWS: usize = 256;
 
 /// What a row is drawn as.
-#[derive(Clone, Copy, Debug)]
+#[derive(Clone, Copy)]
 pub struct Tone {
     /// The kind of most of its taken frames; where none is taken, free or not held.
     pub kind: FrameKind,

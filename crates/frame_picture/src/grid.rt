@@ -11,7 +11,7 @@ use crate::history::{Column, History, Sheet};
 use std::ops::Range;
 
 /// Which frames the rows of a band stand for.
-#[derive(Clone, Copy, Debug, PartialEq, Eq)]
+#[derive(Clone, Copy, PartialEq, Eq)]
 pub struct Grid {
     /// A superblock has `2^order` frames.
     pub order: u32,

@@ -12,7 +12,7 @@ use std::alloc::{AllocError, Global};
 pub const MOST_COLUMNS: u32 = 4096;
 
 /// A superblock at some time.
-#[derive(Debug, Drop)]
+#[derive(Drop)]
 pub struct Sheet {
     /// Its owner, if it has one.
     pub owner: Option<Owner>,
@@ -24,7 +24,7 @@ pub struct Sheet {
 pub const ORDERS: usize = 9;
 
 /// What a tenant has of frames, as a report tells it.
-#[derive(Clone, Copy, Debug)]
+#[derive(Clone, Copy)]
 pub struct Figures {
     /// How many frames its slots have.
     pub held: u32,
@@ -35,7 +35,7 @@ pub struct Figures {
 }
 
 /// The machine after some line.
-#[derive(Debug, Drop)]
+#[derive(Drop)]
 pub struct Column {
     /// How many lines had been run.
     pub line: u32,
@@ -52,7 +52,7 @@ pub struct Column {
 /// How long the trace is isn't known before its end, and a pipe can't be read twice. So each line has a column of its own at
 /// first; and whenever all columns are used, every second one is given up, and those to come stand for twice as many lines.
 /// No memory is asked for once a history is made, however long the trace is.
-#[derive(Debug, Drop)]
+#[derive(Drop)]
 pub struct History {
     /// A superblock has `2^order` frames.
     order: u32,

@@ -7,7 +7,7 @@ ghost use Rattle.frame_picture.specs.Rectangles.{run_at, run_in, IsRectangle, Go
 use crate::drawing::{MOST_ROWS, Tone, is_tone};
 
 /// A rectangle of cells of one tone.
-#[derive(Clone, Copy, Debug, PartialEq, Eq)]
+#[derive(Clone, Copy, PartialEq, Eq)]
 pub struct Rectangle {
     /// Its first column.
     pub column: usize,

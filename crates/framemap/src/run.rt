@@ -21,7 +21,7 @@ use std::io::{self, Write};
 const LINES_ABOVE: u64 = 1 << 30;
 
 /// How a run ended, and how many lines of the trace were events.
-#[derive(Debug, Drop)]
+#[derive(Drop)]
 pub struct Drawn {
     pub outcome: Outcome,
     pub events: u64,

@@ -34,7 +34,7 @@ Example:
   printf 'admin grant 0\\n0 alloc 1\\n' | framemap --order 3 --superblocks 2 --tenants 2 > picture.svg";
 
 /// What a command line asks for.
-#[derive(Debug, Drop)]
+#[derive(Drop)]
 pub struct Settings {
     /// The machine, and the tenant who alone is drawn.
     pub machine: Machine,

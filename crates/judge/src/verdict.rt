@@ -13,7 +13,7 @@ use words_core::Refusal;
 pub type Verdict = Result<(), Promise>;
 
 /// Why a reply is not followed.
-#[derive(Debug, Drop)]
+#[derive(Drop)]
 pub(crate) enum Failure {
     /// The reply breaks this promise.
     Broken(Promise),

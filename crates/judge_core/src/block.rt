@@ -10,7 +10,7 @@ use model_core::limits::FRAME_BYTES;
 use std::marker::Model;
 
 /// `2^order` frames of a tenant from the first on; the order is at most 8.
-#[derive(Clone, Copy, Debug)]
+#[derive(Clone, Copy)]
 pub struct FrameBlock {
     first: u32,
     order: u8,

@@ -32,7 +32,7 @@ struct Blocks {
 }
 
 /// The figures of a tenant's frames and blocks in its report.
-#[derive(Debug, Drop)]
+#[derive(Drop)]
 pub struct BlockFigures {
     /// How many frames the tenant's slots have.
     pub frames: u32,

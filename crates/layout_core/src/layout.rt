@@ -21,7 +21,7 @@ const SMALL: u32 = 512;
 
 /// How the slabs of a cache are cut into objects: an object size and an alignment, with the numbers that follow from
 /// them. All are bytes, but for the order, the count and the colours.
-#[derive(Clone, Copy, Debug)]
+#[derive(Clone, Copy)]
 pub struct Layout {
     size: u32,
     align: u32,

@@ -4,7 +4,7 @@ ghost use Rattle.model_core.specs.Layouts.{is_pattern, pattern_byte};
 use std::marker::Model;
 
 /// What an object holds when it is constructed: 1 to 16 bytes, over and over.
-#[derive(Clone, Copy, Debug)]
+#[derive(Clone, Copy)]
 pub struct Pattern {
     bytes: [u8; 16],
     len: u8,

@@ -47,7 +47,7 @@ Example:
 const STANDARD_INPUT: &str = "-";
 
 /// What a command line requests.
-#[derive(Debug, Drop)]
+#[derive(Drop)]
 pub struct Settings {
     /// The sizes of the machine, each in its range.
     pub config: Config,

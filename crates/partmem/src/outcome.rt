@@ -8,7 +8,7 @@ use own_trace::KeepError;
 use replay_core::{ReplayError, Tally};
 
 /// A run that has ended.
-#[derive(Debug, Drop)]
+#[derive(Drop)]
 pub struct Ended {
     /// How it ended.
     pub outcome: Outcome,

@@ -82,7 +82,7 @@ text{font:12px sans-serif;fill:#444}\
 </style>\n";
 
 /// A number with eight digits behind its point.
-#[derive(Clone, Copy, Debug)]
+#[derive(Clone, Copy)]
 struct Decimal {
     hundred_millionths: u64,
 }

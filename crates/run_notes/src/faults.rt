@@ -14,7 +14,7 @@ pub(crate) const MOST_FAULTS: usize = 10;
 const MOST_SHOWN: usize = 32;
 
 /// A faulty line: its number, the first one's being 1, what is wrong with it, and its first 32 bytes.
-#[derive(Debug, Drop)]
+#[derive(Drop)]
 pub struct FaultyLine {
     number: u64,
     fault: LineFault,

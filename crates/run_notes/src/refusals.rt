@@ -7,7 +7,7 @@ use words_core::Refusal;
 pub const MOST_NUMBER: u8 = 15;
 
 /// A refusal, and how often it was answered.
-#[derive(Clone, Copy, Debug)]
+#[derive(Clone, Copy)]
 pub struct Refused {
     pub(crate) refusal: Refusal,
     pub(crate) times: u64,

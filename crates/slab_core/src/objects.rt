@@ -27,14 +27,14 @@ pub(crate) struct TenantCache<'a> {
 }
 
 /// A slab: its first frame, in the tenant's numbers and in the machine's.
-#[derive(Clone, Copy, Debug)]
+#[derive(Clone, Copy)]
 pub(crate) struct Slab {
     pub(crate) first: u32,
     pub(crate) machine_frame: u32,
 }
 
 /// An object: its slab, and which of the slab's objects it is.
-#[derive(Clone, Copy, Debug)]
+#[derive(Clone, Copy)]
 pub(crate) struct Object {
     pub(crate) slab: Slab,
     pub(crate) index: u32,

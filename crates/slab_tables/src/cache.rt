@@ -5,7 +5,7 @@ ghost use Rattle.std.specs.Prelude.{◌≡◌};
 use layout_core::{Layout, Pattern};
 
 /// A cache: how its slabs are cut, what its objects hold when they are constructed, and how many slabs it has made.
-#[derive(Clone, Copy, Debug)]
+#[derive(Clone, Copy)]
 pub struct Cache {
     pub layout: Layout,
     pub pattern: Pattern,
@@ -14,7 +14,7 @@ pub struct Cache {
 }
 
 /// What is kept of a slab beside its lists.
-#[derive(Clone, Copy, Debug)]
+#[derive(Clone, Copy)]
 pub struct Kept {
     /// The offset of its first object, in bytes.
     pub colour: u16,

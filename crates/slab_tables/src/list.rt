@@ -12,7 +12,7 @@ use model_core::limits::MOST_CACHES;
 /// numbers for the partial and the empty ones.
 ///
 /// So the lists of full slabs are loose ([`klist_core`]): slabs fill up often, and no call asks for the first full one.
-#[derive(Clone, Copy, Debug, PartialEq, Eq)]
+#[derive(Clone, Copy, PartialEq, Eq)]
 pub struct ListId {
     pub number: u32,
 }
