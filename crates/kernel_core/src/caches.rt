@@ -15,6 +15,8 @@ use words_core::{Answer, Refusal};
 
 impl Kernel {
     /// Makes a cache for objects of `size` bytes at multiples of `align`, which hold the pattern when they are constructed.
+    // Inlined: if a call left its answer in memory, every request would clear that memory, and read its own answer from there.
+    #[inline(always)]
     pub(crate) fn make_cache(
         &mut self,
         t: u8,

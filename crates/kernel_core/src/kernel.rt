@@ -212,9 +212,10 @@ impl Kernel {
         // Bytes are told to a read alone.
         ensures bytes { IfSome result (λ answer. asks_bytes request.entry ≡ false → has_bytes answer.1 ≡ false) }
     {
-        let Some(t) = self.tenant(tenant) else {
+        if tenant >= u32::from(self.buddy.tenants()) {
             return None;
-        };
+        }
+        let t = tenant as u8;
         Some((t, self.ask_known(t, request)))
     }
 
