@@ -10,7 +10,7 @@ returns-then-tenant-from c = (
     refl,
     λ _. tt,
     unknown_tenant _ c.args.tenant (command_of c.args.request)
-    (omega (arith, c.from.ensures, c.tenants.ensures, ap (λ (k : KernelContent). k.tenants) c.self.view_is)),
+        (omega (arith, c.from.ensures, c.tenants.ensures, ap (λ (k : KernelContent). k.tenants) c.self.view_is)),
   ),
   record { asked = tt; few = tt; bytes = tt },
 )
