@@ -162,6 +162,12 @@ pub fn draw_head<W: Write>(out: &mut W, history: &History, name: Option<&str>) -
         out,
         "</text>\n<text x=\"{LEFT}\" y=\"50\">Superblocks: {superblocks}, of {frames} frames each. Lines to a column: {width}; it shows the machine after the last of them.</text>"
     )?;
+    draw_kinds(out)?;
+    draw_orders(out, history.order() as usize)
+}
+
+/// Draws the legend of the frames: a colour for each kind, and for a refused request.
+fn draw_kinds<W: Write>(out: &mut W) -> io::Result<()> {
     let mut x = LEFT;
     for cell in ALL {
         draw_swatch(out, x, 64, class_of(cell))?;
@@ -169,8 +175,7 @@ pub fn draw_head<W: Write>(out: &mut W, history: &History, name: Option<&str>) -
         x = x.saturating_add(110);
     }
     draw_swatch(out, x, 64, "refused")?;
-    draw_word(out, x, 64, "a request was refused for want of frames")?;
-    draw_orders(out, history.order() as usize)
+    draw_word(out, x, 64, "a request was refused for want of frames")
 }
 
 /// Draws the legend of the free frames: a colour for each order, the greatest one first.
@@ -551,14 +556,26 @@ fn middle_of(column: usize, columns: usize) -> u32 {
 /// Draws the free frames of tenant `t` over a foot, by the order of their free block: those of the greatest order lowest.
 fn draw_stack<W: Write>(out: &mut W, history: &History, t: u8, foot: u32) -> io::Result<()> {
     let top = foot.saturating_sub(STACK);
-    let columns = history.columns();
-    let most = most_free(columns, t);
-    let order = history.order() as usize;
+    let most = most_free(history.columns(), t);
     writeln!(
         out,
         "<text x=\"{LEFT}\" y=\"{}\">free frames, at most {most}</text>",
         top.saturating_sub(5)
     )?;
+    draw_layers(out, history, t, foot, most)?;
+    draw_scale(out, top, foot, most)
+}
+
+/// Draws a layer of a stack for each order; the stack is as high as `most` frames.
+fn draw_layers<W: Write>(
+    out: &mut W,
+    history: &History,
+    t: u8,
+    foot: u32,
+    most: u64,
+) -> io::Result<()> {
+    let columns = history.columns();
+    let order = history.order() as usize;
     for k in 0..=order {
         write!(
             out,
@@ -570,6 +587,11 @@ fn draw_stack<W: Write>(out: &mut W, history: &History, t: u8, foot: u32) -> io:
         draw_turns(out, columns, t, k)?;
         writeln!(out, "H{}V0z\"/>", columns.len())?;
     }
+    Ok(())
+}
+
+/// Draws the frame of a stack, and how many frames its top and its foot mean.
+fn draw_scale<W: Write>(out: &mut W, top: u32, foot: u32, most: u64) -> io::Result<()> {
     writeln!(
         out,
         "<rect class=\"frame\" x=\"{LEFT}\" y=\"{top}\" width=\"{WIDTH}\" height=\"{STACK}\"/>"
