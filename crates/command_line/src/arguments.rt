@@ -39,10 +39,11 @@ pub fn command<'a>(
 ) -> Result<Command<'a>, AllocError>
     ensures { IfOk result (λ command. app_of command ≡ machine_command program.entry.name.now) }
 {
-    let only = number(alloc, "only", "T", 0, u32::MAX)
-        .help(only)
-        .required(false);
-    sizes_command(alloc, program)?.arg(only)
+    sizes_command(alloc, program)?.arg(
+        number(alloc, "only", "T", 0, u32::MAX)
+            .help(only)
+            .required(false),
+    )
 }
 
 /// The command of a program that asks for the sizes of a machine alone, with their ranges. The program's own arguments are added
@@ -50,28 +51,25 @@ pub fn command<'a>(
 pub fn sizes_command<'a>(alloc: Global, program: Program<'a>) -> Result<Command<'a>, AllocError>
     ensures { IfOk result (λ command. app_of command ≡ sizes_command program.entry.name.now) }
 {
-    let order = number(
-        alloc,
-        "order",
-        "S",
-        u32::from(LEAST_ORDER),
-        u32::from(MOST_ORDER),
-    )
-    .help("A superblock has 2^S frames of 4096 bytes: 3 to 8");
-    let superblocks = number(alloc, "superblocks", "N", 1, u32::from(MOST_SUPERBLOCKS)).help(
-        "How many there are: 1 to 256",
-    );
-    let tenants = number(alloc, "tenants", "T", 1, u32::from(MOST_TENANTS)).help(
-        "How many share the machine: 1 to 64",
-    );
     Command::new(alloc, program.name)
         .version(VERSION)
         .about(program.about)
         .after_help(program.after_help)
         .no_binary_name(true)
-        .arg(order)?
-        .arg(superblocks)?
-        .arg(tenants)
+        .arg(number(
+            alloc,
+            "order",
+            "S",
+            u32::from(LEAST_ORDER),
+            u32::from(MOST_ORDER),
+        )
+        .help("A superblock has 2^S frames of 4096 bytes: 3 to 8"))?
+        .arg(number(alloc, "superblocks", "N", 1, u32::from(MOST_SUPERBLOCKS)).help(
+            "How many there are: 1 to 256",
+        ))?
+        .arg(number(alloc, "tenants", "T", 1, u32::from(MOST_TENANTS)).help(
+            "How many share the machine: 1 to 64",
+        ))
 }
 
 /// A required argument `--name NUMBER`, a number from `least` to `most`.

@@ -84,16 +84,17 @@ fn own_found(
 fn command<'a>(alloc: Global) -> Result<Command<'a>, AllocError>
     ensures { IfOk result (λ command. app_of command ≡ command_line) }
 {
-    let own = number(alloc, "own", "T", 0, u32::MAX)
-        .help("Writes this tenant's own list of the trace, in place of replies")
-        .required(false);
-    let tally = Arg::new(alloc, "tally")
-        .long("tally")
-        .help("Tells on standard error what was done, refused and faulty")
-        .action(ArgAction::SetTrue);
-    let file = positional(alloc, "FILE", "The trace [default: standard input]");
     arguments::command(alloc, PROGRAM, ONLY)?
-        .arg(own)?
-        .arg(tally)?
-        .arg(file)
+        .arg(
+            number(alloc, "own", "T", 0, u32::MAX)
+                .help("Writes this tenant's own list of the trace, in place of replies")
+                .required(false),
+        )?
+        .arg(
+            Arg::new(alloc, "tally")
+                .long("tally")
+                .help("Tells on standard error what was done, refused and faulty")
+                .action(ArgAction::SetTrue),
+        )?
+        .arg(positional(alloc, "FILE", "The trace [default: standard input]"))
 }

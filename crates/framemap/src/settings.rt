@@ -57,11 +57,11 @@ pub fn read_words<'a>(alloc: Global, words: &'a [&'a str]) -> Result<Settings, O
 
 /// The arguments that there are, with their ranges.
 fn command<'a>(alloc: Global) -> Result<Command<'a>, AllocError> {
-    let columns = number(alloc, "columns", "C", 1, MOST_COLUMNS)
-        .help("Columns of the picture, at most: 1 to 4096 [default: 600]")
-        .required(false);
-    let file = positional(alloc, "FILE", "The trace [default: standard input]");
     command_line::command(alloc, PROGRAM, ONLY)?
-        .arg(columns)?
-        .arg(file)
+        .arg(
+            number(alloc, "columns", "C", 1, MOST_COLUMNS)
+                .help("Columns of the picture, at most: 1 to 4096 [default: 600]")
+                .required(false),
+        )?
+        .arg(positional(alloc, "FILE", "The trace [default: standard input]"))
 }

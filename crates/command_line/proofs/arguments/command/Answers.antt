@@ -10,9 +10,9 @@ is_global a = a.global
 
 pub returns : goal.returns
 returns c =
-    let only : rule_of c.required-only.result ≡ record (number_rule (codes "only") 0 4294967295) { required = false } =
-    ap rule_of c.required-only.ensures ∙ ap (λ (r : Rule). record r { required = false }) (ap rule_of c.help.ensures ∙ c.number.ensures.rule) in
+    let only : rule_of c.required.result ≡ record (number_rule (codes "only") 0 4294967295) { required = false } =
+    ap rule_of c.required.ensures ∙ ap (λ (r : Rule). record r { required = false }) (ap rule_of c.help.ensures ∙ c.number.ensures.rule) in
     IfOk-weaker c.arg.result _ _
-    (λ command adds. adds.shape (ap is_global c.required-only.ensures ∙ ap is_global c.help.ensures ∙ c.number.ensures.local)
+    (λ command adds. adds.shape (ap is_global c.required.ensures ∙ ap is_global c.help.ensures ∙ c.number.ensures.local)
     ∙ ap₂ with_rule c.in_ok-sizes_command.ensures only)
     c.arg.ensures

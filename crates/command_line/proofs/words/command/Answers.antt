@@ -11,15 +11,15 @@ is_global a = a.global
 
 pub returns : goal.returns
 returns c =
-    let tally : rule_of c.action-tally.result ≡ tally_rule =
-    ap rule_of c.action-tally.ensures
+    let tally : rule_of c.action.result ≡ tally_rule =
+    ap rule_of c.action.ensures
     ∙ ap (λ (r : Rule). record r { action = Some SetTrue })
     (ap rule_of c.help-2.ensures ∙ ap rule_of c.long.ensures ∙ ap (λ (r : Rule). record r { long = Some (codes "tally") }) c.new.ensures.rule) in
-    let own : rule_of c.required-own.result ≡ own_rule =
-    ap rule_of c.required-own.ensures ∙ ap (λ (r : Rule). record r { required = false }) (ap rule_of c.help.ensures ∙ c.number.ensures.rule) in
-    let one = c.in_ok-arg.ensures.shape (ap is_global c.required-own.ensures ∙ ap is_global c.help.ensures ∙ c.number.ensures.local) ∙ ap₂ with_rule c.in_ok-command.ensures own in
+    let own : rule_of c.required.result ≡ own_rule =
+    ap rule_of c.required.ensures ∙ ap (λ (r : Rule). record r { required = false }) (ap rule_of c.help.ensures ∙ c.number.ensures.rule) in
+    let one = c.in_ok-arg.ensures.shape (ap is_global c.required.ensures ∙ ap is_global c.help.ensures ∙ c.number.ensures.local) ∙ ap₂ with_rule c.in_ok-command.ensures own in
     let two = c.in_ok-arg-2.ensures.shape
-    (ap is_global c.action-tally.ensures ∙ ap is_global c.help-2.ensures ∙ ap is_global c.long.ensures ∙ c.new.ensures.optional.1) ∙ ap₂ with_rule one tally in
+    (ap is_global c.action.ensures ∙ ap is_global c.help-2.ensures ∙ ap is_global c.long.ensures ∙ c.new.ensures.optional.1) ∙ ap₂ with_rule one tally in
     IfOk-weaker c.arg-3.result _ _
-    (λ command adds. adds.shape c.positional-file.ensures.local ∙ ap₂ with_rule two c.positional-file.ensures.rule)
+    (λ command adds. adds.shape c.positional.ensures.local ∙ ap₂ with_rule two c.positional.ensures.rule)
     c.arg-3.ensures
