@@ -9,11 +9,8 @@
 ghost use Rattle.std.specs.Prelude.{◌≡◌, OnErr};
 ghost use Rattle.command_line.specs.declared.outcome.Outcome.{Outcome};
 
-mod line_limit;
 mod run;
 mod settings;
-#[cfg(test)]
-mod tests;
 mod watched;
 
 use command_line::{

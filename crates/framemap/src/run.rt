@@ -6,7 +6,6 @@ ghost use Rattle.words_core.specs.Cutting.{lines_of_trace};
 ghost use Rattle.world_core.specs.Output.{events_of};
 ghost use Rattle.framemap.specs.Watching.{HasWatched};
 
-use crate::line_limit::LineLimit;
 use crate::settings::Settings;
 use crate::watched::Watched;
 use command_line::Outcome;
@@ -16,6 +15,7 @@ use picture_svg::picture::Picture;
 use replay_core::{EndFailed, Feed, WriterDrain, do_lines};
 use std::alloc::Global;
 use std::io::{self, Write};
+use streams::LineLimit;
 
 /// The line feeds of a trace are fewer than this, 2^30.
 const LINES_ABOVE: u64 = 1 << 30;
@@ -90,7 +90,7 @@ fn file_name(path: &str) -> &str {
 }
 
 /// Runs all lines of a trace of fewer than [`LINES_ABOVE`] line feeds, and keeps what the machine is like after them.
-pub(crate) fn watch<F: Feed + Drop>(
+fn watch<F: Feed + Drop>(
     kernel: &mut Kernel,
     feed: F,
     watched: &mut Watched,

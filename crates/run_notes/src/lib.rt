@@ -5,8 +5,6 @@
 mod faults;
 mod notes;
 mod refusals;
-#[cfg(test)]
-mod tests;
 
 pub use faults::FaultyLine;
 pub use notes::RunNotes;

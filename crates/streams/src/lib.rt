@@ -1,10 +1,11 @@
-//! Where a trace comes from and where replies go, a piece at a time: a [`Feed`] over one of std's readers, a [`Drain`] over one
-//! of std's writers. Neither knows what is made of the bytes.
+//! Where a trace comes from and where replies go, a piece at a time: a [`Feed`] over one of std's readers, perhaps up to a limit
+//! of lines, a [`Drain`] over one of std's writers. Neither knows what is made of the bytes.
 #![tactic(auto)]
 
 mod drain;
 mod feed;
 mod held;
+mod line_limit;
 mod lines;
 mod reader_feed;
 mod tally;
@@ -12,6 +13,7 @@ mod writer_drain;
 
 pub use drain::{Drain, TEXT_BYTES, Text};
 pub use feed::{Feed, Stopped};
+pub use line_limit::LineLimit;
 pub use lines::line_end;
 pub use reader_feed::ReaderFeed;
 pub use tally::{ReplayError, Tally};

@@ -1,9 +1,8 @@
 //! A limit on the lines of a trace.
 
 ghost use Rattle.std.specs.Prelude.{◌≡◌, false, ◌==◌, count_by, length};
-ghost use Rattle.world_core.specs.Output.{line_feed};
 
-use replay_core::{Feed, Stopped};
+use crate::feed::{Feed, Stopped};
 use std::simd::prelude::*;
 
 /// A feed that fails, unless it has ended, when it has given a limit of line feeds.
@@ -70,7 +69,7 @@ impl<F: Feed> Feed for LineLimit<F> {
 
 /// How many line feeds there are.
 fn line_feeds(bytes: &[u8]) -> usize
-    ensures { result ≡ count_by (λ b. b == line_feed) bytes.now }
+    ensures { result ≡ count_by (λ b. b == 10) bytes.now }
 {
     let mut count = 0;
     let mut rest = bytes;
@@ -86,7 +85,7 @@ fn line_feeds(bytes: &[u8]) -> usize
 #[inline(always)]
 fn line_feeds_in_lanes(bytes: &[u8]) -> usize
     requires { length bytes.now ≡ 16 }
-    ensures { result ≡ count_by (λ b. b == line_feed) bytes.now }
+    ensures { result ≡ count_by (λ b. b == 10) bytes.now }
 {
     let lanes = u8x16::from_slice(bytes);
     lanes.simd_eq(u8x16::splat(b'\n')).to_bitmask().count_ones() as usize

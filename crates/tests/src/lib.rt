@@ -1,6 +1,6 @@
 //! Tests across the libraries: traces on new machines with what they write, ends that fail, lines of every kind, pairs of worlds,
-//! the kernel beside a plain machine, the public functions with their types and fixed values, and the examples at the roots of
-//! crates.
+//! the kernel beside a plain machine, printed notes, the public functions with their types and fixed values, and the examples at
+//! the roots of crates.
 #![tactic(auto)]
 
 #[cfg(test)]
@@ -18,12 +18,16 @@ mod kernel_parts;
 #[cfg(test)]
 mod layouts;
 #[cfg(test)]
+mod line_limit;
+#[cfg(test)]
 mod machine_memory;
 #[cfg(test)]
 mod pairs_of_worlds;
 pub mod pieces;
 #[cfg(test)]
 mod plain_machine;
+#[cfg(test)]
+mod printed_notes;
 #[cfg(test)]
 mod public_types;
 pub mod random;

@@ -1,5 +1,5 @@
 use Rattle.std.proofs.Common.{◌≡◌, ◌+◌, ◌≤◌, ◌==◌, count_by, length}
-use Rattle.framemap.proofs.line_limit.line_feeds.Given as goal
+use Rattle.streams.proofs.line_limit.line_feeds.Given as goal
 
 abbrev pub invariant-lanes : goal.invariant-lanes
 invariant-lanes l = record {

@@ -2,7 +2,7 @@ use Rattle.std.proofs.Common.{◌==◌, ◌∙◌, count_by, take, length, w8, a
 use Rattle.std.proofs.lemmas.List.{take_all}
 use Rattle.std.proofs.lemmas.Simd.{bitmask_splat, ones-mask_l}
 use Rattle.std.specs.Int.RustNames.{count_ones}
-use Rattle.framemap.proofs.line_limit.line_feeds_in_lanes.Goals as goal
+use Rattle.streams.proofs.line_limit.line_feeds_in_lanes.Goals as goal
 
 pub returns : goal.returns
 returns c =

@@ -1,8 +1,7 @@
 //! What is printed of notes.
 
-use crate::notes::RunNotes;
-use crate::refusals::MOST_NUMBER;
 use replay_core::Notes;
+use run_notes::{MOST_NUMBER, RunNotes};
 use std::alloc::{AllocError, Global};
 use std::process::Abort;
 use std::test::Fail;
