@@ -34,16 +34,18 @@ impl OwnSheets {
     pub fn list(&mut self, sheets: &[Sheet], t: u8)
         ensures { IsOwn t sheets.now self.new }
     {
-        self.len = 0;
-        self.rest = 0;
         let most = sheets.len().min(1 << 16);
-        'sheets: while self.rest < most && self.len < MOST_LISTED {
-            if is_of(&sheets[self.rest], t) {
-                self.listed[self.len] = self.rest as u16;
-                self.len += 1;
+        // Counted apart, since a count in `self` would be written back after each sheet.
+        let (mut len, mut rest) = (0, 0);
+        'sheets: while rest < most && len < MOST_LISTED {
+            if is_of(&sheets[rest], t) {
+                self.listed[len] = rest as u16;
+                len += 1;
             }
-            self.rest += 1;
+            rest += 1;
         }
+        self.len = len;
+        self.rest = rest;
     }
 }
 

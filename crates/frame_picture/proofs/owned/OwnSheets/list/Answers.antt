@@ -7,29 +7,29 @@ use Rattle.frame_picture.proofs.owned.OwnSheets.list.Goals as goal
 
 pub sheets-preserved : goal.sheets-preserved
 sheets-preserved c =
-    let here = c.sheets.self in
+    let here = c.sheets in
     let sheets = c.args.sheets.now in
     let before = c.sheets.invariant in
     let within : here.rest < length sheets = omega (arith, c.sheets-test.true, c.min-most.ensures) in
     elim c.if-is_of.branch [
-      | goal.then-is_of w ↦ rw w.self-is (record {
-        long = length-set {A = ℕ} here.listed here.len here.rest ∙ before.long;
+      | goal.then-is_of w ↦ rw w.self-is (rw w.len-is (record {
+        long = length-set {A = ℕ} here.self.listed here.len here.rest ∙ before.long;
         rest = omega (arith, c.sheets-test.true);
-        few = omega (arith, c.if-self-lt-MOST_LISTED.true);
-        inside = λ j less. listed_inside here.listed here.len here.rest (length sheets) (omega (arith, c.if-self-lt-MOST_LISTED.true, before.long)) within before.inside j less;
+        few = omega (arith, c.if-len-lt-MOST_LISTED.true);
+        inside = λ j less. listed_inside here.self.listed here.len here.rest (length sheets) (omega (arith, c.if-len-lt-MOST_LISTED.true, before.long)) within before.inside j less;
         cells = λ order first end.
-            row_cells_more order c.args.t first end sheets here.rest c.index-sheets-self.result within c.index-sheets-self.is
-            ∙ ap (λ xs. xs ++ cells_in order c.args.t first end c.index-sheets-self.result) (before.cells order first end)
-            ∙ sym (listed_set order c.args.t first end sheets here.listed here.len here.rest c.index-sheets-self.result
-            (omega (arith, c.if-self-lt-MOST_LISTED.true, before.long)) within c.index-sheets-self.is);
-      })
-      | goal.else-is_of w ↦ rw w.self-is (record {
+            row_cells_more order c.args.t first end sheets here.rest c.index-sheets-rest.result within c.index-sheets-rest.is
+            ∙ ap (λ xs. xs ++ cells_in order c.args.t first end c.index-sheets-rest.result) (before.cells order first end)
+            ∙ sym (listed_set order c.args.t first end sheets here.self.listed here.len here.rest c.index-sheets-rest.result
+            (omega (arith, c.if-len-lt-MOST_LISTED.true, before.long)) within c.index-sheets-rest.is);
+      }))
+      | goal.else-is_of w ↦ rw w.self-is (rw w.len-is (record {
         long = before.long;
         rest = omega (arith, c.sheets-test.true);
         few = before.few;
         inside = before.inside;
         cells = λ order first end.
-            passed_more order c.args.t first end sheets here.rest c.index-sheets-self.result within c.index-sheets-self.is (w.if-is_of.ensures refl order first end)
+            passed_more order c.args.t first end sheets here.rest c.index-sheets-rest.result within c.index-sheets-rest.is (w.if-is_of.ensures refl order first end)
             ∙ before.cells order first end;
-      })
+      }))
     ]

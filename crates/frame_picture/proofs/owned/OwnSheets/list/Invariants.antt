@@ -6,12 +6,12 @@ use Rattle.frame_picture.proofs.owned.OwnSheets.list.Given as goal
 abbrev pub invariant-sheets : goal.invariant-sheets
 invariant-sheets l = record {
   long : length l.self.listed ≡ 256;
-  rest : l.self.rest ≤ l.most;
-  few : l.self.len ≤ 256;
-  inside : (j : ℕ) → j < l.self.len → slice_index l.self.listed j < length l.sheets;
-  cells : (order first end : ℕ) → row_cells order l.t first end (take l.self.rest l.sheets)
-      ≡ listed_cells order l.t first end l.sheets (take l.self.len l.self.listed);
+  rest : l.rest ≤ l.most;
+  few : l.len ≤ 256;
+  inside : (j : ℕ) → j < l.len → slice_index l.self.listed j < length l.sheets;
+  cells : (order first end : ℕ) → row_cells order l.t first end (take l.rest l.sheets)
+      ≡ listed_cells order l.t first end l.sheets (take l.len l.self.listed);
 }
 
 abbrev pub decreases-sheets : goal.decreases-sheets
-decreases-sheets l = l.most - l.self.rest
+decreases-sheets l = l.most - l.rest
