@@ -1,18 +1,13 @@
-//! Tests across the libraries: traces on new machines with what they write, ends that fail, lines of every kind, pairs of worlds,
-//! the kernel beside a plain machine, printed notes, the public functions with their types and fixed values, and the examples at
-//! the roots of crates.
+//! Tests across the libraries: traces on new machines with what they write, ends that fail, pairs of worlds, printed notes, the
+//! public functions with their types and fixed values, and the examples at the roots of crates.
 #![tactic(auto)]
 
-#[cfg(test)]
-mod built_traces;
 #[cfg(test)]
 mod command_lines;
 #[cfg(test)]
 mod failing_at_each_call;
 #[cfg(test)]
 mod failing_ends;
-#[cfg(test)]
-mod hostile_lines;
 #[cfg(test)]
 mod kernel_parts;
 #[cfg(test)]
@@ -25,12 +20,9 @@ mod machine_memory;
 mod pairs_of_worlds;
 pub mod pieces;
 #[cfg(test)]
-mod plain_machine;
-#[cfg(test)]
 mod printed_notes;
 #[cfg(test)]
 mod public_types;
-pub mod random;
 #[cfg(test)]
 mod root_examples;
 #[cfg(test)]
