@@ -9,7 +9,6 @@ use Rattle.promise_core.specs.State.{Known}
 use Rattle.judge.specs.Adding.{is_addition}
 use Rattle.judge.specs.Machine.{SeenMachine, ShowsKnown, IsVerdict}
 use Rattle.check_core.specs.declared.finding.Unchecked.{Unchecked}
-use Rattle.check_core.specs.declared.finding.Unchecked.TheVariants as Not
 use Rattle.check_core.specs.declared.gathered.Gathered.{Gathered}
 use Rattle.check_core.specs.declared.shown.TheConstants.{MOST_TEXT_BYTES}
 use Rattle.check_core.specs.Finding.{after_lines, lines_at, lines_to, more_lines, reply_in, verdict_at}
@@ -39,9 +38,9 @@ IsTextVerdict None event found w new = (found ≡ None) × ShowsKnown new w
 -- Which reader had failed where there is no finding, the trace's or the replies'. Neither had where memory ran out, and then
 -- `short` says on what.
 abbrev pub IsStoppedBy : Unchecked → (unread untold : Bool) → (short : Type 0) → Type 0
-IsStoppedBy Not.Trace unread untold short = (unread ≡ true) × (untold ≡ false)
-IsStoppedBy Not.Replies unread untold short = (unread ≡ false) × (untold ≡ true)
-IsStoppedBy Not.Memory unread untold short = (unread ≡ false) × (untold ≡ false) × short
+IsStoppedBy Unchecked.Trace unread untold short = (unread ≡ true) × (untold ≡ false)
+IsStoppedBy Unchecked.Replies unread untold short = (unread ≡ false) × (untold ≡ true)
+IsStoppedBy Unchecked.Memory unread untold short = (unread ≡ false) × (untold ≡ false) × short
 
 -- how a call ended: neither had failed, or it was stopped by that
 abbrev pub IsEndedBy : {A : Type 0} → Result A Unchecked → (unread untold : Bool) → (short : Type 0) → Type 0

@@ -7,14 +7,11 @@ use Rattle.model_core.specs.declared.limits.TheConstants.{MOST_ORDER}
 use Rattle.model_core.specs.Blocks.{Block, block}
 use Rattle.model_core.specs.Operations.{overlaps}
 use Rattle.words_core.specs.declared.event.Event.{Event}
-use Rattle.words_core.specs.declared.event.Event.TheVariants as On
 use Rattle.words_core.specs.declared.event.AdminCommand.TheVariants as Do
 use Rattle.words_core.specs.declared.event.Command.TheVariants as Command
 use Rattle.words_core.specs.declared.event.LineFault.{LineFault}
 use Rattle.words_core.specs.declared.reply.Addressee.{Addressee}
-use Rattle.words_core.specs.declared.reply.Addressee.TheVariants as To
 use Rattle.words_core.specs.declared.reply.Body.{Body}
-use Rattle.words_core.specs.declared.reply.Body.TheVariants as Say
 use Rattle.words_core.specs.declared.reply.Refusal.{Refusal}
 use Rattle.words_core.specs.declared.reply.Reply.{Reply}
 use Rattle.words_core.specs.Texts.{text_of}
@@ -24,7 +21,6 @@ use Rattle.promise_core.specs.Promises.{allowed}
 use Rattle.judge.specs.Machine.{SeenMachine}
 use Rattle.check_core.specs.Tables.{reply_of_text}
 use Rattle.check_core.specs.declared.finding.Finding.{Finding}
-use Rattle.check_core.specs.declared.finding.Finding.TheVariants.{Kept, Broken}
 use Rattle.check_core.specs.declared.shown.TheConstants.{MOST_TEXT_BYTES}
 use Rattle.check_core.specs.Forms.{◌>>=◌}
 use Rattle.check_core.specs.Gathered.{whole_of}
@@ -58,14 +54,14 @@ reply_in k bytes = lines_at k bytes >>= (λ found. text_read found.0)
 -- How many lines an answer to the event has behind the first: the table of owners one for each superblock, a report one for each
 -- order and for each cache of the tenant.
 abbrev pub more_lines : Event → Known → ℕ
-more_lines (On.Admin Do.Pool) w = length w.owners
-more_lines (On.Tenant t Command.Report) w =
+more_lines (Event.Admin Do.Pool) w = length w.owners
+more_lines (Event.Tenant t Command.Report) w =
     if nat_lt t (length w.states) then 1 + w.order + option_map_or (λ s. length s.has.caches) (slice_get w.states t) 0 else 0
 more_lines event w = 0
 
 -- the refusal that the reply is, and to whom it goes
 abbrev pub refusal_told : Addressee → Body → Option (Addressee × Refusal)
-refusal_told who (Say.Refused refusal) = Some (who, refusal)
+refusal_told who (Body.Refused refusal) = Some (who, refusal)
 refusal_told who body = None
 
 -- the same of what was read
@@ -76,11 +72,11 @@ refusal_read found = found >>= (λ reply. refusal_told reply.addressee reply.bod
 abbrev pub broken_by : Event → Option (Addressee × Refusal) → Known → Promise
 broken_by event None w = Promise.Form
 broken_by event (Some told) w =
-    unwrap_or (result_err (allowed event (record { addressee = told.0; body = Say.Refused told.1 }) w)) Promise.Form
+    unwrap_or (result_err (allowed event (record { addressee = told.0; body = Body.Refused told.1 }) w)) Promise.Form
 
 -- what a faulty line is answered
 abbrev pub fault_reply : LineFault → Reply
-fault_reply fault = record { addressee = To.Nobody; body = Say.Fault fault }
+fault_reply fault = record { addressee = Addressee.Nobody; body = Body.Fault fault }
 
 -- that stands in the first line
 abbrev pub reports_fault : LineFault → List ℕ → Bool
@@ -103,13 +99,13 @@ lines_to (Ok (Some event)) w = suc (more_lines event w)
 -- the promise is broken at these lines of the two texts, or else it goes on
 abbrev pub or_broken : Result Known Promise → ℕ → ℕ → (Known → Finding) → Finding
 or_broken (Ok after) line reply more = more after
-or_broken (Err promise) line reply more = Broken (record { line = line; reply = reply; promise = promise })
+or_broken (Err promise) line reply more = Finding.Broken (record { line = line; reply = reply; promise = promise })
 
 -- Of lines that read so and the bytes of the replies to them, behind so many lines of both texts: kept, where the reply to each is
 -- allowed, and nothing follows the last.
 abbrev pub finding : ℕ → ℕ → List (Result (Option Event) LineFault) → List ℕ → Known → Finding
-finding line reply [] [] w = Kept line
-finding line reply [] (_ ∷ _) w = Broken (record { line = line; reply = reply + 1; promise = Promise.Form })
+finding line reply [] [] w = Finding.Kept line
+finding line reply [] (_ ∷ _) w = Finding.Broken (record { line = line; reply = reply + 1; promise = Promise.Form })
 finding line reply (reading ∷ readings) bytes w = or_broken (verdict_at reading bytes w) (line + 1) (reply + 1)
     (λ after. finding (line + 1) (reply + lines_to reading w) readings (after_lines (lines_to reading w) bytes) after)
 
@@ -119,6 +115,6 @@ finding_of w trace replies = finding 0 0 (readings_of trace) replies w
 
 -- What is in the way of a page block that a reply gives: the first live one of the tenant that has a frame of it.
 abbrev pub page_in_way : SeenMachine → Event → Body → Option Block
-page_in_way x (On.Tenant t (Command.Alloc k)) (Say.Frame f) = if nat_le k MOST_ORDER
+page_in_way x (Event.Tenant t (Command.Alloc k)) (Body.Frame f) = if nat_le k MOST_ORDER
     then option_map_or (λ y. find (overlaps (block f k)) y.has.pages) (slice_get x.tenants t) None else None
 page_in_way x event body = None

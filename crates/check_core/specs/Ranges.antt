@@ -10,12 +10,10 @@ use Rattle.words_core.specs.declared.report.TheConstants.{ORDERS, CACHES}
 use Rattle.words_core.specs.declared.report.Report.{Report}
 use Rattle.words_core.specs.declared.reply.Reply.{Reply}
 use Rattle.words_core.specs.declared.reply.Addressee.{Addressee}
-use Rattle.words_core.specs.declared.reply.Addressee.TheVariants.{Tenant}
 use Rattle.words_core.specs.declared.reply.Body.{Body}
-use Rattle.words_core.specs.declared.reply.Body.TheVariants as Say
 
 abbrev pub AddresseeFits : Addressee → Type 0
-AddresseeFits (Tenant tenant) = tenant < 2 ^ 8
+AddresseeFits (Addressee.Tenant tenant) = tenant < 2 ^ 8
 AddresseeFits who = Unit {0}
 
 abbrev pub OwnerFits : Option Owner → Type 0
@@ -39,21 +37,21 @@ pub record ReportFits (report : Report) : Type 0 where
   pub few_caches : length report.caches.items ≤ CACHES
 
 abbrev pub BodyFits : Body → Type 0
-BodyFits (Say.Granted tenant slot superblock) = (tenant < 2 ^ 8) × (slot < 2 ^ 16) × (superblock < 2 ^ 16)
-BodyFits (Say.TakenBack superblock) = superblock < 2 ^ 16
-BodyFits (Say.WasReset tenant superblocks) = (tenant < 2 ^ 8) × (superblocks < 2 ^ 16)
-BodyFits (Say.Moved tenant slot superblock) = (tenant < 2 ^ 8) × (slot < 2 ^ 16) × (superblock < 2 ^ 16)
-BodyFits (Say.Owners owners) = AllByRecursion OwnerFits owners.items × (length owners.items ≤ OWNERS)
-BodyFits (Say.Frame frame) = frame < 2 ^ 32
-BodyFits (Say.Freed order) = order < 2 ^ 8
-BodyFits (Say.Bytes bytes) = AllByRecursion (λ b. b < 2 ^ 8) bytes.items × (length bytes.items ≤ MOST_BYTES)
-BodyFits (Say.Written count) = count < 2 ^ 32
-BodyFits (Say.Cache cache chunk order objects colours) =
+BodyFits (Body.Granted tenant slot superblock) = (tenant < 2 ^ 8) × (slot < 2 ^ 16) × (superblock < 2 ^ 16)
+BodyFits (Body.TakenBack superblock) = superblock < 2 ^ 16
+BodyFits (Body.WasReset tenant superblocks) = (tenant < 2 ^ 8) × (superblocks < 2 ^ 16)
+BodyFits (Body.Moved tenant slot superblock) = (tenant < 2 ^ 8) × (slot < 2 ^ 16) × (superblock < 2 ^ 16)
+BodyFits (Body.Owners owners) = AllByRecursion OwnerFits owners.items × (length owners.items ≤ OWNERS)
+BodyFits (Body.Frame frame) = frame < 2 ^ 32
+BodyFits (Body.Freed order) = order < 2 ^ 8
+BodyFits (Body.Bytes bytes) = AllByRecursion (λ b. b < 2 ^ 8) bytes.items × (length bytes.items ≤ MOST_BYTES)
+BodyFits (Body.Written count) = count < 2 ^ 32
+BodyFits (Body.Cache cache chunk order objects colours) =
     (cache < 2 ^ 8) × (chunk < 2 ^ 32) × (order < 2 ^ 8) × (objects < 2 ^ 32) × (colours < 2 ^ 32)
-BodyFits (Say.Destroyed frames) = frames < 2 ^ 32
-BodyFits (Say.Object place) = place < 2 ^ 32
-BodyFits (Say.Reaped frames) = frames < 2 ^ 32
-BodyFits (Say.Report report) = ReportFits report
+BodyFits (Body.Destroyed frames) = frames < 2 ^ 32
+BodyFits (Body.Object place) = place < 2 ^ 32
+BodyFits (Body.Reaped frames) = frames < 2 ^ 32
+BodyFits (Body.Report report) = ReportFits report
 BodyFits body = Unit {0}
 
 -- each number and each list of the reply fits its type

@@ -5,13 +5,10 @@ use Rattle.hex.specs.Hex.{decode_of, encode_lower}
 use Rattle.hex.specs.declared.error.FromHexError.{FromHexError}
 use Rattle.model_core.specs.declared.limits.TheConstants.{MOST_BYTES}
 use Rattle.words_core.specs.declared.reply.Addressee.{Addressee}
-use Rattle.words_core.specs.declared.reply.Addressee.TheVariants.{Admin, Nobody, Tenant}
 use Rattle.words_core.specs.declared.reply.Body.{Body}
-use Rattle.words_core.specs.declared.reply.Body.TheVariants.{Frame, Freed, Bytes, Written, Cache, Destroyed, Object, Given, Reaped, Refused, Granted, TakenBack, WasReset, Moved, Fault}
 use Rattle.words_core.specs.declared.reply.Refusal.{Refusal}
 use Rattle.words_core.specs.declared.reply.Reply.{Reply}
 use Rattle.words_core.specs.declared.event.LineFault.{LineFault}
-use Rattle.words_core.specs.declared.event.LineFault.TheVariants.{Long, Unknown, Words, Number, Hex}
 use Rattle.words_core.specs.Texts.{number_of_refusal, name_of_refusal, name_of_fault}
 use Rattle.words_core.specs.declared.reply.TheConstants.{REFUSALS}
 use Rattle.check_core.specs.Forms.{◌>>=◌, form_at}
@@ -30,30 +27,30 @@ None or_else other = other
 -- ---- what is said to a tenant
 
 unfoldable pub frame_at : List ℕ → Option (Body × List ℕ)
-frame_at text = made_at (codes "frame #\n") (λ ns. true) (λ ns. Frame (slice_index ns 0)) text
+frame_at text = made_at (codes "frame #\n") (λ ns. true) (λ ns. Body.Frame (slice_index ns 0)) text
 
 unfoldable pub freed_at : List ℕ → Option (Body × List ℕ)
-freed_at text = made_at (codes "freed #\n") (λ ns. nat_lt (slice_index ns 0) (2 ^ 8)) (λ ns. Freed (slice_index ns 0)) text
+freed_at text = made_at (codes "freed #\n") (λ ns. nat_lt (slice_index ns 0) (2 ^ 8)) (λ ns. Body.Freed (slice_index ns 0)) text
 
 unfoldable pub written_at : List ℕ → Option (Body × List ℕ)
-written_at text = made_at (codes "written #\n") (λ ns. true) (λ ns. Written (slice_index ns 0)) text
+written_at text = made_at (codes "written #\n") (λ ns. true) (λ ns. Body.Written (slice_index ns 0)) text
 
 unfoldable pub cache_at : List ℕ → Option (Body × List ℕ)
 cache_at text = made_at (codes "cache # chunk # order # objects # colours #\n")
     (λ ns. nat_lt (slice_index ns 0) (2 ^ 8) && nat_lt (slice_index ns 2) (2 ^ 8))
-    (λ ns. Cache (slice_index ns 0) (slice_index ns 1) (slice_index ns 2) (slice_index ns 3) (slice_index ns 4)) text
+    (λ ns. Body.Cache (slice_index ns 0) (slice_index ns 1) (slice_index ns 2) (slice_index ns 3) (slice_index ns 4)) text
 
 unfoldable pub destroyed_at : List ℕ → Option (Body × List ℕ)
-destroyed_at text = made_at (codes "destroyed #\n") (λ ns. true) (λ ns. Destroyed (slice_index ns 0)) text
+destroyed_at text = made_at (codes "destroyed #\n") (λ ns. true) (λ ns. Body.Destroyed (slice_index ns 0)) text
 
 unfoldable pub object_at : List ℕ → Option (Body × List ℕ)
-object_at text = made_at (codes "object #\n") (λ ns. true) (λ ns. Object (slice_index ns 0)) text
+object_at text = made_at (codes "object #\n") (λ ns. true) (λ ns. Body.Object (slice_index ns 0)) text
 
 unfoldable pub given_at : List ℕ → Option (Body × List ℕ)
-given_at text = made_at (codes "given\n") (λ ns. true) (λ ns. Given) text
+given_at text = made_at (codes "given\n") (λ ns. true) (λ ns. Body.Given) text
 
 unfoldable pub reaped_at : List ℕ → Option (Body × List ℕ)
-reaped_at text = made_at (codes "reaped #\n") (λ ns. true) (λ ns. Reaped (slice_index ns 0)) text
+reaped_at text = made_at (codes "reaped #\n") (λ ns. true) (λ ns. Body.Reaped (slice_index ns 0)) text
 
 -- the refusal of this number
 abbrev pub refusal_of : ℕ → Option Refusal
@@ -65,7 +62,7 @@ refused_at text = do
   refusal ← refusal_of (slice_index found.0 0)
   named ← form_at (name_of_refusal refusal) found.1
   ended ← form_at (codes "\n") named.1
-  Some (Refused refusal, ended.1)
+  Some (Body.Refused refusal, ended.1)
 
 -- the bytes that a word is in hex, in lower case: written again they are that word
 abbrev pub bytes_again : List ℕ → Result (List ℕ) FromHexError → Option (List ℕ)
@@ -81,7 +78,7 @@ bytes_at text = do
   let size = length (take_while (λ b. not (b == 10)) found.1)
   bytes ← bytes_of (take size found.1)
   ended ← form_at (codes "\n") (drop size found.1)
-  Some (Bytes (record { items = bytes }), ended.1)
+  Some (Body.Bytes (record { items = bytes }), ended.1)
 
 -- ---- what is said to the administrator, and of a faulty line
 
@@ -96,19 +93,19 @@ fit_tenant ns = nat_lt (slice_index ns 0) (2 ^ 8) && nat_lt (slice_index ns 1) (
 
 unfoldable pub granted_at : List ℕ → Option (Body × List ℕ)
 granted_at text = made_at (codes "granted # slot # superblock #\n") fit_place
-    (λ ns. Granted (slice_index ns 0) (slice_index ns 1) (slice_index ns 2)) text
+    (λ ns. Body.Granted (slice_index ns 0) (slice_index ns 1) (slice_index ns 2)) text
 
 unfoldable pub taken_at : List ℕ → Option (Body × List ℕ)
 taken_at text =
-    made_at (codes "taken superblock #\n") (λ ns. nat_lt (slice_index ns 0) (2 ^ 16)) (λ ns. TakenBack (slice_index ns 0)) text
+    made_at (codes "taken superblock #\n") (λ ns. nat_lt (slice_index ns 0) (2 ^ 16)) (λ ns. Body.TakenBack (slice_index ns 0)) text
 
 unfoldable pub reset_at : List ℕ → Option (Body × List ℕ)
 reset_at text =
-    made_at (codes "reset # superblocks #\n") fit_tenant (λ ns. WasReset (slice_index ns 0) (slice_index ns 1)) text
+    made_at (codes "reset # superblocks #\n") fit_tenant (λ ns. Body.WasReset (slice_index ns 0) (slice_index ns 1)) text
 
 unfoldable pub moved_at : List ℕ → Option (Body × List ℕ)
 moved_at text = made_at (codes "moved # slot # superblock #\n") fit_place
-    (λ ns. Moved (slice_index ns 0) (slice_index ns 1) (slice_index ns 2)) text
+    (λ ns. Body.Moved (slice_index ns 0) (slice_index ns 1) (slice_index ns 2)) text
 
 -- this fault
 unfoldable pub fault_at : LineFault → List ℕ → Option (Body × List ℕ)
@@ -116,12 +113,12 @@ fault_at fault text = do
   found ← form_at (codes "fault ") text
   named ← form_at (name_of_fault fault) found.1
   ended ← form_at (codes "\n") named.1
-  Some (Fault fault, ended.1)
+  Some (Body.Fault fault, ended.1)
 
 -- any fault
 unfoldable pub some_fault_at : List ℕ → Option (Body × List ℕ)
 some_fault_at text =
-    fault_at Long text or_else fault_at Unknown text or_else fault_at Words text or_else fault_at Number text or_else fault_at Hex text
+    fault_at LineFault.Long text or_else fault_at LineFault.Unknown text or_else fault_at LineFault.Words text or_else fault_at LineFault.Number text or_else fault_at LineFault.Hex text
 
 unfoldable pub notice_at : List ℕ → Option (Body × List ℕ)
 notice_at text = granted_at text or_else taken_at text or_else reset_at text or_else moved_at text or_else some_fault_at text
@@ -138,13 +135,13 @@ said_at text =
 -- ---- whom it is for
 
 unfoldable pub tenant_at : List ℕ → Option (Addressee × List ℕ)
-tenant_at text = made_at (codes "#> ") (λ ns. nat_lt (slice_index ns 0) (2 ^ 8)) (λ ns. Tenant (slice_index ns 0)) text
+tenant_at text = made_at (codes "#> ") (λ ns. nat_lt (slice_index ns 0) (2 ^ 8)) (λ ns. Addressee.Tenant (slice_index ns 0)) text
 
 unfoldable pub admin_at : List ℕ → Option (Addressee × List ℕ)
-admin_at text = made_at (codes "admin> ") (λ ns. true) (λ ns. Admin) text
+admin_at text = made_at (codes "admin> ") (λ ns. true) (λ ns. Addressee.Admin) text
 
 unfoldable pub nobody_at : List ℕ → Option (Addressee × List ℕ)
-nobody_at text = made_at (codes "!> ") (λ ns. true) (λ ns. Nobody) text
+nobody_at text = made_at (codes "!> ") (λ ns. true) (λ ns. Addressee.Nobody) text
 
 -- whom it is for, and what follows
 unfoldable pub addressee_at : List ℕ → Option (Addressee × List ℕ)

@@ -9,7 +9,6 @@ use Rattle.words_core.specs.declared.reply.TheConstants.{OWNERS}
 use Rattle.words_core.specs.declared.report.Report.{Report}
 use Rattle.words_core.specs.declared.reply.Reply.{Reply}
 use Rattle.words_core.specs.declared.reply.Body.{Body}
-use Rattle.words_core.specs.declared.reply.Body.TheVariants as Say
 use Rattle.check_core.specs.Forms.{◌>>=◌, form_at}
 use Rattle.check_core.specs.Replies.{made_at, ◌or_else◌, fit_tenant, addressee_at, whole, answer_of}
 
@@ -75,7 +74,7 @@ report_at front text =
       orders = record { items = orders.0 };
       caches = record { items = caches.0 };
     } in
-    Some (Say.Report report, caches.1)))
+    Some (Body.Report report, caches.1)))
 
 -- ---- the table of owners
 
@@ -100,7 +99,7 @@ pool_at front text =
     form_at (codes "pool free # of #\n") text >>= (λ head.
     let owners = rows_from owner_at front OWNERS 0 head.1 in
     if count_by is_none owners.0 == slice_index head.0 0 && length owners.0 == slice_index head.0 1
-    then Some (Say.Owners (record { items = owners.0 }), owners.1) else None)
+    then Some (Body.Owners (record { items = owners.0 }), owners.1) else None)
 
 -- ---- the whole text
 

@@ -2,7 +2,6 @@
 use Rattle.std.specs.Prelude.{ℕ, ◌+◌, ◌-◌, ◌*◌, ◌^◌, ◌==◌, min, if◌then◌else◌, List, [], ◌∷◌, ◌++◌, Option, Some, None, length, count_by, slice_range}
 use Rattle.model_core.specs.declared.owner.Owner.{Owner}
 use Rattle.kernel_core.specs.declared.frames.FrameKind.{FrameKind}
-use Rattle.kernel_core.specs.declared.frames.FrameKind.TheVariants.{NotHeld}
 use Rattle.frame_picture.specs.declared.history.Sheet.{Sheet}
 use Rattle.frame_picture.specs.Kinds.{rank_of}
 use Rattle.frame_picture.specs.declared.grid.Grid.{Grid}
@@ -28,7 +27,7 @@ row_cells order t first end (sheet ∷ sheets) = cells_in order t first end shee
 -- how many of so many frames have the kind of this rank: those that have no cell are not held
 abbrev pub kind_count : List FrameKind → ℕ → ℕ → ℕ
 kind_count cells frames k =
-    count_by (λ cell. rank_of cell == k) cells + (if k == rank_of NotHeld then frames - length cells else 0)
+    count_by (λ cell. rank_of cell == k) cells + (if k == rank_of FrameKind.NotHeld then frames - length cells else 0)
 
 -- the frames of a row: the first one, and the number above the last one
 

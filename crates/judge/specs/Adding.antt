@@ -2,7 +2,6 @@
 use Rattle.std.specs.Prelude.{◌≡◌, Bool, true, false, Ok}
 use Rattle.words_core.specs.declared.event.Event.{Event}
 use Rattle.words_core.specs.declared.reply.Body.{Body}
-use Rattle.words_core.specs.declared.reply.Body.TheVariants as Say
 use Rattle.words_core.specs.declared.reply.Reply.{Reply}
 use Rattle.promise_core.specs.State.{Known}
 use Rattle.promise_core.specs.Promises.{allowed}
@@ -10,10 +9,10 @@ use Rattle.judge.specs.Machine.{SeenMachine, ShowsKnown}
 
 -- a reply of this body adds something to what is kept: a slot, a page block, a cache or an object
 abbrev pub is_addition : Body → Bool
-is_addition (Say.Granted tenant slot superblock) = true
-is_addition (Say.Frame frame) = true
-is_addition (Say.Cache number chunk order objects colours) = true
-is_addition (Say.Object place) = true
+is_addition (Body.Granted tenant slot superblock) = true
+is_addition (Body.Frame frame) = true
+is_addition (Body.Cache number chunk order objects colours) = true
+is_addition (Body.Object place) = true
 is_addition body = false
 
 -- it does, and is allowed

@@ -14,7 +14,6 @@ use Rattle.promise_core.specs.declared.promise.Promise.{Promise}
 use Rattle.promise_core.specs.Promises.{allowed, is_one, kept}
 use Rattle.promise_core.specs.State.{State, Known, state_after, owners_after}
 use Rattle.judge.specs.declared.verdict.Failure.{Failure}
-use Rattle.judge.specs.declared.verdict.Failure.TheVariants as Of
 use Rattle.judge.specs.Seen.{Seen, state_of}
 use Rattle.judge.specs.Machine.{SeenMachine, KeepsSizes, known_of}
 use Rattle.judge.specs.Adding.{is_addition, IsAllowedAddition}
@@ -45,7 +44,7 @@ only_verdict (Err promise) = Err promise
 -- a broken promise is a failure
 abbrev pub failing : Result (Unit {0}) Promise → Result (Unit {0}) Failure
 failing (Ok _) = Ok tt
-failing (Err promise) = Err (Of.Broken promise)
+failing (Err promise) = Err (Failure.Broken promise)
 
 -- what is known of a machine of which this is a tenant
 abbrev pub known_at : Seen → Known → Known
@@ -64,8 +63,8 @@ pub record IsFollowed (event : Event) (body : Body) (w : Known) (old new : Seen)
 -- .. or breaks a promise, or adds something for which there is no memory, and the tenant is as before
 abbrev pub IsVerdictFor : Event → Body → Known → Seen → Seen → Result (Unit {0}) Failure → Type 0
 IsVerdictFor event body w old new (Ok _) = IsFollowed event body w old new
-IsVerdictFor event body w old new (Err (Of.Broken promise)) = (tenant_verdict event body w old ≡ Err promise) × (new ≡ old)
-IsVerdictFor event body w old new (Err (Of.Memory error)) =
+IsVerdictFor event body w old new (Err (Failure.Broken promise)) = (tenant_verdict event body w old ≡ Err promise) × (new ≡ old)
+IsVerdictFor event body w old new (Err (Failure.Memory error)) =
     ((tenant_verdict event body w old ≡ Ok tt) × (is_addition body ≡ true)) × (new ≡ old)
 
 -- this is no answer to the event, but where it is a refusal
@@ -80,5 +79,5 @@ AreOwnersAfter event body old new (Err failure) = new ≡ old
 -- the verdict on a reply, and what is kept of the machine after it
 abbrev pub IsJudged : Event → Reply → SeenMachine → SeenMachine → Result (Unit {0}) Failure → Type 0
 IsJudged event reply old new (Ok _) = (allowed event reply (known_of old) ≡ Ok (known_of new)) × KeepsSizes old new
-IsJudged event reply old new (Err (Of.Broken promise)) = (allowed event reply (known_of old) ≡ Err promise) × (new ≡ old)
-IsJudged event reply old new (Err (Of.Memory error)) = IsAllowedAddition event reply old × (new ≡ old)
+IsJudged event reply old new (Err (Failure.Broken promise)) = (allowed event reply (known_of old) ≡ Err promise) × (new ≡ old)
+IsJudged event reply old new (Err (Failure.Memory error)) = IsAllowedAddition event reply old × (new ≡ old)

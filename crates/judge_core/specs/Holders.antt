@@ -1,12 +1,11 @@
 -- What has a byte, and what was left at a place, as the definitions name them.
 use Rattle.promise_core.specs.Bytes.{Holder, Cell}
 use Rattle.judge_core.specs.declared.holder.RangeHolder.{RangeHolder}
-use Rattle.judge_core.specs.declared.holder.RangeHolder.TheVariants as Of
 use Rattle.judge_core.specs.declared.holder.LeftByte.{LeftByte}
 
 abbrev pub shown_holder : RangeHolder → Holder
-shown_holder Of.Page = Holder.Page
-shown_holder (Of.Object cache first) = Holder.Object cache first
+shown_holder RangeHolder.Page = Holder.Page
+shown_holder (RangeHolder.Object cache first) = Holder.Object cache first
 
 abbrev pub shown_cell : LeftByte → Cell
 shown_cell left = record { holder = shown_holder left.holder; byte = left.byte; sure = left.sure }

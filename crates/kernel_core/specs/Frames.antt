@@ -4,7 +4,6 @@ use Rattle.model_core.specs.Blocks.{HasFrame, IsTaken, Taken}
 use Rattle.model_core.specs.Machine.{Slab, Cache, Machine, holds, order_in, taken_in, slab_block}
 use Rattle.model_core.specs.Slabs.{cache_of, slab_of, is_full, is_partial, is_empty}
 use Rattle.kernel_core.specs.declared.frames.FrameKind.{FrameKind}
-use Rattle.kernel_core.specs.declared.frames.FrameKind.TheVariants.{NotHeld, Free, Page, Full, Partial, Empty}
 
 -- frame f lies in a slab that passes the test
 pub record IsInSlab (m : Machine) (f : ℕ) (test : Slab → Bool) : Type 0 where
@@ -18,12 +17,12 @@ pub record IsInSlab (m : Machine) (f : ℕ) (test : Slab → Bool) : Type 0 wher
 
 -- what frame f of the machine is; a slot has 2 ^ order frames
 abbrev pub IsFrame : ℕ → Machine → ℕ → FrameKind → Type 0
-IsFrame order m f NotHeld = holds m (f / 2 ^ order) ≡ false
-IsFrame order m f Free = (holds m (f / 2 ^ order) ≡ true) × (IsTaken (taken_in m) f → ⊥)
-IsFrame order m f Page = IsTaken (order_in m.blocks) f
-IsFrame order m f Full = IsInSlab m f is_full
-IsFrame order m f Partial = IsInSlab m f is_partial
-IsFrame order m f Empty = IsInSlab m f is_empty
+IsFrame order m f FrameKind.NotHeld = holds m (f / 2 ^ order) ≡ false
+IsFrame order m f FrameKind.Free = (holds m (f / 2 ^ order) ≡ true) × (IsTaken (taken_in m) f → ⊥)
+IsFrame order m f FrameKind.Page = IsTaken (order_in m.blocks) f
+IsFrame order m f FrameKind.Full = IsInSlab m f is_full
+IsFrame order m f FrameKind.Partial = IsInSlab m f is_partial
+IsFrame order m f FrameKind.Empty = IsInSlab m f is_empty
 
 -- each taken block that begins before a frame ends there or before
 abbrev pub AreEndedBefore : Taken → ℕ → Type 0

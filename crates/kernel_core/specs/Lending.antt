@@ -10,7 +10,6 @@ use Rattle.space_core.specs.Windows.{home_of, window_of, with_window}
 use Rattle.space_core.specs.contracts.Space as spaces
 use Rattle.machine_changes.specs.Pages.{IsInReach, stored}
 use Rattle.words_core.specs.declared.reply.Refusal.{Refusal}
-use Rattle.words_core.specs.declared.reply.Refusal.TheVariants.{NoTenant}
 use Rattle.words_core.specs.declared.reply.Body.{Body}
 use Rattle.words_core.specs.declared.reply.Reply.{Reply}
 use Rattle.words_core.specs.declared.reply.Addressee.TheVariants as To
@@ -75,7 +74,7 @@ pub record IsBlockSpan (span : Span) (t frame order : ℕ) : Type 0 where
 
 -- nothing is lent: there is no such tenant, or this is why
 abbrev pub IsNotLent : KernelContent → ℕ → (Refusal → Type 0) → Refusal → Type 0
-IsNotLent k tenant Why refusal = ((k.tenants ≤ tenant) × (refusal ≡ NoTenant)) ⊎ ((tenant < k.tenants) × Why refusal)
+IsNotLent k tenant Why refusal = ((k.tenants ≤ tenant) × (refusal ≡ Refusal.NoTenant)) ⊎ ((tenant < k.tenants) × Why refusal)
 
 -- the reply to a tenant, if there is one
 abbrev pub reply_for : KernelContent → ℕ → Body → Reply

@@ -1,13 +1,11 @@
 -- What one event does to a kernel, and what one command of a tenant does to what that tenant has.
 use Rattle.std.specs.Prelude.{◌≡◌, ℕ, ◌==◌, Bool, true, false, Result, Ok, Err}
 use Rattle.words_core.specs.declared.event.Event.{Event}
-use Rattle.words_core.specs.declared.event.Event.TheVariants as On
 use Rattle.words_core.specs.declared.event.AdminCommand.TheVariants as Do
 use Rattle.words_core.specs.declared.event.Command.{Command}
 use Rattle.words_core.specs.Requests.{AsksPattern, body_of_answer}
 use Rattle.words_core.specs.declared.answer.Answer.{Answer}
 use Rattle.words_core.specs.declared.reply.Body.{Body}
-use Rattle.words_core.specs.declared.reply.Body.TheVariants.{Refused}
 use Rattle.words_core.specs.declared.reply.Refusal.{Refusal}
 use Rattle.words_core.specs.declared.reply.Reply.{Reply}
 use Rattle.words_core.specs.declared.reply.Addressee.TheVariants.{Admin}
@@ -22,17 +20,17 @@ use Rattle.kernel_core.specs.Shows.{Shows}
 
 -- the event names tenant t
 abbrev pub is_named : ℕ → Event → Bool
-is_named t (On.Tenant tenant command) = tenant == t
-is_named t (On.Admin (Do.Grant tenant)) = tenant == t
-is_named t (On.Admin (Do.TakeBack tenant slot)) = tenant == t
-is_named t (On.Admin (Do.Reset tenant)) = tenant == t
-is_named t (On.Admin (Do.Move tenant slot)) = tenant == t
-is_named t (On.Admin Do.Pool) = false
+is_named t (Event.Tenant tenant command) = tenant == t
+is_named t (Event.Admin (Do.Grant tenant)) = tenant == t
+is_named t (Event.Admin (Do.TakeBack tenant slot)) = tenant == t
+is_named t (Event.Admin (Do.Reset tenant)) = tenant == t
+is_named t (Event.Admin (Do.Move tenant slot)) = tenant == t
+is_named t (Event.Admin Do.Pool) = false
 
 -- the pattern of a cache that the event asks for has 1 to 16 bytes
 abbrev pub HasPattern : Event → Type 0
-HasPattern (On.Tenant t command) = AsksPattern command
-HasPattern (On.Admin command) = Unit {0}
+HasPattern (Event.Tenant t command) = AsksPattern command
+HasPattern (Event.Admin command) = Unit {0}
 
 -- the event is a step of whichever world the parts show
 pub record Steps (old : KernelContent) (event : Event) (new : KernelContent) (reply : Reply) : Type 0 where
@@ -52,7 +50,7 @@ pub record StepsMachine (old : KernelContent) (t : ℕ) (command : Command) (new
 -- what a reply says of what a command gave, or of why it was refused
 abbrev pub body_of : {A : Type 0} → (A → Body) → Result A Refusal → Body
 body_of said (Ok given) = said given
-body_of said (Err refusal) = Refused refusal
+body_of said (Err refusal) = Body.Refused refusal
 
 -- the reply to the administrator: what its command gave, or why it was refused
 abbrev pub to_admin : Result Answer Refusal → Reply

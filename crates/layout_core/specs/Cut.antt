@@ -1,7 +1,6 @@
 use Rattle.std.specs.Prelude.{ℕ, Ok, Err, Result, if◌then◌else◌}
 use Rattle.model_core.specs.Layouts.{Layout, layout_of, is_size, is_alignment}
 use Rattle.layout_core.specs.declared.layout.LayoutRefusal.{LayoutRefusal}
-use Rattle.layout_core.specs.declared.layout.LayoutRefusal.TheVariants.{BadSize, BadAlign}
 
 -- what a `Layout` is: an object size and an alignment, from which all its numbers follow
 pub record Cut : Type 0 where
@@ -18,4 +17,4 @@ numbers_of l = layout_of l.size l.align
 -- the layout of a size and an alignment, or the first limit that they miss
 abbrev pub layout_or_refusal : ℕ → ℕ → Result Cut LayoutRefusal
 layout_or_refusal size align =
-    if is_size size then (if is_alignment align then Ok (cut size align) else Err BadAlign) else Err BadSize
+    if is_size size then (if is_alignment align then Ok (cut size align) else Err LayoutRefusal.BadAlign) else Err LayoutRefusal.BadSize

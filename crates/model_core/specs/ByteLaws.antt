@@ -27,17 +27,8 @@ GiveKeeps = (number place : ℕ) (m : Machine) → (give_step number place m).ma
 
 -- the operation writes this place
 abbrev pub writes : Operation → ℕ → Bool
-writes (Alloc k) place = false
-writes (Free first) place = false
 writes (Write begin new) place = nat_le begin place && nat_lt place (begin + length new)
-writes (Create size align pattern) place = false
-writes (Take number) place = false
-writes (Give number begin) place = false
-writes (Destroy number) place = false
-writes Reap place = false
-writes Grant place = false
-writes (TakeBack slot) place = false
-writes Reset place = false
+writes other place = false
 
 -- The operation leaves the place alone: it does not write it, no slab is made or given back there, and its slot neither comes
 -- nor goes.

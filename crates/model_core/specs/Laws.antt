@@ -131,17 +131,8 @@ RecordsFree = (limit order : ℕ) (m : Machine) → IsWellFormed limit order m �
 
 -- the place that a take answers
 abbrev pub taken_place : ℕ → Operation → Machine → Option ℕ
-taken_place order (Alloc k) m = None
-taken_place order (Free first) m = None
-taken_place order (Write place new) m = None
-taken_place order (Create size align pattern) m = None
 taken_place order (Take number) m = result_ok (take_step order number m).answer
-taken_place order (Give number place) m = None
-taken_place order (Destroy number) m = None
-taken_place order Reap m = None
-taken_place order Grant m = None
-taken_place order (TakeBack slot) m = None
-taken_place order Reset m = None
+taken_place order other m = None
 
 -- the block of the slab that the cache makes for a take: it makes one where none of its slabs is partial or empty and a block is
 -- found by need
@@ -152,17 +143,8 @@ block_of_growth order m c =
 
 -- the block of the slab that an operation makes, if it makes one
 abbrev pub made_block : ℕ → Operation → Machine → Option Block
-made_block order (Alloc k) m = None
-made_block order (Free first) m = None
-made_block order (Write place new) m = None
-made_block order (Create size align pattern) m = None
 made_block order (Take number) m = option_and_then (block_of_growth order m) (cache_of m number)
-made_block order (Give number place) m = None
-made_block order (Destroy number) m = None
-made_block order Reap m = None
-made_block order Grant m = None
-made_block order (TakeBack slot) m = None
-made_block order Reset m = None
+made_block order other m = None
 
 -- the operation makes a slab that has the place
 abbrev pub makes_slab_at : ℕ → Operation → Machine → ℕ → Bool

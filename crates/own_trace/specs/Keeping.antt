@@ -9,7 +9,6 @@ use Rattle.world_core.specs.World.{World, world_after}
 use Rattle.world_core.specs.Output.{event_in, ended_lines}
 use Rattle.replay_core.specs.Runs.{StandsAfter, IsCutIn, HasCome}
 use Rattle.own_trace.specs.declared.keeping.KeepError.{KeepError}
-use Rattle.own_trace.specs.declared.keeping.KeepError.TheVariants as Of
 use Rattle.own_trace.specs.declared.keeping.OwnLines.{OwnLines}
 use Rattle.own_trace.specs.Kept.{own_text}
 
@@ -26,15 +25,15 @@ pub record IsKeptShort (t : ℕ) (before after : KernelContent) (lines : List (L
 -- what was given, what was taken, the kernel and the answer
 abbrev pub KeepsOwn : Bool → ℕ → KernelContent → KernelContent → List ℕ → List ℕ → Result (Unit {0}) KeepError → Type 0
 KeepsOwn ended t before after given taken (Ok done) = HasKept t before after (lines_of_trace given) taken
-KeepsOwn ended t before after given taken (Err Of.Feed) = HasKept t before after (ended_lines given) taken
-KeepsOwn ended t before after given taken (Err Of.Drain) =
+KeepsOwn ended t before after given taken (Err KeepError.Feed) = HasKept t before after (ended_lines given) taken
+KeepsOwn ended t before after given taken (Err KeepError.Drain) =
     (lines : List (List ℕ)) × (line : List ℕ) × HasCome ended given (lines ++ line ∷ []) × IsKeptShort t before after lines line taken
 
 -- the end that failed is named, and none where neither did
 abbrev pub NamesEnd : Result (Unit {0}) KeepError → Bool → Bool → Type 0
 NamesEnd (Ok done) feed drain = (feed ≡ false) × (drain ≡ false)
-NamesEnd (Err Of.Feed) feed drain = (feed ≡ true) × (drain ≡ false)
-NamesEnd (Err Of.Drain) feed drain = (feed ≡ false) × (drain ≡ true)
+NamesEnd (Err KeepError.Feed) feed drain = (feed ≡ true) × (drain ≡ false)
+NamesEnd (Err KeepError.Drain) feed drain = (feed ≡ false) × (drain ≡ true)
 
 -- a line was run, and this is what of it is the tenant's own list
 pub record KeepsLine (t : ℕ) (line : List ℕ) (before after : KernelContent) (text : List ℕ) : Type 0 where

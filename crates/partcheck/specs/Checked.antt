@@ -6,20 +6,18 @@ use Rattle.words_core.specs.Cutting.{lines_of_trace}
 use Rattle.promise_core.specs.State.{Known, opening}
 use Rattle.promise_kept.specs.Written.{IsAllowedText}
 use Rattle.check_core.specs.declared.finding.Finding.{Finding}
-use Rattle.check_core.specs.declared.finding.Finding.TheVariants.{Kept, Broken}
 use Rattle.check_core.specs.declared.finding.Unchecked.TheVariants as Not
 use Rattle.check_core.specs.Laws.{IsBreach}
 use Rattle.partcheck.specs.declared.checked.Checked.{Checked}
-use Rattle.partcheck.specs.declared.checked.Checked.TheVariants.{Found, Failed, Unwritten}
 
 -- the exit status
 abbrev pub status_of_check : Checked → ℕ
-status_of_check (Found (Kept lines)) = 0
-status_of_check (Found (Broken breach)) = 4
-status_of_check (Failed Not.Trace error) = 1
-status_of_check (Failed Not.Replies error) = 1
-status_of_check (Failed Not.Memory error) = 3
-status_of_check Unwritten = 1
+status_of_check (Checked.Found (Finding.Kept lines)) = 0
+status_of_check (Checked.Found (Finding.Broken breach)) = 4
+status_of_check (Checked.Failed Not.Trace error) = 1
+status_of_check (Checked.Failed Not.Replies error) = 1
+status_of_check (Checked.Failed Not.Memory error) = 3
+status_of_check Checked.Unwritten = 1
 
 -- before the first line of a machine of these sizes
 abbrev pub opening_of : Config → Known
@@ -28,7 +26,7 @@ opening_of config = opening MOST_CACHES config.order config.superblocks config.t
 -- if they are found kept, the replies are the text of replies to the trace's events, each of which is allowed; if they are found
 -- broken, no reply that begins at the breach is
 abbrev pub IsSoundFinding : Config → Finding → (trace replies : List ℕ) → Type 0
-IsSoundFinding config (Kept lines) trace replies =
+IsSoundFinding config (Finding.Kept lines) trace replies =
     IsAllowedText None MOST_CACHES config.order config.superblocks config.tenants (lines_of_trace trace) replies
-IsSoundFinding config (Broken breach) trace replies =
+IsSoundFinding config (Finding.Broken breach) trace replies =
     IsBreach MOST_CACHES config.order config.superblocks config.tenants (lines_of_trace trace) replies breach

@@ -8,7 +8,6 @@ use Rattle.world_core.specs.Output.{ended_lines, with_line_feeds}
 use Rattle.replay_core.specs.Noting.{Noting, noted_fault, noted_lines}
 use Rattle.replay_core.specs.Runs.{HasCome}
 use Rattle.command_line.specs.declared.outcome.Outcome.{Outcome}
-use Rattle.command_line.specs.declared.outcome.Outcome.TheVariants.{Done, Unreadable, Unwritable, NoMemory}
 use Rattle.command_line.specs.declared.machine.Machine.{Machine}
 
 -- what these lines add to notes on a new machine: the refusals that are shown, and the faulty lines
@@ -23,11 +22,11 @@ with_unended noting lines tail notes = noted_fault noting (suc (length lines)) (
 -- What was noted of the `count` lines that were run, when the run ended so; and behind them of an unfinished line, if the trace
 -- could not be read.
 abbrev pub HasNoted : {N : Type 0} → Noting N → Machine → Outcome → ℕ → Bool → List ℕ → N → N → Type 0
-HasNoted noting m Done count ended given notes notes' = notes' ≡ with_notes noting m (lines_of_trace given) notes
-HasNoted noting m Unreadable count ended given notes notes' = (tail : List ℕ) × (given ≡ with_line_feeds (ended_lines given) ++ tail)
+HasNoted noting m Outcome.Done count ended given notes notes' = notes' ≡ with_notes noting m (lines_of_trace given) notes
+HasNoted noting m Outcome.Unreadable count ended given notes notes' = (tail : List ℕ) × (given ≡ with_line_feeds (ended_lines given) ++ tail)
     × (notes' ≡ with_unended noting (ended_lines given) tail (with_notes noting m (ended_lines given) notes))
-HasNoted noting m Unwritable count ended given notes notes' = (lines : List (List ℕ)) × (tail : List ℕ)
+HasNoted noting m Outcome.Unwritable count ended given notes notes' = (lines : List (List ℕ)) × (tail : List ℕ)
     × HasCome ended given lines × (length lines ≡ count) × ((tail ≡ []) ⊎ (given ≡ with_line_feeds lines ++ tail))
     × (notes' ≡ with_unended noting lines tail (with_notes noting m lines notes))
-HasNoted noting m NoMemory count ended given notes notes' = notes' ≡ notes
+HasNoted noting m Outcome.NoMemory count ended given notes notes' = notes' ≡ notes
 HasNoted noting m _ count ended given notes notes' = ⊥

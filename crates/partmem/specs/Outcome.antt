@@ -1,25 +1,22 @@
 -- How a run ends, and what it counted.
 use Rattle.std.specs.Prelude.{ℕ, ◌-◌, Result, Ok, Err}
 use Rattle.command_line.specs.declared.outcome.Outcome.{Outcome}
-use Rattle.command_line.specs.declared.outcome.Outcome.TheVariants.{Done, Unreadable, Unwritable}
 use Rattle.partmem.specs.declared.outcome.Ended.{Ended}
 use Rattle.own_trace.specs.declared.keeping.KeepError.{KeepError}
-use Rattle.own_trace.specs.declared.keeping.KeepError.TheVariants as Kept
 use Rattle.streams.specs.declared.tally.Tally.{Tally}
 use Rattle.streams.specs.declared.tally.ReplayError.{ReplayError}
-use Rattle.streams.specs.declared.tally.ReplayError.TheVariants as Failed
 
 -- the outcome of a run that kept a tenant's own list
 abbrev pub outcome_of_kept : Result (Unit {0}) KeepError → Outcome
-outcome_of_kept (Ok done) = Done
-outcome_of_kept (Err Kept.Feed) = Unreadable
-outcome_of_kept (Err Kept.Drain) = Unwritable
+outcome_of_kept (Ok done) = Outcome.Done
+outcome_of_kept (Err KeepError.Feed) = Outcome.Unreadable
+outcome_of_kept (Err KeepError.Drain) = Outcome.Unwritable
 
 -- what had been done when the replay answered so
 abbrev pub tally_of : Result Tally ReplayError → Tally
 tally_of (Ok tally) = tally
-tally_of (Err (Failed.Feed tally)) = tally
-tally_of (Err (Failed.Drain tally)) = tally
+tally_of (Err (ReplayError.Feed tally)) = tally
+tally_of (Err (ReplayError.Drain tally)) = tally
 
 -- the same where so many of the bytes were not written
 abbrev pub without_unwritten : Tally → ℕ → Tally

@@ -7,7 +7,6 @@ use Rattle.world_core.specs.World.{opening_world}
 use Rattle.world_core.specs.Output.{ended_lines}
 use Rattle.own_trace.specs.Kept.{own_text, own_trace}
 use Rattle.command_line.specs.declared.outcome.Outcome.{Outcome}
-use Rattle.command_line.specs.declared.outcome.Outcome.TheVariants.{Done, Unreadable, Unwritable, NoMemory}
 use Rattle.partmem.specs.Run.{IsBeginning}
 
 -- those of these lines that are the own list of tenant t, on a new machine
@@ -16,8 +15,8 @@ own_of config t lines = own_text t cache_limit config.order lines (opening_world
 
 -- what was written of the bytes that were given, when the run ended so
 abbrev pub WritesOwn : Config → ℕ → Outcome → List ℕ → List ℕ → Type 0
-WritesOwn config t Done given written = written ≡ own_trace cache_limit config.order config.superblocks config.tenants t given
-WritesOwn config t Unreadable given written = written ≡ own_of config t (ended_lines given)
-WritesOwn config t Unwritable given written = IsBeginning written (own_of config t (lines_of_trace given))
-WritesOwn config t NoMemory given written = (given ≡ []) × (written ≡ [])
+WritesOwn config t Outcome.Done given written = written ≡ own_trace cache_limit config.order config.superblocks config.tenants t given
+WritesOwn config t Outcome.Unreadable given written = written ≡ own_of config t (ended_lines given)
+WritesOwn config t Outcome.Unwritable given written = IsBeginning written (own_of config t (lines_of_trace given))
+WritesOwn config t Outcome.NoMemory given written = (given ≡ []) × (written ≡ [])
 WritesOwn config t _ given written = ⊥

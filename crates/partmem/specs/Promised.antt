@@ -6,7 +6,6 @@ use Rattle.world_core.specs.Limits.{cache_limit}
 use Rattle.world_core.specs.Output.{ended_lines}
 use Rattle.promise_kept.specs.Written.{IsAllowedText}
 use Rattle.command_line.specs.declared.outcome.Outcome.{Outcome}
-use Rattle.command_line.specs.declared.outcome.Outcome.TheVariants.{Done, Unreadable, Unwritable, NoMemory}
 use Rattle.command_line.specs.declared.machine.Machine.{Machine}
 
 -- on a new machine the text is that of allowed replies to these lines: of all replies, or of those to one tenant
@@ -16,8 +15,8 @@ AreAllowed m lines text =
 
 -- what was written of the bytes that were given, when the run ended so
 abbrev pub WritesAllowed : Machine → Outcome → List ℕ → List ℕ → Type 0
-WritesAllowed m Done given written = AreAllowed m (lines_of_trace given) written
-WritesAllowed m Unreadable given written = AreAllowed m (ended_lines given) written
-WritesAllowed m Unwritable given written = (rest : List ℕ) × AreAllowed m (lines_of_trace given) (written ++ rest)
-WritesAllowed m NoMemory given written = (given ≡ []) × (written ≡ [])
+WritesAllowed m Outcome.Done given written = AreAllowed m (lines_of_trace given) written
+WritesAllowed m Outcome.Unreadable given written = AreAllowed m (ended_lines given) written
+WritesAllowed m Outcome.Unwritable given written = (rest : List ℕ) × AreAllowed m (lines_of_trace given) (written ++ rest)
+WritesAllowed m Outcome.NoMemory given written = (given ≡ []) × (written ≡ [])
 WritesAllowed m _ given written = ⊥

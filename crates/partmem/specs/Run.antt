@@ -10,7 +10,6 @@ use Rattle.world_core.specs.Laws.{private_lines}
 use Rattle.streams.specs.declared.tally.Tally.{Tally}
 use Rattle.replay_core.specs.Runs.{Counts, HasCome, IsCutIn}
 use Rattle.command_line.specs.declared.outcome.Outcome.{Outcome}
-use Rattle.command_line.specs.declared.outcome.Outcome.TheVariants.{Done, Unreadable, Unwritable, NoMemory}
 use Rattle.command_line.specs.declared.machine.Machine.{Machine}
 use Rattle.partmem.specs.Outcome.{no_tally}
 
@@ -32,10 +31,10 @@ IsBeginning part whole = (rest : List ℕ) × (whole ≡ part ++ rest)
 
 -- what was written of the bytes that were given, when the run ended so; a run has no other outcomes than these
 abbrev pub Answers : Machine → Outcome → List ℕ → List ℕ → Type 0
-Answers m Done given written = (written ≡ shown_replies m (lines_of_trace given)) × IsPrivate m.only m.config given written
-Answers m Unreadable given written = written ≡ shown_replies m (ended_lines given)
-Answers m Unwritable given written = IsBeginning written (shown_replies m (lines_of_trace given))
-Answers m NoMemory given written = (given ≡ []) × (written ≡ [])
+Answers m Outcome.Done given written = (written ≡ shown_replies m (lines_of_trace given)) × IsPrivate m.only m.config given written
+Answers m Outcome.Unreadable given written = written ≡ shown_replies m (ended_lines given)
+Answers m Outcome.Unwritable given written = IsBeginning written (shown_replies m (lines_of_trace given))
+Answers m Outcome.NoMemory given written = (given ≡ []) × (written ≡ [])
 Answers m _ given written = ⊥
 
 -- What was held back is the end of it: the writer took the rest, and nothing else.
@@ -45,38 +44,38 @@ IsHeldBack before writer held written sent = Appends before (append_known writer
 -- Of what was written for a run that ended so, the writer took this: all of it, or what is not held back by a drain that has
 -- failed. Before it the writer had, or the drain held, what the drain had taken before.
 abbrev pub HasReached : Outcome → (failed : Bool) → (before writer : Option (List ℕ)) → (held written sent : List ℕ) → Type 0
-HasReached Done failed before writer held written sent = (sent ≡ written) × Appends before writer written
-HasReached Unreadable false before writer held written sent = (sent ≡ written) × Appends before writer written
-HasReached Unreadable true before writer held written sent = IsHeldBack before writer held written sent
-HasReached Unwritable failed before writer held written sent = IsHeldBack before writer held written sent
-HasReached NoMemory failed before writer held written sent = sent ≡ []
+HasReached Outcome.Done failed before writer held written sent = (sent ≡ written) × Appends before writer written
+HasReached Outcome.Unreadable false before writer held written sent = (sent ≡ written) × Appends before writer written
+HasReached Outcome.Unreadable true before writer held written sent = IsHeldBack before writer held written sent
+HasReached Outcome.Unwritable failed before writer held written sent = IsHeldBack before writer held written sent
+HasReached Outcome.NoMemory failed before writer held written sent = sent ≡ []
 HasReached _ failed before writer held written sent = ⊥
 
 -- What is counted when the run ended so: the lines that were run, and what the writer took. If the replies could not be written,
 -- all lines had been answered before a flush or a send failed, or the last line that was run is the one whose reply was cut.
 abbrev pub Tallies : Machine → Outcome → Tally → (ended unread : Bool) → (given written sent : List ℕ) → Type 0
-Tallies m Done tally ended unread given written sent = Counts tally (lines_of_trace given) sent
-Tallies m Unreadable tally ended unread given written sent = Counts tally (ended_lines given) sent
-Tallies m Unwritable tally ended unread given written sent =
+Tallies m Outcome.Done tally ended unread given written sent = Counts tally (lines_of_trace given) sent
+Tallies m Outcome.Unreadable tally ended unread given written sent = Counts tally (ended_lines given) sent
+Tallies m Outcome.Unwritable tally ended unread given written sent =
     ((ended ≡ true) × (written ≡ shown_replies m (lines_of_trace given)) × Counts tally (lines_of_trace given) sent)
     ⊎ ((unread ≡ true) × (written ≡ shown_replies m (ended_lines given)) × Counts tally (ended_lines given) sent)
     ⊎ ((lines : List (List ℕ)) × (line : List ℕ) × HasCome ended given (lines ++ line ∷ [])
     × IsCutIn (shown_replies m) lines line written × Counts tally (lines ++ line ∷ []) sent)
-Tallies m NoMemory tally ended unread given written sent = tally ≡ no_tally
+Tallies m Outcome.NoMemory tally ended unread given written sent = tally ≡ no_tally
 Tallies m _ tally ended unread given written sent = ⊥
 
 -- Which end had failed when the run ended so; a trace is done only at its end. Where both had, a send failed before the feed did,
 -- or the feed before the last flush.
 abbrev pub EndsAs : Outcome → (ended unread unwritten unsent : Bool) → Type 0
-EndsAs Done ended unread unwritten unsent = (ended ≡ true) × (unread ≡ false) × (unwritten ≡ false) × (unsent ≡ false)
-EndsAs Unreadable ended unread unwritten unsent = (unread ≡ true) × (unsent ≡ false)
-EndsAs Unwritable ended unread unwritten unsent = (unwritten ≡ true) × (unread ≡ true → unsent ≡ true)
-EndsAs NoMemory ended unread unwritten unsent = (unread ≡ false) × (unwritten ≡ false)
+EndsAs Outcome.Done ended unread unwritten unsent = (ended ≡ true) × (unread ≡ false) × (unwritten ≡ false) × (unsent ≡ false)
+EndsAs Outcome.Unreadable ended unread unwritten unsent = (unread ≡ true) × (unsent ≡ false)
+EndsAs Outcome.Unwritable ended unread unwritten unsent = (unwritten ≡ true) × (unread ≡ true → unsent ≡ true)
+EndsAs Outcome.NoMemory ended unread unwritten unsent = (unread ≡ false) × (unwritten ≡ false)
 EndsAs _ ended unread unwritten unsent = ⊥
 
 -- how much of the trace was given when the run ended so: a beginning, and all of it where it is done
 abbrev pub IsGiven : Outcome → List ℕ → List ℕ → Type 0
-IsGiven Done trace given = trace ≡ given
+IsGiven Outcome.Done trace given = trace ≡ given
 IsGiven outcome trace given = IsBeginning given trace
 
 -- However the run ended, what was written is a beginning of the whole that the trace gives.

@@ -2,7 +2,6 @@
 use Rattle.std.specs.Prelude.{◌≡◌, ◌<◌, ℕ, ◌+◌, ◌-◌, ◌*◌, ◌/◌, ◌%◌, ◌^◌, ◌==◌, nat_le, min, ◌&&◌, Bool, if◌then◌else◌, List, [], ◌++◌, length, take, drop, replicate, Option, Some, None, is_some}
 use Rattle.model_core.specs.declared.limits.TheConstants.{FRAME_BYTES, MOST_ORDER, MOST_BYTES}
 use Rattle.words_core.specs.declared.event.Event.{Event}
-use Rattle.words_core.specs.declared.event.Event.TheVariants.{Tenant}
 use Rattle.words_core.specs.declared.event.Command.TheVariants.{Free}
 use Rattle.words_core.specs.declared.reply.Addressee.TheVariants as To
 use Rattle.words_core.specs.declared.reply.Body.TheVariants.{Refused}
@@ -117,5 +116,5 @@ frame_at_place place = place / FRAME_BYTES + place % FRAME_BYTES * NO_FRAME
 abbrev pub OffsetsAreRefused : Type 0
 OffsetsAreRefused = (k : KernelContent) (w : World) (t place : ℕ) →
     IsKernel k → Shows k w → t < k.tenants → 0 < place % FRAME_BYTES →
-    (world_step cache_limit k.order (Tenant t (Free (frame_at_place place))) w).reply
+    (world_step cache_limit k.order (Event.Tenant t (Free (frame_at_place place))) w).reply
     ≡ record { addressee = To.Tenant t; body = Refused NotABlock }

@@ -2,13 +2,9 @@
 use Rattle.std.specs.Prelude.{◌≡◌, ℕ, ◌+◌, ◌==◌, nat_lt, nat_le, Bool, not, ◌&&◌, ◌||◌, List, [], ◌++◌, length, drop, if◌then◌else◌, Option, Some, None, is_some, is_none, option_map}
 use Rattle.arrayvec.specs.ArrayVec.{ArrayVec}
 use Rattle.words_core.specs.declared.event.Event.{Event}
-use Rattle.words_core.specs.declared.event.Event.TheVariants as On
 use Rattle.words_core.specs.declared.event.AdminCommand.{AdminCommand}
-use Rattle.words_core.specs.declared.event.AdminCommand.TheVariants as Do
 use Rattle.words_core.specs.declared.event.Command.{Command}
-use Rattle.words_core.specs.declared.event.Command.TheVariants as Ask
 use Rattle.words_core.specs.declared.reply.Body.{Body}
-use Rattle.words_core.specs.declared.reply.Body.TheVariants.{Granted, TakenBack, WasReset, Moved, Owners, Frame, Freed, Bytes, Written, Cache, Destroyed, Object, Given, Reaped, Report, Refused, Fault}
 use Rattle.words_core.specs.declared.reply.Reply.{Reply}
 use Rattle.words_core.specs.Texts.{number_of_refusal}
 use Rattle.model_core.specs.declared.limits.TheConstants.{MOST_BYTES, MOST_PATTERN}
@@ -28,26 +24,26 @@ some_bytes most bytes =
 -- the commands of the administrator, by their kinds
 abbrev pub admin_command_of : RequestNumbers → Option AdminCommand
 admin_command_of a =
-    if a.kind == request.GRANT then Some (Do.Grant a.tenant)
-    else (if a.kind == request.TAKE_BACK then Some (Do.TakeBack a.tenant a.first)
-    else (if a.kind == request.RESET then Some (Do.Reset a.tenant)
-    else (if a.kind == request.MOVE then Some (Do.Move a.tenant a.first)
-    else (if a.kind == request.POOL then Some Do.Pool
+    if a.kind == request.GRANT then Some (AdminCommand.Grant a.tenant)
+    else (if a.kind == request.TAKE_BACK then Some (AdminCommand.TakeBack a.tenant a.first)
+    else (if a.kind == request.RESET then Some (AdminCommand.Reset a.tenant)
+    else (if a.kind == request.MOVE then Some (AdminCommand.Move a.tenant a.first)
+    else (if a.kind == request.POOL then Some AdminCommand.Pool
     else None))))
 
 -- the commands of a tenant
 abbrev pub requested_command : RequestNumbers → List ℕ → Option Command
 requested_command a bytes =
-    if a.kind == request.ALLOC then Some (Ask.Alloc a.first)
-    else (if a.kind == request.FREE then Some (Ask.Free a.first)
-    else (if a.kind == request.READ then Some (Ask.Read a.first a.second)
-    else (if a.kind == request.WRITE then option_map (Ask.Write a.first) (some_bytes MOST_BYTES bytes)
-    else (if a.kind == request.CACHE then option_map (Ask.Cache a.first a.second) (some_bytes MOST_PATTERN bytes)
-    else (if a.kind == request.DESTROY then Some (Ask.Destroy a.first)
-    else (if a.kind == request.TAKE then Some (Ask.Take a.first)
-    else (if a.kind == request.GIVE then Some (Ask.Give a.first a.second)
-    else (if a.kind == request.REAP then Some Ask.Reap
-    else (if a.kind == request.REPORT then Some Ask.Report
+    if a.kind == request.ALLOC then Some (Command.Alloc a.first)
+    else (if a.kind == request.FREE then Some (Command.Free a.first)
+    else (if a.kind == request.READ then Some (Command.Read a.first a.second)
+    else (if a.kind == request.WRITE then option_map (Command.Write a.first) (some_bytes MOST_BYTES bytes)
+    else (if a.kind == request.CACHE then option_map (Command.Cache a.first a.second) (some_bytes MOST_PATTERN bytes)
+    else (if a.kind == request.DESTROY then Some (Command.Destroy a.first)
+    else (if a.kind == request.TAKE then Some (Command.Take a.first)
+    else (if a.kind == request.GIVE then Some (Command.Give a.first a.second)
+    else (if a.kind == request.REAP then Some Command.Reap
+    else (if a.kind == request.REPORT then Some Command.Report
     else None)))))))))
 
 -- a kind of command that takes no bytes and is answered none
@@ -59,8 +55,8 @@ is_plain kind =
 -- the event that the numbers and bytes say, if they say one
 abbrev pub requested_event : RequestNumbers → List ℕ → Option Event
 requested_event a bytes =
-    if nat_le a.kind request.POOL then option_map On.Admin (admin_command_of a)
-    else option_map (On.Tenant a.tenant) (requested_command a bytes)
+    if nat_le a.kind request.POOL then option_map Event.Admin (admin_command_of a)
+    else option_map (Event.Tenant a.tenant) (requested_command a bytes)
 
 abbrev pub reply_numbers : ℕ → ℕ → ℕ → ℕ → ℕ → ℕ → ReplyNumbers
 reply_numbers of a b c d e = record { kind = of; first = a; second = b; third = c; fourth = d; fifth = e }
@@ -72,44 +68,29 @@ top_number (Some order) = order + 1
 
 -- a reply as numbers: of a report the figures, of the table of owners how many superblocks there are
 abbrev pub numbers_of_body : Body → ReplyNumbers
-numbers_of_body (Granted tenant slot superblock) = reply_numbers kind.GRANTED tenant slot superblock 0 0
-numbers_of_body (TakenBack superblock) = reply_numbers kind.TAKEN_BACK superblock 0 0 0 0
-numbers_of_body (WasReset tenant superblocks) = reply_numbers kind.WAS_RESET tenant superblocks 0 0 0
-numbers_of_body (Moved tenant slot superblock) = reply_numbers kind.MOVED tenant slot superblock 0 0
-numbers_of_body (Owners owners) = reply_numbers kind.OWNERS (length owners.items) 0 0 0 0
-numbers_of_body (Frame frame) = reply_numbers kind.FRAME frame 0 0 0 0
-numbers_of_body (Freed order) = reply_numbers kind.FREED order 0 0 0 0
-numbers_of_body (Bytes bytes) = reply_numbers kind.BYTES (length bytes.items) 0 0 0 0
-numbers_of_body (Written count) = reply_numbers kind.WRITTEN count 0 0 0 0
-numbers_of_body (Cache cache chunk order objects colours) = reply_numbers kind.MADE cache chunk order objects colours
-numbers_of_body (Destroyed frames) = reply_numbers kind.DESTROYED frames 0 0 0 0
-numbers_of_body (Object place) = reply_numbers kind.OBJECT place 0 0 0 0
-numbers_of_body Given = reply_numbers kind.GIVEN 0 0 0 0 0
-numbers_of_body (Reaped frames) = reply_numbers kind.REAPED frames 0 0 0 0
-numbers_of_body (Report report) =
+numbers_of_body (Body.Granted tenant slot superblock) = reply_numbers kind.GRANTED tenant slot superblock 0 0
+numbers_of_body (Body.TakenBack superblock) = reply_numbers kind.TAKEN_BACK superblock 0 0 0 0
+numbers_of_body (Body.WasReset tenant superblocks) = reply_numbers kind.WAS_RESET tenant superblocks 0 0 0
+numbers_of_body (Body.Moved tenant slot superblock) = reply_numbers kind.MOVED tenant slot superblock 0 0
+numbers_of_body (Body.Owners owners) = reply_numbers kind.OWNERS (length owners.items) 0 0 0 0
+numbers_of_body (Body.Frame frame) = reply_numbers kind.FRAME frame 0 0 0 0
+numbers_of_body (Body.Freed order) = reply_numbers kind.FREED order 0 0 0 0
+numbers_of_body (Body.Bytes bytes) = reply_numbers kind.BYTES (length bytes.items) 0 0 0 0
+numbers_of_body (Body.Written count) = reply_numbers kind.WRITTEN count 0 0 0 0
+numbers_of_body (Body.Cache cache chunk order objects colours) = reply_numbers kind.MADE cache chunk order objects colours
+numbers_of_body (Body.Destroyed frames) = reply_numbers kind.DESTROYED frames 0 0 0 0
+numbers_of_body (Body.Object place) = reply_numbers kind.OBJECT place 0 0 0 0
+numbers_of_body Body.Given = reply_numbers kind.GIVEN 0 0 0 0 0
+numbers_of_body (Body.Reaped frames) = reply_numbers kind.REAPED frames 0 0 0 0
+numbers_of_body (Body.Report report) =
     reply_numbers kind.FIGURES report.frames report.live report.free (top_number report.top) report.split
-numbers_of_body (Refused refusal) = reply_numbers kind.REFUSED (number_of_refusal refusal) 0 0 0 0
-numbers_of_body (Fault fault) = reply_numbers kind.NOTHING 0 0 0 0 0
+numbers_of_body (Body.Refused refusal) = reply_numbers kind.REFUSED (number_of_refusal refusal) 0 0 0 0
+numbers_of_body (Body.Fault fault) = reply_numbers kind.NOTHING 0 0 0 0 0
 
 -- the bytes that a reply tells
 abbrev pub answered_bytes : Body → List ℕ
-answered_bytes (Granted tenant slot superblock) = []
-answered_bytes (TakenBack superblock) = []
-answered_bytes (WasReset tenant superblocks) = []
-answered_bytes (Moved tenant slot superblock) = []
-answered_bytes (Owners owners) = []
-answered_bytes (Frame frame) = []
-answered_bytes (Freed order) = []
-answered_bytes (Bytes bytes) = bytes.items
-answered_bytes (Written count) = []
-answered_bytes (Cache cache chunk order objects colours) = []
-answered_bytes (Destroyed frames) = []
-answered_bytes (Object place) = []
-answered_bytes Given = []
-answered_bytes (Reaped frames) = []
-answered_bytes (Report report) = []
-answered_bytes (Refused refusal) = []
-answered_bytes (Fault fault) = []
+answered_bytes (Body.Bytes bytes) = bytes.items
+answered_bytes other = []
 
 -- what a call answers that a machine is all there has to be for
 abbrev pub machine_status : Option KernelContent → ℕ

@@ -5,7 +5,6 @@ use Rattle.model_core.specs.declared.report.CacheRow.{CacheRow}
 use Rattle.words_core.specs.declared.report.Report as words
 use Rattle.words_core.specs.declared.report.TheConstants.{ORDERS, CACHES}
 use Rattle.words_core.specs.declared.reply.Body.{Body}
-use Rattle.words_core.specs.declared.reply.Body.TheVariants.{Report}
 use Rattle.words_core.specs.declared.reply.Reply.{Reply}
 use Rattle.words_core.specs.declared.event.Event.TheVariants.{Tenant}
 use Rattle.words_core.specs.declared.event.Command.TheVariants as Command
@@ -66,7 +65,7 @@ figures_of_report report = record {
 }
 
 abbrev pub figures_of_body : Body → Figures
-figures_of_body (Report report) = figures_of_report report
+figures_of_body (Body.Report report) = figures_of_report report
 figures_of_body other = no_figures
 
 -- the event was a step of the kernel, and these are the status and the figures of its reply

@@ -5,13 +5,11 @@ use Rattle.model_core.specs.Blocks.{block, HasFrame, IsTaken}
 use Rattle.model_core.specs.Machine.{Machine}
 use Rattle.buddy_core.specs.Content.{holding_of, taken_of}
 use Rattle.words_core.specs.declared.reply.Refusal.{Refusal}
-use Rattle.words_core.specs.declared.reply.Refusal.TheVariants.{NoTenant, NoSlot}
 use Rattle.words_core.specs.Texts.{number_of_refusal}
 use Rattle.kernel_core.specs.Content.{KernelContent, superblock_at}
 use Rattle.kernel_core.specs.Shows.{ShowsMachine}
 use Rattle.kernel_core.specs.Frames.{IsFrame}
 use Rattle.kernel_core.specs.declared.frames.FrameKind.{FrameKind}
-use Rattle.kernel_core.specs.declared.frames.FrameKind.TheVariants.{NotHeld, Free, Page, Full, Partial, Empty}
 use Rattle.partmem_c.specs.declared.status.TheConstants.{DONE, NO_MACHINE}
 use Rattle.partmem_c.specs.declared.lookups.TheConstants.{NO_SUCH_SLOT, FREE_FRAME, PAGE_BLOCK, SLAB}
 use Rattle.partmem_c.specs.declared.lookups.Block.{Block}
@@ -32,27 +30,27 @@ abbrev pub no_slot : HeldSlot
 no_slot = record { slot = 0; superblock = 0 }
 
 abbrev pub slot_over : ℕ → Option ℕ → Result HeldSlot Refusal
-slot_over slot None = Err NoSlot
+slot_over slot None = Err Refusal.NoSlot
 slot_over slot (Some superblock) = Ok (record { slot = slot; superblock = superblock })
 
 -- the superblock under a slot of a tenant, or why there is none
 abbrev pub slot_at : KernelContent → ℕ → ℕ → Result HeldSlot Refusal
-slot_at k t slot = if nat_lt t k.tenants then slot_over slot (superblock_at k t slot) else Err NoTenant
+slot_at k t slot = if nat_lt t k.tenants then slot_over slot (superblock_at k t slot) else Err Refusal.NoTenant
 
 abbrev pub no_block : Block
 no_block = record { usage = NO_SUCH_SLOT; place = 0; bytes = 0 }
 
 abbrev pub use_of : FrameKind → ℕ
-use_of NotHeld = NO_SUCH_SLOT
-use_of Free = FREE_FRAME
-use_of Page = PAGE_BLOCK
-use_of Full = SLAB
-use_of Partial = SLAB
-use_of Empty = SLAB
+use_of FrameKind.NotHeld = NO_SUCH_SLOT
+use_of FrameKind.Free = FREE_FRAME
+use_of FrameKind.Page = PAGE_BLOCK
+use_of FrameKind.Full = SLAB
+use_of FrameKind.Partial = SLAB
+use_of FrameKind.Empty = SLAB
 
 -- the first frame and the order of what has a frame that is not taken: of the slot if it is not held, else of the frame alone
 abbrev pub untaken : FrameKind → ℕ → ℕ → ℕ × ℕ
-untaken NotHeld frame order = (frame / 2 ^ order * 2 ^ order, order)
+untaken FrameKind.NotHeld frame order = (frame / 2 ^ order * 2 ^ order, order)
 untaken other frame order = (frame, 0)
 
 -- These are the first frame and the order of the taken block that has a frame. If none has it, `untaken` says them.
@@ -76,4 +74,4 @@ pub record IsBlockAt (k : KernelContent) (t frame : ℕ) (found : Block) : Type 
 -- what a tenant's place lies in, or that there is no such tenant
 abbrev pub FindsBlock : KernelContent → ℕ → ℕ → Result Block Refusal → Type 0
 FindsBlock k t place (Ok found) = (t < k.tenants) × IsBlockAt k t (place / FRAME_BYTES) found
-FindsBlock k t place (Err refusal) = (k.tenants ≤ t) × (refusal ≡ NoTenant)
+FindsBlock k t place (Err refusal) = (k.tenants ≤ t) × (refusal ≡ Refusal.NoTenant)

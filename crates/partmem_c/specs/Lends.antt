@@ -13,7 +13,6 @@ use Rattle.words_core.specs.declared.event.Event.TheVariants.{Tenant}
 use Rattle.words_core.specs.declared.reply.Body.TheVariants.{Frame, Object, Refused}
 use Rattle.words_core.specs.declared.reply.Refusal.{Refusal}
 use Rattle.words_core.specs.declared.reply.Reply.{Reply}
-use Rattle.words_core.specs.declared.reply.Refusal.TheVariants.{OutOfReach}
 use Rattle.world_core.specs.PrivateStep.{give_body}
 use Rattle.kernel_core.specs.Content.{KernelContent}
 use Rattle.kernel_core.specs.Shows.{ShowsMachine}
@@ -38,14 +37,14 @@ pub record IsLentAt (place bytes : ℕ) (lent : Lent) : Type 0 where
 abbrev pub FindsRange : KernelContent → ℕ → ℕ → ℕ → Result Lent Refusal → Type 0
 FindsRange k t place len (Ok lent) = (t < k.tenants) × IsInReach k.space k.buddy k.slabs t place len × IsLentAt place len lent
 FindsRange k t place len (Err refusal) =
-    IsNotLent k t (λ why. (why ≡ OutOfReach) × ((m : Machine) → ShowsMachine k t m → in_reach m place len ≡ false)) refusal
+    IsNotLent k t (λ why. (why ≡ Refusal.OutOfReach) × ((m : Machine) → ShowsMachine k t m → in_reach m place len ≡ false)) refusal
 
 -- the whole live page block in which a place lies
 abbrev pub FindsWholeBlock : KernelContent → ℕ → ℕ → Result Lent Refusal → Type 0
 FindsWholeBlock k t place (Ok lent) = (t < k.tenants)
     × ((m : Machine) → ShowsMachine k t m → HasBlock m place lent.place lent.bytes) × IsLentAt lent.place lent.bytes lent
 FindsWholeBlock k t place (Err refusal) =
-    IsNotLent k t (λ why. (why ≡ OutOfReach)
+    IsNotLent k t (λ why. (why ≡ Refusal.OutOfReach)
     × ((m : Machine) → ShowsMachine k t m → IsTaken (order_in m.blocks) (place / FRAME_BYTES) → ⊥)) refusal
 
 -- the live object of a cache that begins at a place

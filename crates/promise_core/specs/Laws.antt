@@ -6,12 +6,9 @@ use Rattle.model_core.specs.Blocks.{Block, HasFrame, IsAligned}
 use Rattle.model_core.specs.Machine.{slot_of}
 use Rattle.words_core.specs.declared.event.Command.{Command}
 use Rattle.words_core.specs.declared.event.Event.{Event}
-use Rattle.words_core.specs.declared.event.Event.TheVariants as On
 use Rattle.words_core.specs.declared.event.AdminCommand.TheVariants as Do
 use Rattle.words_core.specs.declared.reply.Addressee.{Addressee}
-use Rattle.words_core.specs.declared.reply.Addressee.TheVariants as To
 use Rattle.words_core.specs.declared.reply.Body.{Body}
-use Rattle.words_core.specs.declared.reply.Body.TheVariants as Say
 use Rattle.words_core.specs.declared.reply.Refusal.{Refusal}
 use Rattle.words_core.specs.declared.reply.Reply.{Reply}
 use Rattle.world_core.specs.World.{Exchange}
@@ -22,19 +19,19 @@ use Rattle.promise_core.specs.Promises.{allowed, all_allowed}
 
 -- the tenant asks for a cache whose pattern has the byte
 abbrev pub gives_pattern : ℕ → ℕ → Event → Bool
-gives_pattern t byte (On.Tenant named (Command.Cache size align pattern)) = named == t && list_any (λ b. b == byte) pattern.items
+gives_pattern t byte (Event.Tenant named (Command.Cache size align pattern)) = named == t && list_any (λ b. b == byte) pattern.items
 gives_pattern t byte event = false
 
 -- the tenant writes_byte the byte at the place
 abbrev pub writes_byte : ℕ → ℕ → ℕ → Event → Body → Bool
-writes_byte t place byte (On.Tenant named (Command.Write begin new)) (Say.Written n) =
+writes_byte t place byte (Event.Tenant named (Command.Write begin new)) (Body.Written n) =
     named == t && ((nat_le begin place && nat_lt place (begin + length new.items))
     && slice_index new.items (place - begin) == byte)
 writes_byte t place byte event body = false
 
 -- the slot of the place is granted to the tenant; slots have 2 ^ order frames
 abbrev pub grants_slot : ℕ → ℕ → ℕ → Event → Body → Bool
-grants_slot order t place (On.Admin (Do.Grant named)) (Say.Granted told u superblock) = named == t && slot_of order place == u
+grants_slot order t place (Event.Admin (Do.Grant named)) (Body.Granted told u superblock) = named == t && slot_of order place == u
 grants_slot order t place event body = false
 
 -- the byte is of a pattern that the tenant gave, in these exchanges or before
@@ -56,7 +53,7 @@ is_own order t place byte es = byte == 0 || (was_given t byte false es || was_wr
 abbrev pub Confined : Type 0
 Confined = (limit order superblocks tenants t begin len j byte : ℕ) (es : List Exchange) (addressee : Addressee) (told : ArrayVec ℕ) (w v : Known)
     → all_allowed es (Ok (opening limit order superblocks tenants)) ≡ Ok w
-    → allowed (On.Tenant t (Command.Read begin len)) (record { addressee = addressee; body = Say.Bytes told }) w ≡ Ok v
+    → allowed (Event.Tenant t (Command.Read begin len)) (record { addressee = addressee; body = Body.Bytes told }) w ≡ Ok v
     → slice_get told.items j ≡ Some byte → is_own order t (begin + j) byte es ≡ true
 
 -- what has frames: page blocks, by None, and the slabs of live objects, by the number of their cache
@@ -83,23 +80,23 @@ LeftInHeld = (limit order superblocks tenants t : ℕ) (es : List Exchange) (w :
 
 -- the tenant can be told this
 abbrev pub may_tell : Known → ℕ → Command → Body → Bool
-may_tell w t command body = is_ok (allowed (On.Tenant t command) (record { addressee = To.Tenant t; body = body }) w)
+may_tell w t command body = is_ok (allowed (Event.Tenant t command) (record { addressee = Addressee.Tenant t; body = body }) w)
 
 -- a number can be answered to the tenant's command, unless it can be refused for want of frames, and never both
 pub record IsRefusedForCause (w : Known) (t : ℕ) (command : Command) (answer : ℕ → Body) : Type 0 where
-  pub answered : may_tell w t command (Say.Refused Refusal.NoFrames) ≡ false → (n : ℕ) × (may_tell w t command (answer n) ≡ true)
-  pub refused : (n : ℕ) → may_tell w t command (Say.Refused Refusal.NoFrames) ≡ true → may_tell w t command (answer n) ≡ false
+  pub answered : may_tell w t command (Body.Refused Refusal.NoFrames) ≡ false → (n : ℕ) × (may_tell w t command (answer n) ≡ true)
+  pub refused : (n : ℕ) → may_tell w t command (Body.Refused Refusal.NoFrames) ≡ true → may_tell w t command (answer n) ≡ false
 
 -- so it is for a block of every order up to that of a slot, in whatever state
 abbrev pub RefusedForCause : Type 0
 RefusedForCause = (w : Known) (s : State) (t k : ℕ) → slice_get w.states t ≡ Some s → k ≤ w.order
-    → IsRefusedForCause w t (Command.Alloc k) Say.Frame
+    → IsRefusedForCause w t (Command.Alloc k) Body.Frame
 
 -- and for an object of a cache that is there, whatever was asked and answered before, if each reply was allowed
 abbrev pub TakeRefusedForCause : Type 0
 TakeRefusedForCause = (limit order superblocks tenants t number : ℕ) (es : List Exchange) (w : Known) (s : State) (c : KnownCache)
     → all_allowed es (Ok (opening limit order superblocks tenants)) ≡ Ok w → slice_get w.states t ≡ Some s
-    → known_cache s.has number ≡ Some c → IsRefusedForCause w t (Command.Take number) Say.Object
+    → known_cache s.has number ≡ Some c → IsRefusedForCause w t (Command.Take number) Body.Object
 
 -- the commands by which a tenant uses its memory
 abbrev pub uses_memory : Command → Bool
@@ -115,4 +112,4 @@ uses_memory command = false
 abbrev pub UseAnswerable : Type 0
 UseAnswerable = (limit order superblocks tenants t : ℕ) (command : Command) (es : List Exchange) (w : Known)
     → all_allowed es (Ok (opening limit order superblocks tenants)) ≡ Ok w → uses_memory command ≡ true
-    → (reply : Reply) × (is_ok (allowed (On.Tenant t command) reply w) ≡ true)
+    → (reply : Reply) × (is_ok (allowed (Event.Tenant t command) reply w) ≡ true)

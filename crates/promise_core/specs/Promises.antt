@@ -12,14 +12,11 @@ use Rattle.model_core.specs.declared.owner.Owner.{Owner}
 use Rattle.model_core.specs.declared.report.CacheRow.{CacheRow}
 use Rattle.words_core.specs.Texts.{number_of_refusal}
 use Rattle.words_core.specs.declared.event.Event.{Event}
-use Rattle.words_core.specs.declared.event.Event.TheVariants as On
 use Rattle.words_core.specs.declared.event.AdminCommand.TheVariants as Do
 use Rattle.words_core.specs.declared.event.Command.TheVariants as Command
 use Rattle.words_core.specs.declared.report.Report.{Report}
 use Rattle.words_core.specs.declared.reply.Addressee.{Addressee}
-use Rattle.words_core.specs.declared.reply.Addressee.TheVariants as To
 use Rattle.words_core.specs.declared.reply.Body.{Body}
-use Rattle.words_core.specs.declared.reply.Body.TheVariants as Say
 use Rattle.words_core.specs.declared.reply.Refusal.{Refusal}
 use Rattle.words_core.specs.declared.reply.Reply.{Reply}
 use Rattle.world_core.specs.World.{Exchange}
@@ -30,9 +27,9 @@ use Rattle.promise_core.specs.State.{State, Known, opening_state, is_in_use, sta
 
 -- whom a reply to the event is for, which names a tenant that exists or not
 abbrev pub is_for : Event → Bool → Addressee → Bool
-is_for (On.Tenant t command) true (To.Tenant named) = named == t
-is_for (On.Tenant t command) false To.Nobody = true
-is_for (On.Admin command) exists To.Admin = true
+is_for (Event.Tenant t command) true (Addressee.Tenant named) = named == t
+is_for (Event.Tenant t command) false Addressee.Nobody = true
+is_for (Event.Admin command) exists Addressee.Admin = true
 is_for event exists addressee = false
 
 -- the reply is for whom it has to be, and one to such an event
@@ -46,23 +43,23 @@ first_due ((stands, refusal) ∷ tests) = if stands then Some refusal else first
 
 -- the refusal that has to come
 unfoldable pub due : Event → Known → State → Option Refusal
-due (On.Tenant t (Command.Alloc k)) w s = first_due ((nat_lt w.order k, Refusal.BadOrder) ∷ [])
-due (On.Tenant t (Command.Free f)) w s = first_due ((is_none (order_in s.has.pages f), Refusal.NotABlock) ∷ [])
-due (On.Tenant t (Command.Read place len)) w s = first_due ((not (nat_le 1 len && nat_le len MOST_BYTES), Refusal.BadLength)
+due (Event.Tenant t (Command.Alloc k)) w s = first_due ((nat_lt w.order k, Refusal.BadOrder) ∷ [])
+due (Event.Tenant t (Command.Free f)) w s = first_due ((is_none (order_in s.has.pages f), Refusal.NotABlock) ∷ [])
+due (Event.Tenant t (Command.Read place len)) w s = first_due ((not (nat_le 1 len && nat_le len MOST_BYTES), Refusal.BadLength)
     ∷ (is_none (holder_of s.has place len), Refusal.OutOfReach) ∷ [])
-due (On.Tenant t (Command.Write place bytes)) w s =
+due (Event.Tenant t (Command.Write place bytes)) w s =
     first_due ((is_none (holder_of s.has place (length bytes.items)), Refusal.OutOfReach) ∷ [])
-due (On.Tenant t (Command.Cache size align pattern)) w s = first_due ((not (is_size size), Refusal.BadSize)
+due (Event.Tenant t (Command.Cache size align pattern)) w s = first_due ((not (is_size size), Refusal.BadSize)
     ∷ (not (is_alignment align), Refusal.BadAlign) ∷ (nat_le w.limit (length s.has.caches), Refusal.NoCacheSlot) ∷ [])
-due (On.Tenant t (Command.Destroy number)) w s = let cache = known_cache s.has number in
+due (Event.Tenant t (Command.Destroy number)) w s = let cache = known_cache s.has number in
     first_due ((is_none cache, Refusal.NoCache) ∷ (is_in_use cache, Refusal.CacheInUse) ∷ [])
-due (On.Tenant t (Command.Take number)) w s = first_due ((is_none (known_cache s.has number), Refusal.NoCache) ∷ [])
-due (On.Tenant t (Command.Give number place)) w s = let cache = known_cache s.has number in first_due ((is_none cache, Refusal.NoCache)
+due (Event.Tenant t (Command.Take number)) w s = first_due ((is_none (known_cache s.has number), Refusal.NoCache) ∷ [])
+due (Event.Tenant t (Command.Give number place)) w s = let cache = known_cache s.has number in first_due ((is_none cache, Refusal.NoCache)
     ∷ (not (option_map_or (λ c. list_any (λ p. p == place) c.live) cache false), Refusal.NotAnObject) ∷ [])
-due (On.Admin (Do.Grant t)) w s = first_due ((list_all is_some w.owners, Refusal.PoolEmpty) ∷ [])
-due (On.Admin (Do.TakeBack t u)) w s =
+due (Event.Admin (Do.Grant t)) w s = first_due ((list_all is_some w.owners, Refusal.PoolEmpty) ∷ [])
+due (Event.Admin (Do.TakeBack t u)) w s =
     first_due ((not (has_slot s.has u), Refusal.NoSlot) ∷ (is_slot_busy w.order s.has u, Refusal.SlotBusy) ∷ [])
-due (On.Admin (Do.Move t u)) w s =
+due (Event.Admin (Do.Move t u)) w s =
     first_due ((not (has_slot s.has u), Refusal.NoSlot) ∷ (list_all is_some w.owners, Refusal.PoolEmpty) ∷ [])
 due event w s = None
 
@@ -71,7 +68,7 @@ is_one a b = number_of_refusal a == number_of_refusal b
 
 -- the refusal that is due comes; where none is, that there are no frames, or that a slot is busy, may be said, or an answer comes
 abbrev pub refusals : Event → Body → Known → State → Bool
-refusals event (Say.Refused refusal) w s =
+refusals event (Body.Refused refusal) w s =
     option_map_or (is_one refusal) (due event w s) (is_one refusal Refusal.NoFrames || is_one refusal Refusal.SlotBusy)
 refusals event body w s = is_none (due event w s)
 
@@ -81,31 +78,31 @@ is_used_up order h c = list_all (is_slab_full c) c.live && not (has_vacant_block
 
 -- there are no frames where there is no room
 abbrev pub room : Event → Body → Known → State → Bool
-room (On.Tenant t (Command.Alloc k)) (Say.Refused Refusal.NoFrames) w s = not (has_vacant_block w.order s.has k)
-room (On.Tenant t (Command.Take number)) (Say.Refused Refusal.NoFrames) w s =
+room (Event.Tenant t (Command.Alloc k)) (Body.Refused Refusal.NoFrames) w s = not (has_vacant_block w.order s.has k)
+room (Event.Tenant t (Command.Take number)) (Body.Refused Refusal.NoFrames) w s =
     option_map_or (is_used_up w.order s.has) (known_cache s.has number) false
-room event (Say.Refused Refusal.NoFrames) w s = false
+room event (Body.Refused Refusal.NoFrames) w s = false
 room event body w s = true
 
 -- a slot is busy where a frame of it is taken, or a slab without live objects may stand
 abbrev pub busy : Event → Body → Known → State → Bool
-busy (On.Admin (Do.TakeBack t u)) (Say.Refused Refusal.SlotBusy) w s =
+busy (Event.Admin (Do.TakeBack t u)) (Body.Refused Refusal.SlotBusy) w s =
     is_slot_busy w.order s.has u || list_any (λ c. s.may_have_empty c.number) s.has.caches
-busy event (Say.Refused Refusal.SlotBusy) w s = false
+busy event (Body.Refused Refusal.SlotBusy) w s = false
 busy event body w s = true
 
 abbrev pub blocks : Event → Body → Known → State → Bool
-blocks (On.Tenant t (Command.Alloc k)) (Say.Frame f) w s = can_stand w.order s.has (block f k)
+blocks (Event.Tenant t (Command.Alloc k)) (Body.Frame f) w s = can_stand w.order s.has (block f k)
 blocks event body w s = true
 
 abbrev pub objects : Event → Body → Known → State → Bool
-objects (On.Tenant t (Command.Take number)) (Say.Object place) w s =
+objects (Event.Tenant t (Command.Take number)) (Body.Object place) w s =
     option_map_or (λ c. can_be_taken w.order s.has c place) (known_cache s.has number) false
 objects event body w s = true
 
 -- a new cache has a number of its own, and its objects fit into a slab at each of its colours
 abbrev pub new_layout : Event → Body → Known → State → Bool
-new_layout (On.Tenant t (Command.Cache size align pattern)) (Say.Cache number chunk q n colours) w s =
+new_layout (Event.Tenant t (Command.Cache size align pattern)) (Body.Cache number chunk q n colours) w s =
     (nat_lt number w.limit && is_none (known_cache s.has number)) && ((nat_le size chunk && (chunk % align == 0 && nat_le q w.order))
     && ((nat_le 1 n && nat_le 1 colours) && nat_le (align * (colours - 1) + n * chunk) (FRAME_BYTES * 2 ^ q)))
 new_layout event body w s = true
@@ -116,10 +113,10 @@ can_come_back order caches frames s = frames == 0 || (nat_le frames (length (vac
     && list_any (λ c. s.may_have_empty c.number && frames % 2 ^ c.order == 0) caches)
 
 abbrev pub gives : Event → Body → Known → State → Bool
-gives (On.Tenant t (Command.Free f)) (Say.Freed k) w s = option_eq (λ i j. i == j) (order_in s.has.pages f) (Some k)
-gives (On.Tenant t (Command.Destroy number)) (Say.Destroyed frames) w s =
+gives (Event.Tenant t (Command.Free f)) (Body.Freed k) w s = option_eq (λ i j. i == j) (order_in s.has.pages f) (Some k)
+gives (Event.Tenant t (Command.Destroy number)) (Body.Destroyed frames) w s =
     can_come_back w.order (filter (λ c. c.number == number) s.has.caches) frames s
-gives (On.Tenant t Command.Reap) (Say.Reaped frames) w s = can_come_back w.order s.has.caches frames s
+gives (Event.Tenant t Command.Reap) (Body.Reaped frames) w s = can_come_back w.order s.has.caches frames s
 gives event body w s = true
 
 abbrev pub has_owner : (Option Owner → Bool) → ℕ → Known → Bool
@@ -127,21 +124,21 @@ has_owner test superblock w = option_map_or test (slice_get w.owners superblock)
 
 -- what comes is nobody's before, what goes is the tenant's, and the pool is told as it is
 abbrev pub owners : Event → Body → Known → State → Bool
-owners (On.Admin (Do.Grant t)) (Say.Granted named u superblock) w s = (named == t && has_owner is_none superblock w)
+owners (Event.Admin (Do.Grant t)) (Body.Granted named u superblock) w s = (named == t && has_owner is_none superblock w)
     && (not (has_slot s.has u) && nat_le ((u + 1) * 2 ^ w.order * FRAME_BYTES) (2 ^ 32))
-owners (On.Admin (Do.TakeBack t u)) (Say.TakenBack superblock) w s = has_owner (is_owner t u) superblock w
-owners (On.Admin (Do.Reset t)) (Say.WasReset named superblocks) w s = named == t && superblocks == count_by (is_of t) w.owners
-owners (On.Admin (Do.Move t u)) (Say.Moved named slot superblock) w s =
+owners (Event.Admin (Do.TakeBack t u)) (Body.TakenBack superblock) w s = has_owner (is_owner t u) superblock w
+owners (Event.Admin (Do.Reset t)) (Body.WasReset named superblocks) w s = named == t && superblocks == count_by (is_of t) w.owners
+owners (Event.Admin (Do.Move t u)) (Body.Moved named slot superblock) w s =
     (named == t && slot == u) && has_owner is_none superblock w
-owners (On.Admin Do.Pool) (Say.Owners told) w s = length told.items == length w.owners
+owners (Event.Admin Do.Pool) (Body.Owners told) w s = length told.items == length w.owners
     && list_all (λ p. option_eq (λ x y. x.tenant == y.tenant && x.slot == y.slot) p.0 p.1) (zip told.items w.owners)
 owners event body w s = true
 
 -- each byte that is read may be there, and all are read, or written
 abbrev pub bytes : Event → Body → Known → State → Bool
-bytes (On.Tenant t (Command.Read place len)) (Say.Bytes told) w s = length told.items == len
+bytes (Event.Tenant t (Command.Read place len)) (Body.Bytes told) w s = length told.items == len
     && option_map_or (λ holder. may_all_be s.has s.cells holder place told.items) (holder_of s.has place len) false
-bytes (On.Tenant t (Command.Write place new)) (Say.Written n) w s = length new.items == n
+bytes (Event.Tenant t (Command.Write place new)) (Body.Written n) w s = length new.items == n
 bytes event body w s = true
 
 -- how many frames these numbers of blocks have, the first of them of order 0
@@ -164,7 +161,7 @@ known_count h rows k = length (filter (λ b. b.order == k) h.pages)
 
 -- there are a row of each order and of each cache; the figures are those of the state, and the free blocks such as there can be
 abbrev pub report : Event → Body → Known → State → Bool
-report (On.Tenant t Command.Report) (Say.Report r) w s =
+report (Event.Tenant t Command.Report) (Body.Report r) w s =
     let orders = range_with_len 0 (w.order + 1) in
     let free = map (λ row. row.free) r.orders.items in
     let taken = map (λ row. row.taken) r.orders.items in
@@ -184,11 +181,11 @@ empty_frames test h r = sum_by (λ p. if test p.0.number then p.1.empty * 2 ^ p.
 -- as long as a report has to stand, what comes back is what it told, and a new one tells the same
 -- (of free blocks and empty slabs; the rest is the state's)
 abbrev pub still : Event → Body → Known → State → Bool
-still (On.Tenant t (Command.Destroy number)) (Say.Destroyed frames) w s =
+still (Event.Tenant t (Command.Destroy number)) (Body.Destroyed frames) w s =
     option_map_or (λ r. frames == empty_frames (λ n. n == number) s.has r) s.told true
-still (On.Tenant t Command.Reap) (Say.Reaped frames) w s =
+still (Event.Tenant t Command.Reap) (Body.Reaped frames) w s =
     option_map_or (λ r. frames == empty_frames (λ n. true) s.has r) s.told true
-still (On.Tenant t Command.Report) (Say.Report r) w s =
+still (Event.Tenant t Command.Report) (Body.Report r) w s =
     option_map_or (λ q. list_all (λ p. p.0.free == p.1.free) (zip q.orders.items r.orders.items)
     && list_all (λ p. p.0.empty == p.1.empty) (zip q.caches.items r.caches.items)) s.told true
 still event body w s = true
@@ -197,12 +194,12 @@ still event body w s = true
 
 -- the tenant that an event names, be there such a tenant or not
 abbrev pub named : Event → Option ℕ
-named (On.Tenant t command) = Some t
-named (On.Admin (Do.Grant t)) = Some t
-named (On.Admin (Do.TakeBack t u)) = Some t
-named (On.Admin (Do.Reset t)) = Some t
-named (On.Admin (Do.Move t u)) = Some t
-named (On.Admin Do.Pool) = None
+named (Event.Tenant t command) = Some t
+named (Event.Admin (Do.Grant t)) = Some t
+named (Event.Admin (Do.TakeBack t u)) = Some t
+named (Event.Admin (Do.Reset t)) = Some t
+named (Event.Admin (Do.Move t u)) = Some t
+named (Event.Admin Do.Pool) = None
 
 -- what is known after an event that names this tenant, now in state s
 abbrev pub known_after : Event → Body → Known → State → Known
@@ -225,7 +222,7 @@ kept event reply w s = let body = reply.body in
     ∷ (Promise.Bytes, bytes event body w s) ∷ (Promise.Report, report event body w s) ∷ (Promise.Still, still event body w s) ∷ []
 
 abbrev pub is_no_tenant : Body → Bool
-is_no_tenant (Say.Refused refusal) = is_one refusal Refusal.NoTenant
+is_no_tenant (Body.Refused refusal) = is_one refusal Refusal.NoTenant
 is_no_tenant body = false
 
 -- a tenant that does not exist is said not to

@@ -7,12 +7,10 @@ use Rattle.model_core.specs.Machine.{in_block, slot_of, put_rising}
 use Rattle.model_core.specs.Owners.{owned_by, is_of, is_owner}
 use Rattle.model_core.specs.declared.owner.Owner.{Owner}
 use Rattle.words_core.specs.declared.event.Event.{Event}
-use Rattle.words_core.specs.declared.event.Event.TheVariants as On
 use Rattle.words_core.specs.declared.event.AdminCommand.TheVariants as Do
 use Rattle.words_core.specs.declared.event.Command.TheVariants as Command
 use Rattle.words_core.specs.declared.report.Report.{Report}
 use Rattle.words_core.specs.declared.reply.Body.{Body}
-use Rattle.words_core.specs.declared.reply.Body.TheVariants as Say
 use Rattle.world_core.specs.World.{given_up}
 use Rattle.promise_core.specs.Holdings.{KnownCache, Holdings, known_cache, with_live_places, slab_around, are_apart}
 use Rattle.promise_core.specs.Bytes.{Holder, is_object, is_same, Cells, with_bytes, doubted, without, holder_of}
@@ -57,18 +55,18 @@ is_in_no_slab h n p = not (list_any (λ c. c.number == n && list_any (λ q. in_b
 
 -- the state after a reply to an event, as before after a refusal, None where it is no answer; slots have 2 ^ order frames
 unfoldable pub state_after : ℕ → Event → Body → State → Option State
-state_after order event (Say.Refused refusal) s = Some s
-state_after order (On.Tenant t (Command.Alloc k)) (Say.Frame f) s = let b = block f k in
+state_after order event (Body.Refused refusal) s = Some s
+state_after order (Event.Tenant t (Command.Alloc k)) (Body.Frame f) s = let b = block f k in
     let cells = without (λ place holder. in_block place b && not (is_same Holder.Page holder)) s.cells in
     Some (record s { has = record s.has { pages = put_rising (λ x. x.first) b s.has.pages }; cells = cells; told = None })
-state_after order (On.Tenant t (Command.Free f)) (Say.Freed k) s =
+state_after order (Event.Tenant t (Command.Free f)) (Body.Freed k) s =
     let cells = doubted (λ place holder. in_block place (block f k) && is_same Holder.Page holder) s.cells in
     Some (record s { has = record s.has { pages = filter (λ x. not (x.first == f)) s.has.pages }; cells = cells; told = None })
-state_after order (On.Tenant t (Command.Read place len)) (Say.Bytes bytes) s =
+state_after order (Event.Tenant t (Command.Read place len)) (Body.Bytes bytes) s =
     Some (with_range place bytes.items s (holder_of s.has place len))
-state_after order (On.Tenant t (Command.Write place bytes)) (Say.Written n) s =
+state_after order (Event.Tenant t (Command.Write place bytes)) (Body.Written n) s =
     Some (with_range place bytes.items s (holder_of s.has place n))
-state_after order (On.Tenant t (Command.Cache size align pattern)) (Say.Cache number chunk q n colours) s =
+state_after order (Event.Tenant t (Command.Cache size align pattern)) (Body.Cache number chunk q n colours) s =
     let c : KnownCache = record {
       number = number;
       size = size;
@@ -80,36 +78,36 @@ state_after order (On.Tenant t (Command.Cache size align pattern)) (Say.Cache nu
       live = [];
     } in
     Some (record s { has = record s.has { caches = put_rising (λ x. x.number) c s.has.caches }; told = None })
-state_after order (On.Tenant t (Command.Destroy number)) (Say.Destroyed frames) s =
+state_after order (Event.Tenant t (Command.Destroy number)) (Body.Destroyed frames) s =
     let caches = filter (λ c. not (c.number == number)) s.has.caches in
     let cells = without (λ place. is_object (λ n p. n == number)) s.cells in
     Some (record { has = record s.has { caches = caches }; cells = cells; may_have_empty = λ n. not (n == number) && s.may_have_empty n; told = None })
-state_after order (On.Tenant t (Command.Take number)) (Say.Object place) s =
+state_after order (Event.Tenant t (Command.Take number)) (Body.Object place) s =
     let has = with_live_places number (put_rising (λ p. p) place) s.has in
     let cells = with_object place (known_cache s.has number) s.cells in
     Some (record { has = has; cells = cells; may_have_empty = λ n. n == number || s.may_have_empty n; told = None })
-state_after order (On.Tenant t (Command.Give number place)) Say.Given s =
+state_after order (Event.Tenant t (Command.Give number place)) Body.Given s =
     let has = with_live_places number (filter (λ p. not (p == place))) s.has in
     Some (record s { has = has; cells = doubted (λ p. is_same (Holder.Object number place)) s.cells; told = None })
-state_after order (On.Tenant t Command.Reap) (Say.Reaped frames) s =
+state_after order (Event.Tenant t Command.Reap) (Body.Reaped frames) s =
     let cells = without (λ place. is_object (is_in_no_slab s.has)) s.cells in
     Some (record s { cells = cells; may_have_empty = λ n. is_in_use (known_cache s.has n); told = None })
-state_after order (On.Tenant t Command.Report) (Say.Report r) s = Some (record s { told = Some r })
-state_after order (On.Admin (Do.Grant t)) (Say.Granted named u superblock) s =
+state_after order (Event.Tenant t Command.Report) (Body.Report r) s = Some (record s { told = Some r })
+state_after order (Event.Admin (Do.Grant t)) (Body.Granted named u superblock) s =
     Some (record s { has = record s.has { slots = put_rising (λ v. v) u s.has.slots }; told = None })
-state_after order (On.Admin (Do.TakeBack t u)) (Say.TakenBack superblock) s =
+state_after order (Event.Admin (Do.TakeBack t u)) (Body.TakenBack superblock) s =
     let cells = without (λ place holder. slot_of order place == u) s.cells in
     Some (record s { has = record s.has { slots = filter (λ v. not (v == u)) s.has.slots }; cells = cells; told = None })
-state_after order (On.Admin (Do.Reset t)) (Say.WasReset named superblocks) s = Some opening_state
-state_after order (On.Admin (Do.Move t u)) (Say.Moved named slot superblock) s = Some s
-state_after order (On.Admin Do.Pool) (Say.Owners owners) s = Some s
+state_after order (Event.Admin (Do.Reset t)) (Body.WasReset named superblocks) s = Some opening_state
+state_after order (Event.Admin (Do.Move t u)) (Body.Moved named slot superblock) s = Some s
+state_after order (Event.Admin Do.Pool) (Body.Owners owners) s = Some s
 state_after order event body s = None
 
 -- the owners after it
 unfoldable pub owners_after : Event → Body → List (Option Owner) → List (Option Owner)
-owners_after (On.Admin (Do.Grant t)) (Say.Granted named u superblock) owners = slice_set owners superblock (Some (owned_by t u))
-owners_after (On.Admin (Do.TakeBack t u)) (Say.TakenBack superblock) owners = map (given_up (is_owner t u)) owners
-owners_after (On.Admin (Do.Reset t)) (Say.WasReset named superblocks) owners = map (given_up (is_of t)) owners
-owners_after (On.Admin (Do.Move t u)) (Say.Moved named slot superblock) owners =
+owners_after (Event.Admin (Do.Grant t)) (Body.Granted named u superblock) owners = slice_set owners superblock (Some (owned_by t u))
+owners_after (Event.Admin (Do.TakeBack t u)) (Body.TakenBack superblock) owners = map (given_up (is_owner t u)) owners
+owners_after (Event.Admin (Do.Reset t)) (Body.WasReset named superblocks) owners = map (given_up (is_of t)) owners
+owners_after (Event.Admin (Do.Move t u)) (Body.Moved named slot superblock) owners =
     slice_set (map (given_up (is_owner t u)) owners) superblock (Some (owned_by t u))
 owners_after event body owners = owners

@@ -4,7 +4,6 @@ use Rattle.std.specs.Prelude.{◌≡◌, ℕ, ◌*◌, ◌^◌, ◌≤◌, List,
 use Rattle.std.specs.List.{AllByRecursion}
 use Rattle.model_core.specs.Runs.{ArePossible}
 use Rattle.words_core.specs.declared.event.Event.{Event}
-use Rattle.words_core.specs.declared.event.Event.TheVariants as On
 use Rattle.words_core.specs.declared.event.AdminCommand.TheVariants as Do
 use Rattle.words_core.specs.Cutting.{lines_of_trace}
 use Rattle.world_core.specs.PrivateStep.{Entry}
@@ -18,28 +17,28 @@ use Rattle.promise_kept.specs.MeetsWorld.{MeetsWorld, IsEventKept}
 
 -- a superblock granted, or refused where none is free
 abbrev pub GrantIsKept : Type 0
-GrantIsKept = (limit order t : ℕ) → IsEventKept limit order (On.Admin (Do.Grant t))
+GrantIsKept = (limit order t : ℕ) → IsEventKept limit order (Event.Admin (Do.Grant t))
 
 -- a slot taken back, where it is held and not busy
 abbrev pub TakeBackIsKept : Type 0
-TakeBackIsKept = (limit order t slot : ℕ) → IsEventKept limit order (On.Admin (Do.TakeBack t slot))
+TakeBackIsKept = (limit order t slot : ℕ) → IsEventKept limit order (Event.Admin (Do.TakeBack t slot))
 
 -- all slots of a tenant given up
 abbrev pub ResetIsKept : Type 0
-ResetIsKept = (limit order t : ℕ) → IsEventKept limit order (On.Admin (Do.Reset t))
+ResetIsKept = (limit order t : ℕ) → IsEventKept limit order (Event.Admin (Do.Reset t))
 
 -- a slot moved to another superblock
 abbrev pub MoveIsKept : Type 0
-MoveIsKept = (limit order t slot : ℕ) → IsEventKept limit order (On.Admin (Do.Move t slot))
+MoveIsKept = (limit order t slot : ℕ) → IsEventKept limit order (Event.Admin (Do.Move t slot))
 
 -- the table of owners
 abbrev pub PoolIsKept : Type 0
-PoolIsKept = (limit order : ℕ) → IsEventKept limit order (On.Admin Do.Pool)
+PoolIsKept = (limit order : ℕ) → IsEventKept limit order (Event.Admin Do.Pool)
 
 -- the event can be asked for: a cache is made with a pattern of 1 to 16 bytes
 abbrev pub CanBeRequested : Event → Type 0
-CanBeRequested (On.Tenant t command) = ArePossible (operations_in (Entry.Ask command))
-CanBeRequested (On.Admin command) = ⊤
+CanBeRequested (Event.Tenant t command) = ArePossible (operations_in (Entry.Ask command))
+CanBeRequested (Event.Admin command) = ⊤
 
 -- Any event, so a tenant's command too; slots have at least 8 frames, as many as the largest slab.
 abbrev pub EventIsKept : Type 0

@@ -3,7 +3,6 @@ use Rattle.std.specs.Prelude.{◌≡◌, ℕ, Bool, true, false, List, [], ◌�
 use Rattle.words_core.specs.Cutting.{lines_of_trace}
 use Rattle.world_core.specs.Output.{ended_lines, with_line_feeds}
 use Rattle.replay_core.specs.declared.engine.EndFailed.{EndFailed}
-use Rattle.replay_core.specs.declared.engine.EndFailed.TheVariants as Of
 use Rattle.replay_core.specs.Runs.{HasCome}
 use Rattle.replay_core.specs.Doing.{HaveRun, IsCutOff}
 
@@ -30,8 +29,8 @@ HasRunInto does ended s given taken s' =
 abbrev pub RunsAs : {S K : Type 0} → (S × K → List ℕ → List ℕ → List ℕ → S × K → Type 0) → (S → List ℕ → S → Type 0) → Bool → S × K
     → List ℕ → List ℕ → Result (Unit {0}) EndFailed → S × K → Type 0
 RunsAs does leaves ended s given taken (Ok done) s' = HaveRun does s (lines_of_trace given) taken s'
-RunsAs does leaves ended s given taken (Err Of.Feed) s' = HasRunEnded does leaves s given taken s'
-RunsAs does leaves ended s given taken (Err Of.Drain) s' = HasRunInto does ended s given taken s'
+RunsAs does leaves ended s given taken (Err EndFailed.Feed) s' = HasRunEnded does leaves s given taken s'
+RunsAs does leaves ended s given taken (Err EndFailed.Drain) s' = HasRunInto does ended s given taken s'
 
 -- the answer is Ok only where the feed has ended
 abbrev pub IsRunToEnd : Result (Unit {0}) EndFailed → Bool → Type 0
@@ -41,5 +40,5 @@ IsRunToEnd (Err error) ended = Unit {0}
 -- the end that failed is named, and none where neither did
 abbrev pub NamesEndFailed : Result (Unit {0}) EndFailed → Bool → Bool → Type 0
 NamesEndFailed (Ok done) feed drain = (feed ≡ false) × (drain ≡ false)
-NamesEndFailed (Err Of.Feed) feed drain = (feed ≡ true) × (drain ≡ false)
-NamesEndFailed (Err Of.Drain) feed drain = (feed ≡ false) × (drain ≡ true)
+NamesEndFailed (Err EndFailed.Feed) feed drain = (feed ≡ true) × (drain ≡ false)
+NamesEndFailed (Err EndFailed.Drain) feed drain = (feed ≡ false) × (drain ≡ true)

@@ -3,7 +3,6 @@ use Rattle.std.specs.Prelude.{◌≡◌, ℕ, suc, List, [], ◌∷◌, take, Op
 use Rattle.words_core.specs.declared.event.Event.{Event}
 use Rattle.words_core.specs.declared.event.LineFault.{LineFault}
 use Rattle.words_core.specs.declared.reply.Body.{Body}
-use Rattle.words_core.specs.declared.reply.Body.TheVariants.{Refused}
 use Rattle.words_core.specs.declared.reply.Refusal.{Refusal}
 use Rattle.words_core.specs.declared.reply.Reply.{Reply}
 use Rattle.words_core.specs.Grammar.{reading_of}
@@ -16,7 +15,7 @@ pub record Noting (N : Type 0) : Type 0 where
   pub faulty : N → ℕ → LineFault → List ℕ → N
 
 abbrev pub noted_body : {N : Type 0} → Noting N → Body → N → N
-noted_body noting (Refused refusal) n = noting.refused n refusal
+noted_body noting (Body.Refused refusal) n = noting.refused n refusal
 noted_body noting _ n = n
 
 -- what a reply adds: a refusal that is shown

@@ -10,7 +10,6 @@ use Rattle.world_core.specs.Output.{ended_lines}
 use Rattle.promise_kept.specs.Written.{IsAllowedText}
 use Rattle.streams.specs.declared.tally.Tally.{Tally}
 use Rattle.streams.specs.declared.tally.ReplayError.{ReplayError}
-use Rattle.streams.specs.declared.tally.ReplayError.TheVariants as Of
 use Rattle.replay_core.specs.Runs.{Counts, HasCome}
 
 -- From an opening world, whose slots have at least 8 frames, the text is that of allowed replies to these lines ..
@@ -28,7 +27,7 @@ BeginsAllowed only before lines part = (superblocks tenants : ℕ) → Shows bef
 abbrev pub TakesAllowed : Bool → Option ℕ → KernelContent → List ℕ → List ℕ → Result Tally ReplayError → Type 0
 TakesAllowed ended only before given taken (Ok tally) =
     Counts tally (lines_of_trace given) taken × IsAllowedOutput only before (lines_of_trace given) taken
-TakesAllowed ended only before given taken (Err (Of.Feed tally)) =
+TakesAllowed ended only before given taken (Err (ReplayError.Feed tally)) =
     Counts tally (ended_lines given) taken × IsAllowedOutput only before (ended_lines given) taken
-TakesAllowed ended only before given taken (Err (Of.Drain tally)) = (lines : List (List ℕ)) × HasCome ended given lines
+TakesAllowed ended only before given taken (Err (ReplayError.Drain tally)) = (lines : List (List ℕ)) × HasCome ended given lines
     × Counts tally lines taken × BeginsAllowed only before lines taken

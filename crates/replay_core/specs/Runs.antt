@@ -12,7 +12,6 @@ use Rattle.world_core.specs.Output.{shown_lines, ended_lines, events_of, lines_f
 use Rattle.world_core.specs.Laws.{private_lines}
 use Rattle.streams.specs.declared.tally.Tally.{Tally}
 use Rattle.streams.specs.declared.tally.ReplayError.{ReplayError}
-use Rattle.streams.specs.declared.tally.ReplayError.TheVariants as Of
 use Rattle.replay_core.specs.Noting.{Noting, noted_fault, noted_lines}
 
 abbrev pub fault_in : Result (Option Event) LineFault → ℕ
@@ -59,8 +58,8 @@ HasCome ended given lines = ((rest : List (List ℕ)) × (ended_lines given ≡ 
 -- how what was given, what was taken, the kernel and the answer hang together
 abbrev pub Replays : Bool → Option ℕ → KernelContent → KernelContent → List ℕ → List ℕ → Result Tally ReplayError → Type 0
 Replays ended only before after given taken (Ok tally) = HasRun only before after (lines_of_trace given) taken tally
-Replays ended only before after given taken (Err (Of.Feed tally)) = HasRun only before after (ended_lines given) taken tally
-Replays ended only before after given taken (Err (Of.Drain tally)) =
+Replays ended only before after given taken (Err (ReplayError.Feed tally)) = HasRun only before after (ended_lines given) taken tally
+Replays ended only before after given taken (Err (ReplayError.Drain tally)) =
     (done : List (List ℕ)) × (line : List ℕ) × HasCome ended given (done ++ line ∷ []) × IsCutShort only before after done line taken tally
 
 -- the answer is Ok only where the feed has ended
@@ -71,8 +70,8 @@ IsDone (Err error) ended = Unit {0}
 -- the end that failed is named, and none where neither did
 abbrev pub NamesFailed : Result Tally ReplayError → Bool → Bool → Type 0
 NamesFailed (Ok tally) feed drain = (feed ≡ Bool.false) × (drain ≡ Bool.false)
-NamesFailed (Err (Of.Feed tally)) feed drain = (feed ≡ Bool.true) × (drain ≡ Bool.false)
-NamesFailed (Err (Of.Drain tally)) feed drain = (feed ≡ Bool.false) × (drain ≡ Bool.true)
+NamesFailed (Err (ReplayError.Feed tally)) feed drain = (feed ≡ Bool.true) × (drain ≡ Bool.false)
+NamesFailed (Err (ReplayError.Drain tally)) feed drain = (feed ≡ Bool.false) × (drain ≡ Bool.true)
 
 -- From an opening world, whatever the others do, a tenant's lines are those of its private machine on its own list of
 -- the trace; with `only` nothing else is taken.
@@ -91,8 +90,8 @@ AreNoted noting only before lines notes notes' =
 -- whose reply was cut short.
 abbrev pub Noted : {N : Type 0} → Noting N → Bool → Option ℕ → KernelContent → List ℕ → Result Tally ReplayError → N → N → Type 0
 Noted noting ended only before given (Ok tally) notes notes' = AreNoted noting only before (lines_of_trace given) notes notes'
-Noted {N} noting ended only before given (Err (Of.Feed tally)) notes notes' = (mid : N) × (tail : List ℕ)
+Noted {N} noting ended only before given (Err (ReplayError.Feed tally)) notes notes' = (mid : N) × (tail : List ℕ)
     × AreNoted noting only before (ended_lines given) notes mid × (given ≡ with_line_feeds (ended_lines given) ++ tail)
     × (notes' ≡ noted_fault noting (suc (length (ended_lines given))) (take 256 tail) (reading_of tail) mid)
-Noted noting ended only before given (Err (Of.Drain tally)) notes notes' = (lines : List (List ℕ)) × HasCome ended given lines
+Noted noting ended only before given (Err (ReplayError.Drain tally)) notes notes' = (lines : List (List ℕ)) × HasCome ended given lines
     × (length lines ≡ tally.lines) × AreNoted noting only before lines notes notes'

@@ -7,20 +7,19 @@ use Rattle.promise_core.specs.Bytes.{Holder, Cell}
 use Rattle.promise_core.specs.Holdings.{KnownCache, Holdings, known_cache}
 use Rattle.shadow_memory.specs.Left.{LeftSlot, Left, left_in, slots_in, slot_places}
 use Rattle.shadow_memory.specs.declared.kept.KeptByte.{KeptByte}
-use Rattle.shadow_memory.specs.declared.kept.KeptByte.TheVariants as Kept
 
 abbrev pub shown_kept : KeptByte → Option Cell
-shown_kept Kept.Fresh = None
-shown_kept (Kept.Page byte sure) = Some (record { holder = Holder.Page; byte = byte; sure = sure })
-shown_kept (Kept.Object cache byte sure first) = Some (record { holder = Holder.Object cache first; byte = byte; sure = sure })
+shown_kept KeptByte.Fresh = None
+shown_kept (KeptByte.Page byte sure) = Some (record { holder = Holder.Page; byte = byte; sure = sure })
+shown_kept (KeptByte.Object cache byte sure first) = Some (record { holder = Holder.Object cache first; byte = byte; sure = sure })
 
 -- these, and nothing at the places behind them, so many in all
 abbrev pub padded : ℕ → List KeptByte → List KeptByte
-padded places kept = kept ++ replicate (places - length kept) Kept.Fresh
+padded places kept = kept ++ replicate (places - length kept) KeptByte.Fresh
 
 -- these are stored from a place on
 abbrev pub AreKeptFrom : ℕ → List LeftSlot → ℕ → List KeptByte → Type 0
-AreKeptFrom order slots place kept = (j : ℕ) → j < length kept → shown_kept (slice_index_or kept j Kept.Fresh) ≡ left_in order slots (place + j)
+AreKeptFrom order slots place kept = (j : ℕ) → j < length kept → shown_kept (slice_index_or kept j KeptByte.Fresh) ≡ left_in order slots (place + j)
 
 abbrev pub AreFrom : Left → ℕ → List KeptByte → Type 0
 AreFrom left = AreKeptFrom left.order left.slots

@@ -3,18 +3,16 @@ use Rattle.std.specs.Prelude.{◌≡◌, ℕ, ◌+◌, ◌/◌, ◌<◌, ◌≤�
 use Rattle.promise_core.specs.Bytes.{Holder, Cell}
 use Rattle.judge_core.specs.Holders.{shown_holder}
 use Rattle.shadow_memory.specs.declared.kept.KeptByte.{KeptByte}
-use Rattle.shadow_memory.specs.declared.kept.KeptByte.TheVariants as Kept
 use Rattle.shadow_memory.specs.declared.summary.Summary.{Summary}
 use Rattle.shadow_memory.specs.declared.summary.Owners.{Owners}
-use Rattle.shadow_memory.specs.declared.summary.Owners.TheVariants as Owned
 use Rattle.shadow_memory.specs.Inside.{CellStep, shown_kept}
 
 -- the holder may be one of these
 abbrev pub MayOwn : Owners → Holder → Type 0
-MayOwn Owned.Nobody holder = ⊥
-MayOwn (Owned.One one) holder = holder ≡ shown_holder one
-MayOwn (Owned.Objects number) holder = (first : ℕ) × (holder ≡ Holder.Object number first)
-MayOwn Owned.Any holder = Unit {0}
+MayOwn Owners.Nobody holder = ⊥
+MayOwn (Owners.One one) holder = holder ≡ shown_holder one
+MayOwn (Owners.Objects number) holder = (first : ℕ) × (holder ≡ Holder.Object number first)
+MayOwn Owners.Any holder = Unit {0}
 
 -- what was left may be what the summary says
 abbrev pub IsSummarizedBy : Summary → Option Cell → Type 0
@@ -23,11 +21,11 @@ IsSummarizedBy summary (Some cell) = MayOwn summary.owners cell.holder × (summa
 
 -- it may be anything
 abbrev pub any_summary : Summary
-any_summary = record { owners = Owned.Any; sure = true }
+any_summary = record { owners = Owners.Any; sure = true }
 
 -- what is stored at one of these places
 abbrev pub cell_in : List KeptByte → ℕ → Option Cell
-cell_in cells k = shown_kept (slice_index_or cells k Kept.Fresh)
+cell_in cells k = shown_kept (slice_index_or cells k KeptByte.Fresh)
 
 -- each `size` places have a summary
 abbrev pub AreSummarized : ℕ → List Summary → List KeptByte → Type 0

@@ -8,7 +8,6 @@ use Rattle.klist_core.specs.Places.{Placed, place_at}
 use Rattle.slab_tables.specs.declared.cache.Cache.{Cache}
 use Rattle.slab_tables.specs.declared.cache.Kept.{Kept}
 use Rattle.slab_tables.specs.declared.kind.Kind.{Kind}
-use Rattle.slab_tables.specs.declared.kind.Kind.TheVariants.{Full, Partial, Empty}
 
 pub record Content : Type 0 where
   -- a superblock has 2 ^ top frames
@@ -54,9 +53,9 @@ kind_of count live = if live == count then 0 else (if live == 0 then 2 else 1)
 
 -- the number of a kind
 abbrev pub kind_number : Kind → ℕ
-kind_number Full = 0
-kind_number Partial = 1
-kind_number Empty = 2
+kind_number Kind.Full = 0
+kind_number Kind.Partial = 1
+kind_number Kind.Empty = 2
 
 -- the list of the slabs of a kind of cache c of tenant t
 abbrev pub head_of : ℕ → ℕ → ℕ → ℕ

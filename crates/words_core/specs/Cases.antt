@@ -9,7 +9,6 @@ use Rattle.words_core.specs.Commands.{Form, Given, Maker, CommandRow, read_as, A
 use Rattle.words_core.specs.declared.line.TheConstants.{MOST_LINE_BYTES}
 use Rattle.words_core.specs.declared.event.Event.{Event}
 use Rattle.words_core.specs.declared.event.LineFault.{LineFault}
-use Rattle.words_core.specs.declared.event.LineFault.TheVariants.{Long, Unknown, Words}
 
 -- the word begins with `#`
 abbrev pub IsComment : List ℕ → Type 0
@@ -48,14 +47,14 @@ pub data CaseOfWords : ℕ → List (List ℕ) → Result (Option Event) LineFau
   nobody : {first : List ℕ} {rest : List (List ℕ)} → ¬ IsComment first → ((actor : Actor) → ¬ Names first actor)
       → CaseOfWords 3 (first ∷ rest) (Err (nobody_fault first))
   -- 4. no second word
-  alone : {first : List ℕ} (actor : Actor) → Names first actor → CaseOfWords 4 (first ∷ []) (Err Words)
+  alone : {first : List ℕ} (actor : Actor) → Names first actor → CaseOfWords 4 (first ∷ []) (Err LineFault.Words)
   -- 5. the second word is no command of that actor
   no_command : {first word : List ℕ} {arguments : List (List ℕ)} (actor : Actor) → Names first actor
-      → ((row : CommandRow (CommandOf actor)) → ¬ AsksFor actor word row) → CaseOfWords 5 (first ∷ word ∷ arguments) (Err Unknown)
+      → ((row : CommandRow (CommandOf actor)) → ¬ AsksFor actor word row) → CaseOfWords 5 (first ∷ word ∷ arguments) (Err LineFault.Unknown)
   -- 6. not as many arguments as the command has
   wrong_count : {first word : List ℕ} {arguments : List (List ℕ)} (actor : Actor) → Names first actor
       → (row : CommandRow (CommandOf actor)) → AsksFor actor word row → ¬ (length arguments ≡ length row.forms)
-      → CaseOfWords 6 (first ∷ word ∷ arguments) (Err Words)
+      → CaseOfWords 6 (first ∷ word ∷ arguments) (Err LineFault.Words)
   -- 7. from left to right, the first argument that isn't in its form
   faulty : {first word : List ℕ} {arguments : List (List ℕ)} {fault : LineFault} (actor : Actor) → Names first actor
       → (row : CommandRow (CommandOf actor)) → AsksFor actor word row → length arguments ≡ length row.forms
@@ -69,7 +68,7 @@ pub data CaseOfWords : ℕ → List (List ℕ) → Result (Option Event) LineFau
 -- The cases of a line: a number, the line without the carriage return at its end, and what it says.
 pub data CaseOfBytes : ℕ → List ℕ → Result (Option Event) LineFault → Type 0 where
   -- 1. too long, a comment too
-  too_long : {bytes : List ℕ} → MOST_LINE_BYTES < length bytes → CaseOfBytes 1 bytes (Err Long)
+  too_long : {bytes : List ℕ} → MOST_LINE_BYTES < length bytes → CaseOfBytes 1 bytes (Err LineFault.Long)
   -- 2 to 8, of words that the line is made of
   of_words : {number : ℕ} {bytes : List ℕ} {reading : Result (Option Event) LineFault} → length bytes ≤ MOST_LINE_BYTES
       → (words : List (List ℕ)) → HasWords bytes words → CaseOfWords number words reading → CaseOfBytes number bytes reading

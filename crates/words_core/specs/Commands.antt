@@ -7,13 +7,9 @@ use Rattle.hex.specs.declared.error.FromHexError.{FromHexError}
 use Rattle.model_core.specs.declared.limits.TheConstants.{MOST_BYTES, MOST_PATTERN}
 use Rattle.words_core.specs.Numbers.{number_of}
 use Rattle.words_core.specs.declared.event.Event.{Event}
-use Rattle.words_core.specs.declared.event.Event.TheVariants.{Admin, Tenant}
 use Rattle.words_core.specs.declared.event.AdminCommand.{AdminCommand}
-use Rattle.words_core.specs.declared.event.AdminCommand.TheVariants.{Grant, TakeBack, Reset, Move, Pool}
 use Rattle.words_core.specs.declared.event.Command.{Command}
-use Rattle.words_core.specs.declared.event.Command.TheVariants.{Alloc, Free, Read, Write, Cache, Destroy, Take, Give, Reap, Report}
 use Rattle.words_core.specs.declared.event.LineFault.{LineFault}
-use Rattle.words_core.specs.declared.event.LineFault.TheVariants.{Unknown, Number, Hex}
 
 -- the number that was found, or else this fault
 abbrev pub or_fault : Option ℕ → LineFault → Result ℕ LineFault
@@ -22,17 +18,17 @@ or_fault None fault = Err fault
 
 -- an argument that has to be a number
 abbrev pub argument : List ℕ → Result ℕ LineFault
-argument word = or_fault (number_of word) Number
+argument word = or_fault (number_of word) LineFault.Number
 
 -- bytes out of hex, which may be faulty
 abbrev pub bytes_or_fault : Result (List ℕ) FromHexError → Result (ArrayVec ℕ) LineFault
 bytes_or_fault (Ok bytes) = Ok (record { items = bytes })
-bytes_or_fault (Err _) = Err Hex
+bytes_or_fault (Err _) = Err LineFault.Hex
 
 -- an argument that has to be bytes in hex, at least one and not more than so many: two digits of either case for each
 abbrev pub bytes_argument : ℕ → List ℕ → Result (ArrayVec ℕ) LineFault
 bytes_argument most word =
-    if nat_le 2 (length word) && nat_le (length word) (2 * most) then bytes_or_fault (decode_of word) else Err Hex
+    if nat_le 2 (length word) && nat_le (length word) (2 * most) then bytes_or_fault (decode_of word) else Err LineFault.Hex
 
 -- the form of an argument: a number, or bytes in hex, at most so many
 pub data Form : Type 0 where
@@ -61,49 +57,49 @@ pub record CommandRow (C : Type 0) : Type 0 where
   pub makes : Maker forms C
 
 abbrev pub grant_row : CommandRow AdminCommand
-grant_row = record { word = codes "grant"; forms = number ∷ []; makes = Grant }
+grant_row = record { word = codes "grant"; forms = number ∷ []; makes = AdminCommand.Grant }
 
 abbrev pub take_back_row : CommandRow AdminCommand
-take_back_row = record { word = codes "takeback"; forms = number ∷ number ∷ []; makes = TakeBack }
+take_back_row = record { word = codes "takeback"; forms = number ∷ number ∷ []; makes = AdminCommand.TakeBack }
 
 abbrev pub reset_row : CommandRow AdminCommand
-reset_row = record { word = codes "reset"; forms = number ∷ []; makes = Reset }
+reset_row = record { word = codes "reset"; forms = number ∷ []; makes = AdminCommand.Reset }
 
 abbrev pub move_row : CommandRow AdminCommand
-move_row = record { word = codes "move"; forms = number ∷ number ∷ []; makes = Move }
+move_row = record { word = codes "move"; forms = number ∷ number ∷ []; makes = AdminCommand.Move }
 
 abbrev pub pool_row : CommandRow AdminCommand
-pool_row = record { word = codes "pool"; forms = []; makes = Pool }
+pool_row = record { word = codes "pool"; forms = []; makes = AdminCommand.Pool }
 
 abbrev pub alloc_row : CommandRow Command
-alloc_row = record { word = codes "alloc"; forms = number ∷ []; makes = Alloc }
+alloc_row = record { word = codes "alloc"; forms = number ∷ []; makes = Command.Alloc }
 
 abbrev pub free_row : CommandRow Command
-free_row = record { word = codes "free"; forms = number ∷ []; makes = Free }
+free_row = record { word = codes "free"; forms = number ∷ []; makes = Command.Free }
 
 abbrev pub read_row : CommandRow Command
-read_row = record { word = codes "read"; forms = number ∷ number ∷ []; makes = Read }
+read_row = record { word = codes "read"; forms = number ∷ number ∷ []; makes = Command.Read }
 
 abbrev pub write_row : CommandRow Command
-write_row = record { word = codes "write"; forms = number ∷ hex MOST_BYTES ∷ []; makes = Write }
+write_row = record { word = codes "write"; forms = number ∷ hex MOST_BYTES ∷ []; makes = Command.Write }
 
 abbrev pub cache_row : CommandRow Command
-cache_row = record { word = codes "cache"; forms = number ∷ number ∷ hex MOST_PATTERN ∷ []; makes = Cache }
+cache_row = record { word = codes "cache"; forms = number ∷ number ∷ hex MOST_PATTERN ∷ []; makes = Command.Cache }
 
 abbrev pub destroy_row : CommandRow Command
-destroy_row = record { word = codes "destroy"; forms = number ∷ []; makes = Destroy }
+destroy_row = record { word = codes "destroy"; forms = number ∷ []; makes = Command.Destroy }
 
 abbrev pub take_row : CommandRow Command
-take_row = record { word = codes "take"; forms = number ∷ []; makes = Take }
+take_row = record { word = codes "take"; forms = number ∷ []; makes = Command.Take }
 
 abbrev pub give_row : CommandRow Command
-give_row = record { word = codes "give"; forms = number ∷ number ∷ []; makes = Give }
+give_row = record { word = codes "give"; forms = number ∷ number ∷ []; makes = Command.Give }
 
 abbrev pub reap_row : CommandRow Command
-reap_row = record { word = codes "reap"; forms = []; makes = Reap }
+reap_row = record { word = codes "reap"; forms = []; makes = Command.Reap }
 
 abbrev pub report_row : CommandRow Command
-report_row = record { word = codes "report"; forms = []; makes = Report }
+report_row = record { word = codes "report"; forms = []; makes = Command.Report }
 
 -- the commands of the administrator
 abbrev pub admin_rows : List (CommandRow AdminCommand)
@@ -131,9 +127,9 @@ command_rows (tenant t) = tenant_rows
 
 -- a command, given by this actor
 abbrev pub event_by : (actor : Actor) → CommandOf actor → Event
-event_by administrator command = Admin command
-event_by (tenant t) command = Tenant t command
+event_by administrator command = Event.Admin command
+event_by (tenant t) command = Event.Tenant t command
 
 -- the fault of a first word that names nobody
 abbrev pub nobody_fault : List ℕ → LineFault
-nobody_fault word = if is_ascii_digit (slice_index word 0) then Number else Unknown
+nobody_fault word = if is_ascii_digit (slice_index word 0) then LineFault.Number else LineFault.Unknown

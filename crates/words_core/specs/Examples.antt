@@ -9,11 +9,9 @@ use Rattle.words_core.specs.Grammar.{event_of, reading_of_words, reading_of}
 use Rattle.words_core.specs.Texts.{text_of}
 use Rattle.words_core.specs.Requests.{reply_of_answer}
 use Rattle.words_core.specs.declared.event.Event.{Event}
-use Rattle.words_core.specs.declared.event.Event.TheVariants.{Admin, Tenant}
 use Rattle.words_core.specs.declared.event.AdminCommand.TheVariants.{Grant, TakeBack, Move, Pool}
 use Rattle.words_core.specs.declared.event.Command.TheVariants.{Alloc, Read, Write, Cache, Destroy, Take, Give, Reap, Report}
 use Rattle.words_core.specs.declared.event.LineFault.{LineFault}
-use Rattle.words_core.specs.declared.event.LineFault.TheVariants.{Long, Unknown, Words, Number, Hex}
 use Rattle.words_core.specs.declared.answer.Answer.TheVariants as Say
 use Rattle.words_core.specs.declared.reply.Reply.{Reply}
 use Rattle.words_core.specs.declared.reply.Addressee.TheVariants as To
@@ -27,40 +25,40 @@ cuts = refl
 -- lines, each with what it says
 abbrev lines : List (List ℕ × Result (Option Event) LineFault)
 lines =
-    (codes "admin grant 1", Ok (Some (Admin (Grant 1))))
-    ∷ (codes "admin takeback 0 3", Ok (Some (Admin (TakeBack 0 3))))
-    ∷ (codes "admin pool", Ok (Some (Admin Pool)))
-    ∷ (codes "admin move 0 1", Ok (Some (Admin (Move 0 1))))
-    ∷ (codes "\t0  read 4095\t002 \r", Ok (Some (Tenant 0 (Read 4095 2))))
-    ∷ (codes "1 write 8 0a0B", Ok (Some (Tenant 1 (Write 8 (record { items = 10 ∷ 11 ∷ [] })))))
-    ∷ (codes "0 cache 200 8 A5", Ok (Some (Tenant 0 (Cache 200 8 (record { items = 165 ∷ [] })))))
+    (codes "admin grant 1", Ok (Some (Event.Admin (Grant 1))))
+    ∷ (codes "admin takeback 0 3", Ok (Some (Event.Admin (TakeBack 0 3))))
+    ∷ (codes "admin pool", Ok (Some (Event.Admin Pool)))
+    ∷ (codes "admin move 0 1", Ok (Some (Event.Admin (Move 0 1))))
+    ∷ (codes "\t0  read 4095\t002 \r", Ok (Some (Event.Tenant 0 (Read 4095 2))))
+    ∷ (codes "1 write 8 0a0B", Ok (Some (Event.Tenant 1 (Write 8 (record { items = 10 ∷ 11 ∷ [] })))))
+    ∷ (codes "0 cache 200 8 A5", Ok (Some (Event.Tenant 0 (Cache 200 8 (record { items = 165 ∷ [] })))))
     ∷ (
       codes "0 cache 200 8 000102030405060708090a0b0c0d0e0f",
-      Ok (Some (Tenant 0 (Cache 200 8 (record { items = 0 ∷ 1 ∷ 2 ∷ 3 ∷ 4 ∷ 5 ∷ 6 ∷ 7 ∷ 8 ∷ 9 ∷ 10 ∷ 11 ∷ 12 ∷ 13 ∷ 14 ∷ 15 ∷ [] })))),
+      Ok (Some (Event.Tenant 0 (Cache 200 8 (record { items = 0 ∷ 1 ∷ 2 ∷ 3 ∷ 4 ∷ 5 ∷ 6 ∷ 7 ∷ 8 ∷ 9 ∷ 10 ∷ 11 ∷ 12 ∷ 13 ∷ 14 ∷ 15 ∷ [] })))),
     )
-    ∷ (codes "0 destroy 3", Ok (Some (Tenant 0 (Destroy 3))))
-    ∷ (codes "1 take 0", Ok (Some (Tenant 1 (Take 0))))
-    ∷ (codes "1 give 0 4096", Ok (Some (Tenant 1 (Give 0 4096))))
-    ∷ (codes "0 reap", Ok (Some (Tenant 0 Reap)))
-    ∷ (codes "0 report", Ok (Some (Tenant 0 Report)))
+    ∷ (codes "0 destroy 3", Ok (Some (Event.Tenant 0 (Destroy 3))))
+    ∷ (codes "1 take 0", Ok (Some (Event.Tenant 1 (Take 0))))
+    ∷ (codes "1 give 0 4096", Ok (Some (Event.Tenant 1 (Give 0 4096))))
+    ∷ (codes "0 reap", Ok (Some (Event.Tenant 0 Reap)))
+    ∷ (codes "0 report", Ok (Some (Event.Tenant 0 Report)))
     ∷ (codes " # note", Ok None)
     ∷ []
 
 -- faulty lines, each with its fault
 abbrev faulty : List (List ℕ × LineFault)
 faulty =
-    (codes "0 write 0 abc", Hex)
-    ∷ (codes "0 cache 200 8 000102030405060708090a0b0c0d0e0f10", Hex)
-    ∷ (codes "0 write x y", Number)
-    ∷ (codes "0 alloc x", Number)
-    ∷ (codes "0 alloc 4294967296", Number)
-    ∷ (codes "00000000000 alloc 0", Number)
-    ∷ (codes "admin move 0", Words)
-    ∷ (codes "0", Words)
-    ∷ (codes "0 alloc", Words)
-    ∷ (codes "0 reap 0", Words)
-    ∷ (codes "frob", Unknown)
-    ∷ (codes "9 frob", Unknown)
+    (codes "0 write 0 abc", LineFault.Hex)
+    ∷ (codes "0 cache 200 8 000102030405060708090a0b0c0d0e0f10", LineFault.Hex)
+    ∷ (codes "0 write x y", LineFault.Number)
+    ∷ (codes "0 alloc x", LineFault.Number)
+    ∷ (codes "0 alloc 4294967296", LineFault.Number)
+    ∷ (codes "00000000000 alloc 0", LineFault.Number)
+    ∷ (codes "admin move 0", LineFault.Words)
+    ∷ (codes "0", LineFault.Words)
+    ∷ (codes "0 alloc", LineFault.Words)
+    ∷ (codes "0 reap 0", LineFault.Words)
+    ∷ (codes "frob", LineFault.Unknown)
+    ∷ (codes "9 frob", LineFault.Unknown)
     ∷ []
 
 says : map (λ line. reading_of line.0) lines ≡ map (λ line. line.1) lines
@@ -71,11 +69,11 @@ says_none : map (λ line. reading_of line.0) faulty ≡ map (λ line. Err line.1
 unfolding reading_of words_of reading_of_words event_of hex_on_literals
 says_none = refl
 
-widest : reading_of (codes "0 alloc 0" ++ replicate 246 32) ≡ Ok (Some (Tenant 0 (Alloc 0)))
+widest : reading_of (codes "0 alloc 0" ++ replicate 246 32) ≡ Ok (Some (Event.Tenant 0 (Alloc 0)))
 unfolding reading_of words_of reading_of_words event_of
 widest = refl
 
-too_wide : reading_of (codes "0 alloc 0" ++ replicate 247 32) ≡ Err Long
+too_wide : reading_of (codes "0 alloc 0" ++ replicate 247 32) ≡ Err LineFault.Long
 unfolding reading_of
 too_wide = refl
 
@@ -106,7 +104,7 @@ one_slab = record {
 -- replies, each with its text
 abbrev replies : List (Reply × List ℕ)
 replies =
-    (record { addressee = To.Nobody; body = Body.Fault Words }, codes "!> fault Words\n")
+    (record { addressee = To.Nobody; body = Body.Fault LineFault.Words }, codes "!> fault Words\n")
     ∷ (
       record { addressee = To.Admin; body = Body.Owners (record { items = Some (owned_by 1 0) ∷ None ∷ [] }) },
       codes "admin> pool free 1 of 2\nadmin> superblock 0 tenant 1 slot 0\nadmin> superblock 1 free\n",

@@ -9,7 +9,6 @@ use Rattle.words_core.specs.Commands.{or_fault, Form, Maker, CommandRow, read_as
 use Rattle.words_core.specs.Words.{words_of}
 use Rattle.words_core.specs.declared.event.Event.{Event}
 use Rattle.words_core.specs.declared.event.LineFault.{LineFault}
-use Rattle.words_core.specs.declared.event.LineFault.TheVariants.{Long, Unknown, Words}
 
 -- the ? of the logic: the second step, if the first found no fault
 infixl 10 ◌>>=◌
@@ -27,24 +26,24 @@ are_as_many (_ ∷ _) [] = false
 -- the command that words of these forms make: they are read from left to right
 abbrev pub made_of : {C : Type 0} (forms : List Form) → Maker forms C → List (List ℕ) → Result C LineFault
 made_of [] makes words = Ok makes
-made_of (form ∷ forms) makes [] = Err Words
+made_of (form ∷ forms) makes [] = Err LineFault.Words
 made_of (form ∷ forms) makes (word ∷ words) = do
   value ← read_as form word
   made_of forms (makes value) words
 
 -- the command of this row with these arguments
 abbrev pub command_by : {C : Type 0} → CommandRow C → List (List ℕ) → Result C LineFault
-command_by row arguments = if are_as_many row.forms arguments then made_of row.forms row.makes arguments else Err Words
+command_by row arguments = if are_as_many row.forms arguments then made_of row.forms row.makes arguments else Err LineFault.Words
 
 -- the command of this word
 abbrev pub command_of : {C : Type 0} → List (CommandRow C) → List ℕ → List (List ℕ) → Result C LineFault
-command_of [] word arguments = Err Unknown
+command_of [] word arguments = Err LineFault.Unknown
 command_of (row ∷ rows) word arguments =
     if bytes_eq word row.word then command_by row arguments else command_of rows word arguments
 
 -- what follows the word that says who speaks
 abbrev pub command_in_words : {C : Type 0} → List (CommandRow C) → List (List ℕ) → Result C LineFault
-command_in_words rows [] = Err Words
+command_in_words rows [] = Err LineFault.Words
 command_in_words rows (word ∷ arguments) = command_of rows word arguments
 
 -- the tenant whom the first word names
@@ -76,7 +75,7 @@ reading_of_words (first ∷ rest) =
 
 -- what words say that stand in a line of this many bytes
 abbrev pub reading_within : ℕ → List (List ℕ) → Result (Option Event) LineFault
-reading_within size words = if nat_lt MOST_LINE_BYTES size then Err Long else reading_of_words words
+reading_within size words = if nat_lt MOST_LINE_BYTES size then Err LineFault.Long else reading_of_words words
 
 -- What a line says, as a function. One carriage return (byte 13) at its end is no part of it.
 unfoldable pub reading_of : List ℕ → Result (Option Event) LineFault

@@ -5,49 +5,44 @@ use Rattle.model_core.specs.declared.limits.TheConstants.{MOST_BYTES, MOST_SUPER
 use Rattle.words_core.specs.declared.answer.TheConstants.{MOST_ANSWER_BYTES, SHORT_ANSWER_BYTES}
 use Rattle.words_core.specs.declared.answer.Answer.{Answer}
 use Rattle.words_core.specs.declared.event.Command.{Command}
-use Rattle.words_core.specs.declared.event.Command.TheVariants.{Alloc, Free, Read, Write, Destroy, Take, Give, Reap}
-use Rattle.words_core.specs.declared.event.Command.TheVariants as Whole
 use Rattle.words_core.specs.declared.reply.Addressee.{Addressee}
-use Rattle.words_core.specs.declared.reply.Addressee.TheVariants.{Admin, Tenant}
 use Rattle.words_core.specs.declared.reply.Body.{Body}
-use Rattle.words_core.specs.declared.reply.Body.TheVariants.{Granted, TakenBack, WasReset, Moved, Owners, Frame, Freed, Bytes, Written, Cache, Destroyed, Object, Given, Reaped, Report, Refused, Fault}
 use Rattle.words_core.specs.declared.reply.Reply.{Reply}
 use Rattle.words_core.specs.declared.event.Request.{Request}
 use Rattle.words_core.specs.declared.text.Table.{Table}
-use Rattle.words_core.specs.declared.text.Table.TheVariants as Rows
 
 abbrev pub command_of : Request → Command
-command_of (Request.Alloc order) = Alloc order
-command_of (Request.Free frame) = Free frame
-command_of (Request.Read place len) = Read place len
-command_of (Request.Write place bytes) = Write place (record { items = bytes.now })
-command_of (Request.Cache size align pattern) = Whole.Cache size align (record { items = pattern.now })
-command_of (Request.Destroy cache) = Destroy cache
-command_of (Request.Take cache) = Take cache
-command_of (Request.Give cache place) = Give cache place
-command_of Request.Reap = Reap
+command_of (Request.Alloc order) = Command.Alloc order
+command_of (Request.Free frame) = Command.Free frame
+command_of (Request.Read place len) = Command.Read place len
+command_of (Request.Write place bytes) = Command.Write place (record { items = bytes.now })
+command_of (Request.Cache size align pattern) = Command.Cache size align (record { items = pattern.now })
+command_of (Request.Destroy cache) = Command.Destroy cache
+command_of (Request.Take cache) = Command.Take cache
+command_of (Request.Give cache place) = Command.Give cache place
+command_of Request.Reap = Command.Reap
 
 abbrev pub body_of_answer : Answer → Body
-body_of_answer (Answer.Frame frame) = Frame frame
-body_of_answer (Answer.Freed order) = Freed order
-body_of_answer (Answer.Bytes bytes) = Bytes (record { items = bytes.now })
-body_of_answer (Answer.Written count) = Written count
-body_of_answer (Answer.Cache cache chunk order objects colours) = Cache cache chunk order objects colours
-body_of_answer (Answer.Destroyed frames) = Destroyed frames
-body_of_answer (Answer.Object place) = Object place
-body_of_answer Answer.Given = Given
-body_of_answer (Answer.Reaped frames) = Reaped frames
-body_of_answer (Answer.Refused refusal) = Refused refusal
-body_of_answer (Answer.Granted tenant slot superblock) = Granted tenant slot superblock
-body_of_answer (Answer.TakenBack superblock) = TakenBack superblock
-body_of_answer (Answer.WasReset tenant superblocks) = WasReset tenant superblocks
-body_of_answer (Answer.Moved tenant slot superblock) = Moved tenant slot superblock
-body_of_answer (Answer.Fault fault) = Fault fault
+body_of_answer (Answer.Frame frame) = Body.Frame frame
+body_of_answer (Answer.Freed order) = Body.Freed order
+body_of_answer (Answer.Bytes bytes) = Body.Bytes (record { items = bytes.now })
+body_of_answer (Answer.Written count) = Body.Written count
+body_of_answer (Answer.Cache cache chunk order objects colours) = Body.Cache cache chunk order objects colours
+body_of_answer (Answer.Destroyed frames) = Body.Destroyed frames
+body_of_answer (Answer.Object place) = Body.Object place
+body_of_answer Answer.Given = Body.Given
+body_of_answer (Answer.Reaped frames) = Body.Reaped frames
+body_of_answer (Answer.Refused refusal) = Body.Refused refusal
+body_of_answer (Answer.Granted tenant slot superblock) = Body.Granted tenant slot superblock
+body_of_answer (Answer.TakenBack superblock) = Body.TakenBack superblock
+body_of_answer (Answer.WasReset tenant superblocks) = Body.WasReset tenant superblocks
+body_of_answer (Answer.Moved tenant slot superblock) = Body.Moved tenant slot superblock
+body_of_answer (Answer.Fault fault) = Body.Fault fault
 
 -- it has several lines, and is no answer
 abbrev pub is_table : Body → Bool
-is_table (Owners owners) = true
-is_table (Report report) = true
+is_table (Body.Owners owners) = true
+is_table (Body.Report report) = true
 is_table other = false
 
 -- the reply that an answer is
@@ -56,17 +51,17 @@ reply_to addressee answer = record { addressee = addressee; body = body_of_answe
 
 -- the reply to a tenant that is answered so
 abbrev pub reply_of_answer : ℕ → Answer → Reply
-reply_of_answer tenant answer = record { addressee = Tenant tenant; body = body_of_answer answer }
+reply_of_answer tenant answer = record { addressee = Addressee.Tenant tenant; body = body_of_answer answer }
 
 -- the reply that a table is
 abbrev pub reply_of_table : Table → Reply
-reply_of_table (Rows.Owners owners) = record { addressee = Admin; body = Owners (record { items = owners.now }) }
-reply_of_table (Rows.Report tenant report) = record { addressee = Tenant tenant; body = Report report.now }
+reply_of_table (Table.Owners owners) = record { addressee = Addressee.Admin; body = Body.Owners (record { items = owners.now }) }
+reply_of_table (Table.Report tenant report) = record { addressee = Addressee.Tenant tenant; body = Body.Report report.now }
 
 -- no machine has more superblocks than its table has rows for
 abbrev pub HasFewRows : Table → Type 0
-HasFewRows (Rows.Owners owners) = length owners.now ≤ MOST_SUPERBLOCKS
-HasFewRows (Rows.Report tenant report) = Unit {0}
+HasFewRows (Table.Owners owners) = length owners.now ≤ MOST_SUPERBLOCKS
+HasFewRows (Table.Report tenant report) = Unit {0}
 
 -- the bytes that an answer tells are no more than a read may ask for
 abbrev pub HasFewBytes : Answer → Type 0
@@ -75,40 +70,19 @@ HasFewBytes other = Unit {0}
 
 -- the pattern of a cache that the command asks for has 1 to 16 bytes
 abbrev pub AsksPattern : Command → Type 0
-AsksPattern (Whole.Cache size align pattern) = is_pattern pattern.items ≡ true
-AsksPattern (Alloc order) = Unit {0}
-AsksPattern (Free frame) = Unit {0}
-AsksPattern (Read place len) = Unit {0}
-AsksPattern (Write place bytes) = Unit {0}
-AsksPattern (Destroy cache) = Unit {0}
-AsksPattern (Take cache) = Unit {0}
-AsksPattern (Give cache place) = Unit {0}
-AsksPattern Reap = Unit {0}
-AsksPattern Whole.Report = Unit {0}
+AsksPattern (Command.Cache size align pattern) = is_pattern pattern.items ≡ true
+AsksPattern other = Unit {0}
 
 -- the bytes to be written are no more than a line can have, and the pattern of a cache has 1 to 16
 abbrev pub IsAskable : Request → Type 0
 IsAskable (Request.Write place bytes) = length bytes.now ≤ MOST_BYTES
 IsAskable (Request.Cache size align pattern) = is_pattern pattern.now ≡ true
-IsAskable (Request.Alloc order) = Unit {0}
-IsAskable (Request.Free frame) = Unit {0}
-IsAskable (Request.Read place len) = Unit {0}
-IsAskable (Request.Destroy cache) = Unit {0}
-IsAskable (Request.Take cache) = Unit {0}
-IsAskable (Request.Give cache place) = Unit {0}
-IsAskable Request.Reap = Unit {0}
+IsAskable other = Unit {0}
 
 -- the request asks for bytes
 abbrev pub asks_bytes : Request → Bool
 asks_bytes (Request.Read place len) = true
-asks_bytes (Request.Alloc order) = false
-asks_bytes (Request.Free frame) = false
-asks_bytes (Request.Write place bytes) = false
-asks_bytes (Request.Cache size align pattern) = false
-asks_bytes (Request.Destroy cache) = false
-asks_bytes (Request.Take cache) = false
-asks_bytes (Request.Give cache place) = false
-asks_bytes Request.Reap = false
+asks_bytes other = false
 
 -- the answer tells bytes
 abbrev pub has_bytes : Answer → Bool

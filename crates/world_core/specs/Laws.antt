@@ -3,7 +3,6 @@ use Rattle.std.specs.Prelude.{◌≡◌, ℕ, ◌^◌, ◌<◌, ◌≤◌, List,
 use Rattle.model_core.specs.Machine.{Machine, empty_machine}
 use Rattle.words_core.specs.declared.event.Event.{Event}
 use Rattle.words_core.specs.declared.reply.Body.{Body}
-use Rattle.words_core.specs.declared.reply.Body.TheVariants.{Refused}
 use Rattle.words_core.specs.declared.reply.Refusal.TheVariants.{NoCacheSlot}
 use Rattle.world_core.specs.PrivateStep.{Entry}
 use Rattle.world_core.specs.PrivateRun.{private_run}
@@ -55,7 +54,7 @@ SameTexts = (limit order superblocks tenants superblocks' tenants' t : ℕ) (eve
 -- greater limit on caches.
 abbrev pub MoreCaches : Type 0
 MoreCaches = (limit more order : ℕ) (entries : List Entry) (m : Machine) → limit ≤ more
-    → (Contains (private_run limit order entries m).replies (Refused NoCacheSlot) → ⊥)
+    → (Contains (private_run limit order entries m).replies (Body.Refused NoCacheSlot) → ⊥)
     → private_run more order entries m ≡ private_run limit order entries m
 
 -- as text, what the private machine of tenant t answers to its own list of a trace

@@ -5,9 +5,7 @@ use Rattle.std.specs.Fmt.{decimal}
 use Rattle.words_core.specs.declared.event.Event.{Event}
 use Rattle.words_core.specs.declared.event.LineFault.{LineFault}
 use Rattle.words_core.specs.declared.reply.Addressee.{Addressee}
-use Rattle.words_core.specs.declared.reply.Addressee.TheVariants as To
 use Rattle.words_core.specs.declared.reply.Body.{Body}
-use Rattle.words_core.specs.declared.reply.Body.TheVariants.{Fault}
 use Rattle.words_core.specs.declared.reply.Reply.{Reply}
 use Rattle.words_core.specs.Cutting.{lines_of_trace}
 use Rattle.words_core.specs.Grammar.{reading_of}
@@ -28,9 +26,9 @@ events_of (line ∷ lines) = event_in (reading_of line) ++ events_of lines
 -- The reply is shown: all are, or those to one tenant.
 abbrev pub is_shown : Option ℕ → Addressee → Bool
 is_shown None addressee = true
-is_shown (Some t) To.Admin = false
-is_shown (Some t) To.Nobody = false
-is_shown (Some t) (To.Tenant named) = named == t
+is_shown (Some t) Addressee.Admin = false
+is_shown (Some t) Addressee.Nobody = false
+is_shown (Some t) (Addressee.Tenant named) = named == t
 
 abbrev pub shown_text : Option ℕ → Reply → List ℕ
 shown_text only reply = if is_shown only reply.addressee then text_of reply else []
@@ -40,7 +38,7 @@ shown_text only reply = if is_shown only reply.addressee then text_of reply else
 abbrev pub shown_reading : Option ℕ → ℕ → ℕ → Result (Option Event) LineFault → World → List ℕ
 shown_reading only limit order (Ok None) w = []
 shown_reading only limit order (Ok (Some event)) w = shown_text only (world_step limit order event w).reply
-shown_reading only limit order (Err fault) w = shown_text only (record { addressee = To.Nobody; body = Fault fault })
+shown_reading only limit order (Err fault) w = shown_text only (record { addressee = Addressee.Nobody; body = Body.Fault fault })
 
 abbrev pub shown_line : Option ℕ → ℕ → ℕ → List ℕ → World → List ℕ
 shown_line only limit order line w = shown_reading only limit order (reading_of line) w
@@ -62,7 +60,7 @@ lines_for t output = filter (λ line. starts_with nat_eq line (decimal t ++ code
 
 -- the lines, without their LF, that tell tenant t these replies
 abbrev pub texts_for : ℕ → List Body → List (List ℕ)
-texts_for t bodies = flat_map (body_texts (addressee_text (To.Tenant t))) bodies
+texts_for t bodies = flat_map (body_texts (addressee_text (Addressee.Tenant t))) bodies
 
 -- the byte LF
 abbrev pub line_feed : ℕ

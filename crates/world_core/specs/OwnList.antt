@@ -1,17 +1,14 @@
 -- What of a run concerns one tenant: the entries for its machine, and the replies addressed to it.
 use Rattle.std.specs.Prelude.{ℕ, ◌==◌, List, [], ◌∷◌, ◌++◌, Bool, true, false, if◌then◌else◌}
 use Rattle.words_core.specs.declared.event.Event.{Event}
-use Rattle.words_core.specs.declared.event.Event.TheVariants as On
 use Rattle.words_core.specs.declared.event.AdminCommand.TheVariants as Do
 use Rattle.words_core.specs.declared.reply.Addressee.{Addressee}
-use Rattle.words_core.specs.declared.reply.Addressee.TheVariants as To
 use Rattle.words_core.specs.declared.reply.Body.{Body}
-use Rattle.words_core.specs.declared.reply.Body.TheVariants.{Refused}
 use Rattle.world_core.specs.PrivateStep.{Entry, Ask, Grant, TakeBack, Reset}
 use Rattle.world_core.specs.World.{Exchange}
 
 abbrev pub is_refused : Body → Bool
-is_refused (Refused refusal) = true
+is_refused (Body.Refused refusal) = true
 is_refused body = false
 
 -- the entry, where the number that the event names is the tenant's
@@ -25,12 +22,12 @@ if_granted t named body entry = if is_refused body then [] else if_named t named
 -- What an event with its reply is to the machine of tenant t. Superblock numbers do not stand in it, so a move, which
 -- changes nothing else, is nothing to any machine.
 abbrev pub own_entries : ℕ → Event → Body → List Entry
-own_entries t (On.Tenant named command) body = if_named t named (Ask command)
-own_entries t (On.Admin (Do.Grant named)) body = if_granted t named body Grant
-own_entries t (On.Admin (Do.TakeBack named slot)) body = if_granted t named body (TakeBack slot)
-own_entries t (On.Admin (Do.Reset named)) body = if_named t named Reset
-own_entries t (On.Admin (Do.Move named slot)) body = []
-own_entries t (On.Admin Do.Pool) body = []
+own_entries t (Event.Tenant named command) body = if_named t named (Ask command)
+own_entries t (Event.Admin (Do.Grant named)) body = if_granted t named body Grant
+own_entries t (Event.Admin (Do.TakeBack named slot)) body = if_granted t named body (TakeBack slot)
+own_entries t (Event.Admin (Do.Reset named)) body = if_named t named Reset
+own_entries t (Event.Admin (Do.Move named slot)) body = []
+own_entries t (Event.Admin Do.Pool) body = []
 
 -- the tenant's own list: its commands, and what was granted to it, taken back and reset
 abbrev pub own_list : ℕ → List Exchange → List Entry
@@ -38,9 +35,9 @@ own_list t [] = []
 own_list t (e ∷ es) = own_entries t e.event e.reply.body ++ own_list t es
 
 abbrev pub if_for : ℕ → Addressee → Body → List Body
-if_for t To.Admin body = []
-if_for t To.Nobody body = []
-if_for t (To.Tenant named) body = if named == t then body ∷ [] else []
+if_for t Addressee.Admin body = []
+if_for t Addressee.Nobody body = []
+if_for t (Addressee.Tenant named) body = if named == t then body ∷ [] else []
 
 -- the replies addressed to tenant t
 abbrev pub replies_to : ℕ → List Exchange → List Body

@@ -14,47 +14,46 @@ use Rattle.model_core.specs.declared.refusals.GiveRefusal.{GiveRefusal}
 use Rattle.words_core.specs.declared.event.Command.{Command}
 use Rattle.words_core.specs.declared.report.Report as figures
 use Rattle.words_core.specs.declared.reply.Body.{Body}
-use Rattle.words_core.specs.declared.reply.Body.TheVariants.{Frame, Freed, Bytes, Written, Cache, Destroyed, Object, Given, Reaped, Report, Refused}
 use Rattle.words_core.specs.declared.reply.Refusal.{Refusal}
 use Rattle.words_core.specs.Refusals.{alloc_refusal, read_refusal, cache_refusal, destroy_refusal, take_refusal, give_refusal}
 
 -- what the tenant is told of an operation on its machine
 
 abbrev pub alloc_body : Result ℕ AllocRefusal → Body
-alloc_body (Ok frame) = Frame frame
-alloc_body (Err refusal) = Refused (alloc_refusal refusal)
+alloc_body (Ok frame) = Body.Frame frame
+alloc_body (Err refusal) = Body.Refused (alloc_refusal refusal)
 
 abbrev pub free_body : Option ℕ → Body
-free_body (Some order) = Freed order
-free_body None = Refused Refusal.NotABlock
+free_body (Some order) = Body.Freed order
+free_body None = Body.Refused Refusal.NotABlock
 
 abbrev pub read_body : Result (List ℕ) ReadRefusal → Body
-read_body (Ok bytes) = Bytes (record { items = bytes })
-read_body (Err refusal) = Refused (read_refusal refusal)
+read_body (Ok bytes) = Body.Bytes (record { items = bytes })
+read_body (Err refusal) = Body.Refused (read_refusal refusal)
 
 abbrev pub write_body : Option ℕ → Body
-write_body (Some count) = Written count
-write_body None = Refused Refusal.OutOfReach
+write_body (Some count) = Body.Written count
+write_body None = Body.Refused Refusal.OutOfReach
 
 -- the number of a new cache, and its layout
 abbrev pub layout_body : ℕ → Layout → Body
-layout_body number l = Cache number l.chunk l.order l.count l.colours
+layout_body number l = Body.Cache number l.chunk l.order l.count l.colours
 
 abbrev pub cache_body : ℕ → ℕ → Result ℕ CacheRefusal → Body
 cache_body size align (Ok number) = layout_body number (layout_of size align)
-cache_body size align (Err refusal) = Refused (cache_refusal refusal)
+cache_body size align (Err refusal) = Body.Refused (cache_refusal refusal)
 
 abbrev pub destroy_body : Result ℕ DestroyRefusal → Body
-destroy_body (Ok frames) = Destroyed frames
-destroy_body (Err refusal) = Refused (destroy_refusal refusal)
+destroy_body (Ok frames) = Body.Destroyed frames
+destroy_body (Err refusal) = Body.Refused (destroy_refusal refusal)
 
 abbrev pub take_body : Result ℕ TakeRefusal → Body
-take_body (Ok place) = Object place
-take_body (Err refusal) = Refused (take_refusal refusal)
+take_body (Ok place) = Body.Object place
+take_body (Err refusal) = Body.Refused (take_refusal refusal)
 
 abbrev pub give_body : Result (Unit {0}) GiveRefusal → Body
-give_body (Ok done) = Given
-give_body (Err refusal) = Refused (give_refusal refusal)
+give_body (Ok done) = Body.Given
+give_body (Err refusal) = Body.Refused (give_refusal refusal)
 
 -- the figures of the machine; slots have 2 ^ order frames
 unfoldable pub figures_of : ℕ → Machine → figures.Report
@@ -70,7 +69,7 @@ figures_of order m = record {
 
 -- a report, which changes nothing
 unfoldable pub report_step : ℕ → Machine → Step Body
-report_step order m = record { answer = Report (figures_of order m); machine = m }
+report_step order m = record { answer = Body.Report (figures_of order m); machine = m }
 
 -- the operation, with its answer put as the body of a reply
 abbrev pub with_body : {A : Type 0} → (A → Body) → Step A → Step Body
@@ -88,7 +87,7 @@ command_step limit order (Command.Cache size align pattern) m =
 command_step limit order (Command.Destroy number) m = with_body destroy_body (destroy_step number m)
 command_step limit order (Command.Take number) m = with_body take_body (take_step order number m)
 command_step limit order (Command.Give number place) m = with_body give_body (give_step number place m)
-command_step limit order Command.Reap m = with_body Reaped (reap_step m)
+command_step limit order Command.Reap m = with_body Body.Reaped (reap_step m)
 command_step limit order Command.Report m = report_step order m
 
 -- all that reaches the machine of a tenant: its own command, a superblock granted, a slot taken back, a reset

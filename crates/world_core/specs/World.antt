@@ -7,15 +7,11 @@ use Rattle.model_core.specs.Owners.{owned_by, is_of, is_owner}
 use Rattle.model_core.specs.Operations.{next_slot, after_grant, take_back_step}
 use Rattle.model_core.specs.declared.refusals.TakeBackRefusal.{TakeBackRefusal}
 use Rattle.words_core.specs.declared.event.Event.{Event}
-use Rattle.words_core.specs.declared.event.Event.TheVariants as On
 use Rattle.words_core.specs.declared.event.AdminCommand.TheVariants as Do
 use Rattle.words_core.specs.declared.event.Command.{Command}
 use Rattle.words_core.specs.declared.reply.Addressee.{Addressee}
-use Rattle.words_core.specs.declared.reply.Addressee.TheVariants as To
 use Rattle.words_core.specs.declared.reply.Body.{Body}
-use Rattle.words_core.specs.declared.reply.Body.TheVariants.{Granted, TakenBack, WasReset, Moved, Owners, Refused}
 use Rattle.words_core.specs.declared.reply.Refusal.{Refusal}
-use Rattle.words_core.specs.declared.reply.Refusal.TheVariants.{NoTenant, PoolEmpty}
 use Rattle.words_core.specs.declared.reply.Reply.{Reply}
 use Rattle.words_core.specs.Refusals.{take_back_refusal}
 use Rattle.world_core.specs.PrivateStep.{command_step}
@@ -42,10 +38,10 @@ answer addressee body w = record { reply = record { addressee = addressee; body 
 
 -- the least superblock without owner becomes the least slot that the tenant does not hold
 unfoldable pub grant_step : ℕ → ℕ → World → Option Machine → Option ℕ → WorldStep
-grant_step order t w None _ = answer To.Admin (Refused NoTenant) w
-grant_step order t w (Some m) None = answer To.Admin (Refused PoolEmpty) w
+grant_step order t w None _ = answer Addressee.Admin (Body.Refused Refusal.NoTenant) w
+grant_step order t w (Some m) None = answer Addressee.Admin (Body.Refused Refusal.PoolEmpty) w
 grant_step order t w (Some m) (Some superblock) = record {
-  reply = record { addressee = To.Admin; body = Granted t (next_slot m) superblock };
+  reply = record { addressee = Addressee.Admin; body = Body.Granted t (next_slot m) superblock };
   world = record {
     owners = slice_set w.owners superblock (Some (owned_by t (next_slot m)));
     machines = slice_set w.machines t (after_grant order m);
@@ -59,24 +55,24 @@ given_up test owner = if test owner then None else owner
 -- the superblock under the slot has no owner any more, unless the tenant's machine refused; `after` is what became of it
 abbrev pub take_back_answered : ℕ → ℕ → World → Machine → Result (Unit {0}) TakeBackRefusal → WorldStep
 take_back_answered t slot w after (Ok done) = record {
-  reply = record { addressee = To.Admin; body = TakenBack (position_or_len (is_owner t slot) w.owners) };
+  reply = record { addressee = Addressee.Admin; body = Body.TakenBack (position_or_len (is_owner t slot) w.owners) };
   world = record {
     owners = map (given_up (is_owner t slot)) w.owners;
     machines = slice_set w.machines t after;
   };
 }
-take_back_answered t slot w after (Err refusal) = answer To.Admin (Refused (take_back_refusal refusal)) w
+take_back_answered t slot w after (Err refusal) = answer Addressee.Admin (Body.Refused (take_back_refusal refusal)) w
 
 unfoldable pub slot_step : ℕ → ℕ → ℕ → World → Option Machine → WorldStep
-slot_step order t slot w None = answer To.Admin (Refused NoTenant) w
+slot_step order t slot w None = answer Addressee.Admin (Body.Refused Refusal.NoTenant) w
 slot_step order t slot w (Some m) =
     take_back_answered t slot w (take_back_step order slot m).machine (take_back_step order slot m).answer
 
 -- the tenant's machine is empty, and none of its superblocks has an owner
 unfoldable pub reset_step : ℕ → World → Option Machine → WorldStep
-reset_step t w None = answer To.Admin (Refused NoTenant) w
+reset_step t w None = answer Addressee.Admin (Body.Refused Refusal.NoTenant) w
 reset_step t w (Some m) = record {
-  reply = record { addressee = To.Admin; body = WasReset t (count_by (is_of t) w.owners) };
+  reply = record { addressee = Addressee.Admin; body = Body.WasReset t (count_by (is_of t) w.owners) };
   world = record {
     owners = map (given_up (is_of t)) w.owners;
     machines = slice_set w.machines t empty_machine;
@@ -85,34 +81,34 @@ reset_step t w (Some m) = record {
 
 -- the slot stands over the least superblock without owner, and the one that was under it has no owner any more
 abbrev pub moved_to : ℕ → ℕ → World → Option ℕ → WorldStep
-moved_to t slot w None = answer To.Admin (Refused PoolEmpty) w
+moved_to t slot w None = answer Addressee.Admin (Body.Refused Refusal.PoolEmpty) w
 moved_to t slot w (Some superblock) = record {
-  reply = record { addressee = To.Admin; body = Moved t slot superblock };
+  reply = record { addressee = Addressee.Admin; body = Body.Moved t slot superblock };
   world = record w { owners = slice_set (map (given_up (is_owner t slot)) w.owners) superblock (Some (owned_by t slot)) };
 }
 
 -- a slot moved; every machine stays as it is
 unfoldable pub move_step : ℕ → ℕ → World → Option Machine → Option ℕ → WorldStep
-move_step t slot w None free = answer To.Admin (Refused NoTenant) w
+move_step t slot w None free = answer Addressee.Admin (Body.Refused Refusal.NoTenant) w
 move_step t slot w (Some m) free =
-    if not (holds m slot) then answer To.Admin (Refused Refusal.NoSlot) w else moved_to t slot w free
+    if not (holds m slot) then answer Addressee.Admin (Body.Refused Refusal.NoSlot) w else moved_to t slot w free
 
 -- the command is a step of that tenant's machine alone
 unfoldable pub tenant_step : ℕ → ℕ → ℕ → Command → World → Option Machine → WorldStep
-tenant_step limit order t command w None = answer To.Nobody (Refused NoTenant) w
+tenant_step limit order t command w None = answer Addressee.Nobody (Body.Refused Refusal.NoTenant) w
 tenant_step limit order t command w (Some m) = record {
-  reply = record { addressee = To.Tenant t; body = (command_step limit order command m).answer };
+  reply = record { addressee = Addressee.Tenant t; body = (command_step limit order command m).answer };
   world = record w { machines = slice_set w.machines t (command_step limit order command m).machine };
 }
 
 -- what one event answers and makes of the world; limit on a tenant's caches, order of a superblock
 unfoldable pub world_step : ℕ → ℕ → Event → World → WorldStep
-world_step limit order (On.Tenant t command) w = tenant_step limit order t command w (slice_get w.machines t)
-world_step limit order (On.Admin (Do.Grant t)) w = grant_step order t w (slice_get w.machines t) (position is_none w.owners)
-world_step limit order (On.Admin (Do.TakeBack t slot)) w = slot_step order t slot w (slice_get w.machines t)
-world_step limit order (On.Admin (Do.Reset t)) w = reset_step t w (slice_get w.machines t)
-world_step limit order (On.Admin (Do.Move t slot)) w = move_step t slot w (slice_get w.machines t) (position is_none w.owners)
-world_step limit order (On.Admin Do.Pool) w = answer To.Admin (Owners (record { items = w.owners })) w
+world_step limit order (Event.Tenant t command) w = tenant_step limit order t command w (slice_get w.machines t)
+world_step limit order (Event.Admin (Do.Grant t)) w = grant_step order t w (slice_get w.machines t) (position is_none w.owners)
+world_step limit order (Event.Admin (Do.TakeBack t slot)) w = slot_step order t slot w (slice_get w.machines t)
+world_step limit order (Event.Admin (Do.Reset t)) w = reset_step t w (slice_get w.machines t)
+world_step limit order (Event.Admin (Do.Move t slot)) w = move_step t slot w (slice_get w.machines t) (position is_none w.owners)
+world_step limit order (Event.Admin Do.Pool) w = answer Addressee.Admin (Body.Owners (record { items = w.owners })) w
 
 -- an event with its reply
 pub record Exchange : Type 0 where
