@@ -1,7 +1,6 @@
 //! What is stored of one superblock.
 
-ghost use Rattle.std.specs.Prelude.{◌≡◌, ℕ, ◌^◌, ◌<◌, ◌≤◌, Some, None, length, slice_index_or, slice_set, IfOk};
-ghost use Rattle.std.specs.Prelude.{Bool, true};
+ghost use Rattle.std.specs.Prelude.{◌≡◌, ℕ, ◌^◌, ◌<◌, ◌≤◌, Some, None, length, slice_index_or, slice_set, IfOk, Bool, true};
 ghost use Rattle.model_core.specs.declared.limits.TheConstants.{MOST_ORDER};
 ghost use Rattle.model_core.specs.Numbered.{number_at, IsOpen};
 ghost use Rattle.buddy_core.specs.Stored.{bare_superblock};

@@ -3,21 +3,11 @@ use Rattle.std.specs.Prelude.{ℕ, zero, suc, ◌+◌, ◌==◌, Bool, false, if
 use Rattle.std.specs.Option.{option_map_or}
 use Rattle.std.specs.Result.{result_err}
 use Rattle.std.specs.Str.{bytes_eq}
-use Rattle.model_core.specs.declared.limits.TheConstants.{MOST_ORDER}
-use Rattle.model_core.specs.Blocks.{Block, block}
-use Rattle.model_core.specs.Operations.{overlaps}
-use Rattle.words_core.specs.declared.event.Event.{Event}
-use Rattle.words_core.specs.declared.event.AdminCommand.TheVariants as Do
-use Rattle.words_core.specs.declared.event.Command.TheVariants as Command
-use Rattle.words_core.specs.declared.event.LineFault.{LineFault}
-use Rattle.words_core.specs.declared.reply.Addressee.{Addressee}
-use Rattle.words_core.specs.declared.reply.Body.{Body}
-use Rattle.words_core.specs.declared.reply.Refusal.{Refusal}
-use Rattle.words_core.specs.declared.reply.Reply.{Reply}
-use Rattle.words_core.specs.Texts.{text_of}
+use Rattle.world_core.specs.Vocabulary.{Addressee, AdminCommand, Body, Command, Event, LineFault, Refusal, Reply, MOST_ORDER}
+use Rattle.model_core.specs.Vocabulary.{Block, block, overlaps}
 use Rattle.promise_core.specs.declared.promise.Promise.{Promise}
-use Rattle.promise_core.specs.State.{Known}
-use Rattle.promise_core.specs.Promises.{allowed}
+use Rattle.words_core.specs.Texts.{text_of}
+use Rattle.promise_core.specs.Vocabulary.{Known, allowed}
 use Rattle.judge.specs.Machine.{SeenMachine}
 use Rattle.check_core.specs.Tables.{reply_of_text}
 use Rattle.check_core.specs.declared.finding.Finding.{Finding}
@@ -54,7 +44,7 @@ reply_in k bytes = lines_at k bytes >>= (λ found. text_read found.0)
 -- How many lines an answer to the event has behind the first: the table of owners one for each superblock, a report one for each
 -- order and for each cache of the tenant.
 abbrev pub more_lines : Event → Known → ℕ
-more_lines (Event.Admin Do.Pool) w = length w.owners
+more_lines (Event.Admin AdminCommand.Pool) w = length w.owners
 more_lines (Event.Tenant t Command.Report) w =
     if nat_lt t (length w.states) then 1 + w.order + option_map_or (λ s. length s.has.caches) (slice_get w.states t) 0 else 0
 more_lines event w = 0

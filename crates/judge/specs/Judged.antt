@@ -1,18 +1,10 @@
 -- Verdicts on the reply to one event, and what is kept after it.
 use Rattle.std.specs.Prelude.{◌≡◌, ℕ, Bool, true, not, List, [], ◌∷◌, drop, Option, Some, None, Result, Ok, Err, is_some, if◌then◌else◌, ◌||◌}
 use Rattle.std.specs.Option.{option_map_or}
-use Rattle.model_core.specs.declared.limits.TheConstants.{MOST_CACHES}
-use Rattle.model_core.specs.declared.owner.Owner.{Owner}
-use Rattle.words_core.specs.Requests.{body_of_answer}
-use Rattle.words_core.specs.declared.answer.Answer.{Answer}
-use Rattle.words_core.specs.declared.event.Event.{Event}
-use Rattle.words_core.specs.declared.reply.Addressee.TheVariants as To
-use Rattle.words_core.specs.declared.reply.Body.{Body}
-use Rattle.words_core.specs.declared.reply.Refusal.{Refusal}
-use Rattle.words_core.specs.declared.reply.Reply.{Reply}
+use Rattle.world_core.specs.Vocabulary.{Owner, Addressee, Answer, Body, Event, Refusal, Reply, MOST_CACHES}
 use Rattle.promise_core.specs.declared.promise.Promise.{Promise}
-use Rattle.promise_core.specs.Promises.{allowed, is_one, kept}
-use Rattle.promise_core.specs.State.{State, Known, state_after, owners_after}
+use Rattle.words_core.specs.Requests.{body_of_answer}
+use Rattle.promise_core.specs.Vocabulary.{allowed, is_one, kept, State, Known, state_after, owners_after}
 use Rattle.judge.specs.declared.verdict.Failure.{Failure}
 use Rattle.judge.specs.Seen.{Seen, state_of}
 use Rattle.judge.specs.Machine.{SeenMachine, KeepsSizes, known_of}
@@ -26,7 +18,7 @@ broken ((promise, kept) ∷ rest) = if kept then broken rest else Err promise
 -- the verdict on a reply of this body that is for whom it has to be
 abbrev pub verdict_on : Event → Body → Known → State → Result (Unit {0}) Promise
 verdict_on event body w s = broken ((Promise.Form, is_some (state_after w.order event body s))
-    ∷ drop 1 (kept event (record { addressee = To.Nobody; body = body }) w s))
+    ∷ drop 1 (kept event (record { addressee = Addressee.Nobody; body = body }) w s))
 
 -- the verdict on a refusal where `due` has to come, if one has; `full` and `busy` are whether it may be said for want of frames,
 -- and that a slot is busy

@@ -3,14 +3,8 @@ use Rattle.std.specs.Prelude.{◌≡◌, ℕ, Option, MatchOption}
 use Rattle.std.specs.Borrow.{Fml, MutBor}
 use Rattle.std.specs.Io.BufRead.{Rests}
 use Rattle.words_core.specs.Requests.{command_of, body_of_answer, reply_of_answer}
-use Rattle.words_core.specs.declared.answer.Answer.{Answer}
-use Rattle.words_core.specs.declared.event.Event.TheVariants.{Tenant}
-use Rattle.words_core.specs.declared.reply.Addressee.TheVariants.{Nobody}
-use Rattle.words_core.specs.declared.reply.Body.TheVariants.{Refused}
-use Rattle.words_core.specs.declared.reply.Refusal.TheVariants.{NoTenant}
-use Rattle.words_core.specs.declared.event.Request.{Request}
-use Rattle.kernel_core.specs.Content.{KernelContent, PartsAgree}
-use Rattle.kernel_core.specs.Steps.{Steps, StepsMachine}
+use Rattle.world_core.specs.Vocabulary.{Addressee, Answer, Body, Event, Refusal, Request}
+use Rattle.kernel_core.specs.Vocabulary.{KernelContent, PartsAgree, Steps, StepsMachine}
 use Rattle.kernel_core.specs.contracts.kernel.Kernel.{the_row}
 
 -- the request was a step of the tenant's machine, with this answer, and the parts agree as before
@@ -24,13 +18,13 @@ RestsStepped kernel t request answer = Rests the_row kernel (HasStepped kernel.n
 -- the request of a tenant that there is was a step of the world, with the answer to that tenant
 abbrev pub RestsRequestedKnown : MutBor KernelContent → ℕ → Request → Answer → Fml
 RestsRequestedKnown kernel t request answer =
-    Rests the_row kernel (λ after. Steps kernel.now (Tenant t (command_of request)) after (reply_of_answer t answer))
+    Rests the_row kernel (λ after. Steps kernel.now (Event.Tenant t (command_of request)) after (reply_of_answer t answer))
 
 -- the request of a tenant was a step of the world, with the answer to that tenant; nobody is told where there is no such tenant
 abbrev pub HasAsked : KernelContent → ℕ → Request → Option (ℕ × Answer) → KernelContent → Type 0
 HasAsked before tenant request result after = MatchOption result
-    (Steps before (Tenant tenant (command_of request)) after (record { addressee = Nobody; body = Refused NoTenant }))
-    (λ answer. (answer.0 ≡ tenant) × Steps before (Tenant tenant (command_of request)) after (reply_of_answer tenant answer.1))
+    (Steps before (Event.Tenant tenant (command_of request)) after (record { addressee = Addressee.Nobody; body = Body.Refused Refusal.NoTenant }))
+    (λ answer. (answer.0 ≡ tenant) × Steps before (Event.Tenant tenant (command_of request)) after (reply_of_answer tenant answer.1))
 
 abbrev pub RestsRequested : MutBor KernelContent → ℕ → Request → Option (ℕ × Answer) → Fml
 RestsRequested kernel tenant request result = Rests the_row kernel (HasAsked kernel.now tenant request result)

@@ -1,12 +1,11 @@
 -- What a kernel is made of: the memory with its pool, the buddy systems of all tenants, and the tables of their caches.
 use Rattle.std.specs.Prelude.{◌≡◌, ℕ, ◌*◌, ◌^◌, ◌≤◌, Bool, true, false, Option, Some, None, List, length}
-use Rattle.model_core.specs.declared.owner.Owner.{Owner}
+use Rattle.world_core.specs.Vocabulary.{Owner, FRAME_BYTES, MOST_ORDER, MOST_SUPERBLOCKS, MOST_TENANTS}
 use Rattle.space_core.specs.Content as spaces
 use Rattle.buddy_core.specs.Content as buddies
 use Rattle.slab_tables.specs.Content as tables
 use Rattle.machine_changes.specs.Shows.{Agree}
 use Rattle.machine_changes.specs.Keeps as keeping
-use Rattle.model_core.specs.declared.limits.TheConstants.{FRAME_BYTES, MOST_ORDER, MOST_SUPERBLOCKS, MOST_TENANTS}
 
 pub record KernelContent : Type 0 where
   -- a superblock has 2 ^ order frames of 4096 bytes

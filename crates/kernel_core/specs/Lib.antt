@@ -1,3 +1,4 @@
+pub mod Vocabulary
 pub mod Content
 pub mod Shows
 pub mod Does

@@ -1,18 +1,7 @@
 -- What one event does to a kernel, and what one command of a tenant does to what that tenant has.
 use Rattle.std.specs.Prelude.{◌≡◌, ℕ, ◌==◌, Bool, true, false, Result, Ok, Err}
-use Rattle.words_core.specs.declared.event.Event.{Event}
-use Rattle.words_core.specs.declared.event.AdminCommand.TheVariants as Do
-use Rattle.words_core.specs.declared.event.Command.{Command}
+use Rattle.world_core.specs.Vocabulary.{Addressee, AdminCommand, Answer, Body, Command, Event, Refusal, Reply, cache_limit, command_step, World, world_step, is_refused}
 use Rattle.words_core.specs.Requests.{AsksPattern, body_of_answer}
-use Rattle.words_core.specs.declared.answer.Answer.{Answer}
-use Rattle.words_core.specs.declared.reply.Body.{Body}
-use Rattle.words_core.specs.declared.reply.Refusal.{Refusal}
-use Rattle.words_core.specs.declared.reply.Reply.{Reply}
-use Rattle.words_core.specs.declared.reply.Addressee.TheVariants.{Admin}
-use Rattle.world_core.specs.Limits.{cache_limit}
-use Rattle.world_core.specs.PrivateStep.{command_step}
-use Rattle.world_core.specs.World.{World, world_step}
-use Rattle.world_core.specs.OwnList.{is_refused}
 use Rattle.space_core.specs.Laws.{SpareStays}
 use Rattle.kernel_core.specs.Content.{KernelContent, SameSizes, MarksFollow, Keeps}
 use Rattle.kernel_core.specs.Does.{Does}
@@ -21,11 +10,11 @@ use Rattle.kernel_core.specs.Shows.{Shows}
 -- the event names tenant t
 abbrev pub is_named : ℕ → Event → Bool
 is_named t (Event.Tenant tenant command) = tenant == t
-is_named t (Event.Admin (Do.Grant tenant)) = tenant == t
-is_named t (Event.Admin (Do.TakeBack tenant slot)) = tenant == t
-is_named t (Event.Admin (Do.Reset tenant)) = tenant == t
-is_named t (Event.Admin (Do.Move tenant slot)) = tenant == t
-is_named t (Event.Admin Do.Pool) = false
+is_named t (Event.Admin (AdminCommand.Grant tenant)) = tenant == t
+is_named t (Event.Admin (AdminCommand.TakeBack tenant slot)) = tenant == t
+is_named t (Event.Admin (AdminCommand.Reset tenant)) = tenant == t
+is_named t (Event.Admin (AdminCommand.Move tenant slot)) = tenant == t
+is_named t (Event.Admin AdminCommand.Pool) = false
 
 -- the pattern of a cache that the event asks for has 1 to 16 bytes
 abbrev pub HasPattern : Event → Type 0
@@ -54,4 +43,4 @@ body_of said (Err refusal) = Body.Refused refusal
 
 -- the reply to the administrator: what its command gave, or why it was refused
 abbrev pub to_admin : Result Answer Refusal → Reply
-to_admin result = record { addressee = Admin; body = body_of body_of_answer result }
+to_admin result = record { addressee = Addressee.Admin; body = body_of body_of_answer result }

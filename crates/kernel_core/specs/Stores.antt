@@ -1,11 +1,7 @@
 -- What is done without a call to the bytes of a live page block or a live object: they are stored and loaded where they lie.
 use Rattle.std.specs.Prelude.{◌≡◌, ℕ, ◌<◌, List, Some, length, slice_get}
 use Rattle.model_core.specs.Machine.{Machine}
-use Rattle.words_core.specs.declared.event.Event.TheVariants.{Tenant}
-use Rattle.words_core.specs.declared.event.Command.TheVariants.{Write}
-use Rattle.words_core.specs.declared.reply.Addressee.TheVariants as To
-use Rattle.words_core.specs.declared.reply.Body.TheVariants.{Written}
-use Rattle.world_core.specs.World.{World}
+use Rattle.world_core.specs.Vocabulary.{Addressee, Body, Command, Event, World}
 use Rattle.space_core.specs.Windows.{byte_at}
 use Rattle.machine_changes.specs.Slots.{HoldTogether}
 use Rattle.machine_changes.specs.Pages.{IsInReach, stored}
@@ -35,8 +31,8 @@ pub record Loads (k : KernelContent) (t place byte : ℕ) : Type 0 where
 abbrev pub StoresAreWrites : Type 0
 StoresAreWrites = (k k' : KernelContent) (t place : ℕ) (bytes : List ℕ) → IsKernel k → Stores k t place bytes k' →
     IsKernel k'
-    × Steps k (Tenant t (Write place (record { items = bytes }))) k'
-    (record { addressee = To.Tenant t; body = Written (length bytes) })
+    × Steps k (Event.Tenant t (Command.Write place (record { items = bytes }))) k'
+    (record { addressee = Addressee.Tenant t; body = Body.Written (length bytes) })
 
 -- what is loaded is the byte of the private machine
 abbrev pub LoadsAreOwn : Type 0

@@ -1,8 +1,7 @@
 //! The laws of whole runs, and what a kernel shows. Each is the contract of a function that does nothing: a caller has the law
 //! by the call.
 
-ghost use Rattle.kernel_core.specs.Actions.{OwnSights, SameSights};
-ghost use Rattle.kernel_core.specs.Shows.{OneWorld};
+ghost use Rattle.kernel_core.specs.Vocabulary.{OwnSights, SameSights, OneWorld};
 ghost use Rattle.kernel_core.specs.Stores.{IsKernel, StoresAreWrites, LoadsAreOwn};
 
 use crate::kernel::Kernel;

@@ -1,11 +1,6 @@
 -- The laws of bytes: what changes the byte at a place, and what leaves it.
 use Rattle.std.specs.Prelude.{◌≡◌, ℕ, ◌+◌, Bool, true, false, List, [], ◌∷◌, length, Some, None, nat_le, nat_lt, ◌&&◌, ⊤}
-use Rattle.model_core.specs.Machine.{Machine, holds, slot_of, choice}
-use Rattle.model_core.specs.Reach.{in_reach}
-use Rattle.model_core.specs.Operations.{alloc_step, free_step}
-use Rattle.model_core.specs.CacheOperations.{take_step, give_step}
-use Rattle.model_core.specs.Runs.{Operation, Alloc, Free, Write, Create, Take, Give, Destroy, Reap, Grant, TakeBack, Reset, ArePossible, after, run}
-use Rattle.model_core.specs.WellFormed.{in_slab, IsWellFormed}
+use Rattle.model_core.specs.Vocabulary.{Machine, holds, slot_of, choice, in_reach, alloc_step, free_step, take_step, give_step, Operation, ArePossible, after, run, in_slab, IsWellFormed}
 use Rattle.model_core.specs.Laws.{made_block, makes_slab_at}
 
 -- a page block that is taken where one is found at once changes no byte ..
@@ -18,7 +13,7 @@ FreeKeeps = (first : ℕ) (m : Machine) → (free_step first m).machine.bytes �
 
 -- .. nor an object that is taken out of a slab that stands ..
 abbrev pub TakeKeeps : Type 0
-TakeKeeps = (order number : ℕ) (m : Machine) → made_block order (Take number) m ≡ None
+TakeKeeps = (order number : ℕ) (m : Machine) → made_block order (Operation.Take number) m ≡ None
     → (take_step order number m).machine.bytes ≡ m.bytes
 
 -- .. nor one that is given back
@@ -27,7 +22,7 @@ GiveKeeps = (number place : ℕ) (m : Machine) → (give_step number place m).ma
 
 -- the operation writes this place
 abbrev pub writes : Operation → ℕ → Bool
-writes (Write begin new) place = nat_le begin place && nat_lt place (begin + length new)
+writes (Operation.Write begin new) place = nat_le begin place && nat_lt place (begin + length new)
 writes other place = false
 
 -- The operation leaves the place alone: it does not write it, no slab is made or given back there, and its slot neither comes

@@ -5,14 +5,7 @@ use Rattle.std.specs.Result.{result_ok}
 use Rattle.model_core.specs.declared.limits.TheConstants.{FRAME_BYTES, RECORD_OFFSET}
 use Rattle.model_core.specs.declared.refusals.AllocRefusal.{AllocRefusal}
 use Rattle.model_core.specs.declared.refusals.TakeRefusal.{TakeRefusal}
-use Rattle.model_core.specs.Blocks.{Block, block, HasFrame, IsAligned, Taken, with_taken, without_taken, IsTaken, IsChoice, IsWithout, IsSound}
-use Rattle.model_core.specs.Layouts.{is_small, object_place, pattern_byte}
-use Rattle.model_core.specs.Machine.{Slab, Cache, Machine, empty_machine, holds, in_block, layout, taken_blocks, order_in, taken_in, choice}
-use Rattle.model_core.specs.Slabs.{is_partial, is_empty, cache_of, new_slab, grown_cache, grown, slab_to_use, empty_blocks, reaped, by_need, choice_by_need}
-use Rattle.model_core.specs.Operations.{Step, refuse, with_block, alloc_step, free_step}
-use Rattle.model_core.specs.CacheOperations.{hand_out, take_step}
-use Rattle.model_core.specs.Runs.{Operation, Alloc, Free, Write, Create, Take, Give, Destroy, Reap, Grant, TakeBack, Reset, IsPossible, ArePossible, after, run}
-use Rattle.model_core.specs.WellFormed.{IsApart, IsWellFormed}
+use Rattle.model_core.specs.Vocabulary.{Block, block, HasFrame, IsAligned, Taken, with_taken, without_taken, IsTaken, IsChoice, IsWithout, IsSound, is_small, object_place, pattern_byte, Slab, Cache, Machine, empty_machine, holds, in_block, layout, taken_blocks, order_in, taken_in, choice, is_partial, is_empty, cache_of, new_slab, grown_cache, grown, slab_to_use, empty_blocks, reaped, by_need, choice_by_need, Step, refuse, with_block, alloc_step, free_step, hand_out, take_step, Operation, IsPossible, ArePossible, after, run, IsApart, IsWellFormed}
 
 -- the block that a request gets is aligned, and all its frames lie in held slots and are not taken
 abbrev pub ChoiceIsUntaken : Type 0
@@ -131,7 +124,7 @@ RecordsFree = (limit order : ℕ) (m : Machine) → IsWellFormed limit order m �
 
 -- the place that a take answers
 abbrev pub taken_place : ℕ → Operation → Machine → Option ℕ
-taken_place order (Take number) m = result_ok (take_step order number m).answer
+taken_place order (Operation.Take number) m = result_ok (take_step order number m).answer
 taken_place order other m = None
 
 -- the block of the slab that the cache makes for a take: it makes one where none of its slabs is partial or empty and a block is
@@ -143,7 +136,7 @@ block_of_growth order m c =
 
 -- the block of the slab that an operation makes, if it makes one
 abbrev pub made_block : ℕ → Operation → Machine → Option Block
-made_block order (Take number) m = option_and_then (block_of_growth order m) (cache_of m number)
+made_block order (Operation.Take number) m = option_and_then (block_of_growth order m) (cache_of m number)
 made_block order other m = None
 
 -- the operation makes a slab that has the place
@@ -174,5 +167,5 @@ abbrev pub ConstructedWhenTaken : Type 0
 ConstructedWhenTaken = (limit order number : ℕ) (operations : List Operation) (object : Object) (j : ℕ) → ArePossible operations
     → let step = take_step order number (run limit order operations empty_machine) in step.answer ≡ Ok (place_of object)
     → IsObject step.machine object → j < object.cache.size
-    → hand_outs limit order (place_of object) (operations ++ Take number ∷ []) empty_machine 0 ≡ 1
+    → hand_outs limit order (place_of object) (operations ++ Operation.Take number ∷ []) empty_machine 0 ≡ 1
     → step.machine.bytes (place_of object + j) ≡ Some (pattern_byte object.cache.pattern j)

@@ -1,3 +1,4 @@
+pub mod Vocabulary
 pub mod Elements
 pub mod Blocks
 pub mod Numbered

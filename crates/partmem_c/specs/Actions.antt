@@ -2,16 +2,11 @@
 use Rattle.std.specs.Prelude.{◌≡◌, ℕ, ◌<◌, List, [], ◌∷◌, ◌++◌, length, drop, Option, Some, None, Result, Ok, Err}
 use Rattle.model_core.specs.Machine.{empty_machine}
 use Rattle.words_core.specs.declared.event.Event as events
-use Rattle.words_core.specs.declared.event.LineFault.{LineFault}
-use Rattle.words_core.specs.declared.reply.Addressee.TheVariants.{Nobody}
-use Rattle.words_core.specs.declared.reply.Body.TheVariants.{Fault}
-use Rattle.words_core.specs.declared.reply.Reply.{Reply}
+use Rattle.world_core.specs.Vocabulary.{Addressee, Body, LineFault, Reply, cache_limit}
 use Rattle.words_core.specs.Grammar.{reading_of}
 use Rattle.words_core.specs.Texts.{text_of}
-use Rattle.world_core.specs.Limits.{cache_limit}
-use Rattle.kernel_core.specs.Content.{KernelContent}
+use Rattle.kernel_core.specs.Vocabulary.{KernelContent, Action, Runs, Acts, AllAct, sights_of, own_actions, own_seen, IsBooted}
 use Rattle.kernel_core.specs.Stores.{IsKernel}
-use Rattle.kernel_core.specs.Actions.{Action, Runs, Acts, AllAct, sights_of, own_actions, own_seen, IsBooted}
 use Rattle.partmem_c.specs.declared.events.RequestNumbers.{RequestNumbers}
 use Rattle.partmem_c.specs.declared.telling.ReplyNumbers.{ReplyNumbers}
 use Rattle.partmem_c.specs.Lines.{AnswersLine}
@@ -45,7 +40,7 @@ AllDid k (done ∷ all) k' = (next : KernelContent) × Did k done next × AllDid
 abbrev pub IsOfReading : Result (Option events.Event) LineFault → List ℕ → List Action → Type 0
 IsOfReading (Ok (Some event)) text actions = (reply : Reply) × (actions ≡ Runs event reply ∷ []) × (text ≡ text_of reply)
 IsOfReading (Ok None) text actions = (actions ≡ []) × (text ≡ [])
-IsOfReading (Err fault) text actions = (actions ≡ []) × (text ≡ text_of (record { addressee = Nobody; body = Fault fault }))
+IsOfReading (Err fault) text actions = (actions ≡ []) × (text ≡ text_of (record { addressee = Addressee.Nobody; body = Body.Fault fault }))
 
 -- the actions that one thing done is
 abbrev pub IsOf : Done → List Action → Type 0

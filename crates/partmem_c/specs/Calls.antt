@@ -1,18 +1,8 @@
 -- Direct calls: each is an event, and what it returns follows from the numbers of the reply.
 use Rattle.std.specs.Prelude.{◌≡◌, ◌<◌, ℕ, ◌+◌, ◌-◌, ◌*◌, ◌/◌, ◌%◌, ◌^◌, ◌==◌, nat_le, min, ◌&&◌, Bool, if◌then◌else◌, List, [], ◌++◌, length, take, drop, replicate, Option, Some, None, is_some}
-use Rattle.model_core.specs.declared.limits.TheConstants.{FRAME_BYTES, MOST_ORDER, MOST_BYTES}
-use Rattle.words_core.specs.declared.event.Event.{Event}
-use Rattle.words_core.specs.declared.event.Command.TheVariants.{Free}
-use Rattle.words_core.specs.declared.reply.Addressee.TheVariants as To
-use Rattle.words_core.specs.declared.reply.Body.TheVariants.{Refused}
-use Rattle.words_core.specs.declared.reply.Refusal.TheVariants.{NotABlock}
-use Rattle.words_core.specs.declared.reply.Reply.{Reply}
-use Rattle.kernel_core.specs.Content.{KernelContent}
-use Rattle.kernel_core.specs.Shows.{Shows}
-use Rattle.kernel_core.specs.Steps.{Steps}
+use Rattle.world_core.specs.Vocabulary.{Addressee, Body, Command, Event, Refusal, Reply, FRAME_BYTES, MOST_ORDER, MOST_BYTES, cache_limit, World, world_step}
+use Rattle.kernel_core.specs.Vocabulary.{KernelContent, Shows, Steps}
 use Rattle.kernel_core.specs.Stores.{IsKernel}
-use Rattle.world_core.specs.Limits.{cache_limit}
-use Rattle.world_core.specs.World.{World, world_step}
 use Rattle.partmem_c.specs.declared.status.TheConstants.{DONE, NO_MACHINE, NOT_AN_EVENT}
 use Rattle.partmem_c.specs.declared.kinds.TheConstants.{REFUSED, MADE, REAPED}
 use Rattle.partmem_c.specs.declared.telling.ReplyNumbers.{ReplyNumbers}
@@ -62,11 +52,13 @@ call_status (Some numbers) = if numbers.kind == REFUSED then numbers.first else 
 
 -- The results of calls: all zeroes if there is no machine, or if the command is refused.
 
+abbrev pub no_slot : HeldSlot
+no_slot = record { slot = 0; superblock = 0 }
+
 abbrev pub returned_slot : ℕ → Option ReplyNumbers → HeldSlot
-returned_slot kind None = record { slot = 0; superblock = 0 }
+returned_slot kind None = no_slot
 returned_slot kind (Some numbers) =
-    if numbers.kind == kind then record { slot = numbers.second; superblock = numbers.third }
-    else record { slot = 0; superblock = 0 }
+    if numbers.kind == kind then record { slot = numbers.second; superblock = numbers.third } else no_slot
 
 -- the bytes of a block of this order, which is at most a superblock's
 abbrev pub block_bytes : ℕ → ℕ
@@ -116,5 +108,5 @@ frame_at_place place = place / FRAME_BYTES + place % FRAME_BYTES * NO_FRAME
 abbrev pub OffsetsAreRefused : Type 0
 OffsetsAreRefused = (k : KernelContent) (w : World) (t place : ℕ) →
     IsKernel k → Shows k w → t < k.tenants → 0 < place % FRAME_BYTES →
-    (world_step cache_limit k.order (Event.Tenant t (Free (frame_at_place place))) w).reply
-    ≡ record { addressee = To.Tenant t; body = Refused NotABlock }
+    (world_step cache_limit k.order (Event.Tenant t (Command.Free (frame_at_place place))) w).reply
+    ≡ record { addressee = Addressee.Tenant t; body = Body.Refused Refusal.NotABlock }

@@ -1,15 +1,9 @@
 -- A report as figures.
 use Rattle.std.specs.Prelude.{◌≡◌, ℕ, List, ◌++◌, length, map, drop, replicate, Option, Some, None}
-use Rattle.model_core.specs.declared.report.OrderRow.{OrderRow}
-use Rattle.model_core.specs.declared.report.CacheRow.{CacheRow}
+use Rattle.world_core.specs.Vocabulary.{OrderRow, CacheRow, Body, Command, Event, Reply}
 use Rattle.words_core.specs.declared.report.Report as words
 use Rattle.words_core.specs.declared.report.TheConstants.{ORDERS, CACHES}
-use Rattle.words_core.specs.declared.reply.Body.{Body}
-use Rattle.words_core.specs.declared.reply.Reply.{Reply}
-use Rattle.words_core.specs.declared.event.Event.TheVariants.{Tenant}
-use Rattle.words_core.specs.declared.event.Command.TheVariants as Command
-use Rattle.kernel_core.specs.Content.{KernelContent}
-use Rattle.kernel_core.specs.Steps.{Steps}
+use Rattle.kernel_core.specs.Vocabulary.{KernelContent, Steps}
 use Rattle.partmem_c.specs.Events.{numbers_of_body}
 use Rattle.partmem_c.specs.Calls.{block_bytes, call_status}
 use Rattle.partmem_c.specs.declared.figures.OrderFigures.{OrderFigures}
@@ -71,7 +65,7 @@ figures_of_body other = no_figures
 -- the event was a step of the kernel, and these are the status and the figures of its reply
 pub record PutsFigures (k : KernelContent) (t status : ℕ) (figures : Figures) : Type 0 where
   pub reply : Reply
-  pub steps : Steps k (Tenant t Command.Report) k reply
+  pub steps : Steps k (Event.Tenant t Command.Report) k reply
   pub returns : status ≡ call_status (Some (numbers_of_body reply.body))
   pub are : figures ≡ figures_of_body reply.body
 

@@ -1,22 +1,11 @@
 -- Lends as direct calls.
 use Rattle.std.specs.Prelude.{◌≡◌, ◌≢◌, ℕ, ◌*◌, ◌/◌, ◌^◌, ◌<◌, ◌==◌, Bool, true, false, Option, Some, None, Result, Ok, Err, IfOk}
 use denote.RawPtr.{null_ptr}
-use Rattle.model_core.specs.declared.limits.TheConstants.{FRAME_BYTES}
-use Rattle.model_core.specs.Blocks.{IsTaken}
-use Rattle.model_core.specs.CacheOperations.{give_step}
-use Rattle.model_core.specs.Machine.{Machine, order_in}
-use Rattle.model_core.specs.Reach.{in_reach}
+use Rattle.world_core.specs.Vocabulary.{Body, Command, Event, Refusal, Reply, FRAME_BYTES, give_body}
+use Rattle.model_core.specs.Vocabulary.{IsTaken, give_step, Machine, order_in, in_reach}
 use Rattle.machine_changes.specs.Pages.{IsInReach}
 use Rattle.slab_core.specs.Lending.{HasObject}
-use Rattle.words_core.specs.declared.event.Command.TheVariants.{Alloc, Take}
-use Rattle.words_core.specs.declared.event.Event.TheVariants.{Tenant}
-use Rattle.words_core.specs.declared.reply.Body.TheVariants.{Frame, Object, Refused}
-use Rattle.words_core.specs.declared.reply.Refusal.{Refusal}
-use Rattle.words_core.specs.declared.reply.Reply.{Reply}
-use Rattle.world_core.specs.PrivateStep.{give_body}
-use Rattle.kernel_core.specs.Content.{KernelContent}
-use Rattle.kernel_core.specs.Shows.{ShowsMachine}
-use Rattle.kernel_core.specs.Steps.{Steps, body_of}
+use Rattle.kernel_core.specs.Vocabulary.{KernelContent, ShowsMachine, Steps, body_of}
 use Rattle.kernel_core.specs.Lending.{HasBlock, IsNotLent, reply_for}
 use Rattle.partmem_c.specs.declared.kinds.TheConstants.{FRAME, OBJECT}
 use Rattle.partmem_c.specs.declared.lends.Lent.{Lent}
@@ -52,20 +41,20 @@ abbrev pub FindsObject : KernelContent → ℕ → ℕ → ℕ → Result Lent R
 FindsObject k t cache place (Ok lent) = (t < k.tenants)
     × ((m : Machine) → ShowsMachine k t m → HasObject m cache place lent.bytes) × IsLentAt place lent.bytes lent
 FindsObject k t cache place (Err refusal) =
-    IsNotLent k t (λ why. (m : Machine) → ShowsMachine k t m → give_body (give_step cache place m).answer ≡ Refused why) refusal
+    IsNotLent k t (λ why. (m : Machine) → ShowsMachine k t m → give_body (give_step cache place m).answer ≡ Body.Refused why) refusal
 
 -- Commands that lend what they take: the reply follows from the outcome.
 
 abbrev pub alloc_reply : KernelContent → ℕ → Result Lent Refusal → Reply
-alloc_reply k t outcome = reply_for k t (body_of (λ lent. Frame (lent.place / FRAME_BYTES)) outcome)
+alloc_reply k t outcome = reply_for k t (body_of (λ lent. Body.Frame (lent.place / FRAME_BYTES)) outcome)
 
 -- the step of an alloc, and the block is lent
 pub record AllocLends (old : KernelContent) (t order : ℕ) (new : KernelContent) (outcome : Result Lent Refusal) : Type 0 where
-  pub steps : Steps old (Tenant t (Alloc order)) new (alloc_reply old t outcome)
+  pub steps : Steps old (Event.Tenant t (Command.Alloc order)) new (alloc_reply old t outcome)
   pub block : IfOk outcome (λ lent. IsLentAt (FRAME_BYTES * (lent.place / FRAME_BYTES)) (FRAME_BYTES * 2 ^ order) lent)
 
 abbrev pub take_reply : KernelContent → ℕ → Result Lent Refusal → Reply
-take_reply k t outcome = reply_for k t (body_of (λ lent. Object lent.place) outcome)
+take_reply k t outcome = reply_for k t (body_of (λ lent. Body.Object lent.place) outcome)
 
 -- what is lent, if something is, are the bytes of a live object of the cache
 abbrev pub IsObjectOf : KernelContent → ℕ → ℕ → Lent → Type 0
@@ -73,7 +62,7 @@ IsObjectOf k t cache lent = lent.at ≢ null_ptr → (m : Machine) → ShowsMach
 
 -- the step of a take, and the object is lent
 pub record TakeLends (old : KernelContent) (t cache : ℕ) (new : KernelContent) (outcome : Result Lent Refusal) : Type 0 where
-  pub steps : Steps old (Tenant t (Take cache)) new (take_reply old t outcome)
+  pub steps : Steps old (Event.Tenant t (Command.Take cache)) new (take_reply old t outcome)
   pub lent : IfOk outcome (λ lent. IsLentAt lent.place lent.bytes lent)
   pub object : IfOk outcome (IsObjectOf new t cache)
 

@@ -1,16 +1,10 @@
 -- A line run on the kernel that is held.
 use Rattle.std.specs.Prelude.{◌≡◌, ℕ, ◌==◌, ◌≤◌, nat_lt, Bool, true, false, not, List, [], ◌++◌, length, drop, if◌then◌else◌, Option, Some, None, is_some, MatchOption, Result, Ok, Err}
 use Rattle.std.specs.List.{list_any}
-use Rattle.words_core.specs.declared.event.Event.{Event}
-use Rattle.words_core.specs.declared.event.LineFault.{LineFault}
-use Rattle.words_core.specs.declared.reply.Addressee.TheVariants.{Nobody}
-use Rattle.words_core.specs.declared.reply.Body.TheVariants.{Fault}
-use Rattle.words_core.specs.declared.reply.Reply.{Reply}
+use Rattle.world_core.specs.Vocabulary.{Addressee, Body, Event, LineFault, Reply, line_feed}
 use Rattle.words_core.specs.Grammar.{reading_of}
 use Rattle.words_core.specs.Texts.{text_of}
-use Rattle.world_core.specs.Output.{line_feed}
-use Rattle.kernel_core.specs.Content.{KernelContent}
-use Rattle.kernel_core.specs.Steps.{Steps}
+use Rattle.kernel_core.specs.Vocabulary.{KernelContent, Steps}
 use Rattle.replay_core.specs.Pushes.{most_reply_bytes}
 use Rattle.streams.specs.Lines.{IsOneLine}
 use Rattle.partmem_c.specs.declared.status.TheConstants.{DONE, NO_MACHINE, NOT_A_LINE, BUFFER_TOO_SMALL}
@@ -29,7 +23,7 @@ line_status held line buffer =
 abbrev pub AnswersLine : KernelContent → Result (Option Event) LineFault → KernelContent → List ℕ → Type 0
 AnswersLine old (Ok (Some event)) new text = (reply : Reply) × Steps old event new reply × (text ≡ text_of reply)
 AnswersLine old (Ok None) new text = (new ≡ old) × (text ≡ [])
-AnswersLine old (Err fault) new text = (new ≡ old) × (text ≡ text_of (record { addressee = Nobody; body = Fault fault }))
+AnswersLine old (Err fault) new text = (new ≡ old) × (text ≡ text_of (record { addressee = Addressee.Nobody; body = Body.Fault fault }))
 
 -- it has buffer for the longest reply
 abbrev pub IsWide : List ℕ → Type 0

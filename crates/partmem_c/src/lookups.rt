@@ -2,8 +2,8 @@
 
 ghost use Rattle.std.specs.Prelude.{◌≡◌, ◌/◌, ◌^◌, ◌<◌, ◌≤◌};
 ghost use Rattle.model_core.specs.declared.limits.TheConstants.{FRAME_BYTES, MOST_ORDER};
-ghost use Rattle.partmem_c.specs.Finding.{LooksUp, Returns, slot_at, no_slot, FindsBlock, no_block};
-ghost use Rattle.partmem_c.specs.Finding.{use_of, untaken, AreAround, IsBlockAt};
+ghost use Rattle.partmem_c.specs.Calls.{no_slot};
+ghost use Rattle.partmem_c.specs.Finding.{LooksUp, Returns, slot_at, FindsBlock, no_block, use_of, untaken, AreAround, IsBlockAt};
 
 use crate::calls::block_bytes;
 use crate::granting::HeldSlot;

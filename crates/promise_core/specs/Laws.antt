@@ -2,20 +2,9 @@
 use Rattle.std.specs.Prelude.{◌≡◌, ◌≤◌, is_ok, ℕ, ◌+◌, ◌-◌, ◌/◌, ◌^◌, Bool, true, false, not, List, [], ◌∷◌, length, Contains, Option, Some, None, Ok, slice_get, slice_index, nat_le, nat_lt, ◌&&◌, ◌||◌, ◌==◌}
 use Rattle.std.specs.List.{list_any}
 use Rattle.arrayvec.specs.ArrayVec.{ArrayVec}
-use Rattle.model_core.specs.Blocks.{Block, HasFrame, IsAligned}
-use Rattle.model_core.specs.Machine.{slot_of}
-use Rattle.words_core.specs.declared.event.Command.{Command}
-use Rattle.words_core.specs.declared.event.Event.{Event}
-use Rattle.words_core.specs.declared.event.AdminCommand.TheVariants as Do
-use Rattle.words_core.specs.declared.reply.Addressee.{Addressee}
-use Rattle.words_core.specs.declared.reply.Body.{Body}
-use Rattle.words_core.specs.declared.reply.Refusal.{Refusal}
-use Rattle.words_core.specs.declared.reply.Reply.{Reply}
-use Rattle.world_core.specs.World.{Exchange}
-use Rattle.promise_core.specs.Holdings.{KnownCache, Holdings, has_slot, known_cache, slab_around}
-use Rattle.promise_core.specs.Lying.{AreOfHeld}
-use Rattle.promise_core.specs.State.{State, Known, opening}
-use Rattle.promise_core.specs.Promises.{allowed, all_allowed}
+use Rattle.model_core.specs.Vocabulary.{Block, HasFrame, IsAligned, slot_of}
+use Rattle.world_core.specs.Vocabulary.{Addressee, AdminCommand, Body, Command, Event, Refusal, Reply, Exchange}
+use Rattle.promise_core.specs.Vocabulary.{KnownCache, Holdings, has_slot, known_cache, slab_around, AreOfHeld, State, Known, opening, allowed, all_allowed}
 
 -- the tenant asks for a cache whose pattern has the byte
 abbrev pub gives_pattern : ℕ → ℕ → Event → Bool
@@ -31,7 +20,7 @@ writes_byte t place byte event body = false
 
 -- the slot of the place is granted to the tenant; slots have 2 ^ order frames
 abbrev pub grants_slot : ℕ → ℕ → ℕ → Event → Body → Bool
-grants_slot order t place (Event.Admin (Do.Grant named)) (Body.Granted told u superblock) = named == t && slot_of order place == u
+grants_slot order t place (Event.Admin (AdminCommand.Grant named)) (Body.Granted told u superblock) = named == t && slot_of order place == u
 grants_slot order t place event body = false
 
 -- the byte is of a pattern that the tenant gave, in these exchanges or before

@@ -1,3 +1,4 @@
+pub mod Vocabulary
 pub mod Names
 pub mod Holdings
 pub mod Lying

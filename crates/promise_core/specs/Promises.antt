@@ -2,24 +2,9 @@
 use Rattle.std.specs.Prelude.{ℕ, ◌+◌, ◌-◌, ◌*◌, ◌%◌, ◌^◌, Bool, true, false, not, List, [], ◌∷◌, map, filter, drop, length, Option, Some, None, Result, Ok, Err, is_some, is_none, slice_get, slice_index, slice_set, unwrap_or, count_by, sum_by, nat_le, nat_lt, if◌then◌else◌, ◌&&◌, ◌||◌, ◌==◌}
 use Rattle.std.specs.List.{list_any, list_all, zip, range_with_len}
 use Rattle.std.specs.Option.{option_map_or, option_eq}
-use Rattle.model_core.specs.Blocks.{block}
-use Rattle.model_core.specs.Layouts.{is_size, is_alignment}
-use Rattle.model_core.specs.Machine.{order_in}
-use Rattle.model_core.specs.Owners.{is_of, is_owner}
-use Rattle.model_core.specs.Reports.{greatest, split_share}
-use Rattle.model_core.specs.declared.limits.TheConstants.{MOST_BYTES, FRAME_BYTES}
-use Rattle.model_core.specs.declared.owner.Owner.{Owner}
-use Rattle.model_core.specs.declared.report.CacheRow.{CacheRow}
+use Rattle.world_core.specs.Vocabulary.{Owner, CacheRow, Addressee, AdminCommand, Body, Command, Event, Refusal, Reply, Report, MOST_BYTES, FRAME_BYTES, Exchange}
+use Rattle.model_core.specs.Vocabulary.{block, is_size, is_alignment, order_in, is_of, is_owner, greatest, split_share}
 use Rattle.words_core.specs.Texts.{number_of_refusal}
-use Rattle.words_core.specs.declared.event.Event.{Event}
-use Rattle.words_core.specs.declared.event.AdminCommand.TheVariants as Do
-use Rattle.words_core.specs.declared.event.Command.TheVariants as Command
-use Rattle.words_core.specs.declared.report.Report.{Report}
-use Rattle.words_core.specs.declared.reply.Addressee.{Addressee}
-use Rattle.words_core.specs.declared.reply.Body.{Body}
-use Rattle.words_core.specs.declared.reply.Refusal.{Refusal}
-use Rattle.words_core.specs.declared.reply.Reply.{Reply}
-use Rattle.world_core.specs.World.{Exchange}
 use Rattle.promise_core.specs.declared.promise.Promise.{Promise}
 use Rattle.promise_core.specs.Holdings.{KnownCache, Holdings, has_slot, known_cache, can_stand, vacant_blocks, has_vacant_block, is_slot_busy, live_beside, is_slab_full, can_be_taken}
 use Rattle.promise_core.specs.Bytes.{may_all_be, holder_of}
@@ -56,10 +41,10 @@ due (Event.Tenant t (Command.Destroy number)) w s = let cache = known_cache s.ha
 due (Event.Tenant t (Command.Take number)) w s = first_due ((is_none (known_cache s.has number), Refusal.NoCache) ∷ [])
 due (Event.Tenant t (Command.Give number place)) w s = let cache = known_cache s.has number in first_due ((is_none cache, Refusal.NoCache)
     ∷ (not (option_map_or (λ c. list_any (λ p. p == place) c.live) cache false), Refusal.NotAnObject) ∷ [])
-due (Event.Admin (Do.Grant t)) w s = first_due ((list_all is_some w.owners, Refusal.PoolEmpty) ∷ [])
-due (Event.Admin (Do.TakeBack t u)) w s =
+due (Event.Admin (AdminCommand.Grant t)) w s = first_due ((list_all is_some w.owners, Refusal.PoolEmpty) ∷ [])
+due (Event.Admin (AdminCommand.TakeBack t u)) w s =
     first_due ((not (has_slot s.has u), Refusal.NoSlot) ∷ (is_slot_busy w.order s.has u, Refusal.SlotBusy) ∷ [])
-due (Event.Admin (Do.Move t u)) w s =
+due (Event.Admin (AdminCommand.Move t u)) w s =
     first_due ((not (has_slot s.has u), Refusal.NoSlot) ∷ (list_all is_some w.owners, Refusal.PoolEmpty) ∷ [])
 due event w s = None
 
@@ -86,7 +71,7 @@ room event body w s = true
 
 -- a slot is busy where a frame of it is taken, or a slab without live objects may stand
 abbrev pub busy : Event → Body → Known → State → Bool
-busy (Event.Admin (Do.TakeBack t u)) (Body.Refused Refusal.SlotBusy) w s =
+busy (Event.Admin (AdminCommand.TakeBack t u)) (Body.Refused Refusal.SlotBusy) w s =
     is_slot_busy w.order s.has u || list_any (λ c. s.may_have_empty c.number) s.has.caches
 busy event (Body.Refused Refusal.SlotBusy) w s = false
 busy event body w s = true
@@ -124,13 +109,13 @@ has_owner test superblock w = option_map_or test (slice_get w.owners superblock)
 
 -- what comes is nobody's before, what goes is the tenant's, and the pool is told as it is
 abbrev pub owners : Event → Body → Known → State → Bool
-owners (Event.Admin (Do.Grant t)) (Body.Granted named u superblock) w s = (named == t && has_owner is_none superblock w)
+owners (Event.Admin (AdminCommand.Grant t)) (Body.Granted named u superblock) w s = (named == t && has_owner is_none superblock w)
     && (not (has_slot s.has u) && nat_le ((u + 1) * 2 ^ w.order * FRAME_BYTES) (2 ^ 32))
-owners (Event.Admin (Do.TakeBack t u)) (Body.TakenBack superblock) w s = has_owner (is_owner t u) superblock w
-owners (Event.Admin (Do.Reset t)) (Body.WasReset named superblocks) w s = named == t && superblocks == count_by (is_of t) w.owners
-owners (Event.Admin (Do.Move t u)) (Body.Moved named slot superblock) w s =
+owners (Event.Admin (AdminCommand.TakeBack t u)) (Body.TakenBack superblock) w s = has_owner (is_owner t u) superblock w
+owners (Event.Admin (AdminCommand.Reset t)) (Body.WasReset named superblocks) w s = named == t && superblocks == count_by (is_of t) w.owners
+owners (Event.Admin (AdminCommand.Move t u)) (Body.Moved named slot superblock) w s =
     (named == t && slot == u) && has_owner is_none superblock w
-owners (Event.Admin Do.Pool) (Body.Owners told) w s = length told.items == length w.owners
+owners (Event.Admin AdminCommand.Pool) (Body.Owners told) w s = length told.items == length w.owners
     && list_all (λ p. option_eq (λ x y. x.tenant == y.tenant && x.slot == y.slot) p.0 p.1) (zip told.items w.owners)
 owners event body w s = true
 
@@ -195,11 +180,11 @@ still event body w s = true
 -- the tenant that an event names, be there such a tenant or not
 abbrev pub named : Event → Option ℕ
 named (Event.Tenant t command) = Some t
-named (Event.Admin (Do.Grant t)) = Some t
-named (Event.Admin (Do.TakeBack t u)) = Some t
-named (Event.Admin (Do.Reset t)) = Some t
-named (Event.Admin (Do.Move t u)) = Some t
-named (Event.Admin Do.Pool) = None
+named (Event.Admin (AdminCommand.Grant t)) = Some t
+named (Event.Admin (AdminCommand.TakeBack t u)) = Some t
+named (Event.Admin (AdminCommand.Reset t)) = Some t
+named (Event.Admin (AdminCommand.Move t u)) = Some t
+named (Event.Admin AdminCommand.Pool) = None
 
 -- what is known after an event that names this tenant, now in state s
 abbrev pub known_after : Event → Body → Known → State → Known

@@ -2,16 +2,8 @@
 use Rattle.std.specs.Prelude.{ℕ, Bool, false, not, List, [], map, filter, length, Option, Some, None, slice_set, replicate, nat_lt, ◌&&◌, ◌||◌, ◌==◌}
 use Rattle.std.specs.List.{list_any}
 use Rattle.std.specs.Option.{option_map_or}
-use Rattle.model_core.specs.Blocks.{block}
-use Rattle.model_core.specs.Machine.{in_block, slot_of, put_rising}
-use Rattle.model_core.specs.Owners.{owned_by, is_of, is_owner}
-use Rattle.model_core.specs.declared.owner.Owner.{Owner}
-use Rattle.words_core.specs.declared.event.Event.{Event}
-use Rattle.words_core.specs.declared.event.AdminCommand.TheVariants as Do
-use Rattle.words_core.specs.declared.event.Command.TheVariants as Command
-use Rattle.words_core.specs.declared.report.Report.{Report}
-use Rattle.words_core.specs.declared.reply.Body.{Body}
-use Rattle.world_core.specs.World.{given_up}
+use Rattle.world_core.specs.Vocabulary.{Owner, AdminCommand, Body, Command, Event, Report, given_up}
+use Rattle.model_core.specs.Vocabulary.{block, in_block, slot_of, put_rising, owned_by, is_of, is_owner}
 use Rattle.promise_core.specs.Holdings.{KnownCache, Holdings, known_cache, with_live_places, slab_around, are_apart}
 use Rattle.promise_core.specs.Bytes.{Holder, is_object, is_same, Cells, with_bytes, doubted, without, holder_of}
 
@@ -93,21 +85,21 @@ state_after order (Event.Tenant t Command.Reap) (Body.Reaped frames) s =
     let cells = without (λ place. is_object (is_in_no_slab s.has)) s.cells in
     Some (record s { cells = cells; may_have_empty = λ n. is_in_use (known_cache s.has n); told = None })
 state_after order (Event.Tenant t Command.Report) (Body.Report r) s = Some (record s { told = Some r })
-state_after order (Event.Admin (Do.Grant t)) (Body.Granted named u superblock) s =
+state_after order (Event.Admin (AdminCommand.Grant t)) (Body.Granted named u superblock) s =
     Some (record s { has = record s.has { slots = put_rising (λ v. v) u s.has.slots }; told = None })
-state_after order (Event.Admin (Do.TakeBack t u)) (Body.TakenBack superblock) s =
+state_after order (Event.Admin (AdminCommand.TakeBack t u)) (Body.TakenBack superblock) s =
     let cells = without (λ place holder. slot_of order place == u) s.cells in
     Some (record s { has = record s.has { slots = filter (λ v. not (v == u)) s.has.slots }; cells = cells; told = None })
-state_after order (Event.Admin (Do.Reset t)) (Body.WasReset named superblocks) s = Some opening_state
-state_after order (Event.Admin (Do.Move t u)) (Body.Moved named slot superblock) s = Some s
-state_after order (Event.Admin Do.Pool) (Body.Owners owners) s = Some s
+state_after order (Event.Admin (AdminCommand.Reset t)) (Body.WasReset named superblocks) s = Some opening_state
+state_after order (Event.Admin (AdminCommand.Move t u)) (Body.Moved named slot superblock) s = Some s
+state_after order (Event.Admin AdminCommand.Pool) (Body.Owners owners) s = Some s
 state_after order event body s = None
 
 -- the owners after it
 unfoldable pub owners_after : Event → Body → List (Option Owner) → List (Option Owner)
-owners_after (Event.Admin (Do.Grant t)) (Body.Granted named u superblock) owners = slice_set owners superblock (Some (owned_by t u))
-owners_after (Event.Admin (Do.TakeBack t u)) (Body.TakenBack superblock) owners = map (given_up (is_owner t u)) owners
-owners_after (Event.Admin (Do.Reset t)) (Body.WasReset named superblocks) owners = map (given_up (is_of t)) owners
-owners_after (Event.Admin (Do.Move t u)) (Body.Moved named slot superblock) owners =
+owners_after (Event.Admin (AdminCommand.Grant t)) (Body.Granted named u superblock) owners = slice_set owners superblock (Some (owned_by t u))
+owners_after (Event.Admin (AdminCommand.TakeBack t u)) (Body.TakenBack superblock) owners = map (given_up (is_owner t u)) owners
+owners_after (Event.Admin (AdminCommand.Reset t)) (Body.WasReset named superblocks) owners = map (given_up (is_of t)) owners
+owners_after (Event.Admin (AdminCommand.Move t u)) (Body.Moved named slot superblock) owners =
     slice_set (map (given_up (is_owner t u)) owners) superblock (Some (owned_by t u))
 owners_after event body owners = owners

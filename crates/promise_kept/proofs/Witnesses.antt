@@ -26,7 +26,7 @@ use Rattle.promise_core.specs.Promises.{allowed}
 use Rattle.promise_kept.specs.Meets.{Meets, IsPromiseKept}
 use Rattle.promise_kept.specs.MeetsWorld.{IsKeptIn}
 use Rattle.promise_kept.specs.Laws.{AllocIsKept, FreeIsKept, WriteIsKept, ReadIsKept, CacheIsKept, ReportIsKept}
-use Rattle.promise_kept.specs.ObjectLaws.{TakeIsKept, GiveIsKept, DestroyIsKept, ReapIsKept}
+use Rattle.promise_kept.specs.Laws.{TakeIsKept, GiveIsKept, DestroyIsKept, ReapIsKept}
 use Rattle.promise_kept.specs.WorldLaws.{CanBeRequested, GrantIsKept, TakeBackIsKept, ResetIsKept, MoveIsKept, PoolIsKept, EventIsKept, StrangerChangesNothing, IsKeptRun, KeepsPromises, TraceKeepsPromises}
 use Rattle.promise_kept.proofs.World.{beside}
 use Rattle.promise_kept.proofs.WorldSteps.{keeps_promises, opening_meets}

@@ -1,8 +1,7 @@
--- That the private machine keeps the promises, a command at a time. Each is the contract of a function of the module `laws`.
+-- That the private machine keeps the promises, a command at a time. Each is the contract of a function of `laws` or `object_laws`.
 use Rattle.std.specs.Prelude.{ℕ, ◌≤◌}
 use Rattle.arrayvec.specs.ArrayVec.{ArrayVec}
-use Rattle.model_core.specs.Machine.{Machine}
-use Rattle.model_core.specs.WellFormed.{IsWellFormed}
+use Rattle.model_core.specs.Vocabulary.{Machine, IsWellFormed}
 use Rattle.words_core.specs.declared.event.Command.TheVariants as Command
 use Rattle.promise_core.specs.State.{State}
 use Rattle.promise_kept.specs.Meets.{Meets, IsPromiseKept}
@@ -31,3 +30,23 @@ CacheIsKept = (limit order size align : ℕ) (pattern : ArrayVec ℕ) (m : Machi
 -- a report, which changes nothing
 abbrev pub ReportIsKept : Type 0
 ReportIsKept = (limit order : ℕ) (m : Machine) (s : State) → IsWellFormed limit order m → Meets order s m → IsPromiseKept limit order Command.Report m s
+
+-- an object taken, where a slot has room for the largest slab
+abbrev pub TakeIsKept : Type 0
+TakeIsKept = (limit order number : ℕ) (m : Machine) (s : State) → IsWellFormed limit order m → Meets order s m → 3 ≤ order
+    → IsPromiseKept limit order (Command.Take number) m s
+
+-- an object given back
+abbrev pub GiveIsKept : Type 0
+GiveIsKept = (limit order number place : ℕ) (m : Machine) (s : State) → IsWellFormed limit order m → Meets order s m
+    → IsPromiseKept limit order (Command.Give number place) m s
+
+-- a cache destroyed, its slabs given back
+abbrev pub DestroyIsKept : Type 0
+DestroyIsKept = (limit order number : ℕ) (m : Machine) (s : State) → IsWellFormed limit order m → Meets order s m
+    → IsPromiseKept limit order (Command.Destroy number) m s
+
+-- all empty slabs given back
+abbrev pub ReapIsKept : Type 0
+ReapIsKept = (limit order : ℕ) (m : Machine) (s : State) → IsWellFormed limit order m → Meets order s m
+    → IsPromiseKept limit order Command.Reap m s

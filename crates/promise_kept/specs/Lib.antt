@@ -1,6 +1,5 @@
 pub mod Meets
 pub mod MeetsWorld
 pub mod Laws
-pub mod ObjectLaws
 pub mod WorldLaws
 pub mod Written

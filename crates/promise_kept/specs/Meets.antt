@@ -1,23 +1,10 @@
 -- What the promises see of a private machine, and what it is to keep them.
 use Rattle.std.specs.Prelude.{◌≡◌, ℕ, ◌+◌, ◌<◌, ◌==◌, ◌&&◌, Bool, true, false, List, map, Option, Some, Contains}
 use Rattle.std.specs.List.{list_any, list_all}
-use Rattle.model_core.specs.declared.owner.Owner.{Owner}
-use Rattle.model_core.specs.Layouts.{pattern_byte}
-use Rattle.model_core.specs.Machine.{Slab, Cache, Machine, layout, in_block}
-use Rattle.model_core.specs.Slabs.{live_objects}
-use Rattle.model_core.specs.WellFormed.{in_slab}
-use Rattle.model_core.specs.Reports.{rows_of_caches, order_rows}
+use Rattle.world_core.specs.Vocabulary.{Owner, Addressee, Body, Command, Event, Report, command_step}
+use Rattle.model_core.specs.Vocabulary.{pattern_byte, Slab, Cache, Machine, layout, in_block, live_objects, in_slab, rows_of_caches, order_rows}
 use Rattle.model_core.specs.Laws.{Object, IsObject, place_of}
-use Rattle.words_core.specs.declared.event.Command.{Command}
-use Rattle.words_core.specs.declared.event.Event.TheVariants as On
-use Rattle.words_core.specs.declared.report.Report.{Report}
-use Rattle.words_core.specs.declared.reply.Addressee.TheVariants as To
-use Rattle.words_core.specs.declared.reply.Body.{Body}
-use Rattle.world_core.specs.PrivateStep.{command_step}
-use Rattle.promise_core.specs.Holdings.{KnownCache, Holdings}
-use Rattle.promise_core.specs.Bytes.{Holder, Cell, may_be}
-use Rattle.promise_core.specs.State.{State, state_after}
-use Rattle.promise_core.specs.Promises.{kept}
+use Rattle.promise_core.specs.Vocabulary.{KnownCache, Holdings, Holder, Cell, may_be, State, state_after, kept}
 
 abbrev pub cache_as_known : Cache → KnownCache
 cache_as_known c = record {
@@ -59,8 +46,8 @@ pub record Meets (order : ℕ) (s : State) (m : Machine) : Type 0 where
 -- This reply to a tenant's command keeps each promise, and what is known after it is so of this machine.
 pub record IsKeptBy (limit order : ℕ) (command : Command) (s : State) (body : Body) (after : Machine) : Type 0 where
   pub allowed : (t : ℕ) (owners : List (Option Owner)) (states : List State)
-      → list_all (λ p. p.1) (kept (On.Tenant t command) (record { addressee = To.Tenant t; body = body }) (record { limit = limit; order = order; owners = owners; states = states }) s) ≡ true
-  pub meets : (t : ℕ) → (next : State) × (state_after order (On.Tenant t command) body s ≡ Some next) × Meets order next after
+      → list_all (λ p. p.1) (kept (Event.Tenant t command) (record { addressee = Addressee.Tenant t; body = body }) (record { limit = limit; order = order; owners = owners; states = states }) s) ≡ true
+  pub meets : (t : ℕ) → (next : State) × (state_after order (Event.Tenant t command) body s ≡ Some next) × Meets order next after
 
 -- So does what the private machine answers.
 abbrev pub IsPromiseKept : ℕ → ℕ → Command → Machine → State → Type 0

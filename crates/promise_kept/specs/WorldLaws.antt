@@ -3,37 +3,31 @@
 use Rattle.std.specs.Prelude.{◌≡◌, ℕ, ◌*◌, ◌^◌, ◌≤◌, List, length, Some, Ok, ⊤}
 use Rattle.std.specs.List.{AllByRecursion}
 use Rattle.model_core.specs.Runs.{ArePossible}
-use Rattle.words_core.specs.declared.event.Event.{Event}
-use Rattle.words_core.specs.declared.event.AdminCommand.TheVariants as Do
+use Rattle.world_core.specs.Vocabulary.{AdminCommand, Event, Entry, World, opening_world, world_step, world_after, events_of, opening_history}
 use Rattle.words_core.specs.Cutting.{lines_of_trace}
-use Rattle.world_core.specs.PrivateStep.{Entry}
-use Rattle.world_core.specs.World.{World, opening_world, world_step, world_after}
-use Rattle.world_core.specs.Output.{events_of}
-use Rattle.world_core.specs.Laws.{opening_history}
 use Rattle.world_core.specs.Reached.{operations_in}
-use Rattle.promise_core.specs.State.{Known, opening}
-use Rattle.promise_core.specs.Promises.{named, allowed, all_allowed}
+use Rattle.promise_core.specs.Vocabulary.{Known, opening, named, allowed, all_allowed}
 use Rattle.promise_kept.specs.MeetsWorld.{MeetsWorld, IsEventKept}
 
 -- a superblock granted, or refused where none is free
 abbrev pub GrantIsKept : Type 0
-GrantIsKept = (limit order t : ℕ) → IsEventKept limit order (Event.Admin (Do.Grant t))
+GrantIsKept = (limit order t : ℕ) → IsEventKept limit order (Event.Admin (AdminCommand.Grant t))
 
 -- a slot taken back, where it is held and not busy
 abbrev pub TakeBackIsKept : Type 0
-TakeBackIsKept = (limit order t slot : ℕ) → IsEventKept limit order (Event.Admin (Do.TakeBack t slot))
+TakeBackIsKept = (limit order t slot : ℕ) → IsEventKept limit order (Event.Admin (AdminCommand.TakeBack t slot))
 
 -- all slots of a tenant given up
 abbrev pub ResetIsKept : Type 0
-ResetIsKept = (limit order t : ℕ) → IsEventKept limit order (Event.Admin (Do.Reset t))
+ResetIsKept = (limit order t : ℕ) → IsEventKept limit order (Event.Admin (AdminCommand.Reset t))
 
 -- a slot moved to another superblock
 abbrev pub MoveIsKept : Type 0
-MoveIsKept = (limit order t slot : ℕ) → IsEventKept limit order (Event.Admin (Do.Move t slot))
+MoveIsKept = (limit order t slot : ℕ) → IsEventKept limit order (Event.Admin (AdminCommand.Move t slot))
 
 -- the table of owners
 abbrev pub PoolIsKept : Type 0
-PoolIsKept = (limit order : ℕ) → IsEventKept limit order (Event.Admin Do.Pool)
+PoolIsKept = (limit order : ℕ) → IsEventKept limit order (Event.Admin AdminCommand.Pool)
 
 -- the event can be asked for: a cache is made with a pattern of 1 to 16 bytes
 abbrev pub CanBeRequested : Event → Type 0

@@ -1,14 +1,8 @@
 -- What it is that a written text keeps the promises.
 use Rattle.std.specs.Prelude.{◌≡◌, ℕ, List, [], ◌∷◌, ◌++◌, map, Option, Some, None, Result, Ok, Err}
-use Rattle.words_core.specs.declared.event.Event.{Event}
-use Rattle.words_core.specs.declared.event.LineFault.{LineFault}
-use Rattle.words_core.specs.declared.reply.Addressee.TheVariants as To
-use Rattle.words_core.specs.declared.reply.Body.TheVariants.{Fault}
+use Rattle.world_core.specs.Vocabulary.{Addressee, Body, Event, LineFault, Exchange, events_of, shown_text}
 use Rattle.words_core.specs.Grammar.{reading_of}
-use Rattle.world_core.specs.World.{Exchange}
-use Rattle.world_core.specs.Output.{events_of, shown_text}
-use Rattle.promise_core.specs.State.{Known, opening}
-use Rattle.promise_core.specs.Promises.{all_allowed}
+use Rattle.promise_core.specs.Vocabulary.{Known, opening, all_allowed}
 
 -- What lines tell that read like this, where the exchanges are their events with the replies: a line with an event its reply, a
 -- faulty one its fault, to nobody, a blank one or a comment nothing. With `only` a tenant its replies alone are shown.
@@ -16,7 +10,7 @@ abbrev pub text_of_replies : Option ℕ → List (Result (Option Event) LineFaul
 text_of_replies only [] exchanges = []
 text_of_replies only (Ok None ∷ readings) exchanges = text_of_replies only readings exchanges
 text_of_replies only (Err fault ∷ readings) exchanges =
-    shown_text only (record { addressee = To.Nobody; body = Fault fault }) ++ text_of_replies only readings exchanges
+    shown_text only (record { addressee = Addressee.Nobody; body = Body.Fault fault }) ++ text_of_replies only readings exchanges
 text_of_replies only (Ok (Some event) ∷ readings) [] = []
 text_of_replies only (Ok (Some event) ∷ readings) (e ∷ es) = shown_text only e.reply ++ text_of_replies only readings es
 

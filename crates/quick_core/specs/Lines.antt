@@ -4,7 +4,7 @@ use Rattle.std.specs.List.{position}
 use Rattle.words_core.specs.Grammar.{reading_of}
 use Rattle.words_core.specs.Numbers.{number_of}
 use Rattle.words_core.specs.declared.event.Command.{Command}
-use Rattle.words_core.specs.declared.event.Event.TheVariants.{Tenant}
+use Rattle.words_core.specs.declared.event.Event.{Event}
 use Rattle.quick_core.specs.declared.request.TheConstants.{MOST_TENANT_DIGITS}
 use Rattle.quick_core.specs.declared.number.TheConstants.{MOST_READ_DIGITS}
 use Rattle.quick_core.specs.declared.number.Number.{Number}
@@ -14,7 +14,7 @@ pub record ReadsAs (bytes : List ℕ) (tenant : ℕ) (command : Command) (len : 
   pub some : 0 < len
   pub within : len ≤ length bytes
   pub ended : position (λ b. b == 10) bytes ≡ Some (len - 1)
-  pub reading : reading_of (take (len - 1) bytes) ≡ Ok (Some (Tenant tenant command))
+  pub reading : reading_of (take (len - 1) bytes) ≡ Ok (Some (Event.Tenant tenant command))
 
 -- the end of a line begins at this index, LF or CR LF, and the line has so many bytes with it
 pub record EndsLine (bytes : List ℕ) (end len : ℕ) : Type 0 where

@@ -1,7 +1,6 @@
 -- A line at the front of some bytes.
 use Rattle.std.specs.Prelude.{◌≡◌, ℕ, Bool, false, List, [], Option, Some, None, Ok}
-use Rattle.words_core.specs.declared.event.Event.TheVariants.{Tenant}
-use Rattle.words_core.specs.declared.event.Command.{Command}
+use Rattle.world_core.specs.Vocabulary.{Command, Event}
 use Rattle.quick_core.specs.Lines.{ReadsAs}
 use Rattle.kernel_core.specs.Content.{KernelContent}
 use Rattle.replay_core.specs.declared.run.Run.{Run}
@@ -15,4 +14,4 @@ HasAnsweredLine noting bytes before after old new failing run run' None =
     (after ≡ before) × (new ≡ old) × (failing ≡ false) × (run' ≡ run)
 HasAnsweredLine noting bytes before after old new failing run run' (Some len) = (tenant : ℕ) × (command : Command)
     × ReadsAs bytes tenant command len
-    × HasDone (AnswersRead noting []) (run, before) (Ok (Some (Tenant tenant command))) old new (Ok tt) (run', after) × (failing ≡ false)
+    × HasDone (AnswersRead noting []) (run, before) (Ok (Some (Event.Tenant tenant command))) old new (Ok tt) (run', after) × (failing ≡ false)

@@ -1,9 +1,7 @@
 -- What becomes of bytes that are offered to a drain.
-use Rattle.std.specs.Prelude.{◌≡◌, ℕ, ◌+◌, ◌*◌, ◌^◌, ◌<◌, Bool, false, List, [], ◌++◌, length}
-use Rattle.std.specs.Prelude.{Option, Result, MatchResult, is_err}
+use Rattle.std.specs.Prelude.{◌≡◌, ℕ, ◌+◌, ◌*◌, ◌^◌, ◌<◌, Bool, false, List, [], ◌++◌, length, Option, Result, MatchResult, is_err}
 use Rattle.std.specs.Io.KnownBytes.{Appends}
-use Rattle.words_core.specs.declared.text.TheConstants.{MOST_ROWS}
-use Rattle.words_core.specs.declared.text.TheConstants.{MOST_REPLY_BYTES}
+use Rattle.words_core.specs.declared.text.TheConstants.{MOST_ROWS, MOST_REPLY_BYTES}
 use Rattle.streams.specs.declared.feed.Stopped.{Stopped}
 
 -- no reply has more bytes: the owners of all superblocks, with a line in front of them, of at most 256 bytes each

@@ -1,11 +1,9 @@
 //! How a block becomes a slab: its control record is cleared, and each of its objects constructed.
 
 ghost use Rattle.std.specs.Prelude.{◌≡◌, ◌↔◌, ℕ, ◌+◌, ◌*◌, ◌^◌, ◌<◌, length, option_map, Some, IsSome, IfSome, IfNone};
-ghost use Rattle.model_core.specs.Layouts.{IsLayout};
+ghost use Rattle.model_core.specs.Vocabulary.{IsLayout, Machine, choice, cache_of, grown, by_need, choice_by_need};
 ghost use Rattle.model_core.specs.Machine as machines;
-ghost use Rattle.model_core.specs.Machine.{Machine, choice};
-ghost use Rattle.model_core.specs.Slabs.{cache_of, grown, by_need, choice_by_need};
-ghost use Rattle.slab_tables.specs.Content.{cache_at};
+ghost use Rattle.slab_tables.specs.Content.{cache_at, layout_numbers};
 ghost use Rattle.machine_changes.specs.Shows.{ShowsMachine, Agree};
 ghost use Rattle.machine_changes.specs.Keeps.{Spares};
 ghost use Rattle.machine_changes.specs.Changes.{IsGrown};
@@ -14,7 +12,6 @@ ghost use Rattle.layout_core.specs.Objects.{IsColour};
 ghost use Rattle.space_core.specs.Content as spaces;
 ghost use Rattle.space_core.specs.Laws.{SpaceLaws};
 ghost use Rattle.space_core.specs.Windows.{home_of};
-ghost use Rattle.slab_tables.specs.Content.{layout_numbers};
 ghost use Rattle.slab_core.specs.Calls.{IsFilled, IsConstructed, IsNew};
 ghost use Rattle.slab_core.specs.Fitting.{HasFreeBlock};
 

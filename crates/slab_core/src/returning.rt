@@ -2,13 +2,11 @@
 
 ghost use Rattle.std.specs.Prelude.{◌≡◌, ℕ, ◌<◌, ◌≤◌, ◌^◌, ◌==◌, ◌↔◌, length, flat_map, Some, true, false, OnErr};
 ghost use Rattle.model_core.specs.declared.limits.TheConstants.{MOST_CACHES};
+ghost use Rattle.model_core.specs.Vocabulary.{Machine, cache_of, empty_blocks, frames_of, reap_step, destroy_step};
 ghost use Rattle.slab_tables.specs.Changes.{without_slab};
 ghost use Rattle.klist_core.specs.Places.{IsEmpty};
 ghost use Rattle.slab_tables.specs.Content.{IsTenant, IsSlabs, kept_at, cache_at, index_of_cache, head_of};
 ghost use Rattle.slab_core.specs.Calls.{idle_at, empty_frames_in, IsUnused};
-ghost use Rattle.model_core.specs.Machine.{Machine};
-ghost use Rattle.model_core.specs.Slabs.{cache_of, empty_blocks};
-ghost use Rattle.model_core.specs.CacheOperations.{frames_of, reap_step, destroy_step};
 ghost use Rattle.space_core.specs.Content as spaces;
 ghost use Rattle.buddy_core.specs.Content as buddies;
 ghost use Rattle.machine_changes.specs.Steady.{IsSteady};

@@ -8,16 +8,7 @@ use Rattle.words_core.specs.Words.{words_of}
 use Rattle.words_core.specs.Grammar.{event_of, reading_of_words, reading_of}
 use Rattle.words_core.specs.Texts.{text_of}
 use Rattle.words_core.specs.Requests.{reply_of_answer}
-use Rattle.words_core.specs.declared.event.Event.{Event}
-use Rattle.words_core.specs.declared.event.AdminCommand.TheVariants.{Grant, TakeBack, Move, Pool}
-use Rattle.words_core.specs.declared.event.Command.TheVariants.{Alloc, Read, Write, Cache, Destroy, Take, Give, Reap, Report}
-use Rattle.words_core.specs.declared.event.LineFault.{LineFault}
-use Rattle.words_core.specs.declared.answer.Answer.TheVariants as Say
-use Rattle.words_core.specs.declared.reply.Reply.{Reply}
-use Rattle.words_core.specs.declared.reply.Addressee.TheVariants as To
-use Rattle.words_core.specs.declared.reply.Body.TheVariants as Body
-use Rattle.words_core.specs.declared.report.Report.{Report as Figures}
-use Rattle.words_core.specs.declared.reply.Refusal.TheVariants.{NotABlock}
+use Rattle.words_core.specs.Vocabulary.{Addressee, AdminCommand, Answer, Body, Command, Event, LineFault, Refusal, Reply, Report as Figures}
 
 cuts : map lines_of_trace (codes "a\n\nb" ∷ codes "a\n" ∷ []) ≡ (codes "a" ∷ [] ∷ codes "b" ∷ []) ∷ (codes "a" ∷ []) ∷ []
 cuts = refl
@@ -25,22 +16,22 @@ cuts = refl
 -- lines, each with what it says
 abbrev lines : List (List ℕ × Result (Option Event) LineFault)
 lines =
-    (codes "admin grant 1", Ok (Some (Event.Admin (Grant 1))))
-    ∷ (codes "admin takeback 0 3", Ok (Some (Event.Admin (TakeBack 0 3))))
-    ∷ (codes "admin pool", Ok (Some (Event.Admin Pool)))
-    ∷ (codes "admin move 0 1", Ok (Some (Event.Admin (Move 0 1))))
-    ∷ (codes "\t0  read 4095\t002 \r", Ok (Some (Event.Tenant 0 (Read 4095 2))))
-    ∷ (codes "1 write 8 0a0B", Ok (Some (Event.Tenant 1 (Write 8 (record { items = 10 ∷ 11 ∷ [] })))))
-    ∷ (codes "0 cache 200 8 A5", Ok (Some (Event.Tenant 0 (Cache 200 8 (record { items = 165 ∷ [] })))))
+    (codes "admin grant 1", Ok (Some (Event.Admin (AdminCommand.Grant 1))))
+    ∷ (codes "admin takeback 0 3", Ok (Some (Event.Admin (AdminCommand.TakeBack 0 3))))
+    ∷ (codes "admin pool", Ok (Some (Event.Admin AdminCommand.Pool)))
+    ∷ (codes "admin move 0 1", Ok (Some (Event.Admin (AdminCommand.Move 0 1))))
+    ∷ (codes "\t0  read 4095\t002 \r", Ok (Some (Event.Tenant 0 (Command.Read 4095 2))))
+    ∷ (codes "1 write 8 0a0B", Ok (Some (Event.Tenant 1 (Command.Write 8 (record { items = 10 ∷ 11 ∷ [] })))))
+    ∷ (codes "0 cache 200 8 A5", Ok (Some (Event.Tenant 0 (Command.Cache 200 8 (record { items = 165 ∷ [] })))))
     ∷ (
       codes "0 cache 200 8 000102030405060708090a0b0c0d0e0f",
-      Ok (Some (Event.Tenant 0 (Cache 200 8 (record { items = 0 ∷ 1 ∷ 2 ∷ 3 ∷ 4 ∷ 5 ∷ 6 ∷ 7 ∷ 8 ∷ 9 ∷ 10 ∷ 11 ∷ 12 ∷ 13 ∷ 14 ∷ 15 ∷ [] })))),
+      Ok (Some (Event.Tenant 0 (Command.Cache 200 8 (record { items = 0 ∷ 1 ∷ 2 ∷ 3 ∷ 4 ∷ 5 ∷ 6 ∷ 7 ∷ 8 ∷ 9 ∷ 10 ∷ 11 ∷ 12 ∷ 13 ∷ 14 ∷ 15 ∷ [] })))),
     )
-    ∷ (codes "0 destroy 3", Ok (Some (Event.Tenant 0 (Destroy 3))))
-    ∷ (codes "1 take 0", Ok (Some (Event.Tenant 1 (Take 0))))
-    ∷ (codes "1 give 0 4096", Ok (Some (Event.Tenant 1 (Give 0 4096))))
-    ∷ (codes "0 reap", Ok (Some (Event.Tenant 0 Reap)))
-    ∷ (codes "0 report", Ok (Some (Event.Tenant 0 Report)))
+    ∷ (codes "0 destroy 3", Ok (Some (Event.Tenant 0 (Command.Destroy 3))))
+    ∷ (codes "1 take 0", Ok (Some (Event.Tenant 1 (Command.Take 0))))
+    ∷ (codes "1 give 0 4096", Ok (Some (Event.Tenant 1 (Command.Give 0 4096))))
+    ∷ (codes "0 reap", Ok (Some (Event.Tenant 0 Command.Reap)))
+    ∷ (codes "0 report", Ok (Some (Event.Tenant 0 Command.Report)))
     ∷ (codes " # note", Ok None)
     ∷ []
 
@@ -69,7 +60,7 @@ says_none : map (λ line. reading_of line.0) faulty ≡ map (λ line. Err line.1
 unfolding reading_of words_of reading_of_words event_of hex_on_literals
 says_none = refl
 
-widest : reading_of (codes "0 alloc 0" ++ replicate 246 32) ≡ Ok (Some (Event.Tenant 0 (Alloc 0)))
+widest : reading_of (codes "0 alloc 0" ++ replicate 246 32) ≡ Ok (Some (Event.Tenant 0 (Command.Alloc 0)))
 unfolding reading_of words_of reading_of_words event_of
 widest = refl
 
@@ -104,24 +95,24 @@ one_slab = record {
 -- replies, each with its text
 abbrev replies : List (Reply × List ℕ)
 replies =
-    (record { addressee = To.Nobody; body = Body.Fault LineFault.Words }, codes "!> fault Words\n")
+    (record { addressee = Addressee.Nobody; body = Body.Fault LineFault.Words }, codes "!> fault Words\n")
     ∷ (
-      record { addressee = To.Admin; body = Body.Owners (record { items = Some (owned_by 1 0) ∷ None ∷ [] }) },
+      record { addressee = Addressee.Admin; body = Body.Owners (record { items = Some (owned_by 1 0) ∷ None ∷ [] }) },
       codes "admin> pool free 1 of 2\nadmin> superblock 0 tenant 1 slot 0\nadmin> superblock 1 free\n",
     )
-    ∷ (record { addressee = To.Admin; body = Body.Moved 0 0 1 }, codes "admin> moved 0 slot 0 superblock 1\n")
-    ∷ (reply_of_answer 0 (Say.Cache 0 200 0 20 9), codes "0> cache 0 chunk 200 order 0 objects 20 colours 9\n")
-    ∷ (reply_of_answer 0 (Say.Destroyed 1), codes "0> destroyed 1\n")
-    ∷ (reply_of_answer 0 (Say.Object 4096), codes "0> object 4096\n")
-    ∷ (reply_of_answer 0 Say.Given, codes "0> given\n")
-    ∷ (reply_of_answer 0 (Say.Reaped 0), codes "0> reaped 0\n")
-    ∷ (reply_of_answer 3 (Say.Refused NotABlock), codes "3> refused 3 NotABlock\n")
+    ∷ (record { addressee = Addressee.Admin; body = Body.Moved 0 0 1 }, codes "admin> moved 0 slot 0 superblock 1\n")
+    ∷ (reply_of_answer 0 (Answer.Cache 0 200 0 20 9), codes "0> cache 0 chunk 200 order 0 objects 20 colours 9\n")
+    ∷ (reply_of_answer 0 (Answer.Destroyed 1), codes "0> destroyed 1\n")
+    ∷ (reply_of_answer 0 (Answer.Object 4096), codes "0> object 4096\n")
+    ∷ (reply_of_answer 0 Answer.Given, codes "0> given\n")
+    ∷ (reply_of_answer 0 (Answer.Reaped 0), codes "0> reaped 0\n")
+    ∷ (reply_of_answer 3 (Answer.Refused Refusal.NotABlock), codes "3> refused 3 NotABlock\n")
     ∷ (
-      record { addressee = To.Tenant 1; body = Body.Report none_free },
+      record { addressee = Addressee.Tenant 1; body = Body.Report none_free },
       codes "1> frames 0 live 0 free 0 top none split 0\n1> order 0 free 0 taken 0\n",
     )
     ∷ (
-      record { addressee = To.Tenant 0; body = Body.Report one_slab },
+      record { addressee = Addressee.Tenant 0; body = Body.Report one_slab },
       codes "0> frames 2 live 1 free 1 top 0 split 0\n0> order 0 free 1 taken 1\n0> order 1 free 0 taken 0\n0> cache 3 full 0 partial 1 empty 0 live 1\n",
     )
     ∷ []

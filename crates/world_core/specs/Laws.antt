@@ -1,9 +1,7 @@
 -- The laws of whole runs, over the definitions alone.
 use Rattle.std.specs.Prelude.{◌≡◌, ℕ, ◌^◌, ◌<◌, ◌≤◌, List, ◌++◌, length, Option, Some, None, Contains, slice_get}
 use Rattle.model_core.specs.Machine.{Machine, empty_machine}
-use Rattle.words_core.specs.declared.event.Event.{Event}
-use Rattle.words_core.specs.declared.reply.Body.{Body}
-use Rattle.words_core.specs.declared.reply.Refusal.TheVariants.{NoCacheSlot}
+use Rattle.world_core.specs.Values.{Body, Event, Refusal}
 use Rattle.world_core.specs.PrivateStep.{Entry}
 use Rattle.world_core.specs.PrivateRun.{private_run}
 use Rattle.world_core.specs.World.{World, Exchange, opening_world, history, world_after}
@@ -54,7 +52,7 @@ SameTexts = (limit order superblocks tenants superblocks' tenants' t : ℕ) (eve
 -- greater limit on caches.
 abbrev pub MoreCaches : Type 0
 MoreCaches = (limit more order : ℕ) (entries : List Entry) (m : Machine) → limit ≤ more
-    → (Contains (private_run limit order entries m).replies (Body.Refused NoCacheSlot) → ⊥)
+    → (Contains (private_run limit order entries m).replies (Body.Refused Refusal.NoCacheSlot) → ⊥)
     → private_run more order entries m ≡ private_run limit order entries m
 
 -- as text, what the private machine of tenant t answers to its own list of a trace

@@ -1,3 +1,5 @@
+pub mod Values
+pub mod Vocabulary
 pub mod Limits
 pub mod PrivateStep
 pub mod PrivateRun

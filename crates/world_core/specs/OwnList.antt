@@ -1,9 +1,6 @@
 -- What of a run concerns one tenant: the entries for its machine, and the replies addressed to it.
 use Rattle.std.specs.Prelude.{ℕ, ◌==◌, List, [], ◌∷◌, ◌++◌, Bool, true, false, if◌then◌else◌}
-use Rattle.words_core.specs.declared.event.Event.{Event}
-use Rattle.words_core.specs.declared.event.AdminCommand.TheVariants as Do
-use Rattle.words_core.specs.declared.reply.Addressee.{Addressee}
-use Rattle.words_core.specs.declared.reply.Body.{Body}
+use Rattle.world_core.specs.Values.{Addressee, AdminCommand, Body, Event}
 use Rattle.world_core.specs.PrivateStep.{Entry, Ask, Grant, TakeBack, Reset}
 use Rattle.world_core.specs.World.{Exchange}
 
@@ -23,11 +20,11 @@ if_granted t named body entry = if is_refused body then [] else if_named t named
 -- changes nothing else, is nothing to any machine.
 abbrev pub own_entries : ℕ → Event → Body → List Entry
 own_entries t (Event.Tenant named command) body = if_named t named (Ask command)
-own_entries t (Event.Admin (Do.Grant named)) body = if_granted t named body Grant
-own_entries t (Event.Admin (Do.TakeBack named slot)) body = if_granted t named body (TakeBack slot)
-own_entries t (Event.Admin (Do.Reset named)) body = if_named t named Reset
-own_entries t (Event.Admin (Do.Move named slot)) body = []
-own_entries t (Event.Admin Do.Pool) body = []
+own_entries t (Event.Admin (AdminCommand.Grant named)) body = if_granted t named body Grant
+own_entries t (Event.Admin (AdminCommand.TakeBack named slot)) body = if_granted t named body (TakeBack slot)
+own_entries t (Event.Admin (AdminCommand.Reset named)) body = if_named t named Reset
+own_entries t (Event.Admin (AdminCommand.Move named slot)) body = []
+own_entries t (Event.Admin AdminCommand.Pool) body = []
 
 -- the tenant's own list: its commands, and what was granted to it, taken back and reset
 abbrev pub own_list : ℕ → List Exchange → List Entry

@@ -1,28 +1,14 @@
 -- The machines that private runs leave, and what the model's laws say of them.
 use Rattle.std.specs.Prelude.{◌≡◌, ◌↔◌, ℕ, ◌+◌, ◌*◌, ◌/◌, ◌^◌, ◌<◌, ◌≤◌, true, List, [], ◌∷◌, ◌++◌, Some, Ok, slice_get}
 use Rattle.std.specs.List.{flat_map}
-use Rattle.model_core.specs.declared.limits.TheConstants.{FRAME_BYTES, RECORD_OFFSET}
-use Rattle.model_core.specs.Blocks.{Block, block, HasFrame, IsTaken, IsFree, IsChoice, IsSound}
+use Rattle.world_core.specs.Values.{Addressee, Body, Command, Event, FRAME_BYTES, RECORD_OFFSET}
+use Rattle.model_core.specs.Vocabulary.{Block, block, HasFrame, IsTaken, IsFree, IsChoice, IsSound, is_small, pattern_byte, Cache, Machine, empty_machine, holds, taken_in, layout, cache_of, by_need, alloc_step, free_step, Operation, ArePossible, run, IsWellFormed}
 use Rattle.model_core.specs.BlockLaws.{IsFreeOnceSplit, JoinsTo, IsFreeOnceJoined}
-use Rattle.model_core.specs.Layouts.{is_small, pattern_byte}
-use Rattle.model_core.specs.Machine.{Cache, Machine, empty_machine, holds, taken_in, layout}
-use Rattle.model_core.specs.Slabs.{cache_of, by_need}
-use Rattle.model_core.specs.Operations.{alloc_step, free_step}
-use Rattle.model_core.specs.Runs.{Operation, ArePossible, run}
-use Rattle.model_core.specs.WellFormed.{IsWellFormed}
 use Rattle.model_core.specs.Laws.{Object, IsObject, place_of, HasByte, hand_outs}
 use Rattle.model_core.specs.Room.{IsAmple}
-use Rattle.words_core.specs.declared.event.Event.TheVariants as On
-use Rattle.words_core.specs.declared.event.Command.TheVariants as Command
-use Rattle.words_core.specs.declared.reply.Addressee.TheVariants as To
-use Rattle.words_core.specs.declared.reply.Body.TheVariants as Say
 use Rattle.words_core.specs.Cutting.{lines_of_trace}
-use Rattle.world_core.specs.PrivateStep.{Entry, command_step}
+use Rattle.world_core.specs.Vocabulary.{Entry, command_step, opening_world, world_step, world_after, own_list, events_of, opening_history}
 use Rattle.world_core.specs.PrivateRun.{private_run}
-use Rattle.world_core.specs.World.{opening_world, world_step, world_after}
-use Rattle.world_core.specs.OwnList.{own_list}
-use Rattle.world_core.specs.Output.{events_of}
-use Rattle.world_core.specs.Laws.{opening_history}
 
 -- what an entry is to the model: an operation, or nothing where it only reads
 abbrev pub operations_in : Entry → List Operation
@@ -119,7 +105,7 @@ ReachedConstructed = (limit order : ℕ) (entries : List Entry) (object : Object
 abbrev pub ReachedConstructedWhenTaken : Type 0
 ReachedConstructedWhenTaken = (limit order number : ℕ) (entries : List Entry) (object : Object) (j : ℕ) → AreRequests entries
     → let step = command_step limit order (Command.Take number) (reached_machine limit order entries) in
-    step.answer ≡ Say.Object (place_of object) → IsObject step.machine object → j < object.cache.size
+    step.answer ≡ Body.Object (place_of object) → IsObject step.machine object → j < object.cache.size
     → hand_outs limit order (place_of object) (flat_map operations_in entries ++ Operation.Take number ∷ []) empty_machine 0 ≡ 1
     → step.machine.bytes (place_of object + j) ≡ Some (pattern_byte object.cache.pattern j)
 
@@ -127,14 +113,14 @@ ReachedConstructedWhenTaken = (limit order number : ℕ) (entries : List Entry) 
 -- never refused ..
 abbrev pub ReachedBlock : Type 0
 ReachedBlock = (limit order k : ℕ) (entries : List Entry) → AreRequests entries → let m = reached_machine limit order entries in
-    IsAmple order k m → (first : ℕ) × ((command_step limit order (Command.Alloc k) m).answer ≡ Say.Frame first)
+    IsAmple order k m → (first : ℕ) × ((command_step limit order (Command.Alloc k) m).answer ≡ Body.Frame first)
 
 -- .. nor an object of a cache whose slabs have that order.
 abbrev pub ReachedObject : Type 0
 ReachedObject = (limit order number : ℕ) (entries : List Entry) (c : Cache) → AreRequests entries →
     let m = reached_machine limit order entries in
     cache_of m number ≡ Some c → IsAmple order (layout c).order m
-    → (place : ℕ) × ((command_step limit order (Command.Take number) m).answer ≡ Say.Object place)
+    → (place : ℕ) × ((command_step limit order (Command.Take number) m).answer ≡ Body.Object place)
 
 -- So nobody is starved by others: after any trace a tenant whose machine has that room is answered a frame, whatever all
 -- others did.
@@ -142,5 +128,5 @@ abbrev pub NobodyStarves : Type 0
 NobodyStarves = (limit order superblocks tenants t k : ℕ) (trace : List ℕ) (m : Machine) → t < tenants →
     let w = world_after limit order (opening_world superblocks tenants) (events_of (lines_of_trace trace)) in
     slice_get w.machines t ≡ Some m → IsAmple order k m
-    → (first : ℕ) × ((world_step limit order (On.Tenant t (Command.Alloc k)) w).reply
-    ≡ record { addressee = To.Tenant t; body = Say.Frame first })
+    → (first : ℕ) × ((world_step limit order (Event.Tenant t (Command.Alloc k)) w).reply
+    ≡ record { addressee = Addressee.Tenant t; body = Body.Frame first })

@@ -1,18 +1,8 @@
 -- The world of all tenants: who owns each superblock, and a private machine for each tenant.
 use Rattle.std.specs.Prelude.{ℕ, Bool, List, [], ◌∷◌, Option, Some, None, Result, Ok, Err, if◌then◌else◌, not, is_none, map, count_by, position, slice_get, slice_set, replicate}
 use Rattle.std.specs.List.{position_or_len}
-use Rattle.model_core.specs.Machine.{Machine, empty_machine, holds}
-use Rattle.model_core.specs.declared.owner.Owner.{Owner}
-use Rattle.model_core.specs.Owners.{owned_by, is_of, is_owner}
-use Rattle.model_core.specs.Operations.{next_slot, after_grant, take_back_step}
-use Rattle.model_core.specs.declared.refusals.TakeBackRefusal.{TakeBackRefusal}
-use Rattle.words_core.specs.declared.event.Event.{Event}
-use Rattle.words_core.specs.declared.event.AdminCommand.TheVariants as Do
-use Rattle.words_core.specs.declared.event.Command.{Command}
-use Rattle.words_core.specs.declared.reply.Addressee.{Addressee}
-use Rattle.words_core.specs.declared.reply.Body.{Body}
-use Rattle.words_core.specs.declared.reply.Refusal.{Refusal}
-use Rattle.words_core.specs.declared.reply.Reply.{Reply}
+use Rattle.world_core.specs.Values.{Owner, TakeBackRefusal, Addressee, AdminCommand, Body, Command, Event, Refusal, Reply}
+use Rattle.model_core.specs.Vocabulary.{Machine, empty_machine, holds, owned_by, is_of, is_owner, next_slot, after_grant, take_back_step}
 use Rattle.words_core.specs.Refusals.{take_back_refusal}
 use Rattle.world_core.specs.PrivateStep.{command_step}
 
@@ -104,11 +94,11 @@ tenant_step limit order t command w (Some m) = record {
 -- what one event answers and makes of the world; limit on a tenant's caches, order of a superblock
 unfoldable pub world_step : ℕ → ℕ → Event → World → WorldStep
 world_step limit order (Event.Tenant t command) w = tenant_step limit order t command w (slice_get w.machines t)
-world_step limit order (Event.Admin (Do.Grant t)) w = grant_step order t w (slice_get w.machines t) (position is_none w.owners)
-world_step limit order (Event.Admin (Do.TakeBack t slot)) w = slot_step order t slot w (slice_get w.machines t)
-world_step limit order (Event.Admin (Do.Reset t)) w = reset_step t w (slice_get w.machines t)
-world_step limit order (Event.Admin (Do.Move t slot)) w = move_step t slot w (slice_get w.machines t) (position is_none w.owners)
-world_step limit order (Event.Admin Do.Pool) w = answer Addressee.Admin (Body.Owners (record { items = w.owners })) w
+world_step limit order (Event.Admin (AdminCommand.Grant t)) w = grant_step order t w (slice_get w.machines t) (position is_none w.owners)
+world_step limit order (Event.Admin (AdminCommand.TakeBack t slot)) w = slot_step order t slot w (slice_get w.machines t)
+world_step limit order (Event.Admin (AdminCommand.Reset t)) w = reset_step t w (slice_get w.machines t)
+world_step limit order (Event.Admin (AdminCommand.Move t slot)) w = move_step t slot w (slice_get w.machines t) (position is_none w.owners)
+world_step limit order (Event.Admin AdminCommand.Pool) w = answer Addressee.Admin (Body.Owners (record { items = w.owners })) w
 
 -- an event with its reply
 pub record Exchange : Type 0 where
