@@ -10,7 +10,7 @@ MOST_LINE, MOST_NUMBER, MOST_BYTES, MOST_PATTERN, MOST_SIZE, MOST_CACHES = 255, 
 ALIGNMENTS = [8, 16, 32, 64, 128, 256]
 REFUSALS = ["NoFrames", "BadOrder", "NotABlock", "OutOfReach", "BadLength", "BadSize", "BadAlign", "NoCacheSlot", "NoCache"]
 REFUSALS += ["CacheInUse", "NotAnObject", "NoTenant", "PoolEmpty", "NoSlot", "SlotBusy"]
-# The commands of each actor, with the forms of their arguments: a number, or so many bytes in hex.
+# The commands of each actor, with the forms of their arguments: a number, or bytes in hex, at most this many.
 NUMBER = 0
 ADMINISTRATOR = {"grant": [NUMBER], "takeback": [NUMBER, NUMBER], "reset": [NUMBER], "move": [NUMBER, NUMBER], "pool": []}
 TENANT = {"alloc": [NUMBER], "free": [NUMBER], "read": [NUMBER, NUMBER], "write": [NUMBER, MOST_BYTES]}
