@@ -148,7 +148,7 @@ class Tenant:
         self.slots[slot][at:at + len(content)] = content
 
     def check_reach(self, place, length):
-        """Whether a range is inside one page block or one live object."""
+        """Refuses a range that is not inside one page block or one live object."""
         frame = place // FRAME_BYTES
         around = [first for first, order in self.blocks().items() if first <= frame < first + 2**order]
         for first in around:
