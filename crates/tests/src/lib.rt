@@ -1,5 +1,5 @@
-//! Tests across the libraries: traces on new machines with what they write, ends that fail, pairs of worlds, printed notes, the
-//! public functions with their types and fixed values, and the examples at the roots of crates.
+//! Tests across the libraries: traces on new machines with what they write, ends that fail, pairs of worlds, the public functions
+//! with their types and fixed values, and the examples at the roots of crates.
 #![tactic(auto)]
 
 #[cfg(test)]
@@ -19,8 +19,6 @@ mod machine_memory;
 #[cfg(test)]
 mod pairs_of_worlds;
 pub mod pieces;
-#[cfg(test)]
-mod printed_notes;
 #[cfg(test)]
 mod public_types;
 #[cfg(test)]
