@@ -42,10 +42,12 @@ its_byte : HasByte second_object 203
 unfolding layout_of
 its_byte = (omega arith, omega arith)
 
-ObjectsApart-met : ObjectsApart → HasByte first_object 203 → ⊥
-ObjectsApart-met law h =
-    let one : first_object ≡ second_object = law MOST_CACHES 3 machine is_well_formed first_object second_object first_is_there second_is_there 203 h its_byte in
-    absurd (omega (arith, ap (λ o. o.index) one))
+-- what object has the byte is the second, so the first has not
+ObjectsApart-met : ObjectsApart → ((a : Object) → IsObject machine a → HasByte a 203 → a ≡ second_object) × (HasByte first_object 203 → ⊥)
+ObjectsApart-met law =
+    let only : (a : Object) → IsObject machine a → HasByte a 203 → a ≡ second_object = λ a there has.
+    law MOST_CACHES 3 machine is_well_formed a second_object there second_is_there 203 has its_byte in
+    (only, λ has. absurd (omega (arith, ap (λ o. o.index) (only first_object first_is_there has))))
 
 RecordsFree-met : RecordsFree → (0 ≤ 203) × (203 < 4064)
 unfolding layout_of

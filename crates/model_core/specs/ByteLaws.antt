@@ -11,7 +11,7 @@ AllocKeeps = (order k first : ℕ) (m : Machine) → choice order m k ≡ Some f
 abbrev pub FreeKeeps : Type 0
 FreeKeeps = (first : ℕ) (m : Machine) → (free_step first m).machine.bytes ≡ m.bytes
 
--- .. nor an object that is taken out of a slab that stands ..
+-- .. nor an object that is taken out of an existing slab ..
 abbrev pub TakeKeeps : Type 0
 TakeKeeps = (order number : ℕ) (m : Machine) → made_block order (Operation.Take number) m ≡ None
     → (take_step order number m).machine.bytes ≡ m.bytes
@@ -23,7 +23,16 @@ GiveKeeps = (number place : ℕ) (m : Machine) → (give_step number place m).ma
 -- the operation writes this place
 abbrev pub writes : Operation → ℕ → Bool
 writes (Operation.Write begin new) place = nat_le begin place && nat_lt place (begin + length new)
-writes other place = false
+writes (Operation.Alloc k) place = false
+writes (Operation.Free first) place = false
+writes (Operation.Create size align pattern) place = false
+writes (Operation.Take number) place = false
+writes (Operation.Give number object) place = false
+writes (Operation.Destroy number) place = false
+writes Operation.Reap place = false
+writes Operation.Grant place = false
+writes (Operation.TakeBack slot) place = false
+writes Operation.Reset place = false
 
 -- The operation leaves the place alone: it does not write it, no slab is made or given back there, and its slot neither comes
 -- nor goes.

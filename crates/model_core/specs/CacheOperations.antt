@@ -58,7 +58,7 @@ abbrev pub take_of : ℕ → Machine → Option Cache → Step (Result ℕ TakeR
 take_of order m None = refuse TakeRefusal.NoCache m
 take_of order m (Some c) = take_from order c m (slab_to_use (find is_partial c.slabs) (find is_empty c.slabs))
 
--- an object of the cache with this number taken, with empty slabs given back by need where a new slab is made: its
+-- an object of the cache with this number taken, with empty slabs given back on demand where a new slab is made: its
 -- first place; slots have 2 ^ order frames
 unfoldable pub take_step : ℕ → ℕ → Machine → Step (Result ℕ TakeRefusal)
 take_step order number m = take_of order m (cache_of m number)

@@ -31,7 +31,7 @@ pub record IsByNeed {A : Type 0} (order k : ℕ) (m : Machine) (served : ℕ →
   -- where none is found then either, the request is refused
   pub stays : choice order m k ≡ None → choice order (reaped m) k ≡ None → step ≡ refused
 
--- a page block is taken by need ..
+-- a page block is taken on demand ..
 abbrev pub AllocReaps : Type 0
 AllocReaps = (order k : ℕ) (m : Machine) → k ≤ order → IsByNeed order k m
     (λ first n. record { answer = Ok first; machine = with_block (block first k) n })
@@ -69,7 +69,7 @@ TakenApart = (limit order : ℕ) (m : Machine) → IsWellFormed limit order m �
 abbrev pub TakenSound : Type 0
 TakenSound = (limit order : ℕ) (m : Machine) → IsWellFormed limit order m → IsSound order (holds m) (taken_in m)
 
--- a page block that is taken is one more taken block, after what is given back by need ..
+-- a page block that is taken is one more taken block, after what is given back on demand ..
 abbrev pub AllocTakes : Type 0
 AllocTakes = (limit order k first : ℕ) (m : Machine) → IsWellFormed limit order m → (alloc_step order k m).answer ≡ Ok first
     → (f : ℕ) → taken_in (alloc_step order k m).machine f ≡ with_taken (taken_in (by_need order k m)) first k f
@@ -125,10 +125,19 @@ RecordsFree = (limit order : ℕ) (m : Machine) → IsWellFormed limit order m �
 -- the place that a take answers
 abbrev pub taken_place : ℕ → Operation → Machine → Option ℕ
 taken_place order (Operation.Take number) m = result_ok (take_step order number m).answer
-taken_place order other m = None
+taken_place order (Operation.Alloc k) m = None
+taken_place order (Operation.Free first) m = None
+taken_place order (Operation.Write place new) m = None
+taken_place order (Operation.Create size align pattern) m = None
+taken_place order (Operation.Give number place) m = None
+taken_place order (Operation.Destroy number) m = None
+taken_place order Operation.Reap m = None
+taken_place order Operation.Grant m = None
+taken_place order (Operation.TakeBack slot) m = None
+taken_place order Operation.Reset m = None
 
 -- the block of the slab that the cache makes for a take: it makes one where none of its slabs is partial or empty and a block is
--- found by need
+-- found on demand
 abbrev pub block_of_growth : ℕ → Machine → Cache → Option Block
 block_of_growth order m c =
     if is_some (slab_to_use (find is_partial c.slabs) (find is_empty c.slabs)) then None
@@ -137,7 +146,16 @@ block_of_growth order m c =
 -- the block of the slab that an operation makes, if it makes one
 abbrev pub made_block : ℕ → Operation → Machine → Option Block
 made_block order (Operation.Take number) m = option_and_then (block_of_growth order m) (cache_of m number)
-made_block order other m = None
+made_block order (Operation.Alloc k) m = None
+made_block order (Operation.Free first) m = None
+made_block order (Operation.Write place new) m = None
+made_block order (Operation.Create size align pattern) m = None
+made_block order (Operation.Give number place) m = None
+made_block order (Operation.Destroy number) m = None
+made_block order Operation.Reap m = None
+made_block order Operation.Grant m = None
+made_block order (Operation.TakeBack slot) m = None
+made_block order Operation.Reset m = None
 
 -- the operation makes a slab that has the place
 abbrev pub makes_slab_at : ℕ → Operation → Machine → ℕ → Bool

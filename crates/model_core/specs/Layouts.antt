@@ -76,7 +76,7 @@ in_object l size colour offset =
     nat_le colour offset && (nat_lt ((offset - colour) / l.chunk) l.count && nat_lt ((offset - colour) % l.chunk) size)
 
 -- a slab with this colour offset holds its objects: they end within the room, and the room within the slab, below the
--- control record where that stands in the frame
+-- control record if that is in the frame
 pub record IsFit (l : Layout) (colour : ℕ) : Type 0 where
   pub chunked : 16 ≤ l.chunk
   pub some : 0 < l.count

@@ -33,7 +33,7 @@ pub record Machine : Type 0 where
   pub blocks : List Block
   -- by rising number
   pub caches : List Cache
-  -- the byte at a place, if one stands there
+  -- the byte at a place, if there is one
   pub bytes : ℕ → Option ℕ
 
 unfoldable pub empty_machine : Machine

@@ -30,7 +30,7 @@ abbrev pub alloc_at : ℕ → Machine → Option ℕ → Step (Result ℕ AllocR
 alloc_at k m None = refuse AllocRefusal.NoFrames m
 alloc_at k m (Some first) = record { answer = Ok first; machine = with_block (block first k) m }
 
--- a page block of order k taken, with empty slabs given back by need: its first frame; slots have 2 ^ order frames
+-- a page block of order k taken, with empty slabs given back on demand: its first frame; slots have 2 ^ order frames
 unfoldable pub alloc_step : ℕ → ℕ → Machine → Step (Result ℕ AllocRefusal)
 alloc_step order k m =
     if nat_lt order k then refuse AllocRefusal.BadOrder m

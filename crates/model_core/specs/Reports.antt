@@ -34,7 +34,7 @@ abbrev pub order_rows : ℕ → Machine → ℕ → List OrderRow
 order_rows order m zero = []
 order_rows order m (suc k) = order_rows order m k ++ (order_row order m k ∷ [])
 
--- the greatest number below n of which there are some
+-- the greatest number below n whose count is not 0
 abbrev pub greatest : (ℕ → ℕ) → ℕ → Option ℕ
 greatest count zero = None
 greatest count (suc k) = if count k == 0 then greatest count k else Some k

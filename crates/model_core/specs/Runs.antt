@@ -34,7 +34,16 @@ pub data Operation : Type 0 where
 -- the operation can be asked for: a cache is made with a pattern
 abbrev pub IsPossible : Operation → Type 0
 IsPossible (Create size align pattern) = is_pattern pattern ≡ true
-IsPossible operation = ⊤
+IsPossible (Alloc k) = ⊤
+IsPossible (Free first) = ⊤
+IsPossible (Write place new) = ⊤
+IsPossible (Take number) = ⊤
+IsPossible (Give number place) = ⊤
+IsPossible (Destroy number) = ⊤
+IsPossible Reap = ⊤
+IsPossible Grant = ⊤
+IsPossible (TakeBack slot) = ⊤
+IsPossible Reset = ⊤
 
 -- each of the operations can
 abbrev pub ArePossible : List Operation → Type 0

@@ -7,18 +7,18 @@ use crate::limits::{LEAST_ORDER, MOST_ORDER, MOST_SUPERBLOCKS, MOST_TENANTS};
 /// The sizes of a machine.
 #[derive(Clone, Copy, Debug, PartialEq, Eq)]
 pub struct Config {
-    /// A superblock has `2^order` frames: 3 to 8.
+    /// The order of a superblock, 3 to 8. It has `2^order` frames.
     pub order: u32,
-    /// How many superblocks the machine has: 1 to 256.
+    /// The number of superblocks of the machine, 1 to 256.
     pub superblocks: u32,
-    /// How many tenants share it: 1 to 64.
+    /// The number of tenants that share it, 1 to 64.
     pub tenants: u32,
 }
 
 impl Config {
     ghost use Rattle.model_core.specs.Booting.{is_bootable};
 
-    /// Whether every number is in its range.
+    /// Returns true if every number is in its range.
     pub fn is_bootable(&self) -> bool
         ensures { result ≡ is_bootable self.now }
     {

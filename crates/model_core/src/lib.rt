@@ -1,5 +1,5 @@
-//! The private machine of one tenant: its memory, its buddy system and its slab caches, as definitions that contracts
-//! cite (`specs/`), and the laws that hold of them.
+//! The private machine of one tenant: definitions of its memory, its buddy system and its slab caches, which contracts cite
+//! (`specs/`), and the laws about them.
 #![tactic(auto)]
 
 pub mod block_laws;

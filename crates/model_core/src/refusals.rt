@@ -1,45 +1,45 @@
-//! Why the private machine refuses an operation. A refused operation changes nothing.
+//! The refusals of the private machine. A refused operation changes nothing. Of several refusals the first in the order of the
+//! variants is returned.
 
-/// Of a page block asked for, in this order.
+/// Why a page block is refused, in the order tested.
 #[derive(Clone, Copy, Debug, PartialEq, Eq)]
 pub enum AllocRefusal {
     /// The order is above that of a superblock.
     BadOrder,
-    /// There is no free block of the order asked for, or of a greater one, and none would be if all empty slabs were
-    /// given back.
+    /// No block of the requested order or above is free, and none would be if all empty slabs were freed.
     NoFrames,
 }
 
-/// Of a read, in this order.
+/// Why a read is refused, in the order tested.
 #[derive(Clone, Copy, Debug, PartialEq, Eq)]
 pub enum ReadRefusal {
-    /// No byte is asked for, or more than [`MOST_BYTES`](crate::limits::MOST_BYTES).
+    /// The number of bytes is 0 or above [`MOST_BYTES`](crate::limits::MOST_BYTES).
     BadLength,
-    /// The range lies neither inside one live page block nor inside one live object.
+    /// The range is not inside one live page block or one live object.
     OutOfReach,
 }
 
-/// Of a new cache, in this order.
+/// Why a new cache is refused, in the order tested.
 #[derive(Clone, Copy, Debug, PartialEq, Eq)]
 pub enum CacheRefusal {
     /// The size is 0 or above 4096.
     BadSize,
     /// The alignment is not 8, 16, 32, 64, 128 or 256.
     BadAlign,
-    /// All numbers of caches are used.
+    /// The tenant has 32 caches, the largest number.
     NoCacheSlot,
 }
 
-/// Of an object taken, in this order.
+/// Why a take is refused, in the order tested.
 #[derive(Clone, Copy, Debug, PartialEq, Eq)]
 pub enum TakeRefusal {
     /// There is no cache of this number.
     NoCache,
-    /// A new slab is needed, and no block is found for it, nor would be if all empty slabs were given back.
+    /// A new slab is needed and no block is free for it, nor would be if all empty slabs were freed.
     NoFrames,
 }
 
-/// Of an object given back, in this order.
+/// Why a give is refused, in the order tested.
 #[derive(Clone, Copy, Debug, PartialEq, Eq)]
 pub enum GiveRefusal {
     /// There is no cache of this number.
@@ -48,7 +48,7 @@ pub enum GiveRefusal {
     NotAnObject,
 }
 
-/// Of a cache destroyed, in this order.
+/// Why the destruction of a cache is refused, in the order tested.
 #[derive(Clone, Copy, Debug, PartialEq, Eq)]
 pub enum DestroyRefusal {
     /// There is no cache of this number.
@@ -57,11 +57,11 @@ pub enum DestroyRefusal {
     CacheInUse,
 }
 
-/// Of a slot taken back, in this order.
+/// Why a take-back is refused, in the order tested.
 #[derive(Clone, Copy, Debug, PartialEq, Eq)]
 pub enum TakeBackRefusal {
     /// The slot is not held.
     NoSlot,
-    /// A frame of the slot is taken, by a page block or by a slab, an empty one included.
+    /// A frame of the slot is taken, by a page block or by a slab, even if the slab is empty.
     SlotBusy,
 }

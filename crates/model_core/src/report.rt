@@ -1,11 +1,11 @@
-//! What a report says of the blocks of one order, and of one cache.
+//! The rows of a report: for each order, and for each cache.
 
 /// The numbers of blocks of one order.
 #[derive(Clone, Copy, Debug, Default, PartialEq, Eq)]
 pub struct OrderRow {
-    /// How many blocks of the order are free.
+    /// The number of free blocks of the order.
     pub free: u32,
-    /// How many blocks of the order are taken: page blocks, and the blocks of slabs.
+    /// The number of taken blocks of the order: page blocks and blocks of slabs.
     pub taken: u32,
 }
 
@@ -14,12 +14,12 @@ pub struct OrderRow {
 pub struct CacheRow {
     /// The number of the cache.
     pub cache: u8,
-    /// How many slabs have no object that is not live.
+    /// The number of full slabs, in which all objects are live.
     pub full: u32,
-    /// How many slabs have both live objects and others.
+    /// The number of partial slabs, which have both live and free objects.
     pub partial: u32,
-    /// How many slabs have no live object.
+    /// The number of empty slabs, which have no live object.
     pub empty: u32,
-    /// How many objects are live.
+    /// The number of live objects.
     pub live: u32,
 }
