@@ -3,38 +3,38 @@ ghost use Rattle.std.specs.Io.KnownBytes.{Appends, Keeps, WriteAppends};
 
 use crate::feed::Stopped;
 
-/// No text that writes itself has more bytes.
+/// An upper bound on the bytes of a [`Text`].
 pub const TEXT_BYTES: usize = 160;
 
-/// A text that writes itself where it stays.
+/// A text that is written straight into a drain's buffer.
 pub trait Text {
     ghost bytes: { Self → List ℕ };
 
-    /// Writes its bytes over the first of the buffer, and answers how many they are. What stands behind them may change.
+    /// Writes its bytes to the front of the buffer and returns their number. The bytes behind them may change.
     fn write(self, buffer: &mut [u8]) -> usize
         requires space { TEXT_BYTES ≤ length buffer.old }
         ensures text { take result buffer.new ≡ bytes self }
         ensures short { result ≤ TEXT_BYTES };
 }
 
-/// Where replies go, a piece at a time.
+/// A sink for replies, which takes them in pieces.
 pub trait Drain {
-    // The bytes that it has taken, where they are known.
+    // The bytes that it has taken, if they are known.
     ghost contents: { Self → Option (List ℕ) } = { λ _. None };
 
-    // The last of them, which it holds back.
+    // The last of these, which it still holds back.
     ghost held_back: { Self → List ℕ } = { λ _. [] };
 
-    // A push has failed.
+    // True if a push has failed.
     ghost has_failed: { Self → Bool };
 
-    // It has space at hand for a text, however long.
+    // True if it has space for a text of any length up to `TEXT_BYTES`.
     ghost is_roomy: { Self → Bool };
 
-    // A send has failed.
+    // True if a send has failed.
     ghost has_failed_to_send: { Self → Bool } = { λ _. false };
 
-    /// Offers bytes, and answers how many of the first were taken, at least one. Fails at once where a send has failed.
+    /// Offers bytes, and returns how many of them, from the first on, it took: at least one. Fails at once if a send has failed.
     fn push(&mut self, bytes: &[u8]) -> Result<usize, Stopped>
         requires some { 0 < length bytes.now }
         requires fine { has_failed self.old ≡ false }
@@ -44,12 +44,12 @@ pub trait Drain {
         ensures stopped { has_failed_to_send self.old ≡ true → (is_err result ≡ true) × (held_back self.new ≡ held_back self.old) }
         ensures sends { has_failed_to_send self.new ≡ has_failed_to_send self.old };
 
-    /// It has space at hand for a text: for `TEXT_BYTES` bytes.
+    /// Returns true if it has space for a text, that is, for `TEXT_BYTES` bytes.
     fn has_space(&self) -> bool
         ensures space { result ≡ is_roomy self.now }
         ensures stopped { has_failed_to_send self.now ≡ true → result ≡ false };
 
-    /// Takes a text, which is written where it stays, and answers how many bytes it has.
+    /// Takes a text, which is written into its buffer, and returns the number of its bytes.
     fn take_text<T: Text>(&mut self, text: T) -> usize
         requires space { is_roomy self.old ≡ true }
         ensures taken { Appends (contents self.old) (contents self.new) (T.bytes text) }
@@ -58,8 +58,8 @@ pub trait Drain {
         ensures failed { has_failed self.new ≡ has_failed self.old }
         ensures sends { has_failed_to_send self.new ≡ has_failed_to_send self.old };
 
-    /// Hands on what was pushed and is still held back, before what may be a long wait. Tells no failure: where it
-    /// fails, so does the next push. Nothing is handed on once a push or a send has failed.
+    /// Passes on the pushed bytes that it still holds back. To be called before what may be a long wait. Reports no failure: if it
+    /// fails, the next push fails. After a failed push or send it passes nothing on.
     fn send(&mut self)
         ensures bytes { Keeps (contents self.old) (contents self.new) }
         ensures failed { has_failed self.new ≡ has_failed self.old }
@@ -67,7 +67,7 @@ pub trait Drain {
         ensures sends { has_failed_to_send self.old ≡ true → (has_failed_to_send self.new ≡ true) × (held_back self.new ≡ held_back self.old) }
     {}
 
-    /// A push has failed.
+    /// Returns true if a push has failed.
     fn failed(&self) -> bool
         ensures { result ≡ has_failed self.now };
 }

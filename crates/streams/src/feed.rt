@@ -2,23 +2,23 @@ ghost use Rattle.std.specs.Prelude.{◌≡◌, ℕ, ◌+◌, ◌<◌, ◌≤◌,
 ghost use Rattle.std.specs.Io.KnownBytes.{ReadConsumes};
 ghost use Rattle.streams.specs.Moves.{moved_count};
 
-/// A feed or a drain has failed: it gave or took no byte in this call, and does so no more.
+/// A feed or a drain has failed. It gave or took no byte in this call.
 #[derive(Clone, Copy, Debug, PartialEq, Eq)]
 pub struct Stopped;
 
-/// Where a trace comes from, a piece at a time.
+/// A source of a trace, which gives it in pieces.
 pub trait Feed {
-    // The bytes that it still has, where they are known: it gives them in turn, and all of them before the end.
+    // The bytes that it still has, if they are known. It gives them in order, and all of them before the end.
     ghost remaining: { Self → Option (List ℕ) } = { λ _. None };
 
-    // The bytes that it will give at most.
+    // The largest number of bytes that it will give.
     ghost room_left: { Self → ℕ };
 
     ghost has_ended: { Self → Bool };
 
     ghost has_failed: { Self → Bool };
 
-    /// Fills the first bytes of `into` and answers how many, at most `room`; 0 is the end, and from then on the answer.
+    /// Fills the first bytes of `into` and returns their number, at most `room`. Returns 0 at the end, and in all later calls.
     fn pull(&mut self, into: &mut [u8]) -> Result<usize, Stopped>
         requires space { 0 < length into.old }
         requires fine { has_failed self.old ≡ false }
@@ -30,15 +30,15 @@ pub trait Feed {
         ensures not_yet { OnErr result (has_ended self.new ≡ has_ended self.old) }
         ensures failed { has_failed self.new ≡ is_err result };
 
-    /// How many bytes it will give at most.
+    /// Returns the largest number of bytes that it will give.
     fn room(&self) -> u64
         ensures { result ≡ room_left self.now };
 
-    /// A pull has answered the end.
+    /// Returns true if a pull has reached the end.
     fn ended(&self) -> bool
         ensures { result ≡ has_ended self.now };
 
-    /// A pull has failed.
+    /// Returns true if a pull has failed.
     fn failed(&self) -> bool
         ensures { result ≡ has_failed self.now };
 }

@@ -4,9 +4,9 @@ use crate::drain::{TEXT_BYTES, Text};
 use std::marker::Model;
 
 /// Bytes in a buffer of fixed size.
-#[derive(Drop)]
+#[derive(Debug, Drop)]
 pub struct Held {
-    // The buffer: the bytes behind the first `len` are of no meaning.
+    // The buffer. Only its first `len` bytes have a meaning.
     bytes: Vec<u8>,
     len: usize,
 }
@@ -23,7 +23,7 @@ impl Model for Held {
 }
 
 impl Held {
-    /// No bytes, in the capacity of `buffer`: nothing is allocated.
+    /// Makes an empty `Held` with the capacity of `buffer`. Allocates nothing.
     pub fn new(buffer: Vec<u8>) -> Self
         ensures { result.bytes ≡ [] }
     {
@@ -32,7 +32,7 @@ impl Held {
         Held { bytes, len: 0 }
     }
 
-    /// Appends bytes if they fit, and answers whether they did.
+    /// Appends bytes if they fit. Returns true if they did.
     #[inline(always)]
     pub fn append(&mut self, more: &[u8]) -> bool
         ensures appended { result ≡ true → self.new.bytes ≡ self.old.bytes ++ more.now }
@@ -47,7 +47,7 @@ impl Held {
         true
     }
 
-    /// A text fits.
+    /// Returns true if a text of any length up to `TEXT_BYTES` fits.
     #[inline(always)]
     pub fn has_space(&self) -> bool
         ensures { result ≡ nat_le TEXT_BYTES self.now.free }
@@ -55,7 +55,7 @@ impl Held {
         self.bytes.len() - self.len >= TEXT_BYTES
     }
 
-    /// Appends a text, and answers how many bytes it has.
+    /// Appends a text and returns the number of its bytes.
     #[inline(always)]
     pub fn append_text<T: Text>(&mut self, text: T) -> usize
         requires { TEXT_BYTES ≤ self.old.free }
@@ -69,28 +69,28 @@ impl Held {
         len
     }
 
-    /// The bytes.
+    /// Returns the bytes.
     pub fn as_slice(&self) -> &[u8]
         ensures { result.now ≡ self.now.bytes }
     {
         &self.bytes[..self.len]
     }
 
-    /// How many there are.
+    /// Returns the number of bytes.
     pub fn len(&self) -> usize
         ensures { result ≡ length self.now.bytes }
     {
         self.len
     }
 
-    /// There are none.
+    /// Returns true if it holds no bytes.
     pub fn is_empty(&self) -> bool
         ensures { result ≡ (length self.now.bytes == 0) }
     {
         self.len == 0
     }
 
-    /// The bytes behind the first `count` of them move to the front.
+    /// Removes the first `count` bytes and moves the others to the front.
     pub fn remove_front(&mut self, count: usize)
         requires { count ≤ length self.old.bytes }
         ensures { self.new.bytes ≡ drop count self.old.bytes }

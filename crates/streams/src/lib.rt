@@ -1,5 +1,5 @@
-//! Where a trace comes from and where replies go, a piece at a time: a [`Feed`] over one of std's readers, perhaps up to a limit
-//! of lines, a [`Drain`] over one of std's writers. Neither knows what is made of the bytes.
+//! The source of a trace and the sink for its replies, in pieces: a [`Feed`] over one of std's readers, with a limit of lines if
+//! wanted, and a [`Drain`] over one of std's writers. Neither interprets the bytes.
 #![tactic(auto)]
 
 mod drain;

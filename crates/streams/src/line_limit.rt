@@ -5,19 +5,19 @@ ghost use Rattle.std.specs.Prelude.{◌≡◌, false, ◌==◌, count_by, length
 use crate::feed::{Feed, Stopped};
 use std::simd::prelude::*;
 
-/// A feed that fails, unless it has ended, when it has given a limit of line feeds.
-#[derive(Drop)]
+/// A feed with a limit on its line feeds. After that many, the next pull fails unless the feed has ended.
+#[derive(Debug, Drop)]
 pub struct LineLimit<F: Feed> {
     feed: F,
     limit: u64,
-    /// How many line feeds it has given.
+    /// The number of line feeds that it has given.
     lines: u64,
     failed: bool,
     ghost fine: { failed ≡ false → F.has_failed feed ≡ false },
 }
 
 impl<F: Feed> LineLimit<F> {
-    /// A feed of what this one gives, as long as fewer than `limit` line feeds have been given.
+    /// Makes a feed that gives what this one gives, until a pull has brought it to `limit` line feeds.
     pub fn new(feed: F, limit: u64) -> Self
         requires { F.has_failed feed ≡ false }
         ensures remaining { ⟦<LineLimit<F> as Feed>⟧.remaining result ≡ F.remaining feed }
@@ -67,7 +67,7 @@ impl<F: Feed> Feed for LineLimit<F> {
     }
 }
 
-/// How many line feeds there are.
+/// Returns the number of line feeds.
 fn line_feeds(bytes: &[u8]) -> usize
     ensures { result ≡ count_by (λ b. b == 10) bytes.now }
 {
@@ -81,7 +81,7 @@ fn line_feeds(bytes: &[u8]) -> usize
     count + rest.iter().filter(|byte| **byte == b'\n').count()
 }
 
-/// How many of 16 bytes are line feeds, in one comparison.
+/// Returns the number of line feeds among 16 bytes, by one comparison.
 #[inline(always)]
 fn line_feeds_in_lanes(bytes: &[u8]) -> usize
     requires { length bytes.now ≡ 16 }

@@ -4,27 +4,27 @@ ghost use Rattle.std.specs.Option.{ForSome};
 use crate::feed::{Feed, Stopped};
 use std::io::Read;
 
-/// The bytes that a feed over a reader gives at most: 1 GiB.
+/// The largest number of bytes that a feed over a reader gives: 1 GiB.
 const MOST_TRACE_BYTES: u64 = 1 << 30;
 
 /// A feed over one of std's readers, of at most 1 GiB.
 ///
-/// An interrupted read has failed too. When the room is used up, it answers the end if the reader is at its end, and
-/// fails otherwise.
-#[derive(Drop)]
+/// An interrupted read is a failure too. When the limit of bytes is used up, a pull returns the end if the reader is at its
+/// end, and fails otherwise.
+#[derive(Debug, Drop)]
 pub struct ReaderFeed<R: Read> {
     reader: R,
     room: u64,
     ended: bool,
     failed: bool,
-    // A byte that was read when the room was used up: the reader had more.
+    // A byte that was read after the limit was used up: the reader had more.
     beyond: Option<u8>,
     ghost kept: { failed ≡ false → beyond ≡ None },
     ghost whole: { ended ≡ true → ForSome (R.remaining reader) (λ rest. rest ≡ []) },
 }
 
 impl<R: Read> ReaderFeed<R> {
-    /// A feed of what this reader gives.
+    /// Makes a feed over this reader.
     pub fn new(reader: R) -> Self
         ensures remaining { ⟦<ReaderFeed<R> as Feed>⟧.remaining result ≡ R.remaining reader }
         ensures room { ⟦<ReaderFeed<R> as Feed>⟧.room_left result ≡ 2 ^ 30 }
@@ -34,7 +34,7 @@ impl<R: Read> ReaderFeed<R> {
         ReaderFeed::with_room(reader, MOST_TRACE_BYTES)
     }
 
-    /// A feed of what this reader gives, of at most `room` bytes.
+    /// Makes a feed over this reader, of at most `room` bytes.
     pub fn with_room(reader: R, room: u64) -> Self
         ensures remaining { ⟦<ReaderFeed<R> as Feed>⟧.remaining result ≡ R.remaining reader }
         ensures room { ⟦<ReaderFeed<R> as Feed>⟧.room_left result ≡ room }

@@ -1,27 +1,27 @@
-//! What a replay tells of itself when it ends.
+//! What a replay returns when it ends.
 
 use thiserror::Error;
 
-/// What a replay has done so far.
+/// The counts of a replay.
 #[derive(Clone, Copy, Debug, Default, PartialEq, Eq)]
 pub struct Tally {
-    /// Lines run, blank ones and comments too.
+    /// The number of lines run, including blank lines and comments.
     pub lines: u64,
-    /// Among them those that were events.
+    /// The number of these that were events.
     pub events: u64,
-    /// Among them those that were faulty.
+    /// The number of these that were faulty.
     pub faults: u64,
-    /// Bytes pushed.
+    /// The number of bytes pushed.
     pub written: u128,
 }
 
-/// Which end failed, and what had been done.
+/// The end that failed, with the counts up to then.
 #[derive(Clone, Copy, Debug, PartialEq, Eq, Drop, Error)]
 pub enum ReplayError {
-    /// The feed: all lines that ended in LF have been run and answered in full, and the unfinished one has not been run.
+    /// The feed. All lines that ended in LF were run and all their replies pushed; the unfinished line was not run.
     #[error("the trace could not be read")]
     Feed(Tally),
-    /// The drain: a beginning of the replies was pushed, and the kernel stands after the line whose reply was cut.
+    /// The drain. A prefix of the replies was pushed. The line whose reply was cut was the last to run.
     #[error("the replies could not be written")]
     Drain(Tally),
 }

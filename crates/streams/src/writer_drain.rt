@@ -7,26 +7,26 @@ use crate::feed::Stopped;
 use crate::held::Held;
 use std::io::Write;
 
-/// A drain over one of std's writers. It may have a buffer, whose bytes are written when it sends, when it is flushed, and when
-/// no more fit.
+/// A drain over one of std's writers. It may have a buffer, whose bytes are written at a send, at a flush, and when no more
+/// bytes fit.
 ///
-/// A writer that takes no byte has failed, and so has an interrupted write. Where a write or a flush fails while it
-/// sends, the next push or `flush` fails. The drain then holds exactly those bytes that it took and the writer did not:
-/// none is lost or written twice, and none of them is tried again.
-#[derive(Drop)]
+/// A write that takes no byte is a failure, and so is an interrupted write. If a write or a flush fails during a send, the
+/// next push or `flush` fails. The drain then holds exactly the bytes that it took and the writer did not. So no byte is lost or
+/// written twice; the drain does not try them again.
+#[derive(Debug, Drop)]
 pub struct WriterDrain<W> {
     writer: W,
-    // What was taken and is not written yet; without a buffer each push is a write.
+    // The bytes that were taken and are not written yet. Without a buffer each push is a write.
     held: Option<Held>,
-    // Bytes were written since the last flush.
+    // True if bytes were written since the last flush.
     unsent: bool,
-    // A write or a flush has failed while it sent.
+    // True if a write or a flush has failed during a send.
     send_failed: bool,
     failed: bool,
 }
 
 impl<W: Write> WriterDrain<W> {
-    /// A drain into this writer that holds nothing: each push is one write.
+    /// Makes a drain into this writer without a buffer: each push is one write.
     pub fn new(writer: W) -> Self
         ensures contents { ⟦<WriterDrain<W> as Drain>⟧.contents result ≡ W.contents writer }
         ensures empty { ⟦<WriterDrain<W> as Drain>⟧.held_back result ≡ [] }
@@ -42,7 +42,7 @@ impl<W: Write> WriterDrain<W> {
         }
     }
 
-    /// A drain into this writer that holds as many bytes as the capacity of `buffer`, which is empty.
+    /// Makes a drain into this writer that buffers as many bytes as the capacity of `buffer`, which is empty.
     pub fn holding(writer: W, buffer: Vec<u8>) -> Self
         requires { vec_len buffer ≡ 0 }
         ensures contents { ⟦<WriterDrain<W> as Drain>⟧.contents result ≡ W.contents writer }
@@ -59,12 +59,12 @@ impl<W: Write> WriterDrain<W> {
         }
     }
 
-    /// Writes what is held and flushes the writer. A write or a flush that fails stops the drain, and so does one that
-    /// failed before.
+    /// Writes the buffered bytes and flushes the writer. Returns `Stopped` if a write or the flush fails, or if one failed
+    /// before.
     pub fn flush(&mut self) -> Result<(), Stopped>
         requires { ⟦<WriterDrain<W> as Drain>⟧.has_failed self.old ≡ false }
         ensures bytes { Keeps (⟦<WriterDrain<W> as Drain>⟧.contents self.old) (⟦<WriterDrain<W> as Drain>⟧.contents self.new) }
-        // The writer itself then has all that was taken.
+        // The writer then has all bytes that were taken.
         ensures written { OnOk result (Keeps (⟦<WriterDrain<W> as Drain>⟧.contents self.old) (W.contents self.new.writer)) }
         ensures empty { OnOk result (⟦<WriterDrain<W> as Drain>⟧.held_back self.new ≡ []) }
         ensures failed { ⟦<WriterDrain<W> as Drain>⟧.has_failed self.new ≡ is_err result }
@@ -80,7 +80,7 @@ impl<W: Write> WriterDrain<W> {
         Ok(())
     }
 
-    /// How many of the bytes that it took the writer has not taken.
+    /// Returns the number of bytes that it took and the writer has not.
     pub fn unwritten(&self) -> usize
         ensures { result ≡ length (⟦<WriterDrain<W> as Drain>⟧.held_back self.now) }
     {
@@ -90,14 +90,14 @@ impl<W: Write> WriterDrain<W> {
         }
     }
 
-    /// A send has failed.
+    /// Returns true if a send has failed.
     pub fn send_failed(&self) -> bool
         ensures { result ≡ ⟦<WriterDrain<W> as Drain>⟧.has_failed_to_send self.now }
     {
         self.send_failed
     }
 
-    /// Takes bytes that did not fit: what is held is written first.
+    /// Takes bytes that did not fit, after it has written the buffered ones.
     #[cold]
     #[inline(never)]
     fn push_beyond(&mut self, bytes: &[u8]) -> Result<usize, Stopped>
@@ -122,7 +122,7 @@ impl<W: Write> WriterDrain<W> {
         self.write_through(bytes)
     }
 
-    /// Writes bytes while none are held.
+    /// Writes bytes to the writer. No bytes are buffered.
     fn write_through(&mut self, bytes: &[u8]) -> Result<usize, Stopped>
         requires empty { held_bytes self.old.held ≡ [] }
         requires fine { ⟦<WriterDrain<W> as Drain>⟧.has_failed self.old ≡ false }
@@ -143,7 +143,7 @@ impl<W: Write> WriterDrain<W> {
         }
     }
 
-    /// Writes what is held, and flushes the writer if bytes were written since it last was.
+    /// Writes the buffered bytes, and flushes the writer if bytes were written since the last flush.
     fn send_held(&mut self) -> Result<(), Stopped>
         ensures bytes { Keeps (⟦<WriterDrain<W> as Drain>⟧.contents self.old) (⟦<WriterDrain<W> as Drain>⟧.contents self.new) }
         ensures empty { OnOk result (⟦<WriterDrain<W> as Drain>⟧.held_back self.new ≡ []) }
@@ -157,7 +157,7 @@ impl<W: Write> WriterDrain<W> {
         Ok(())
     }
 
-    /// Writes what is held; where a write fails, what was not written stays held.
+    /// Writes the buffered bytes. If a write fails, the unwritten ones stay in the buffer.
     fn write_held(&mut self) -> Result<(), Stopped>
         ensures bytes { Keeps (⟦<WriterDrain<W> as Drain>⟧.contents self.old) (⟦<WriterDrain<W> as Drain>⟧.contents self.new) }
         ensures empty { OnOk result (held_bytes self.new.held ≡ []) }
@@ -224,7 +224,7 @@ impl<W: Write> Drain for WriterDrain<W> {
         ensures sends { ⟦<WriterDrain<W> as Drain>⟧.has_failed_to_send self.old ≡ true
             → (⟦<WriterDrain<W> as Drain>⟧.has_failed_to_send self.new ≡ true)
             × (⟦<WriterDrain<W> as Drain>⟧.held_back self.new ≡ ⟦<WriterDrain<W> as Drain>⟧.held_back self.old) }
-        // Then the writer has all that was taken.
+        // The writer then has all bytes that were taken.
         ensures sent { ⟦<WriterDrain<W> as Drain>⟧.has_failed self.old ≡ false → ⟦<WriterDrain<W> as Drain>⟧.has_failed_to_send self.new ≡ false
             → ⟦<WriterDrain<W> as Drain>⟧.held_back self.new ≡ [] }
     {
@@ -238,7 +238,7 @@ impl<W: Write> Drain for WriterDrain<W> {
     }
 }
 
-/// Writes the bytes until all are written or a write fails; answers how many were.
+/// Writes the bytes until all are written or a write fails, and returns how many were written.
 fn write_out<W: Write>(bytes: &[u8], writer: &mut W) -> usize
     ensures bound { result ≤ length bytes.now }
     ensures bytes { Appends (W.contents writer.old) (W.contents writer.new) (take result bytes.now) }
