@@ -1,10 +1,10 @@
 -- The objects of a layout end within the slab.
-use Rattle.std.proofs.Common.{◌≡◌, ℕ, ◌+◌, ◌-◌, ◌*◌, ◌/◌, ◌^◌, ◌<◌, ◌≤◌, true, arith, ap, subst, sym, ◌∙◌}
+use Rattle.std.proofs.Common.{◌≡◌, ℕ, ◌+◌, ◌-◌, ◌*◌, ◌/◌, ◌^◌, ◌<◌, ◌≤◌, true, refl, arith, ap, subst, sym, ◌∙◌}
 use Rattle.std.proofs.Math.Nat.{mul-le-mul_right, pow-le-pow_right}
 use Rattle.model_core.proofs.Layouts.{layouts_fit}
 use Rattle.model_core.specs.Layouts.{IsFit, layout_of, chunk_of, slab_order, usable_bytes, is_size, is_alignment}
 use Rattle.layout_core.specs.Cut.{Cut, numbers_of}
-use Rattle.layout_core.specs.Inside.{AreLayoutFields}
+use Rattle.layout_core.specs.Inside.{AreLayoutFields, reciprocal_of}
 use Rattle.layout_core.specs.Objects.{IsColour}
 
 pub colour_fits : (l : Cut) (colour : ℕ) → is_size l.size ≡ true → is_alignment l.align ≡ true → IsColour l colour → IsFit (numbers_of l) colour
@@ -25,7 +25,7 @@ ends_within l colour chunk i sized aligned is same object =
 -- the fields of a layout are the numbers of its size and alignment
 pub is_cut : (size align chunk order usable : ℕ) → is_size size ≡ true → is_alignment align ≡ true
     → chunk ≡ chunk_of size align → order ≡ slab_order chunk → usable ≡ usable_bytes chunk
-    → AreLayoutFields size align chunk order (usable / chunk) ((usable - usable / chunk * chunk) / align + 1)
+    → AreLayoutFields size align chunk order (usable / chunk) ((usable - usable / chunk * chunk) / align + 1) (reciprocal_of chunk)
 unfolding layout_of
 is_cut size align chunk order usable sized aligned same same_order same_usable =
     let fits = layouts_fit size align sized aligned in
@@ -38,6 +38,7 @@ is_cut size align chunk order usable sized aligned same same_order same_usable =
       order_is = same_order ∙ ap slab_order same;
       count_is = ap (λ n. n / chunk) at ∙ ap (λ n. usable_bytes (chunk_of size align) / n) same;
       colours_is = ap (λ n. (n - n / chunk * chunk) / align + 1) at ∙ ap (λ c. (usable_bytes (chunk_of size align) - usable_bytes (chunk_of size align) / c * c) / align + 1) same;
+      reciprocal_is = refl;
       some = omega (arith, chunked, same);
       sized = omega (arith, fits.chunked, same);
     }

@@ -1,6 +1,7 @@
--- An object is found by one division.
-use Rattle.std.proofs.Common.{◌≡◌, ℕ, ◌+◌, ◌-◌, ◌*◌, ◌/◌, ◌%◌, ◌<◌, ◌≤◌, ap, sym, ◌∙◌, arith}
-use Rattle.std.proofs.lemmas.Nat.{div-add-mod', div-mul-add, mod-mul-add}
+-- An object is found by the number of its chunk.
+use Rattle.std.proofs.Common.{◌≡◌, ℕ, ◌+◌, ◌-◌, ◌*◌, ◌/◌, ◌%◌, ◌<◌, ◌≤◌, refl, ap, sym, ◌∙◌, arith}
+use Rattle.std.proofs.lemmas.Nat.{div-mul-add, mod-mul-add}
+use Rattle.std.proofs.Math.Nat.{div-mul-le_self}
 use Rattle.layout_core.specs.Cut.{Cut, numbers_of}
 use Rattle.layout_core.specs.Objects.{Begins, Holds, IsOnly}
 
@@ -26,15 +27,44 @@ begins_at l chunk colour offset i same some b =
     let begins : colour + i * (numbers_of l).chunk ≡ offset = b.begins in
     is_at colour offset chunk i 0 (omega arith) some
 
-pub begins_only : (l : Cut) (chunk count colour offset from : ℕ) → chunk ≡ (numbers_of l).chunk → count ≡ (numbers_of l).count → 0 < chunk
-    → colour ≤ offset → from ≡ offset - colour → from / chunk < count → from % chunk ≡ 0 → IsOnly (Begins l colour offset) (from / chunk)
-begins_only l chunk count colour offset from same same_count some behind is below whole =
-    let at : from / chunk * chunk ≡ from / chunk * (numbers_of l).chunk = ap (λ n. from / chunk * n) same in
-    let split : from / chunk * chunk + from % chunk ≡ from = div-add-mod' from chunk in
+-- chunk i, in which byte `from` is, begins at that byte or before it
+chunk_begins : (l : Cut) (chunk from i : ℕ) → chunk ≡ (numbers_of l).chunk → i ≡ from / (numbers_of l).chunk → i * chunk ≤ from
+chunk_begins l chunk from i same is =
+    let at : i * chunk ≡ from / (numbers_of l).chunk * (numbers_of l).chunk = ap (λ n. i * n) same ∙ ap (λ n. n * (numbers_of l).chunk) is in
+    let least : from / (numbers_of l).chunk * (numbers_of l).chunk ≤ from = div-mul-le_self from (numbers_of l).chunk in
+    omega arith
+
+-- the chunk that a byte is in, counted by either of two equal chunk sizes
+same_chunk : (l : Cut) (chunk colour offset from i j : ℕ) → chunk ≡ (numbers_of l).chunk → i ≡ from / (numbers_of l).chunk → from ≡ offset - colour
+    → (offset - colour) / chunk ≡ j → j ≡ i
+same_chunk l chunk colour offset from i j same is from_is at =
+    sym at ∙ sym (ap (λ n. n / chunk) from_is) ∙ ap (λ n. from / n) same ∙ sym is
+
+-- a byte of an object is in a chunk of the slab
+pub chunk_below : (l : Cut) (chunk colour offset from j : ℕ) → chunk ≡ (numbers_of l).chunk → from ≡ offset - colour → (offset - colour) / chunk ≡ j
+    → j < (numbers_of l).count → from / (numbers_of l).chunk < (numbers_of l).count
+chunk_below l chunk colour offset from j same from_is at below =
+    let one : j ≡ from / (numbers_of l).chunk = same_chunk l chunk colour offset from _ j same refl from_is at in
+    omega arith
+
+pub begins_only : (l : Cut) (chunk colour offset from i : ℕ) → chunk ≡ (numbers_of l).chunk → 0 < chunk → i < (numbers_of l).count
+    → i ≡ from / (numbers_of l).chunk → colour ≤ offset → from ≡ offset - colour → i * chunk ≡ from → IsOnly (Begins l colour offset) i
+begins_only l chunk colour offset from i same some below is behind from_is whole =
+    let at : i * chunk ≡ i * (numbers_of l).chunk = ap (λ n. i * n) same in
     record {
-      is = record { object = omega arith; begins = omega arith };
-      only = λ j b. sym (begins_at l chunk colour offset j same some b).chunk_of ∙ sym (ap (λ n. n / chunk) is);
+      is = record { object = below; begins = omega arith };
+      only = λ j b. same_chunk l chunk colour offset from i j same is from_is (begins_at l chunk colour offset j same some b).chunk_of;
     }
+
+-- the chunk that a byte is in begins with it, if an object does
+pub begins_whole : (l : Cut) (chunk colour offset from i j : ℕ) → chunk ≡ (numbers_of l).chunk → 0 < chunk → i ≡ from / (numbers_of l).chunk
+    → from ≡ offset - colour → Begins l colour offset j → i * chunk ≡ from
+begins_whole l chunk colour offset from i j same some is from_is b =
+    let at : j * chunk ≡ j * (numbers_of l).chunk = ap (λ n. j * n) same in
+    let begins : colour + j * (numbers_of l).chunk ≡ offset = b.begins in
+    let one : j ≡ i = same_chunk l chunk colour offset from i j same is from_is (begins_at l chunk colour offset j same some b).chunk_of in
+    let rows : j * chunk ≡ i * chunk = ap (λ n. n * chunk) one in
+    omega arith
 
 pub holds_at : (l : Cut) (chunk colour offset len i : ℕ) → chunk ≡ (numbers_of l).chunk → l.size ≤ chunk → Holds l colour offset len i
     → (inside : ℕ) × IsAt colour offset chunk i inside × (inside + len ≤ l.size)
@@ -46,13 +76,24 @@ holds_at l chunk colour offset len i same sized h =
     let inside : ℕ = offset - colour - i * chunk in
     (inside, is_at colour offset chunk i inside (omega arith) (omega arith), omega arith)
 
-pub holds_only : (l : Cut) (chunk count colour offset len from : ℕ) → chunk ≡ (numbers_of l).chunk → count ≡ (numbers_of l).count → l.size ≤ chunk
-    → colour ≤ offset → from ≡ offset - colour → 0 < len → from / chunk < count → len ≤ l.size → from % chunk ≤ l.size - len
-    → IsOnly (Holds l colour offset len) (from / chunk)
-holds_only l chunk count colour offset len from same same_count sized behind is some below short within =
-    let at : from / chunk * chunk ≡ from / chunk * (numbers_of l).chunk = ap (λ n. from / chunk * n) same in
-    let split : from / chunk * chunk + from % chunk ≡ from = div-add-mod' from chunk in
+pub holds_only : (l : Cut) (chunk colour offset len from i : ℕ) → chunk ≡ (numbers_of l).chunk → l.size ≤ chunk → i < (numbers_of l).count
+    → i ≡ from / (numbers_of l).chunk → colour ≤ offset → from ≡ offset - colour → 0 < len → len ≤ l.size → from - i * chunk ≤ l.size - len
+    → IsOnly (Holds l colour offset len) i
+holds_only l chunk colour offset len from i same sized below is behind from_is some short within =
+    let at : i * chunk ≡ i * (numbers_of l).chunk = ap (λ n. i * n) same in
+    let begins = chunk_begins l chunk from i same is in
     record {
-      is = record { object = omega arith; some = some; from = omega arith; to = omega arith };
-      only = λ j h. sym (holds_at l chunk colour offset len j same sized h).1.chunk_of ∙ sym (ap (λ n. n / chunk) is);
+      is = record { object = below; some = some; from = omega arith; to = omega arith };
+      only = λ j h. same_chunk l chunk colour offset from i j same is from_is (holds_at l chunk colour offset len j same sized h).1.chunk_of;
     }
+
+-- the chunk that a byte is in has the range, if an object does
+pub holds_within : (l : Cut) (chunk colour offset len from i j : ℕ) → chunk ≡ (numbers_of l).chunk → l.size ≤ chunk → i ≡ from / (numbers_of l).chunk
+    → from ≡ offset - colour → Holds l colour offset len j → from - i * chunk + len ≤ l.size
+holds_within l chunk colour offset len from i j same sized is from_is h =
+    let at : j * chunk ≡ j * (numbers_of l).chunk = ap (λ n. j * n) same in
+    let begins : colour + j * (numbers_of l).chunk ≤ offset = h.from in
+    let ends : offset + len ≤ colour + j * (numbers_of l).chunk + l.size = h.to in
+    let one : j ≡ i = same_chunk l chunk colour offset from i j same is from_is (holds_at l chunk colour offset len j same sized h).1.chunk_of in
+    let rows : j * chunk ≡ i * chunk = ap (λ n. n * chunk) one in
+    omega arith

@@ -18,9 +18,9 @@ it_holds : Holds (cut 100 8) 0 203 1 1
 unfolding layout_of
 it_holds = record { object = omega arith; some = omega arith; from = omega arith; to = omega arith }
 
-OffsetsApart-met : OffsetsApart → ◌≡◌ {A = ℕ} 1 1
-OffsetsApart-met law = law 100 8 0 203 1 1 refl refl it_holds it_holds
+OffsetsApart-met : OffsetsApart → (i : ℕ) → Holds (cut 100 8) 0 203 1 i → i ≡ 1
+OffsetsApart-met law i holds = law 100 8 0 203 i 1 refl refl holds it_holds
 
-FewObjects-met : FewObjects → (254 ≤ 254) × (5 ≤ 16)
+FewObjects-met : FewObjects → ((layout_of 16 8).count ≤ 254) × ((layout_of 3000 8).count ≤ 16)
 unfolding layout_of
 FewObjects-met law = ((law 16 8 refl refl).0 refl, (law 3000 8 refl refl).1 refl)

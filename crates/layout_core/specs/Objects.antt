@@ -18,7 +18,7 @@ pub record Holds (l : Cut) (colour offset len i : ℕ) : Type 0 where
   pub from : object_offset (numbers_of l) colour i ≤ offset
   pub to : offset + len ≤ object_offset (numbers_of l) colour i + l.size
 
--- the one number of which the fact holds
+-- the only number for which the fact holds
 pub record IsOnly (P : ℕ → Type 0) (i : ℕ) : Type 0 where
   pub is : P i
   pub only : (j : ℕ) → P j → j ≡ i

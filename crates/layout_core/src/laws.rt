@@ -1,15 +1,15 @@
-//! What holds of every layout. Each law is the contract of a function with an empty body: to call it is to cite it.
+//! The laws of every layout. Each is the contract of an empty function, to be called where a proof needs the law.
 ghost use Rattle.model_core.specs.Layouts.{LayoutsFit};
 ghost use Rattle.layout_core.specs.Laws.{EverySizeHasAnOrder, OffsetsApart, FewObjects};
 
 /// At each colour offset of an accepted size and alignment at least one object fits, all objects begin at multiples of
-/// the alignment and end within the slab, and those of a small slab below the last 32 bytes of its frame.
+/// the alignment and end within the slab, and those of a small slab end before the last 32 bytes of its frame.
 pub fn layouts_fit()
     ensures { LayoutsFit }
 {}
 
-/// Every accepted size and alignment has a slab order of 0 to 3, the least that leaves at most an eighth of the slab
-/// unused, or 0 for small objects.
+/// Every accepted size and alignment has a slab order of 0 to 3: 0 for small objects, else the least that leaves at most an
+/// eighth of the slab unused.
 pub fn every_size_has_an_order()
     ensures { EverySizeHasAnOrder }
 {}

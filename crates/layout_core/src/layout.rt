@@ -1,6 +1,7 @@
 ghost use Rattle.std.specs.Prelude.{◌≡◌, ℕ, ◌+◌, ◌-◌, ◌*◌, ◌/◌, ◌%◌, ◌<◌, ◌≤◌, true, IsTrue, MatchOption};
 ghost use Rattle.model_core.specs.Layouts.{is_size, is_alignment, is_small, object_offset, IsLayout};
 ghost use Rattle.model_core.specs.Layouts.{chunk_of as model_chunk_of, is_thrifty as model_is_thrifty, slab_order as model_slab_order, usable_bytes as model_usable_bytes};
+ghost use Rattle.layout_core.specs.Inside.{reciprocal_of as model_reciprocal_of};
 ghost use Rattle.layout_core.specs.Cut.{Cut, cut, numbers_of, layout_or_refusal};
 ghost use Rattle.layout_core.specs.Objects.{IsColour, Begins, Holds, IsOnly};
 
@@ -20,28 +21,31 @@ pub enum LayoutRefusal {
 const SMALL: u32 = 512;
 
 /// How the slabs of a cache are cut into objects: an object size and an alignment, with the numbers that follow from
-/// them. All are bytes, but for the order, the count and the colours.
-#[derive(Clone, Copy)]
+/// them. All are bytes, but for the order, the count, the colours and the reciprocal. It takes 24 bytes, since the alignment
+/// and the order share four.
+#[derive(Clone, Copy, Debug)]
 pub struct Layout {
     size: u32,
-    align: u32,
-    chunk: u32,
+    align: u16,
     order: u8,
+    chunk: u32,
     count: u32,
     colours: u32,
+    /// `2^32 / chunk`, rounded down, and one more: multiplying by it takes less time than dividing by the chunk.
+    reciprocal: u32,
 }
 
 impl Model for Layout {
     ghost use Rattle.layout_core.specs.Cut.{Cut, numbers_of};
-    ghost use Rattle.layout_core.specs.Inside.{AreLayoutFields};
+    ghost use Rattle.layout_core.specs.Inside.{AreLayoutFields, reciprocal_of};
 
     ghost Value = { Cut };
 
     ghost view = { λ l. record { size = l.size; align = l.align } };
 
-    ghost invariant = { λ l. AreLayoutFields l.size l.align l.chunk l.order l.count l.colours };
+    ghost invariant = { λ l. AreLayoutFields l.size l.align l.chunk l.order l.count l.colours l.reciprocal };
 
-    ghost inverse = { λ l. record { size = l.size; align = l.align; chunk = (numbers_of l).chunk; order = (numbers_of l).order; count = (numbers_of l).count; colours = (numbers_of l).colours } };
+    ghost inverse = { λ l. record { size = l.size; align = l.align; chunk = (numbers_of l).chunk; order = (numbers_of l).order; count = (numbers_of l).count; colours = (numbers_of l).colours; reciprocal = reciprocal_of (numbers_of l).chunk } };
 }
 
 impl Layout {
@@ -62,11 +66,12 @@ impl Layout {
         let colours = (usable - count * chunk) / align + 1;
         Ok(Layout {
             size,
-            align,
+            align: align as u16,
             chunk,
             order,
             count,
             colours,
+            reciprocal: reciprocal_of(chunk),
         })
     }
 
@@ -81,7 +86,7 @@ impl Layout {
     pub fn align(&self) -> u32
         ensures { result ≡ self.now.align }
     {
-        self.align
+        self.align.into()
     }
 
     /// A slab has `2^order` frames, and this is 0 to 3.
@@ -120,7 +125,7 @@ impl Layout {
     }
 
     /// The laws that every layout lends its holder: its size and its alignment are accepted ones, and at each colour offset
-    /// the objects end within the slab, and below the control record where that stands in the frame. The call does nothing.
+    /// the objects end within the slab, and before the control record if that is in the frame. The call does nothing.
     pub fn laws(&self)
         ensures fits { IsLayout self.now.size self.now.align (numbers_of self.now) }
         ensures size { is_size self.now.size ≡ true }
@@ -143,8 +148,9 @@ impl Layout {
         ensures { MatchOption result ((i : ℕ) → ¬ Begins self.now colour offset i) (IsOnly (Begins self.now colour offset)) }
     {
         let from = offset.checked_sub(colour)?;
-        let index = from / self.chunk;
-        if index < self.count && from % self.chunk == 0 {
+        let chunk = self.chunk;
+        let index = self.chunk_at(from)?;
+        if index * chunk == from {
             Some(index)
         } else {
             None
@@ -156,9 +162,25 @@ impl Layout {
         ensures { MatchOption result ((i : ℕ) → ¬ Holds self.now colour offset len i) (IsOnly (Holds self.now colour offset len)) }
     {
         let from = offset.checked_sub(colour)?;
-        let index = from / self.chunk;
-        let inside = from % self.chunk;
-        if 0 < len && index < self.count && len <= self.size && inside <= self.size - len {
+        let chunk = self.chunk;
+        let index = self.chunk_at(from)?;
+        let inside = from - index * chunk;
+        if 0 < len && len <= self.size && inside <= self.size - len {
+            Some(index)
+        } else {
+            None
+        }
+    }
+
+    /// Returns the number of the chunk that byte `from` is in, counted from the first object of a slab on, or `None` behind
+    /// the last chunk. In a slab, of at most 32,768 bytes, the product finds the chunk that a division would.
+    #[inline(always)]
+    fn chunk_at(&self, from: u32) -> Option<u32>
+        ensures { MatchOption result ((numbers_of self.now).count ≤ from / (numbers_of self.now).chunk)
+            (λ i. (i < (numbers_of self.now).count) × (i ≡ from / (numbers_of self.now).chunk)) }
+    {
+        let index = (u64::from(from) * u64::from(self.reciprocal) >> 32) as u32;
+        if index < self.count {
             Some(index)
         } else {
             None
@@ -173,6 +195,14 @@ fn chunk_of(size: u32, align: u32) -> u32
     ensures { result ≡ model_chunk_of size align }
 {
     ((size + align - 1) / align * align).max(16)
+}
+
+/// Returns `2^32 / chunk`, rounded down, and one more.
+fn reciprocal_of(chunk: u32) -> u32
+    requires { 16 ≤ chunk }
+    ensures { result ≡ model_reciprocal_of chunk }
+{
+    ((1 << 32) / u64::from(chunk) + 1) as u32
 }
 
 /// Chunks leave at most an eighth of a slab of `2^order` frames unused.

@@ -1,5 +1,5 @@
-//! How a slab is cut into objects, and the byte patterns that construct them
-//! (Bonwick, "The Slab Allocator", USENIX Summer 1994; the numbers are this project's own).
+//! The layout of slabs, and the byte patterns of constructed objects (Bonwick, "The Slab Allocator",
+//! USENIX Summer 1994). The numbers are this project's own.
 #![tactic(auto)]
 
 pub mod laws;

@@ -3,8 +3,8 @@ ghost use Rattle.model_core.specs.Layouts.{is_pattern, pattern_byte};
 
 use std::marker::Model;
 
-/// What an object holds when it is constructed: 1 to 16 bytes, over and over.
-#[derive(Clone, Copy)]
+/// The bytes of a constructed object: 1 to 16 bytes, repeated.
+#[derive(Clone, Copy, Debug)]
 pub struct Pattern {
     bytes: [u8; 16],
     len: u8,
@@ -26,7 +26,7 @@ impl Model for Pattern {
 }
 
 impl Pattern {
-    /// These bytes as a pattern, if they are 1 to 16.
+    /// Makes a pattern of 1 to 16 bytes. Returns `None` for any other number of bytes.
     pub fn new(bytes: &[u8]) -> Option<Pattern>
         ensures some { IsSome result ↔ (is_pattern bytes.now ≡ true) }
         ensures value { IfSome result (λ p. p ≡ bytes.now) }
@@ -42,7 +42,7 @@ impl Pattern {
         })
     }
 
-    /// The bytes of the pattern, 1 to 16.
+    /// Returns the 1 to 16 bytes of the pattern.
     pub fn as_slice(&self) -> &[u8]
         ensures value { result.now ≡ self.now }
         ensures pattern { is_pattern self.now ≡ true }
@@ -51,7 +51,7 @@ impl Pattern {
         &self.bytes[..usize::from(self.len)]
     }
 
-    /// Byte `j` of the slice becomes byte `j mod length` of the pattern: the slice is constructed (Bonwick).
+    /// Constructs the slice (Bonwick): byte `j` becomes byte `j mod length` of the pattern.
     pub fn fill(&self, out: &mut [u8])
         ensures { EachIndex out.new (λ j. slice_index out.new j ≡ pattern_byte self.now j) }
     {
@@ -62,7 +62,7 @@ impl Pattern {
     }
 }
 
-/// The first `period` bytes come over and over: what stands is copied on behind itself, each time twice as much.
+/// Repeats the first `period` bytes over the whole slice. Copies the filled part behind itself, doubling it each time.
 fn repeat(out: &mut [u8], period: usize)
     requires { 0 < period }
     ensures bytes { EachIndex out.new (λ j. slice_index out.new j ≡ slice_index out.old (j % period)) }

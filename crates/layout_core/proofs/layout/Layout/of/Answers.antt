@@ -4,4 +4,5 @@ use Rattle.layout_core.proofs.layout.Layout.of.Goals as goal
 
 pub invariant_of-result : goal.invariant_of-result
 invariant_of-result c =
-    is_cut _ _ _ _ _ (search rules) (search rules) c.chunk_of-chunk.ensures c.slab_order-order.ensures.order c.usable_bytes-usable.ensures
+    rw c.reciprocal_of.ensures
+    (is_cut _ _ _ _ _ (search rules) (search rules) c.chunk_of-chunk.ensures c.slab_order-order.ensures.order c.usable_bytes-usable.ensures)
