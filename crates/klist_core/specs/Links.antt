@@ -20,7 +20,7 @@ down = back_from (2 ^ 32)
 abbrev pub NoneFrom : (ℕ → ℕ) → (ℕ → Option (ℕ × ℕ)) → ℕ → ℕ → Type 0
 NoneFrom rank place h bound = (i k : ℕ) → place i ≡ Some (h, k) → rank k < bound
 
--- node j stands in list h under the key k, which has the least rank of bound or more
+-- node j is in list h under the key k, which has the least rank of bound or more
 pub record IsLeastFrom (rank : ℕ → ℕ) (place : ℕ → Option (ℕ × ℕ)) (h bound j k : ℕ) : Type 0 where
   pub here : place j ≡ Some (h, k)
   pub from : bound ≤ rank k

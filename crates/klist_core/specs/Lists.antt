@@ -1,4 +1,4 @@
--- The lists themselves: what stands in a list, as pairs of key and node that rise by key.
+-- The lists themselves: the pairs of key and node of a list, in ascending order of keys.
 use Rattle.std.specs.Prelude.{ℕ, ◌+◌, ◌==◌, List, [], ◌∷◌, Option, Some, None, map, filter, not, nat_lt, if◌then◌else◌}
 
 -- the pair put before the first one with a greater key
@@ -6,12 +6,12 @@ abbrev pub put_by_key : ℕ × ℕ → List (ℕ × ℕ) → List (ℕ × ℕ)
 put_by_key p [] = p ∷ []
 put_by_key p (q ∷ qs) = if nat_lt p.0 q.0 then p ∷ (q ∷ qs) else q ∷ put_by_key p qs
 
--- the pairs with one more where node i stands in list h
+-- the pairs, with one more if node i is in list h
 abbrev pub with_node : ℕ → ℕ → Option (ℕ × ℕ) → List (ℕ × ℕ) → List (ℕ × ℕ)
 with_node h i None qs = qs
 with_node h i (Some p) qs = if p.0 == h then put_by_key (p.1, i) qs else qs
 
--- list h as far as the nodes from number i on stand in it; their places are given
+-- the part of list h with nodes from number i on; their places are given
 abbrev pub list_from : ℕ → ℕ → List (Option (ℕ × ℕ)) → List (ℕ × ℕ)
 list_from h i [] = []
 list_from h i (place ∷ places) = with_node h i place (list_from h (i + 1) places)

@@ -1,4 +1,4 @@
--- Ordered lists of nodes, by node: the list in which it stands and the key under which it stands there.
+-- Ordered lists of nodes: for each node its list and its key there.
 use Rattle.std.specs.Prelude.{◌≡◌, ◌≢◌, ℕ, ◌%◌, ◌==◌, ◌^◌, ◌<◌, ◌≤◌, Bool, false, List, Option, Some, None, length, slice_index_or, slice_set}
 
 -- heads: how many lists there are, numbered from 0. places: by node, its list and its key
@@ -18,7 +18,7 @@ is_in h (Some p) = p.0 == h
 abbrev pub IsByKey : ℕ → Type 0
 IsByKey h = 0 < h % 3
 
--- node i stands in a list that is linked by key
+-- node i is in a list that is linked by key
 pub record IsPlacedByKey (places : List (Option (ℕ × ℕ))) (i : ℕ) : Type 0 where
   pub list : ℕ
   pub key : ℕ
@@ -41,15 +41,15 @@ inserted s h i k = record s { places = slice_set s.places i (Some (h, k)) }
 abbrev pub removed : Placed → ℕ → Placed
 removed s i = record s { places = slice_set s.places i None }
 
--- node j takes the place of node i, which then stands in no list
+-- node j takes the place of node i, which is then in no list
 abbrev pub replaced : Placed → ℕ → ℕ → Placed
 replaced s i j = record s { places = slice_set (slice_set s.places i None) j (place_at s.places i) }
 
--- no node stands in list h
+-- no node is in list h
 abbrev pub IsEmpty : List (Option (ℕ × ℕ)) → ℕ → Type 0
 IsEmpty places h = (i k : ℕ) → place_at places i ≢ Some (h, k)
 
--- node i stands in list h under the key k, the least of the list
+-- node i is in list h under the key k, the least of the list
 pub record IsFirst (places : List (Option (ℕ × ℕ))) (h k i : ℕ) : Type 0 where
   pub here : place_at places i ≡ Some (h, k)
   pub least : (j k' : ℕ) → place_at places j ≡ Some (h, k') → k ≤ k'
@@ -58,7 +58,7 @@ pub record IsFirst (places : List (Option (ℕ × ℕ))) (h k i : ℕ) : Type 0 
 abbrev pub NoneAbove : List (Option (ℕ × ℕ)) → ℕ → ℕ → Type 0
 NoneAbove places h b = (i k : ℕ) → place_at places i ≡ Some (h, k) → k ≤ b
 
--- node i stands in list h under the key k, the least above b that the list has
+-- node i is in list h under the key k, the least above b that the list has
 pub record IsNext (places : List (Option (ℕ × ℕ))) (h b k i : ℕ) : Type 0 where
   pub here : place_at places i ≡ Some (h, k)
   pub above : b < k
@@ -68,7 +68,7 @@ pub record IsNext (places : List (Option (ℕ × ℕ))) (h b k i : ℕ) : Type 0
 abbrev pub NoneBelow : List (Option (ℕ × ℕ)) → ℕ → ℕ → Type 0
 NoneBelow places h b = (i k : ℕ) → place_at places i ≡ Some (h, k) → b ≤ k
 
--- node i stands in list h under the key k, the greatest below b that the list has
+-- node i is in list h under the key k, the greatest below b that the list has
 pub record IsPrevious (places : List (Option (ℕ × ℕ))) (h b k i : ℕ) : Type 0 where
   pub here : place_at places i ≡ Some (h, k)
   pub below : k < b

@@ -1,4 +1,4 @@
--- The four bytes of a link: 2^32 - 1 stands for none.
+-- The four bytes of a link: 2^32 - 1 means none.
 use Rattle.std.specs.Prelude.{◌≡◌, ℕ, ◌-◌, ◌^◌, ◌==◌, Option, Some, None, if◌then◌else◌}
 use Rattle.std.proofs.Common.{sym, refl, inl, inr}
 use Rattle.std.proofs.lemmas.Bool.{cases_eq, eq-eqb, ne_eqb}

@@ -1,34 +1,35 @@
-//! The laws of ordered lists, each the contract of a function that does nothing: call it where a proof
-//! needs the law. `list_of places head` is a list as pairs of key and node, `keys_of` its keys.
+//! The laws of ordered lists. Each is the contract of an empty function, to be called where a proof
+//! needs the law. `list_of places head` is a list as pairs of key and node; `keys_of` has its keys.
 
 ghost use Rattle.klist_core.specs.Laws.{ListsRise, ListsHoldPlaces, KeysHoldPlaces, ListsCountPlaces, InsertionChangesOneList, RemovalChangesOneList};
 
-/// Each list rises by key.
+/// Each list is in ascending order of keys.
 pub fn lists_rise()
     ensures { ListsRise }
 {}
 
-/// A list has exactly the pairs of the nodes that stand in it.
+/// A list consists of the pairs of its nodes, and no others.
 pub fn lists_hold_places()
     ensures { ListsHoldPlaces }
 {}
 
-/// The keys of a list are exactly those of the nodes that stand in it.
+/// The keys of a list are the keys of its nodes, and no others.
 pub fn keys_hold_places()
     ensures { KeysHoldPlaces }
 {}
 
-/// A list is as long as there are nodes in it.
+/// The length of a list is the number of its nodes.
 pub fn lists_count_places()
     ensures { ListsCountPlaces }
 {}
 
-/// An insertion puts the pair of key and node into the named list and leaves every other list.
+/// An insertion of a node that is in no list, under a key that the list does not have, adds the pair of key and node to that list.
+/// All other lists stay unchanged.
 pub fn insertion_changes_one_list()
     ensures { InsertionChangesOneList }
 {}
 
-/// A removal takes the pair of the node out of its list and leaves every other list.
+/// A removal takes the node's pair out of its list. All other lists stay unchanged.
 pub fn removal_changes_one_list()
     ensures { RemovalChangesOneList }
 {}

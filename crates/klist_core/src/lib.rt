@@ -1,11 +1,12 @@
 //! Many ordered lists of nodes through one table of links.
 //!
-//! Nodes, lists and keys are numbers of 32 bits. A node stands in one list at most, under a key, and
-//! a list rises by key: no two of its nodes have the same key. Lists are doubly linked through their
+//! Nodes, lists and keys are numbers of 32 bits. A node is in at most one list, under a key. The keys
+//! of a list ascend, and no two of its nodes have the same key. Lists are doubly linked through their
 //! nodes, with a first and a last node for each list (Knuth, The Art of Computer Programming, 2.2.5).
 //!
-//! Every third list, from list 0 on, is loose: it rises by key like any other, but is linked in the order in which its nodes came.
-//! A node comes into it in constant time, whatever its key, and its first node is looked for among all nodes.
+//! Every third list, from list 0 on, is loose. In contracts it is a list like any other, in ascending order of keys, but its links
+//! have the order in which the nodes were inserted. So an insertion takes constant time with any key, and the search for the first
+//! node goes over all nodes.
 //!
 //! Only [`Lists::new`] allocates.
 #![tactic(auto)]
@@ -22,8 +23,8 @@ use std::marker::Model;
 
 pub mod laws;
 
-/// The number of a node or a list, or none, in four bytes: `u32::MAX` stands for none.
-#[derive(Clone, Copy)]
+/// The number of a node or a list, or none, in four bytes: `u32::MAX` means none.
+#[derive(Clone, Copy, Debug)]
 struct Link {
     raw: u32,
 }
@@ -64,7 +65,7 @@ impl Link {
         }
     }
 
-    /// Whether it is this number: one comparison.
+    /// Returns true if it is this number. Takes one comparison.
     #[inline(always)]
     fn is(self, number: u32) -> bool
         requires { number < 2 ^ 32 - 1 }
@@ -74,17 +75,17 @@ impl Link {
     }
 }
 
-/// The two ends of a list and how many nodes stand in it.
-#[derive(Clone, Copy)]
+/// The two ends of a list and the number of its nodes.
+#[derive(Clone, Copy, Debug)]
 struct Head {
     first: Link,
     last: Link,
     len: u32,
 }
 
-/// List and key of a node, and the nodes with the next lesser and the next greater key there. A node in no list
-/// has the key 0, which stands for nothing.
-#[derive(Clone, Copy)]
+/// List and key of a node, and its neighbours in the list: the nodes with the next smaller and the next greater
+/// key, or in a loose list those inserted before and after it. A node in no list has the key 0, which has no meaning then.
+#[derive(Clone, Copy, Debug)]
 struct Node {
     list: Link,
     key: u32,
@@ -108,7 +109,7 @@ impl Node {
     }
 }
 
-/// Whether the list is loose.
+/// Returns true if the list is loose.
 #[inline(always)]
 pub fn is_loose(head: u32) -> bool
     ensures loose { IsTrue result → head % 3 ≡ 0 }
@@ -118,7 +119,7 @@ pub fn is_loose(head: u32) -> bool
 }
 
 /// Ordered lists over one table of nodes. Lists are numbered by their heads, from 0, and so are nodes.
-#[derive(Drop)]
+#[derive(Debug, Drop)]
 pub struct Lists {
     heads: Vec<Head>,
     nodes: Vec<Node>,
@@ -136,9 +137,9 @@ impl Model for Lists {
 }
 
 impl Lists {
-    /// `heads` empty lists, and `nodes` nodes that stand in none.
+    /// Makes `heads` empty lists, and `nodes` nodes that are in none of them.
     ///
-    /// It asks for all memory that there will ever be, and answers `AllocError` where that is refused.
+    /// Allocates all memory that will ever be used. Returns `AllocError` if the allocator refuses it.
     pub fn new(alloc: Global, nodes: u32, heads: u32) -> Result<Lists, AllocError>
         ensures { IfOk result (λ s. s ≡ record { heads = heads; places = replicate nodes None }) }
     {
@@ -154,14 +155,14 @@ impl Lists {
         Ok(Lists { heads, nodes })
     }
 
-    /// What holds of every table. The call does nothing.
+    /// A law: the invariants of every table. The call does nothing.
     pub fn laws(&self)
         ensures { ArePlaces self.now }
     {
         let _heads = &self.heads;
     }
 
-    /// How many nodes there are, in lists and in none.
+    /// Returns the number of nodes, in lists or not.
     pub fn nodes(&self) -> u32
         ensures { result ≡ length self.now.places }
     {
@@ -169,7 +170,7 @@ impl Lists {
         self.nodes.len() as u32
     }
 
-    /// List and key of the node; None where it stands in no list.
+    /// Returns the node's list and key, or `None` if it is in no list.
     pub fn place_of(&self, node: u32) -> Option<(u32, u32)>
         requires { node < length self.now.places }
         ensures { result ≡ place_at self.now.places node }
@@ -179,7 +180,7 @@ impl Lists {
         Some((list, node.key))
     }
 
-    /// Whether the node stands in the list.
+    /// Returns true if the node is in the list.
     #[inline(always)]
     pub fn is_in(&self, node: u32, head: u32) -> bool
         requires node { node < length self.now.places }
@@ -189,7 +190,7 @@ impl Lists {
         self.nodes[node as usize].list.is(head)
     }
 
-    /// How many nodes the list has.
+    /// Returns the number of nodes in the list.
     pub fn len(&self, head: u32) -> u32
         requires { head < self.now.heads }
         ensures length { result ≡ length (list_of self.now.places head) }
@@ -199,7 +200,7 @@ impl Lists {
         list.len
     }
 
-    /// Least key of the list and its node; None where the list is empty. Of a loose list it is looked for among all nodes.
+    /// Returns the least key of the list and its node, or `None` if the list is empty. For a loose list this goes over all nodes.
     pub fn first(&self, head: u32) -> Option<(u32, u32)>
         requires { head < self.now.heads }
         ensures head { result ≡ slice_get (list_of self.now.places head) 0 }
@@ -212,7 +213,7 @@ impl Lists {
         }
     }
 
-    /// As [`Lists::first`], of a list that is not loose: in constant time.
+    /// The same as [`Lists::first`] for a list that is not loose, in constant time.
     #[inline(always)]
     pub fn first_by_key(&self, head: u32) -> Option<(u32, u32)>
         requires head { head < self.now.heads }
@@ -223,7 +224,7 @@ impl Lists {
         self.first_at(head, self.first_of(head))
     }
 
-    /// Key and node of the node with the least key of the list, if there is one.
+    /// Returns the key of this node, the one with the least key of the list, and the node.
     #[inline(always)]
     fn first_at(&self, head: u32, least: Option<u32>) -> Option<(u32, u32)>
         requires { IsNearest up (place_at self.now.places) head 0 least }
@@ -235,7 +236,7 @@ impl Lists {
         Some((self.key_of(node), node))
     }
 
-    /// Some node of the list, in constant time; None where the list is empty.
+    /// Returns some node of the list in constant time, or `None` if the list is empty.
     pub fn any(&self, head: u32) -> Option<u32>
         requires { head < self.now.heads }
         ensures { MatchOption result (IsEmpty self.now.places head) (λ n. is_in head (place_at self.now.places n) ≡ true) }
@@ -243,7 +244,7 @@ impl Lists {
         self.heads[head as usize].first.get()
     }
 
-    /// Key and node that follow the node in its list, which is not loose; None where it is the last.
+    /// Returns the key and the node after this one in its list, which is not loose, or `None` if it is the last.
     pub fn after(&self, node: u32) -> Option<(u32, u32)>
         requires node { node < length self.now.places }
         requires placed { IsPlacedByKey self.now.places node }
@@ -254,7 +255,7 @@ impl Lists {
         Some((self.key_of(next), next))
     }
 
-    /// Key and node that come before the node in its list, which is not loose; None where it is the first.
+    /// Returns the key and the node before this one in its list, which is not loose, or `None` if it is the first.
     pub fn before(&self, node: u32) -> Option<(u32, u32)>
         requires node { node < length self.now.places }
         requires placed { IsPlacedByKey self.now.places node }
@@ -266,10 +267,10 @@ impl Lists {
         Some((self.key_of(previous), previous))
     }
 
-    /// Puts a node that stands in no list into the list, under a key that the list does not have.
+    /// Inserts a node that is in no list, under a key that the list does not have.
     ///
-    /// A key below the first of the list or above the last takes constant time, and in a loose list each does. Any other is
-    /// looked for from the first on, so a long list wants [`Lists::insert_near`].
+    /// Takes constant time if the key is below the first of the list or above the last, and always in a loose list. Otherwise it
+    /// searches from the first node on, so use [`Lists::insert_near`] for a long list.
     #[inline(always)]
     pub fn insert(&mut self, head: u32, node: u32, key: u32)
         requires head { head < self.old.heads }
@@ -286,7 +287,7 @@ impl Lists {
         self.put(head, node, key, gap);
     }
 
-    /// As [`Lists::insert`], into a loose list.
+    /// The same as [`Lists::insert`] for a loose list.
     #[inline(always)]
     pub fn append(&mut self, head: u32, node: u32, key: u32)
         requires head { head < self.old.heads }
@@ -299,8 +300,8 @@ impl Lists {
         self.put(head, node, key, None);
     }
 
-    /// As [`Lists::insert`], into a list that is not loose, with the place of the key looked for from the node `near`, where
-    /// that stands in the list: in constant time where it is to be a neighbour. A hint that is wrong costs steps alone.
+    /// The same as [`Lists::insert`] for a list that is not loose, but the search begins at the node `near` if that is in the
+    /// list. Takes constant time if `near` becomes a neighbour. A wrong hint only costs steps.
     pub fn insert_near(&mut self, head: u32, node: u32, key: u32, near: u32)
         requires head { head < self.old.heads }
         requires by_key { IsByKey head }
@@ -319,7 +320,7 @@ impl Lists {
         }
     }
 
-    /// As [`Lists::insert_near`], where the caller knows that `near` stands in the list.
+    /// The same as [`Lists::insert_near`] if the caller knows that `near` is in the list.
     #[inline(always)]
     pub fn insert_by(&mut self, head: u32, node: u32, key: u32, near: u32)
         requires head { head < self.old.heads }
@@ -339,8 +340,7 @@ impl Lists {
         }
     }
 
-    /// Puts the node `by`, which is in no list, in the place of `node`: into its list, under its key and between its neighbours. It
-    /// takes constant time.
+    /// Replaces `node` by the node `by`, which is in no list: same list, same key, same neighbours. Takes constant time.
     pub fn replace(&mut self, node: u32, by: u32)
         requires node { node < length self.old.places }
         requires placed { IsSome (place_at self.old.places node) }
@@ -359,7 +359,7 @@ impl Lists {
         link_node(heads, nodes, head, by, own.key, previous, next);
     }
 
-    /// Takes a node out of the list in which it stands, in constant time.
+    /// Removes a node from its list, in constant time.
     pub fn remove(&mut self, node: u32)
         requires node { node < length self.old.places }
         requires placed { IsSome (place_at self.old.places node) }
@@ -375,8 +375,8 @@ impl Lists {
         unlink_node(heads, nodes, head, node, previous, next);
     }
 
-    /// Puts a node into the list between two that are neighbours there, where None stands for an end; where there is no gap, at
-    /// the end of a loose list.
+    /// Inserts a node between two neighbours of the list, or without a gap at the end of a loose list. In a gap `None` is an end
+    /// of the list.
     fn put(&mut self, head: u32, node: u32, key: u32, gap: Option<(Option<u32>, Option<u32>)>)
         requires head { head < self.old.heads }
         requires node { node < length self.old.places }
@@ -392,7 +392,7 @@ impl Lists {
         link_node(heads, nodes, head, node, key, previous, next);
     }
 
-    /// The nodes between which a key comes that the list does not have: the ends of the list are tried first.
+    /// Returns the nodes between which a new key belongs. Tries the ends of the list first.
     #[inline(always)]
     fn gap(&self, head: u32, key: u32) -> (Option<u32>, Option<u32>)
         requires head { head < self.now.heads }
@@ -415,7 +415,7 @@ impl Lists {
         self.neighbours(head, key, Some(first))
     }
 
-    /// The nodes between which a key comes that the list does not have, looked for from a node of the list.
+    /// Returns the nodes between which a new key belongs. The search begins at a node of the list.
     fn neighbours(&self, head: u32, key: u32, start: Option<u32>) -> (Option<u32>, Option<u32>)
         requires head { head < self.now.heads }
         requires by_key { IsByKey head }
@@ -437,7 +437,7 @@ impl Lists {
         }
     }
 
-    /// The end of the list whose key is nearer to `key`; None where the list is empty.
+    /// Returns the end of the list whose key is nearer to `key`, or `None` if the list is empty.
     fn nearer_end(&self, head: u32, key: u32) -> Option<u32>
         requires head { head < self.now.heads }
         requires by_key { IsByKey head }
@@ -452,7 +452,8 @@ impl Lists {
         }
     }
 
-    /// The last node of the list with a key below `key` and what follows it, looked for from a node whose key is below.
+    /// Returns the last node of the list with a key below `key` and the node after it. The search begins at a node with a key
+    /// below `key`.
     #[inline(always)]
     fn gap_behind(&self, head: u32, key: u32, from: u32) -> (u32, Option<u32>)
         requires by_key { IsByKey head }
@@ -474,7 +475,7 @@ impl Lists {
         (previous, next)
     }
 
-    /// The first node of the list with a key above `key`, looked for behind a node whose key is not above it.
+    /// Returns the first node of the list with a key above `key`. The search begins behind a node whose key is not above it.
     fn first_above(&self, head: u32, key: u32, from: u32) -> Option<u32>
         requires by_key { IsByKey head }
         requires from { (k : ℕ) × (place_at self.now.places from ≡ Some (head, k)) × (k ≤ key) }
@@ -490,7 +491,7 @@ impl Lists {
         next
     }
 
-    /// The last node of the list with a key below `key`, looked for before a node whose key is not below it.
+    /// Returns the last node of the list with a key below `key`. The search begins before a node whose key is not below it.
     fn last_below(&self, head: u32, key: u32, from: u32) -> Option<u32>
         requires by_key { IsByKey head }
         requires from { (k : ℕ) × (place_at self.now.places from ≡ Some (head, k)) × (key ≤ k) }
@@ -506,7 +507,7 @@ impl Lists {
         previous
     }
 
-    /// The node after `previous`, or the first of the list where there is none.
+    /// Returns the node after `previous`, or the first of the list if `previous` is `None`.
     fn next_or_first(&self, head: u32, previous: Option<u32>) -> Option<u32>
         requires head { head < self.now.heads }
         requires by_key { IsByKey head }
@@ -519,7 +520,7 @@ impl Lists {
         }
     }
 
-    /// The node before `next`, or the last of the list where there is none.
+    /// Returns the node before `next`, or the last of the list if `next` is `None`.
     fn previous_or_last(&self, head: u32, next: Option<u32>) -> Option<u32>
         requires head { head < self.now.heads }
         requires by_key { IsByKey head }
@@ -539,7 +540,7 @@ impl Lists {
         self.nodes[node as usize].key
     }
 
-    /// The node with the least key of the list, looked for among all nodes.
+    /// Returns the node with the least key of the list, from a search over all nodes.
     #[cold]
     #[inline(never)]
     fn least(&self, head: u32) -> Option<u32>
@@ -589,7 +590,7 @@ impl Lists {
     }
 }
 
-/// The nodes of the gap; where there is no gap, the last node of the list and none.
+/// Returns the nodes of the gap. Without a gap, these are the last node of the list and `None`.
 #[inline(always)]
 fn link_place(
     heads: &[Head],
@@ -662,7 +663,7 @@ fn unlink_node(
     heads[head as usize].len -= 1;
 }
 
-/// Lets `to` come after `previous`, or first in the list where there is none.
+/// Links `to` after `previous`, or as the first of the list if `previous` is `None`.
 fn link_after(
     heads: &mut [Head],
     nodes: &mut [Node],
@@ -682,7 +683,7 @@ fn link_after(
     }
 }
 
-/// Lets `to` come before `next`, or last in the list where there is none.
+/// Links `to` before `next`, or as the last of the list if `next` is `None`.
 fn link_before(
     heads: &mut [Head],
     nodes: &mut [Node],
