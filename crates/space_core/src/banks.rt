@@ -1,4 +1,4 @@
-//! The stored bytes of the superblocks: a vector for each, empty while its superblock reads as zero.
+//! The stored bytes of the superblocks: one vector for each, empty while its superblock reads as zero.
 
 ghost use Rattle.std.specs.Prelude.{◌≡◌, ◌≢◌, ◌^◌, ◌<◌, ◌≤◌, length, replicate, IfOk, slice_set, vec_len, vec_capacity, ℕ, []};
 ghost use Rattle.space_core.specs.Content.{bank};
@@ -7,7 +7,7 @@ ghost use Rattle.space_core.specs.Storage.{HaveCapacity, or_zeros};
 
 use std::alloc::{AllocError, Global};
 
-/// Superblock `m` has no bytes any more, and reads as zero.
+/// Empties the vector of superblock `m`, which then reads as zero.
 pub(crate) fn clear_bank(banks: &mut Vec<Vec<u8>>, m: usize)
     requires { m < vec_len banks.old }
     ensures bytes { stored_bytes banks.new ≡ slice_set (stored_bytes banks.old) m [] }
@@ -16,7 +16,7 @@ pub(crate) fn clear_bank(banks: &mut Vec<Vec<u8>>, m: usize)
     banks[m].clear();
 }
 
-/// Writes the zeros out that superblock `m` reads as, where it has no bytes yet.
+/// Fills the vector of superblock `m` with zeros if it is empty.
 #[inline(always)]
 pub(crate) fn write_out(banks: &mut Vec<Vec<u8>>, m: usize, unit: usize)
     requires bank { m < vec_len banks.old }
@@ -30,10 +30,10 @@ pub(crate) fn write_out(banks: &mut Vec<Vec<u8>>, m: usize, unit: usize)
     }
 }
 
-/// So many bytes are zeroed at once. More than 2 KiB are left to one string instruction, which is no faster.
+/// Chunk size of the zeroing loop, in bytes. Above 2 KiB the C library uses `rep stosb`, which is no faster.
 const CLEARED: usize = 1536;
 
-/// Makes the bytes `unit` zeros.
+/// Sets the vector to `unit` zeros.
 #[cold]
 #[inline(never)]
 fn zero_fill(bytes: &mut Vec<u8>, unit: usize)
@@ -66,7 +66,7 @@ pub(crate) fn copy_bank(banks: &mut Vec<Vec<u8>>, from: usize, to: usize)
     }
 }
 
-/// Makes the bytes those of `source`.
+/// Replaces the bytes by those of `source`.
 fn copy_bytes(bytes: &mut Vec<u8>, source: &[u8])
     requires { length source.now ≤ vec_capacity bytes.old }
     ensures items { bytes.new.items ≡ source.now }
@@ -76,7 +76,7 @@ fn copy_bytes(bytes: &mut Vec<u8>, source: &[u8])
     bytes.extend_from_slice(source).unwrap();
 }
 
-/// Sets byte `i` of superblock `m`, whose bytes are written out.
+/// Sets byte `i` of superblock `m`, whose vector is not empty.
 pub(crate) fn set_byte_at(banks: &mut Vec<Vec<u8>>, m: usize, i: usize, byte: u8)
     requires bank { m < vec_len banks.old }
     requires byte { i < length (bank (stored_bytes banks.old) m) }
@@ -87,8 +87,8 @@ pub(crate) fn set_byte_at(banks: &mut Vec<Vec<u8>>, m: usize, i: usize, byte: u8
     banks[m][i] = byte;
 }
 
-/// For each of `count` superblocks no bytes yet, and space for exactly `unit` of them: by this size the allocator below knows
-/// a superblock.
+/// Makes an empty vector for each of `count` superblocks, with a capacity of exactly `unit` bytes. The allocator below recognizes
+/// a superblock by this size.
 pub(crate) fn make_banks(
     alloc: Global,
     count: usize,

@@ -1,12 +1,12 @@
-//! The RAM of a partitioning kernel. It is cut into superblocks of one size. A superblock is free in
-//! the pool or stands under a slot of one tenant, and a tenant reaches the bytes of its own slots alone.
+//! The RAM of a partitioning kernel, divided into superblocks of one size. A superblock is either free
+//! in the pool or in a slot of one tenant. A tenant can access only the bytes of its own slots.
 //!
 //! Scrubbing is lazy: a superblock that is taken back, or that a slot moves away from, keeps its bytes
-//! and gets a mark. A marked one is emptied before it is granted again, and written over whole
-//! where a slot moves to it. So no tenant reads what another one left.
+//! and gets a mark. A marked superblock is emptied before it is granted again, and overwritten as a
+//! whole if a slot moves to it. So no tenant reads what another one left.
 //!
-//! Memory for the bytes of every superblock is reserved at boot. A superblock that is granted reads as
-//! zero, and its bytes are written out when one of them is first written: a grant costs no filling.
+//! Memory for the bytes of every superblock is reserved at boot. A granted superblock reads as zero; the
+//! zeros are written only when one of its bytes is first written or lent to be written. So a grant fills no memory.
 //!
 //! Only [`Space::new`] allocates.
 #![tactic(auto)]
@@ -52,17 +52,18 @@ pub enum MoveRefusal {
 ///
 /// Superblocks and slots are numbered from 0 up to the number of superblocks, tenants from 0. A place
 /// of a tenant is a byte number: it lies in slot `place / unit`, where `unit` is the bytes of a superblock.
-#[derive(Drop)]
+#[derive(Debug, Drop)]
 pub struct Space {
     unit: u32,
-    // A superblock has 2^bits bytes, so that a place is cut by shifts: a division takes longer than all else of a short read.
+    // A superblock has 2^bits bytes, so a shift splits a place into slot and offset. A division would take longer than the rest of
+    // a short read.
     bits: u8,
     owners: Vec<Option<Owner>>,
     slots: Vec<Vec<Option<u16>>>,
-    // A superblock's vector has its bytes, or is empty, with capacity for them, while all of them are zero since it was granted.
+    // The bytes of each superblock. The vector is empty, with its full capacity, as long as all bytes are zero since the grant.
     banks: Vec<Vec<u8>>,
     marks: Vec<bool>,
-    // What a superblock reads as whose vector is empty.
+    // What a superblock with an empty vector reads as.
     zeros: Vec<u8>,
 }
 
@@ -92,10 +93,10 @@ impl Model for Space {
 }
 
 impl Space {
-    /// RAM of `superblocks` superblocks of `2^order` frames each, for `tenants` tenants: every byte is
-    /// zero, and no superblock has an owner or a mark.
+    /// Makes RAM of `superblocks` superblocks of `2^order` frames each, for `tenants` tenants. Every byte
+    /// is zero, and no superblock has an owner or a mark.
     ///
-    /// It asks for all memory that there will ever be, and answers `AllocError` where that is refused.
+    /// Allocates all memory that will ever be used. Returns `AllocError` if the allocator refuses it.
     pub fn new(alloc: Global, order: u8, superblocks: u16, tenants: u8) -> Result<Space, AllocError>
         requires order { order ≤ MOST_ORDER }
         requires superblocks { superblocks ≤ MOST_SUPERBLOCKS }
@@ -120,8 +121,8 @@ impl Space {
         })
     }
 
-    /// What is true of every `Space`, and what each call does to the slots and bytes of its tenant and
-    /// of all others. It costs nothing.
+    /// A law: the invariants of every `Space`, and the effect of each call on the slots and bytes of its
+    /// tenant and of all others. The call does nothing.
     pub fn laws(&self)
         ensures { SpaceLaws self.now }
     {

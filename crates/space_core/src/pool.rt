@@ -1,4 +1,4 @@
-//! The pool, and the mapping both ways: superblocks with their owners and marks, and the slots of each tenant.
+//! The pool and the mapping in both directions: superblocks with their owners and marks, and the slots of each tenant.
 
 ghost use Rattle.std.specs.Prelude.{◌≡◌, ◌<◌, ◌↔◌, Some, None, length, position, is_none, count_by, replicate, option_map, IsSome, IfSome, IfOk, OnErr, MatchResult, vec_len};
 ghost use Rattle.space_core.specs.Content.{bank, owner_at, mark_at, slots_of, superblock_at};
@@ -11,8 +11,10 @@ use model_core::owner::Owner;
 use std::alloc::{AllocError, Global};
 
 impl Space {
-    /// Gives the least superblock without owner to tenant `t`, as the least slot that it does not hold,
-    /// and answers slot and superblock. The slot reads as zero, whatever the superblock held.
+    /// Gives the least superblock without an owner to tenant `t`, as the least slot that it does not hold,
+    /// and returns slot and superblock. The slot reads as zero.
+    ///
+    /// Refused with `PoolEmpty` if every superblock has an owner.
     pub fn grant(&mut self, t: u8) -> Result<(u16, u16), PoolEmpty>
         requires { t < length self.old.slots }
         ensures superblock { MatchResult result
@@ -32,8 +34,10 @@ impl Space {
         Ok((u, m))
     }
 
-    /// Takes the superblock under a slot back from tenant `t`, and answers it. It keeps its bytes and
-    /// is marked, so that it is scrubbed before it is granted again.
+    /// Takes a slot of tenant `t` back and returns its superblock. The superblock keeps its bytes and is
+    /// marked, so it is scrubbed before it is granted again.
+    ///
+    /// Refused with `NoSlot` if the tenant does not hold the slot.
     pub fn take_back(&mut self, t: u8, slot: u32) -> Result<u16, NoSlot>
         requires { t < length self.old.slots }
         ensures superblock { MatchResult result
@@ -49,13 +53,12 @@ impl Space {
         Ok(m)
     }
 
-    /// Moves a slot of tenant `t` to the least superblock without owner, and answers the superblock
-    /// that stood under it and the one that does now. All bytes are copied, so the tenant reads what it
-    /// read before. The superblock that it left keeps its bytes and is marked, so that it is scrubbed
-    /// before it is granted again.
+    /// Moves a slot of tenant `t` to the least superblock without an owner, and returns the old and the
+    /// new superblock. All bytes are copied, so the tenant reads what it read before. The old superblock
+    /// keeps its bytes and is marked, so it is scrubbed before it is granted again.
     ///
-    /// `NoSlot` where the tenant does not hold the slot, else `PoolEmpty` where each superblock has an
-    /// owner.
+    /// Refused with `NoSlot` if the tenant does not hold the slot, else with `PoolEmpty` if every
+    /// superblock has an owner.
     pub fn move_slot(&mut self, t: u8, slot: u32) -> Result<(u16, u16), MoveRefusal>
         requires { t < length self.old.slots }
         ensures from { IfOk result (λ p. superblock_at self.old.slots t slot ≡ Some p.0) }
@@ -78,7 +81,7 @@ impl Space {
         Ok((from, to))
     }
 
-    /// The superblock under a slot of tenant `t`, None where it does not hold the slot.
+    /// Returns the superblock in a slot of tenant `t`, or `None` if it does not hold the slot.
     pub fn machine_of(&self, t: u8, slot: u32) -> Option<u16>
         requires { t < length self.now.slots }
         ensures value { result ≡ superblock_at self.now.slots t slot }
@@ -88,7 +91,7 @@ impl Space {
         self.row(t).get(slot as usize).copied().flatten()
     }
 
-    /// The owner of superblock `m`, None where it has none.
+    /// Returns the owner of superblock `m`, if it has one.
     pub fn owner_of(&self, m: u16) -> Option<Owner>
         requires { m < length self.now.owners }
         ensures { result ≡ owner_at self.now.owners m }
@@ -96,7 +99,7 @@ impl Space {
         self.owners[usize::from(m)]
     }
 
-    /// The owner of superblock `m` as tenant and slot, None where it has none.
+    /// Returns the owner of superblock `m` as tenant and slot, if it has one.
     pub fn owner(&self, m: u16) -> Option<(u8, u16)>
         requires { m < length self.now.owners }
         ensures { result ≡ option_map (λ owner. (owner.tenant, owner.slot)) (owner_at self.now.owners m) }
@@ -104,14 +107,14 @@ impl Space {
         self.owner_of(m).map(|owner| (owner.tenant, owner.slot))
     }
 
-    /// The owners by superblock.
+    /// Returns the owner of each superblock.
     pub fn owners(&self) -> &[Option<Owner>]
         ensures { result.now ≡ self.now.owners }
     {
         self.owners.as_slice()
     }
 
-    /// Whether superblock `m` is scrubbed before it is granted again.
+    /// Returns true if superblock `m` is marked, so that it is scrubbed before it is granted again.
     pub fn is_marked(&self, m: u16) -> bool
         requires { m < length self.now.owners }
         ensures { result ≡ mark_at self.now.marks m }
@@ -119,14 +122,14 @@ impl Space {
         self.marks[usize::from(m)]
     }
 
-    /// How many superblocks have no owner.
+    /// Returns the number of superblocks without an owner.
     pub fn unowned(&self) -> u16
         ensures { result ≡ count_by is_none self.now.owners }
     {
         self.owners.iter().filter(|owner| owner.is_none()).count() as u16
     }
 
-    /// How many superblocks there are, `MOST_SUPERBLOCKS` at most.
+    /// Returns the number of superblocks, at most `MOST_SUPERBLOCKS`.
     pub fn superblocks(&self) -> u16
         ensures { result ≡ length self.now.owners }
     {
@@ -134,7 +137,7 @@ impl Space {
         self.owners.len() as u16
     }
 
-    /// How many tenants there are, `MOST_TENANTS` at most.
+    /// Returns the number of tenants, at most `MOST_TENANTS`.
     pub fn tenants(&self) -> u8
         ensures { result ≡ length self.now.slots }
     {
@@ -142,7 +145,7 @@ impl Space {
         self.slots.len() as u8
     }
 
-    /// The slots of tenant `t`.
+    /// Returns the slots of tenant `t`.
     fn row(&self, t: u8) -> &[Option<u16>]
         requires { t < length self.now.slots }
         ensures { result.now ≡ slots_of self.now.slots t }
@@ -150,7 +153,7 @@ impl Space {
         self.slots[usize::from(t)].as_slice()
     }
 
-    /// The least superblock without owner.
+    /// Returns the least superblock without an owner.
     fn least_unowned(&self) -> Option<u16>
         ensures value { result ≡ position is_none self.now.owners }
         ensures below { IfSome result (λ m. m < length self.now.owners) }
@@ -159,7 +162,7 @@ impl Space {
         Some(m as u16)
     }
 
-    /// The least slot that tenant `t` does not hold. There is one where a superblock has no owner.
+    /// Returns the least slot that tenant `t` does not hold. It exists if a superblock has no owner.
     fn least_slot(&self, t: u8) -> u16
         requires tenant { t < length self.now.slots }
         requires pool { IsSome (position is_none self.now.owners) }
@@ -171,7 +174,7 @@ impl Space {
     }
 }
 
-/// The index of the first `None`.
+/// Returns the index of the first `None`.
 fn first_none<T>(items: &[Option<T>]) -> Option<usize>
     ensures value { result ≡ position is_none items.now }
     ensures below { IfSome result (λ i. i < length items.now) }
@@ -179,7 +182,7 @@ fn first_none<T>(items: &[Option<T>]) -> Option<usize>
     items.iter().position(|item| item.is_none())
 }
 
-/// Puts a superblock, or none, under slot `u` of tenant `t`.
+/// Sets the superblock of slot `u` of tenant `t`; `None` empties the slot.
 pub(crate) fn set_slot(slots: &mut Vec<Vec<Option<u16>>>, t: u8, u: usize, to: Option<u16>)
     requires tenant { t < vec_len slots.old }
     requires slot { u < length (slots_of (stored_slots slots.old) t) }
@@ -188,7 +191,7 @@ pub(crate) fn set_slot(slots: &mut Vec<Vec<Option<u16>>>, t: u8, u: usize, to: O
     slots[usize::from(t)][u] = to;
 }
 
-/// For each of `tenants` tenants `superblocks` slots, with nothing under them.
+/// Makes `superblocks` empty slots for each of `tenants` tenants.
 pub(crate) fn make_rows(
     alloc: Global,
     tenants: usize,

@@ -1,4 +1,4 @@
-//! The bytes of a tenant, by its places: windows on them, lent to be read or written, and single bytes.
+//! Access to a tenant's bytes by place: windows that are borrowed to read or write, and single bytes.
 
 ghost use Rattle.std.specs.Prelude.{◌≡◌, ◌≢◌, ◌+◌, ◌/◌, ◌%◌, ◌<◌, ◌≤◌, Some, None, length, replicate, option_map, IsSome, IfSome, slice_range};
 ghost use Rattle.std.specs.Borrow.{sem};
@@ -10,8 +10,8 @@ use crate::Space;
 use crate::banks::{set_byte_at, write_out};
 
 impl Space {
-    /// The bytes of tenant `t` from `place` on, `len` of them. None for a range of no bytes, and for
-    /// one that does not lie in one slot that the tenant holds.
+    /// Borrows the `len` bytes of tenant `t` from `place` on. Returns `None` if `len` is 0 or the range is
+    /// not inside one slot that the tenant holds.
     pub fn window(&self, t: u8, place: u32, len: u32) -> Option<&[u8]>
         requires { t < length self.now.slots }
         ensures value { option_map (λ bytes. bytes.now) result ≡ window_of self.now t place len }
@@ -25,8 +25,8 @@ impl Space {
         Some(part(self.bytes(usize::from(m)), at as usize, len as usize))
     }
 
-    /// The bytes of tenant `t` from `place` on, to be written. When the borrow ends the range holds
-    /// what was written, and all else of RAM is as before.
+    /// Borrows the `len` bytes of tenant `t` from `place` on to write them. When the borrow ends, the range has
+    /// the written bytes, and the rest of RAM is unchanged.
     pub fn window_mut(&mut self, t: u8, place: u32, len: u32) -> &mut [u8]
         requires tenant { t < length self.old.slots }
         requires in_reach { IsSome (home_of self.old t place len) }
@@ -38,7 +38,7 @@ impl Space {
         self.window_in(m, t, place, len)
     }
 
-    /// As [`Space::window_mut`], where the caller knows that superblock `m` stands there; `t` is named for the contract alone.
+    /// The same as [`Space::window_mut`] if the caller knows that superblock `m` is in that slot. Only the contract uses `t`.
     #[inline(always)]
     pub fn window_in(&mut self, m: u16, t: u8, place: u32, len: u32) -> &mut [u8]
         requires { home_of self.old t place len ≡ Some m }
@@ -52,7 +52,7 @@ impl Space {
         self.part_mut(usize::from(m), at as usize, len as usize)
     }
 
-    /// Sets the bytes of tenant `t` from `place` on to zero, `len` of them.
+    /// Sets the `len` bytes of tenant `t` from `place` on to zero.
     pub fn zero(&mut self, t: u8, place: u32, len: u32)
         requires tenant { t < length self.old.slots }
         requires in_reach { IsSome (home_of self.old t place len) }
@@ -61,7 +61,7 @@ impl Space {
         self.window_mut(t, place, len).fill(0);
     }
 
-    /// The byte at a place of tenant `t`.
+    /// Returns the byte at a place of tenant `t`.
     pub fn byte(&self, t: u8, place: u32) -> u8
         requires tenant { t < length self.now.slots }
         requires held { IsSome (superblock_at self.now.slots t (place / self.now.unit)) }
@@ -71,7 +71,7 @@ impl Space {
         self.byte_in(m, t, place)
     }
 
-    /// As [`Space::byte`], where the caller knows that superblock `m` stands there; `t` is named for the contract alone.
+    /// The same as [`Space::byte`] if the caller knows that superblock `m` is in that slot. Only the contract uses `t`.
     #[inline(always)]
     pub fn byte_in(&self, m: u16, t: u8, place: u32) -> u8
         requires { superblock_at self.now.slots t (place / self.now.unit) ≡ Some m }
@@ -84,7 +84,7 @@ impl Space {
         self.bytes(m)[at as usize]
     }
 
-    /// Writes one byte at a place of tenant `t`, which lies in superblock `m`; `t` is named for the contract alone.
+    /// Writes one byte at a place of tenant `t`, which is in superblock `m`. Only the contract uses `t`.
     #[inline(always)]
     pub fn set_byte_in(&mut self, m: u16, t: u8, place: u32, byte: u8)
         requires { superblock_at self.old.slots t (place / self.old.unit) ≡ Some m }
@@ -97,14 +97,14 @@ impl Space {
         set_byte_at(&mut self.banks, m, at as usize, byte);
     }
 
-    /// How many bytes a superblock has.
+    /// Returns the number of bytes of a superblock.
     pub fn unit(&self) -> u32
         ensures { result ≡ self.now.unit }
     {
         self.unit
     }
 
-    /// All bytes of superblock `m`.
+    /// Returns all bytes of superblock `m`.
     pub fn machine_bytes(&self, m: u16) -> &[u8]
         requires { m < length self.now.owners }
         ensures value { result.now ≡ bank self.now.banks m }
@@ -113,7 +113,7 @@ impl Space {
         self.bytes(usize::from(m))
     }
 
-    /// The slot of a place.
+    /// Returns the slot of a place.
     #[inline(always)]
     fn slot_of(&self, place: u32) -> u32
         ensures { result ≡ place / self.now.unit }
@@ -121,7 +121,7 @@ impl Space {
         place >> self.bits
     }
 
-    /// The number of a place's byte in its superblock.
+    /// Returns the offset of a place in its superblock.
     #[inline(always)]
     fn within(&self, place: u32) -> u32
         ensures { result ≡ place % self.now.unit }
@@ -129,7 +129,7 @@ impl Space {
         place % (1 << self.bits)
     }
 
-    /// The superblock under a slot that the tenant holds.
+    /// Returns the superblock in a slot that the tenant holds.
     fn held(&self, t: u8, slot: u32) -> u16
         requires tenant { t < length self.now.slots }
         requires held { IsSome (superblock_at self.now.slots t slot) }
@@ -139,7 +139,7 @@ impl Space {
         self.machine_of(t, slot).unwrap()
     }
 
-    /// All bytes of superblock `m`.
+    /// Returns all bytes of superblock `m`.
     fn bytes(&self, m: usize) -> &[u8]
         requires { m < length self.now.owners }
         ensures value { result.now ≡ bank self.now.banks m }
@@ -153,7 +153,7 @@ impl Space {
         }
     }
 
-    /// The bytes of superblock `m` from `from` on, `len` of them, to be written.
+    /// Borrows `len` bytes of superblock `m` from `from` on to write them.
     fn part_mut(&mut self, m: usize, from: usize, len: usize) -> &mut [u8]
         requires in_bounds { m < length self.old.owners }
         requires owned { owner_at self.old.owners m ≢ None }
@@ -168,7 +168,7 @@ impl Space {
     }
 }
 
-/// `len` bytes from `from` on.
+/// Returns `len` bytes from `from` on.
 fn part(bytes: &[u8], from: usize, len: usize) -> &[u8]
     requires { from + len ≤ length bytes.now }
     ensures value { result.now ≡ slice_range bytes.now from (from + len) }
