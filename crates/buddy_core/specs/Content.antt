@@ -88,5 +88,5 @@ pub record IsSized (c : Content) : Type 0 where
 pub record BuddyLaws (c : Content) : Type 0 where
   pub sizes : IsSized c
   pub sound : (t : ℕ) → t < length c.tenants → IsSoundHolding c.top (holding_of t c)
-  -- no superblock stands under two slots
+  -- no superblock is in two slots
   pub apart : (t u v w m : ℕ) → superblock_at (holding_of t c) u ≡ Some m → superblock_at (holding_of v c) w ≡ Some m → (t ≡ v) × (u ≡ w)

@@ -34,6 +34,6 @@ pub record IsKept (top : ℕ) (superblocks : List StoredSuperblock) (tenants : L
   pub few_tenants : length tenants ≤ MOST_TENANTS
   pub order : (m : ℕ) → m < length superblocks → (superblock_of m superblocks).tree.order ≡ top
   pub each : (t : ℕ) → t < length tenants → IsTenantKept top superblocks (stored_tenant t tenants)
-  -- no superblock stands under two slots
+  -- no superblock is in two slots
   pub apart : (t u v w m : ℕ) → superblock_at (stored_tenant t tenants) u ≡ Some m → superblock_at (stored_tenant v tenants) w ≡ Some m → (t ≡ v) × (u ≡ w)
   pub bare : (m : ℕ) → m < length superblocks → ((t u : ℕ) → superblock_at (stored_tenant t tenants) u ≡ Some m → ⊥) → superblock_of m superblocks ≡ bare_superblock top

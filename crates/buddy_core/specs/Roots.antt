@@ -37,7 +37,7 @@ IsThere superblocks slots = (u m : ℕ) → slice_index_or slots u None ≡ Some
 abbrev pub IsWithoutOrder : List StoredSuperblock → List (Option ℕ) → ℕ → Type 0
 IsWithoutOrder superblocks slots k = (j u m : ℕ) → k ≤ j → slice_index_or slots u None ≡ Some m → HasBit superblocks m j → ⊥
 
--- the first slot with a free block of the least order of at least k that there is
+-- the first slot with a free block of the least free order of at least k
 pub record IsSource (superblocks : List StoredSuperblock) (slots : List (Option ℕ)) (k : ℕ) (p : Source) : Type 0 where
   pub at : slice_index_or slots p.slot None ≡ Some p.superblock
   pub enough : k ≤ p.order

@@ -1,4 +1,4 @@
-//! Where the next block comes from: a slot and an order, by a tenant's counts and the words of whole superblocks.
+//! Finds the slot and the order of the free block that an allocation takes, from a tenant's counts and the root words of trees.
 
 ghost use Rattle.std.specs.Prelude.{◌≡◌, ℕ, ◌/◌, ◌<◌, ◌≤◌, Some, None, length, slice_index_or, MatchOption};
 ghost use Rattle.model_core.specs.declared.limits.TheConstants.{MOST_SUPERBLOCKS};
@@ -12,15 +12,15 @@ use crate::tenant::Tenant;
 use crate::tree;
 
 /// A slot of a tenant, the superblock under it, and the order of a free block there.
-#[derive(Clone, Copy)]
+#[derive(Clone, Copy, Debug)]
 pub struct Source {
     pub slot: u16,
     pub superblock: u16,
     pub order: u8,
 }
 
-/// The first slot of the tenant with a free block of the least order of at least `k` that there is. It strikes out of `summaries`
-/// where it looked in vain.
+/// Returns the first slot with a free block of the tenant's least free order of at least `k`, or `None` if no such block is free.
+/// Removes from `summaries` the groups in which it found none.
 pub fn find(
     superblocks: &[Superblock],
     tenant: &Tenant,
@@ -46,7 +46,7 @@ pub fn find(
     None
 }
 
-/// The first slot of a group with a free block of `order`.
+/// Returns the first slot of a group with a free block of `order`.
 fn first_in(
     superblocks: &[Superblock],
     slots: &[Option<u16>],

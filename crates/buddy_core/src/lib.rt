@@ -1,13 +1,13 @@
 //! The binary buddy system of a machine that is divided between tenants (Knuth, The Art of Computer
 //! Programming, volume 1, section 2.5).
 //!
-//! A superblock has `2^order` frames and stands under at most one slot of one tenant. The frames of
-//! slot `u` of a tenant are numbered from `u * 2^order` on. A block of order `k` has `2^k` frames,
-//! begins at a multiple of `2^k`, and is taken or not. A free block is an aligned block of held slots
-//! without a taken frame that no larger such block contains, so halves are joined at every release.
+//! A superblock has `2^order` frames and is in at most one slot of one tenant. The frames of slot `u`
+//! of a tenant are numbered from `u * 2^order` on. A block of order `k` has `2^k` frames and begins at
+//! a multiple of `2^k`; it is taken or not. A free block is an aligned block of held slots that has no
+//! taken frame and that no larger such block contains. So halves are joined at every release.
 //!
 //! Contracts see a [`Buddy`] as the slots and the taken blocks of each tenant. Behind them each
-//! superblock has a tree of words that tells the orders of the free blocks inside each of its blocks.
+//! superblock has a tree of words. A word has the orders of the free blocks inside one block.
 //!
 //! # Example
 //!
@@ -48,12 +48,12 @@ use std::marker::Model;
 pub struct SlotBusy;
 
 /// The buddy systems of all tenants.
-#[derive(Drop)]
+#[derive(Debug, Drop)]
 pub struct Buddy {
     order: u8,
     superblocks: Vec<Superblock>,
     tenants: Vec<Tenant>,
-    // By tenant, which slots a search passes over.
+    // For each tenant, the slots that a search passes over.
     summaries: Vec<Summary>,
 }
 
@@ -73,7 +73,7 @@ impl Model for Buddy {
 }
 
 impl Buddy {
-    /// A machine of `superblocks` superblocks of `2^order` frames each, and of tenants that hold nothing.
+    /// Makes a machine of `superblocks` superblocks of `2^order` frames each, and of tenants that hold nothing.
     pub fn new(alloc: Global, order: u8, superblocks: u16, tenants: u8) -> Result<Buddy, AllocError>
         requires order { order ≤ MOST_ORDER }
         requires superblocks { superblocks ≤ MOST_SUPERBLOCKS }
@@ -99,35 +99,35 @@ impl Buddy {
     }
 
     /// A law: the sizes are within the limits, each tenant's taken blocks are aligned, lie in held
-    /// slots and share no frame, and no superblock stands under two slots. It costs nothing.
+    /// slots and share no frame, and no superblock is in two slots. The call does nothing.
     pub fn laws(&self)
         ensures { BuddyLaws self.now }
     {
         let _ = &self.order;
     }
 
-    /// The order of a superblock.
+    /// Returns the order of a superblock.
     pub fn order(&self) -> u8
         ensures { result ≡ self.now.top }
     {
         self.order
     }
 
-    /// How many superblocks the machine has.
+    /// Returns the number of superblocks of the machine.
     pub fn superblocks(&self) -> u16
         ensures { result ≡ self.now.superblocks }
     {
         self.superblocks.len() as u16
     }
 
-    /// How many tenants share the machine.
+    /// Returns the number of tenants that share the machine.
     pub fn tenants(&self) -> u8
         ensures { result ≡ length self.now.tenants }
     {
         self.tenants.len() as u8
     }
 
-    /// Puts superblock `m` under a slot that tenant `t` does not hold. All its frames are free.
+    /// Gives superblock `m` to tenant `t` as a slot that it does not hold. All its frames are free.
     pub fn add_slot(&mut self, t: u8, slot: u16, m: u16)
         requires tenant { t < length self.old.tenants }
         requires slot { slot < self.old.superblocks }
@@ -142,7 +142,7 @@ impl Buddy {
         self.tenants[t as usize].add_slot(slot, m, order);
     }
 
-    /// Takes the superblock from under a slot of tenant `t`, unless a frame of the slot is taken.
+    /// Takes the superblock out of a slot of tenant `t`. Refused if a frame of the slot is taken.
     pub fn drop_slot(&mut self, t: u8, slot: u16) -> Result<(), SlotBusy>
         requires tenant { t < length self.old.tenants }
         requires held { IsSome (superblock_at (holding_of t self.old) slot) }
@@ -163,8 +163,8 @@ impl Buddy {
         Ok(())
     }
 
-    /// Puts superblock `m`, which stands under no slot, in the place of the one under a slot that
-    /// tenant `t` holds. The slot's taken blocks stay, and the old superblock stands under no slot.
+    /// Replaces the superblock in a slot of tenant `t` by `m`, which is in no slot. The slot keeps its
+    /// taken blocks, and the old superblock is then in no slot.
     pub fn move_slot(&mut self, t: u8, slot: u16, m: u16)
         requires tenant { t < length self.old.tenants }
         requires held { IsSome (superblock_at (holding_of t self.old) slot) }
@@ -178,7 +178,7 @@ impl Buddy {
         self.superblocks.swap(old as usize, m as usize);
     }
 
-    /// Lets go of all slots and all taken blocks of tenant `t`.
+    /// Removes all slots and all taken blocks of tenant `t`.
     pub fn reset(&mut self, t: u8)
         requires { t < length self.old.tenants }
         ensures { self.new ≡ with_holding t (nothing_held self.old.top self.old.superblocks) self.old }
@@ -192,11 +192,11 @@ impl Buddy {
         self.tenants[t as usize].clear();
     }
 
-    /// The first frame of a block of order `k` that tenant `t` has taken now: the beginning of the
-    /// free block of least order of at least `k` and of these of the least first frame. `None` where
-    /// there is no free block of order `k` or more.
+    /// Takes a block of order `k` for tenant `t` and returns its first frame: the beginning of a free
+    /// block of the least free order of at least `k`, of these the one with the least first frame.
+    /// Returns `None` if no block of order `k` or more is free.
     ///
-    /// While the block is too large it is split, and the upper half stays free.
+    /// A block that is too large is split; the upper half stays free.
     pub fn reserve(&mut self, t: u8, k: u8) -> Option<u32>
         requires tenant { t < length self.old.tenants }
         requires order { k ≤ self.old.top }
@@ -217,8 +217,8 @@ impl Buddy {
         Some((slot << self.order) + first)
     }
 
-    /// The order of the taken block of tenant `t` that begins at `frame`, which is free now, joined at
-    /// once with its buddy while that is one free block. `None` where no taken block begins there.
+    /// Frees the taken block of tenant `t` that begins at `frame` and returns its order, or `None` if no
+    /// taken block begins there. The block is joined at once with its buddy while that is one free block.
     pub fn release(&mut self, t: u8, frame: u32) -> Option<u8>
         requires { t < length self.old.tenants }
         ensures answer { result ≡ taken_of (holding_of t self.old) frame }
@@ -229,7 +229,7 @@ impl Buddy {
         self.release_in(m, t, frame)
     }
 
-    /// As [`Buddy::release`], where the caller knows that superblock `m` stands there.
+    /// The same as [`Buddy::release`] if the caller knows that superblock `m` is in that slot.
     #[inline(always)]
     pub fn release_in(&mut self, m: u16, t: u8, frame: u32) -> Option<u8>
         requires tenant { t < length self.old.tenants }
@@ -246,7 +246,7 @@ impl Buddy {
         Some(k)
     }
 
-    /// The order of the taken block of tenant `t` that begins at `frame`, if one does.
+    /// Returns the order of the taken block of tenant `t` that begins at `frame`, if one does.
     pub fn live_order(&self, t: u8, frame: u32) -> Option<u8>
         requires { t < length self.now.tenants }
         ensures { result ≡ taken_of (holding_of t self.now) frame }
@@ -255,8 +255,8 @@ impl Buddy {
         self.superblocks[m as usize].order_at(frame % (1 << self.order))
     }
 
-    /// The taken block of tenant `t` that has `frame`: its first frame and its order. `None` where the
-    /// frame is not taken.
+    /// Returns the first frame and the order of the taken block of tenant `t` that contains `frame`, or
+    /// `None` if the frame is not taken.
     pub fn block_of(&self, t: u8, frame: u32) -> Option<(u32, u8)>
         requires { t < length self.now.tenants }
         ensures { MatchOption result (IsTaken (taken_of (holding_of t self.now)) frame → ⊥)
@@ -266,7 +266,7 @@ impl Buddy {
         self.block_in(m, t, frame)
     }
 
-    /// As [`Buddy::block_of`], where the caller knows that superblock `m` stands there; `t` is named for the contract alone.
+    /// The same as [`Buddy::block_of`] if the caller knows that superblock `m` is in that slot. Only the contract uses `t`.
     #[inline(always)]
     pub fn block_in(&self, m: u16, t: u8, frame: u32) -> Option<(u32, u8)>
         requires tenant { t < length self.now.tenants }
@@ -285,7 +285,7 @@ impl Buddy {
         None
     }
 
-    /// How many free blocks of order `k` tenant `t` has.
+    /// Returns the number of free blocks of order `k` of tenant `t`.
     pub fn free_count(&self, t: u8, k: u8) -> u32
         requires tenant { t < length self.now.tenants }
         requires order { k ≤ self.now.top }
@@ -294,7 +294,7 @@ impl Buddy {
         self.tenants[t as usize].free_count(k)
     }
 
-    /// How many taken blocks of order `k` tenant `t` has.
+    /// Returns the number of taken blocks of order `k` of tenant `t`.
     pub fn taken_count(&self, t: u8, k: u8) -> u32
         requires tenant { t < length self.now.tenants }
         requires order { k ≤ self.now.top }
@@ -303,7 +303,7 @@ impl Buddy {
         self.tenants[t as usize].taken_count(k)
     }
 
-    /// How many slots tenant `t` holds.
+    /// Returns the number of slots that tenant `t` holds.
     pub fn slots(&self, t: u8) -> u32
         requires { t < length self.now.tenants }
         ensures { result ≡ held_slots (holding_of t self.now) }
@@ -311,7 +311,7 @@ impl Buddy {
         self.tenants[t as usize].held_slots()
     }
 
-    /// At each frame of a slot that tenant `t` holds, from the slot's first on, the order of the taken block that begins there.
+    /// Returns for each frame of a slot of tenant `t`, in order, the order of the taken block that begins there.
     pub fn orders_under(&self, t: u8, slot: u32) -> &[Option<u8>]
         requires tenant { t < length self.now.tenants }
         requires held { IsSome (superblock_at (holding_of t self.now) slot) }
@@ -323,9 +323,9 @@ impl Buddy {
         self.superblocks[m as usize].orders()
     }
 
-    /// The stored words of superblock `m`, node `i` at index `i - 1`. Node 1 is the whole superblock,
-    /// and nodes `2i` and `2i + 1` are the halves of node `i`. Bit `j` of a node is 1 exactly where a
-    /// free block of order `j` lies inside the node's block.
+    /// Returns the stored words of superblock `m`, node `i` at index `i - 1`. Node 1 is the whole
+    /// superblock, and nodes `2i` and `2i + 1` are the halves of node `i`. Bit `j` of a node is 1 if and
+    /// only if a free block of order `j` lies inside the node's block.
     pub fn table(&self, m: u16) -> &[u16]
         requires { m < self.now.superblocks }
         ensures { IsTable self.now m result.now }

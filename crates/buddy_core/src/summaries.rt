@@ -1,4 +1,4 @@
-//! Which slots of a tenant a search may pass over.
+//! The slots of a tenant that a search may pass over.
 
 ghost use Rattle.std.specs.Prelude.{◌≡◌, ◌≢◌, ℕ, ◌/◌, ◌<◌, ◌≤◌, replicate, slice_index, MatchOption};
 ghost use Rattle.std.specs.Int.{bit_at};
@@ -6,18 +6,18 @@ ghost use Rattle.model_core.specs.declared.limits.TheConstants.{MOST_SUPERBLOCKS
 
 use std::marker::Model;
 
-/// The number of slots of a group: slots that follow one another.
+/// The number of consecutive slots in a group.
 pub const GROUP_SLOTS: usize = 8;
 
-/// The number of groups of a tenant's slots: a bit of a word for each.
+/// The number of groups of a tenant's slots. Each has one bit of a word.
 pub const GROUPS: usize = 32;
 
 /// Orders are below this number.
 pub const ORDERS: usize = 16;
 
-/// For each order, the groups of a tenant's slots that may have a free block of it: a bit for each group. A bit stays 1 after the
-/// last such block went, until a search finds none.
-#[derive(Drop)]
+/// For each order, one bit for each group of a tenant's slots: 1 if the group may have a free block of this order. After the last
+/// such block was taken the bit stays 1 until a search finds none.
+#[derive(Debug, Drop)]
 pub struct Summary {
     words: [u32; ORDERS],
 }
@@ -30,7 +30,7 @@ impl Model for Summary {
     ghost view = { λ a. a.words };
 }
 
-/// The place of the lowest 1.
+/// Returns the index of the lowest bit that is 1.
 fn lowest(word: u32) -> usize
     requires { word ≢ 0 }
     ensures bound { result < 32 }
@@ -41,14 +41,14 @@ fn lowest(word: u32) -> usize
 }
 
 impl Summary {
-    /// No group has a free block.
+    /// Returns a summary in which no group has a free block.
     pub fn new() -> Summary
         ensures { result ≡ replicate ORDERS 0 }
     {
         Summary { words: [0; ORDERS] }
     }
 
-    /// The first group of which a slot may have a free block of `order`.
+    /// Returns the first group that may have a free block of `order`.
     pub fn first(&self, order: u8) -> Option<usize>
         requires { order < ORDERS }
         ensures { MatchOption result ((b : ℕ) → bit_at (slice_index self.now order) b ≡ 1 → ⊥)
@@ -62,7 +62,7 @@ impl Summary {
         Some(lowest(word))
     }
 
-    /// A free block of `order` is in the superblock under `slot`.
+    /// Notes that the superblock in `slot` has a free block of `order`.
     pub fn note(&mut self, slot: u32, order: u8)
         requires slot { slot < MOST_SUPERBLOCKS }
         requires order { order < ORDERS }
@@ -72,7 +72,7 @@ impl Summary {
         self.words[order as usize] |= 1 << (slot as usize / GROUP_SLOTS);
     }
 
-    /// Free blocks of the orders from `from` up to `to`, without `to`, are in the superblock under `slot`.
+    /// Notes that the superblock in `slot` has free blocks of the orders `from` to `to - 1`.
     pub fn note_halves(&mut self, slot: u32, from: u8, to: u8)
         requires slot { slot < MOST_SUPERBLOCKS }
         requires orders { to ≤ ORDERS }
@@ -84,7 +84,7 @@ impl Summary {
         }
     }
 
-    /// No slot of the group has a free block of `order`.
+    /// Notes that no slot of the group has a free block of `order`.
     pub fn strike(&mut self, group: usize, order: u8)
         requires group { group < GROUPS }
         requires order { order < ORDERS }

@@ -1,4 +1,4 @@
-//! What is stored of one superblock.
+//! The stored state of one superblock.
 
 ghost use Rattle.std.specs.Prelude.{◌≡◌, ℕ, ◌^◌, ◌<◌, ◌≤◌, Some, None, length, slice_index_or, slice_set, IfOk, Bool, true};
 ghost use Rattle.model_core.specs.declared.limits.TheConstants.{MOST_ORDER};
@@ -11,7 +11,7 @@ use std::alloc::{AllocError, Global};
 use std::marker::Model;
 
 /// The tree of orders of one superblock, and at each of its frames the order of the taken block that begins there.
-#[derive(Drop)]
+#[derive(Debug, Drop)]
 pub struct Superblock {
     tree: Tree,
     orders: Vec<Option<u8>>,
@@ -29,7 +29,7 @@ impl Model for Superblock {
 }
 
 impl Superblock {
-    /// A superblock of `2^order` frames under no slot.
+    /// Makes a superblock of `2^order` frames that is in no slot.
     pub fn new(alloc: Global, order: u8) -> Result<Superblock, AllocError>
         requires { order ≤ MOST_ORDER }
         ensures { IfOk result (λ s. s ≡ bare_superblock order) }
@@ -39,14 +39,14 @@ impl Superblock {
         Ok(Superblock { tree, orders })
     }
 
-    /// The tree of orders.
+    /// Returns the tree of orders.
     pub fn tree(&self) -> &Tree
         ensures { result.now ≡ self.now.tree }
     {
         &self.tree
     }
 
-    /// The order of the taken block that begins at `frame` of the superblock.
+    /// Returns the order of the taken block that begins at `frame` of the superblock, if one does.
     pub fn order_at(&self, frame: u32) -> Option<u8>
         requires { frame < 2 ^ self.now.tree.order }
         ensures { result ≡ slice_index_or self.now.orders frame None }
@@ -54,7 +54,7 @@ impl Superblock {
         self.orders[frame as usize]
     }
 
-    /// At each frame the order of the taken block that begins there.
+    /// Returns for each frame the order of the taken block that begins there.
     pub fn orders(&self) -> &[Option<u8>]
         ensures same { result.now ≡ self.now.orders }
         ensures size { length result.now ≡ 2 ^ self.now.tree.order }
@@ -78,8 +78,8 @@ impl Superblock {
         self.orders[first as usize] = Some(order);
     }
 
-    /// Makes the taken block of `order` that begins at `first` free, joined with its buddies. The order of the free block
-    /// that this gives.
+    /// Frees the taken block of `order` that begins at `first` and joins it with its buddies. Returns the order of the free block
+    /// that results.
     #[inline(always)]
     pub fn release_at(&mut self, first: u32, order: u8) -> u8
         requires order { order ≤ self.old.tree.order }
@@ -106,7 +106,7 @@ impl Superblock {
         self.tree.fill();
     }
 
-    /// No frame is available, and no block is taken.
+    /// Makes no frame available, and removes all taken blocks.
     pub fn clear(&mut self)
         ensures { self.new ≡ bare_superblock self.old.tree.order }
     {

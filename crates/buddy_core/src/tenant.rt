@@ -1,4 +1,4 @@
-//! What is stored of one tenant.
+//! The stored state of one tenant.
 
 ghost use Rattle.std.specs.Prelude.{◌≡◌, ℕ, replicate, count_by, is_some, ◌+◌, ◌-◌, ◌^◌, ◌<◌, ◌≤◌, Some, None, List, length, slice_index, slice_index_or, slice_set, IfOk, IsSome, MatchOption};
 ghost use Rattle.model_core.specs.declared.limits.TheConstants.{MOST_ORDER, MOST_SUPERBLOCKS};
@@ -8,11 +8,11 @@ ghost use Rattle.buddy_core.specs.Counts.{CanCountMore, IsTakenOut};
 use std::alloc::{AllocError, Global};
 use std::marker::Model;
 
-/// The slots of one tenant, and by order how many free and taken blocks it has.
-#[derive(Drop)]
+/// The slots of one tenant, and its numbers of free and taken blocks of each order.
+#[derive(Debug, Drop)]
 pub struct Tenant {
     slots: Vec<Option<u16>>,
-    // Nothing is held from this slot on, so no search looks there.
+    // The tenant holds no slot from this one on, so searches end here.
     end: usize,
     free: Vec<u32>,
     taken: Vec<u32>,
@@ -31,7 +31,7 @@ impl Model for Tenant {
 }
 
 impl Tenant {
-    /// A tenant that holds nothing.
+    /// Makes a tenant that holds nothing.
     pub fn new(alloc: Global, order: u8, superblocks: u16) -> Result<Tenant, AllocError>
         requires order { order ≤ MOST_ORDER }
         requires superblocks { superblocks ≤ MOST_SUPERBLOCKS }
@@ -48,7 +48,7 @@ impl Tenant {
         })
     }
 
-    /// The superblock under each slot, without slots at the end that hold none.
+    /// Returns the superblock in each slot, up to the last slot that is held.
     pub fn held(&self) -> &[Option<u16>]
         ensures same { (u : ℕ) → slice_index_or result.now u None ≡ slice_index_or self.now.slots u None }
         ensures few { length result.now ≤ MOST_SUPERBLOCKS }
@@ -56,14 +56,14 @@ impl Tenant {
         &self.slots[..self.end]
     }
 
-    /// The superblock under `slot`; `None` also past the last slot.
+    /// Returns the superblock in `slot`, or `None` if there is none, also for numbers past the last slot.
     pub fn superblock_at(&self, slot: u32) -> Option<u16>
         ensures { result ≡ slice_index_or self.now.slots slot None }
     {
         self.slots.get(slot as usize).copied().flatten()
     }
 
-    /// How many free blocks of `order` the tenant has.
+    /// Returns the number of the tenant's free blocks of `order`.
     pub fn free_count(&self, order: u8) -> u32
         requires { order < length self.now.free }
         ensures { result ≡ slice_index self.now.free order }
@@ -71,7 +71,7 @@ impl Tenant {
         self.free[order as usize]
     }
 
-    /// The least order of at least `k` of which the tenant has a free block.
+    /// Returns the least order of at least `k` of which the tenant has a free block.
     pub fn least_free(&self, k: u8) -> Option<u8>
         ensures { MatchOption result ((j : ℕ) → k ≤ j → slice_index self.now.free j ≡ 0)
             (λ j. (k ≤ j) × (j ≤ MOST_ORDER) × (0 < slice_index self.now.free j)
@@ -85,7 +85,7 @@ impl Tenant {
         None
     }
 
-    /// How many taken blocks of `order` the tenant has.
+    /// Returns the number of the tenant's taken blocks of `order`.
     pub fn taken_count(&self, order: u8) -> u32
         requires { order < length self.now.taken }
         ensures { result ≡ slice_index self.now.taken order }
@@ -93,14 +93,14 @@ impl Tenant {
         self.taken[order as usize]
     }
 
-    /// How many slots the tenant holds.
+    /// Returns the number of slots that the tenant holds.
     pub fn held_slots(&self) -> u32
         ensures { result ≡ count_by is_some self.now.slots }
     {
         self.slots.iter().filter(|slot| slot.is_some()).count() as u32
     }
 
-    /// Puts a superblock, of which all frames are free, under an empty slot.
+    /// Puts a superblock whose frames are all free into an empty slot.
     pub fn add_slot(&mut self, slot: u16, superblock: u16, order: u8)
         requires slot { slot < length self.old.slots }
         requires order { order < length self.old.free }
@@ -115,7 +115,7 @@ impl Tenant {
         self.free[order as usize] += 1;
     }
 
-    /// Puts another superblock under a slot that has one, with the same free and taken blocks.
+    /// Replaces the superblock in a slot by one with the same free and taken blocks.
     pub fn move_slot(&mut self, slot: u16, superblock: u16)
         requires { IsSome (slice_index_or self.old.slots slot None) }
         ensures { self.new ≡ record self.old { slots = slice_set self.old.slots slot (Some superblock) } }
@@ -123,7 +123,7 @@ impl Tenant {
         self.slots[slot as usize] = Some(superblock);
     }
 
-    /// Takes a superblock, of which all frames are free, from its slot.
+    /// Takes a superblock whose frames are all free out of its slot.
     pub fn drop_slot(&mut self, slot: u16, order: u8)
         requires slot { slot < length self.old.slots }
         requires order { order < length self.old.free }
@@ -137,7 +137,7 @@ impl Tenant {
         self.free[order as usize] -= 1;
     }
 
-    /// Counts a block of `order` taken out of a free block of order `from`, whose other parts are free.
+    /// Counts a taken block of `order` that was part of a free block of order `from`. The other parts stay free.
     pub fn count_reserved(&mut self, from: u8, order: u8)
         requires order { order ≤ from }
         requires from { from < length self.old.free }
@@ -152,7 +152,7 @@ impl Tenant {
         }
     }
 
-    /// Counts a taken block of `order` joined with its buddies to a free block of order `to`.
+    /// Counts a freed block of `order` that was joined with its buddies to a free block of order `to`.
     #[inline(always)]
     pub fn count_released(&mut self, order: u8, to: u8)
         requires order { order ≤ to }
@@ -169,7 +169,7 @@ impl Tenant {
         self.free[to as usize] += 1;
     }
 
-    /// Lets go of all slots, and counts nothing.
+    /// Removes all slots and sets all counts to 0.
     pub fn clear(&mut self)
         ensures slots { self.new.slots ≡ replicate (length self.old.slots) None }
         ensures free { self.new.free ≡ replicate (length self.old.free) 0 }

@@ -1,8 +1,8 @@
 //! The tree of orders of one superblock.
 //!
 //! Node 1 is the whole superblock, nodes `2i` and `2i + 1` are the halves of node `i`, and the word of node `i` is stored
-//! at index `i - 1`. Bit `j` of a word is 1 exactly where a free block of order `j` lies inside the node's block, so all
-//! words below a node that is one free block are 0.
+//! at index `i - 1`. Bit `j` of a word is 1 if and only if a free block of order `j` lies inside the node's block. A free block
+//! lies inside no half of itself, so all words below a node that is one free block are 0.
 
 ghost use Rattle.std.specs.Prelude.{◌≡◌, ℕ, ◌+◌, ◌-◌, ◌*◌, ◌/◌, ◌^◌, ◌<◌, ◌≤◌, Bool, true, false, ◌↔◌, IsTrue, IfOk, length, slice_index};
 ghost use Rattle.std.specs.Int.{bit_at};
@@ -15,7 +15,7 @@ use std::alloc::{AllocError, Global};
 use std::marker::Model;
 
 /// The words of the tree of a superblock of `2^order` frames.
-#[derive(Drop)]
+#[derive(Debug, Drop)]
 pub struct Tree {
     order: u8,
     words: Vec<u16>,
@@ -31,7 +31,7 @@ impl Model for Tree {
     ghost invariant = { λ a. IsTree a.order a.words.items };
 }
 
-/// Whether a node with this word has a free block of `order` inside, where `order` is at most 15.
+/// Returns true if a node with this word contains a free block of `order`, which is at most 15.
 pub fn has(word: u16, order: u8) -> bool
     requires { order < 16 }
     ensures { IsTrue result ↔ (bit_at word order ≡ 1) }
@@ -39,7 +39,7 @@ pub fn has(word: u16, order: u8) -> bool
     (word >> order) & 1 == 1
 }
 
-/// The node of the other half of the block that node `node` is a half of.
+/// Returns the node of the buddy of a node's block.
 fn sibling(node: usize) -> usize
     requires { 0 < node }
     ensures { result + node ≡ 4 * (node / 2) + 1 }
@@ -48,7 +48,7 @@ fn sibling(node: usize) -> usize
 }
 
 impl Tree {
-    /// The tree of a superblock of `2^order` frames of which none is available.
+    /// Makes the tree of a superblock of `2^order` frames, none of them available.
     pub fn new(alloc: Global, order: u8) -> Result<Tree, AllocError>
         requires { order ≤ MOST_ORDER }
         ensures { IfOk result (λ t. t ≡ bare_tree order) }
@@ -57,7 +57,7 @@ impl Tree {
         Ok(Tree { order, words })
     }
 
-    /// The stored words.
+    /// Returns the stored words.
     pub fn words(&self) -> &[u16]
         ensures same { result.now ≡ self.now.words }
         ensures size { length result.now + 1 ≡ 2 ^ (self.now.order + 1) }
@@ -65,21 +65,21 @@ impl Tree {
         &self.words
     }
 
-    /// The word of the whole superblock.
+    /// Returns the word of the whole superblock.
     pub fn root(&self) -> u16
         ensures { result ≡ slice_index self.now.words 0 }
     {
         self.words[0]
     }
 
-    /// No frame is available.
+    /// Makes no frame available.
     pub fn clear(&mut self)
         ensures { self.new ≡ bare_tree self.old.order }
     {
         self.words.fill(0);
     }
 
-    /// Every frame is available: the whole superblock is one free block.
+    /// Makes every frame available: the whole superblock is one free block.
     pub fn fill(&mut self)
         ensures order { self.new.order ≡ self.old.order }
         ensures words { Shows self.old.order (λ _. true) self.new.words }
@@ -88,8 +88,7 @@ impl Tree {
         self.words[0] = 1 << self.order;
     }
 
-    /// The first frame of the free block of `order` with the least first frame. A free block of that order must be there,
-    /// which bit `order` of the first word tells.
+    /// Returns the first frame of the first free block of `order`. There must be one, that is, bit `order` of the root word is 1.
     pub fn search(&self, order: u8) -> u32
         requires { order ≤ self.now.order }
         ensures within { result < 2 ^ self.now.order }
@@ -120,7 +119,7 @@ impl Tree {
     }
 
     /// Makes the block of `order` around frame `first` available, and joins it at once with its buddy while that is one
-    /// free block. The order of the free block that this gives.
+    /// free block. Returns the order of the free block that results.
     #[inline(always)]
     pub fn release_at(&mut self, first: u32, order: u8) -> u8
         requires order { order ≤ self.old.order }
@@ -136,7 +135,7 @@ impl Tree {
         joined
     }
 
-    /// The node of the block of `order` around frame `first`.
+    /// Returns the node of the block of `order` around frame `first`.
     fn node_of(&self, first: u32, order: u8) -> usize
         requires order { order ≤ self.now.order }
         requires first { first < 2 ^ self.now.order }
@@ -145,8 +144,8 @@ impl Tree {
         (((1 << self.order) + first) >> order) as usize
     }
 
-    /// Writes the words of the blocks around the one of `order` that has frame `first`, each from those of its halves. It goes on
-    /// where a word stays: to stop there would save less than it costs to guess where that is.
+    /// Writes the words of all larger blocks that contain the block of `order` around frame `first`, each from the words of its
+    /// halves. It does not stop at a word that stays the same: the mispredicted branch would cost more than it saves.
     #[inline(always)]
     fn climb(&mut self, first: u32, order: u8)
         requires order { order ≤ self.old.order }
@@ -168,8 +167,8 @@ impl Tree {
         }
     }
 
-    /// Writes the words inside the free block of order `from` around frame `first` once the block of `order` around that
-    /// frame is taken out of it: what is left is one free block of each order between.
+    /// Writes the words inside the free block of order `from` around frame `first` after the block of `order` around that
+    /// frame was taken out of it. One free block of each order from `order` to `from - 1` is left.
     #[inline(always)]
     fn split(&mut self, first: u32, from: u8, order: u8)
         requires order { order ≤ from }
@@ -192,8 +191,8 @@ impl Tree {
         }
     }
 
-    /// Joins the block of `order` around frame `first`, which is made available, with its buddy while that is one free
-    /// block, and writes the words inside the free block that this gives. The order of that block.
+    /// Joins the block of `order` around frame `first`, which becomes available, with its buddy while that is one free
+    /// block, and writes the words inside the free block that results. Returns the order of that block.
     #[inline(always)]
     fn join(&mut self, first: u32, order: u8) -> u8
         requires order { order ≤ self.old.order }
