@@ -1,7 +1,9 @@
 -- The two statements of the law of lines, each at a line that asks for something and at one that is too long.
-use Rattle.std.proofs.Common.{◌≡◌, ℕ, codes, Some, Ok, Err, refl, replicate, arith}
+use Rattle.std.proofs.Common.{◌≡◌, ℕ, List, codes, Option, Some, Result, Ok, Err, refl, replicate, arith}
 use Rattle.words_core.specs.declared.event.Command.TheVariants.{Free}
+use Rattle.words_core.specs.declared.event.Event.{Event}
 use Rattle.words_core.specs.declared.event.Event.TheVariants.{Tenant}
+use Rattle.words_core.specs.declared.event.LineFault.{LineFault}
 use Rattle.words_core.specs.declared.event.LineFault.TheVariants.{Long}
 use Rattle.words_core.specs.Commands.{tenant, free_row}
 use Rattle.words_core.specs.Words.{words_of}
@@ -21,5 +23,12 @@ EachLineHasACase-met : EachLineHasACase → (number : ℕ) × Case number (codes
 unfolding reading_of words_of reading_of_words event_of
 EachLineHasACase-met law = law (codes "0 free 5")
 
-NoLineHasTwo-met : NoLineHasTwo → (◌≡◌ {A = ℕ} 8 8) × (◌≡◌ {A = ℕ} 1 1)
-NoLineHasTwo-met law = ((law (codes "0 free 5") 8 8 _ _ its_case its_case).0, (law (replicate 256 48) 1 1 _ _ a_long_line a_long_line).0)
+abbrev IsOnly : ℕ → List ℕ → Result (Option Event) LineFault → Type 0
+IsOnly number line reading =
+    (other : ℕ) (second : Result (Option Event) LineFault) → Case other line second → (other ≡ number) × (second ≡ reading)
+
+NoLineHasTwo-met : NoLineHasTwo → IsOnly 8 (codes "0 free 5") (Ok (Some (Tenant 0 (Free 5)))) × IsOnly 1 (replicate 256 48) (Err Long)
+NoLineHasTwo-met law = (
+  λ other second case. law (codes "0 free 5") 8 other (Ok (Some (Tenant 0 (Free 5)))) second its_case case,
+  λ other second case. law (replicate 256 48) 1 other (Err Long) second a_long_line case,
+)

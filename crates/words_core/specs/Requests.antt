@@ -37,7 +37,21 @@ body_of_answer (Answer.Fault fault) = Body.Fault fault
 abbrev pub is_table : Body → Bool
 is_table (Body.Owners owners) = true
 is_table (Body.Report report) = true
-is_table other = false
+is_table (Body.Granted tenant slot superblock) = false
+is_table (Body.TakenBack superblock) = false
+is_table (Body.WasReset tenant superblocks) = false
+is_table (Body.Moved tenant slot superblock) = false
+is_table (Body.Frame frame) = false
+is_table (Body.Freed order) = false
+is_table (Body.Bytes bytes) = false
+is_table (Body.Written count) = false
+is_table (Body.Cache cache chunk order objects colours) = false
+is_table (Body.Destroyed frames) = false
+is_table (Body.Object place) = false
+is_table Body.Given = false
+is_table (Body.Reaped frames) = false
+is_table (Body.Refused refusal) = false
+is_table (Body.Fault fault) = false
 
 -- the reply that an answer is
 abbrev pub reply_to : Addressee → Answer → Reply
@@ -60,28 +74,75 @@ HasFewRows (Table.Report tenant report) = Unit {0}
 -- the bytes that an answer tells are no more than a read may ask for
 abbrev pub HasFewBytes : Answer → Type 0
 HasFewBytes (Answer.Bytes bytes) = length bytes.now ≤ MOST_BYTES
-HasFewBytes other = Unit {0}
+HasFewBytes (Answer.Frame frame) = Unit {0}
+HasFewBytes (Answer.Freed order) = Unit {0}
+HasFewBytes (Answer.Written count) = Unit {0}
+HasFewBytes (Answer.Cache cache chunk order objects colours) = Unit {0}
+HasFewBytes (Answer.Destroyed frames) = Unit {0}
+HasFewBytes (Answer.Object place) = Unit {0}
+HasFewBytes Answer.Given = Unit {0}
+HasFewBytes (Answer.Reaped frames) = Unit {0}
+HasFewBytes (Answer.Refused refusal) = Unit {0}
+HasFewBytes (Answer.Granted tenant slot superblock) = Unit {0}
+HasFewBytes (Answer.TakenBack superblock) = Unit {0}
+HasFewBytes (Answer.WasReset tenant superblocks) = Unit {0}
+HasFewBytes (Answer.Moved tenant slot superblock) = Unit {0}
+HasFewBytes (Answer.Fault fault) = Unit {0}
 
 -- the pattern of a cache that the command asks for has 1 to 16 bytes
 abbrev pub AsksPattern : Command → Type 0
 AsksPattern (Command.Cache size align pattern) = is_pattern pattern.items ≡ true
-AsksPattern other = Unit {0}
+AsksPattern (Command.Alloc order) = Unit {0}
+AsksPattern (Command.Free frame) = Unit {0}
+AsksPattern (Command.Read place len) = Unit {0}
+AsksPattern (Command.Write place bytes) = Unit {0}
+AsksPattern (Command.Destroy cache) = Unit {0}
+AsksPattern (Command.Take cache) = Unit {0}
+AsksPattern (Command.Give cache place) = Unit {0}
+AsksPattern Command.Reap = Unit {0}
+AsksPattern Command.Report = Unit {0}
 
 -- the bytes to be written are no more than a line can have, and the pattern of a cache has 1 to 16
 abbrev pub IsAskable : Request → Type 0
 IsAskable (Request.Write place bytes) = length bytes.now ≤ MOST_BYTES
 IsAskable (Request.Cache size align pattern) = is_pattern pattern.now ≡ true
-IsAskable other = Unit {0}
+IsAskable (Request.Alloc order) = Unit {0}
+IsAskable (Request.Free frame) = Unit {0}
+IsAskable (Request.Read place len) = Unit {0}
+IsAskable (Request.Destroy cache) = Unit {0}
+IsAskable (Request.Take cache) = Unit {0}
+IsAskable (Request.Give cache place) = Unit {0}
+IsAskable Request.Reap = Unit {0}
 
 -- the request asks for bytes
 abbrev pub asks_bytes : Request → Bool
 asks_bytes (Request.Read place len) = true
-asks_bytes other = false
+asks_bytes (Request.Alloc order) = false
+asks_bytes (Request.Free frame) = false
+asks_bytes (Request.Write place bytes) = false
+asks_bytes (Request.Cache size align pattern) = false
+asks_bytes (Request.Destroy cache) = false
+asks_bytes (Request.Take cache) = false
+asks_bytes (Request.Give cache place) = false
+asks_bytes Request.Reap = false
 
 -- the answer tells bytes
 abbrev pub has_bytes : Answer → Bool
 has_bytes (Answer.Bytes bytes) = true
-has_bytes other = false
+has_bytes (Answer.Frame frame) = false
+has_bytes (Answer.Freed order) = false
+has_bytes (Answer.Written count) = false
+has_bytes (Answer.Cache cache chunk order objects colours) = false
+has_bytes (Answer.Destroyed frames) = false
+has_bytes (Answer.Object place) = false
+has_bytes Answer.Given = false
+has_bytes (Answer.Reaped frames) = false
+has_bytes (Answer.Refused refusal) = false
+has_bytes (Answer.Granted tenant slot superblock) = false
+has_bytes (Answer.TakenBack superblock) = false
+has_bytes (Answer.WasReset tenant superblocks) = false
+has_bytes (Answer.Moved tenant slot superblock) = false
+has_bytes (Answer.Fault fault) = false
 
 -- what is told has many bytes: those of a read, the layout of a cache, or a superblock
 abbrev pub is_long : Answer → Bool
@@ -91,7 +152,15 @@ is_long (Answer.Granted tenant slot superblock) = true
 is_long (Answer.TakenBack superblock) = true
 is_long (Answer.WasReset tenant superblocks) = true
 is_long (Answer.Moved tenant slot superblock) = true
-is_long other = false
+is_long (Answer.Frame frame) = false
+is_long (Answer.Freed order) = false
+is_long (Answer.Written count) = false
+is_long (Answer.Destroyed frames) = false
+is_long (Answer.Object place) = false
+is_long Answer.Given = false
+is_long (Answer.Reaped frames) = false
+is_long (Answer.Refused refusal) = false
+is_long (Answer.Fault fault) = false
 
 -- the size of the buffer that the text of an answer is given
 abbrev pub buffer_of : Answer → ℕ

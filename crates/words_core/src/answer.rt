@@ -1,4 +1,4 @@
-//! What a line is answered in one line: in few bytes, those of a read where they lie, and as its text.
+//! Answers of one line: as a small value that borrows the bytes of a read, and as text.
 
 ghost use Rattle.std.specs.Prelude.{◌≡◌, ◌+◌, ◌*◌, ◌<◌, ◌≤◌, [], ◌∷◌, ◌++◌, codes, decimal, length, take, not, is_some, IfSome};
 ghost use Rattle.hex.specs.Hex.{encode_lower};
@@ -13,8 +13,9 @@ use crate::window::{put_front, put_labelled, put_number, put_number_quickly, put
 use arrayvec::ArrayVec;
 use model_core::limits::MOST_BYTES;
 
-/// What a line is answered, but for a report and the table of owners: a [`Body`] whose bytes are lent from where they lie.
-#[derive(Clone, Copy)]
+/// What a reply of one line says: a [`Body`] that borrows its bytes. Reports and the table of owners have more lines and are not
+/// among them.
+#[derive(Clone, Copy, Debug)]
 pub enum Answer<'a> {
     Frame(u32),
     Freed(u8),
@@ -50,17 +51,17 @@ pub enum Answer<'a> {
     Fault(LineFault),
 }
 
-/// Size of a buffer for the text of any answer, with its line feed: the longest is of 64 bytes that were read.
+/// Size in bytes of a buffer for the text of any answer with its line feed. The longest has 64 bytes that were read.
 pub const MOST_ANSWER_BYTES: usize = 160;
 
-/// Size of a buffer for the text of an answer that is not [`Answer::is_long`].
+/// Size in bytes of a buffer for the text of an answer that is not [`Answer::is_long`].
 pub const SHORT_ANSWER_BYTES: usize = 32;
 
-/// Before what it says the line of a reply has no more bytes than these.
+/// The largest number of bytes before the body in a line of a reply.
 pub(crate) const MOST_FRONT_BYTES: usize = 7;
 
 impl Answer<'_> {
-    /// The same, as what a reply says.
+    /// Converts it to a [`Body`], with a copy of its bytes.
     pub fn into_body(self) -> Body
         requires { HasFewBytes self }
         ensures { result ≡ body_of_answer self.entry }
@@ -118,7 +119,7 @@ impl Answer<'_> {
         }
     }
 
-    /// Whether the text needs `MOST_ANSWER_BYTES`: of bytes that were read, of the layout of a cache, and of a superblock.
+    /// Returns true if the text needs `MOST_ANSWER_BYTES`: for bytes that were read, a new cache, and a superblock.
     #[inline(always)]
     pub fn is_long(&self) -> bool
         ensures { result ≡ is_long self.now }
@@ -136,7 +137,7 @@ impl Answer<'_> {
 }
 
 impl Body {
-    /// The same in few bytes, its bytes lent; None of a report and of the table of owners.
+    /// Borrows it as an [`Answer`]. Returns `None` for a report and for the table of owners.
     pub fn answer(&self) -> Option<Answer<'_>>
         ensures same { IfSome result (λ answer. body_of_answer answer ≡ self.now) }
         ensures few { IfSome result (λ answer. HasFewBytes answer) }
@@ -197,7 +198,7 @@ impl Body {
     }
 }
 
-/// These bytes, as a value of their own.
+/// Returns a copy of these bytes.
 fn copied(bytes: &[u8]) -> ArrayVec<u8, MOST_BYTES>
     requires { length bytes.now ≤ MOST_BYTES }
     ensures { result.items ≡ bytes.now }
@@ -208,7 +209,7 @@ fn copied(bytes: &[u8]) -> ArrayVec<u8, MOST_BYTES>
     copied
 }
 
-/// Writes the whole text of the answer to a tenant, one line with its line feed, and answers its length. The buffer has
+/// Writes the text of an answer to a tenant, one line with its line feed, and returns its length in bytes. The buffer has
 /// `MOST_ANSWER_BYTES` bytes if the answer is long, else `SHORT_ANSWER_BYTES`.
 #[inline(always)]
 pub fn write_answer(tenant: u8, answer: Answer<'_>, out: &mut [u8]) -> usize
@@ -230,7 +231,7 @@ pub fn write_answer(tenant: u8, answer: Answer<'_>, out: &mut [u8]) -> usize
     put_text(b"\n", end, out)
 }
 
-/// [`write_answer`] of an answer that is not a word and a number, or is rare.
+/// The rest of [`write_answer`]: answers that are rare or are not one word and one number.
 #[inline(always)]
 fn write_other(tenant: u8, answer: Answer<'_>, out: &mut [u8]) -> usize
     requires few { HasFewBytes answer }
@@ -250,7 +251,7 @@ fn write_other(tenant: u8, answer: Answer<'_>, out: &mut [u8]) -> usize
     put_text(b"\n", at, out)
 }
 
-/// [`write_answer`] to anyone.
+/// The same as [`write_answer`] for any addressee.
 pub fn write_answer_to(addressee: Addressee, answer: Answer<'_>, out: &mut [u8]) -> usize
     requires few { HasFewBytes answer }
     requires space { buffer_of answer ≤ length out.old }
@@ -262,7 +263,7 @@ pub fn write_answer_to(addressee: Addressee, answer: Answer<'_>, out: &mut [u8])
     put_text(b"\n", at, out)
 }
 
-/// Writes the line of an answer without its line feed, and answers where it ends.
+/// Writes the line of an answer without its line feed and returns its end.
 #[cold]
 #[inline(never)]
 fn put_line(addressee: Addressee, answer: Answer<'_>, out: &mut [u8]) -> usize
@@ -275,7 +276,7 @@ fn put_line(addressee: Addressee, answer: Answer<'_>, out: &mut [u8]) -> usize
     put_answer(answer, at, out)
 }
 
-/// Writes whom a line is for, and returns where that ends.
+/// Writes the addressee of a line and returns the end of the text.
 #[tactic(auto, using(crate::proofs::DigitLemmas::length_short))]
 #[inline(always)]
 pub(crate) fn put_addressee(addressee: Addressee, out: &mut [u8]) -> usize
@@ -293,7 +294,7 @@ pub(crate) fn put_addressee(addressee: Addressee, out: &mut [u8]) -> usize
     }
 }
 
-/// Writes what is said behind the first `at` bytes, and answers where it ends.
+/// Writes the answer behind the first `at` bytes and returns its end.
 #[inline(always)]
 pub(crate) fn put_answer(answer: Answer<'_>, at: usize, out: &mut [u8]) -> usize
     requires few { HasFewBytes answer }
@@ -361,7 +362,7 @@ pub(crate) fn put_answer(answer: Answer<'_>, at: usize, out: &mut [u8]) -> usize
     }
 }
 
-/// The bytes that were read, in hex.
+/// Writes the bytes that were read, in hex.
 fn put_bytes(bytes: &[u8], at: usize, out: &mut [u8]) -> usize
     requires few { length bytes.now ≤ MOST_BYTES }
     requires front { at ≤ MOST_FRONT_BYTES }
@@ -373,7 +374,7 @@ fn put_bytes(bytes: &[u8], at: usize, out: &mut [u8]) -> usize
     put_digits(bytes, at, out)
 }
 
-/// [`put_hex`] out of line.
+/// [`put_hex`], kept out of line.
 #[inline(never)]
 fn put_digits(bytes: &[u8], at: usize, out: &mut [u8]) -> usize
     requires { at + 2 * length bytes.now ≤ length out.old }
@@ -383,7 +384,7 @@ fn put_digits(bytes: &[u8], at: usize, out: &mut [u8]) -> usize
     put_hex(bytes, at, out)
 }
 
-/// A slot of a tenant and the superblock under it.
+/// Writes a slot of a tenant and its superblock.
 #[cold]
 #[inline(never)]
 fn put_slot(tenant: u8, slot: u16, superblock: u16, at: usize, out: &mut [u8]) -> usize
@@ -398,7 +399,7 @@ fn put_slot(tenant: u8, slot: u16, superblock: u16, at: usize, out: &mut [u8]) -
     put_labelled(b" superblock ", u32::from(superblock), at, out)
 }
 
-/// That a cache was made: its number, and how its slabs are cut. The chunk is in bytes; a slab has `2^order` frames.
+/// Writes that a cache was made: its number and its layout. The chunk is in bytes; a slab has `2^order` frames.
 #[cold]
 #[inline(never)]
 fn put_cache(
@@ -422,7 +423,7 @@ fn put_cache(
     put_labelled(b" colours ", colours, at, out)
 }
 
-/// That a command was refused, by the number and the name of the refusal.
+/// Writes that a command was refused, with the number and the name of the refusal.
 #[tactic(auto, using(crate::proofs::DigitLemmas::length_short))]
 #[cold]
 #[inline(never)]
@@ -438,7 +439,7 @@ fn put_refused(refusal: Refusal, at: usize, out: &mut [u8]) -> usize
     put_text(refusal.name().as_bytes(), at, out)
 }
 
-/// That a line is faulty.
+/// Writes that a line is faulty.
 #[cold]
 #[inline(never)]
 fn put_fault(fault: LineFault, at: usize, out: &mut [u8]) -> usize

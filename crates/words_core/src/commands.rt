@@ -1,5 +1,5 @@
-//! The commands, each read from the words behind its own. A wrong number of words is the fault `Words`, and else the first
-//! that is not in its form says the fault.
+//! The commands, each read from its arguments. A wrong number of words is the fault `Words`; else the first argument that is
+//! malformed determines the fault.
 
 ghost use Rattle.std.specs.Prelude.{◌≡◌, ◌<◌, ◌^◌, map};
 ghost use Rattle.words_core.specs.Commands.{argument, bytes_argument, grant_row, take_back_row, reset_row, move_row, pool_row, alloc_row, free_row, read_row, write_row, cache_row, destroy_row, take_row, give_row, reap_row, report_row};
@@ -9,14 +9,14 @@ use crate::event::{AdminCommand, Command, LineFault};
 use crate::numbers::number;
 use arrayvec::ArrayVec;
 
-/// The number that a word is, in decimal.
+/// Reads a word as a decimal number.
 fn argument(word: &[u8]) -> Result<u32, LineFault>
     ensures { result ≡ argument word.now }
 {
     number(word).ok_or(LineFault::Number)
 }
 
-/// The bytes that a word gives in hex, if they are at least one and fit.
+/// Reads a word as bytes in hex. They have to be at least one and at most `N`.
 fn bytes_argument<const N: usize>(word: &[u8]) -> Result<ArrayVec<u8, N>, LineFault>
     requires { N < 2 ^ 32 }
     ensures { result ≡ bytes_argument N word.now }
@@ -32,7 +32,7 @@ fn bytes_argument<const N: usize>(word: &[u8]) -> Result<ArrayVec<u8, N>, LineFa
     }
 }
 
-/// `grant TENANT`: one more superblock for a tenant.
+/// Reads `grant TENANT`: gives a superblock to a tenant.
 pub fn grant_of(arguments: &[&[u8]]) -> Result<AdminCommand, LineFault>
     ensures { result ≡ command_by grant_row (map (λ word. word.now) arguments.now) }
 {
@@ -43,7 +43,7 @@ pub fn grant_of(arguments: &[&[u8]]) -> Result<AdminCommand, LineFault>
     Ok(AdminCommand::Grant { tenant })
 }
 
-/// `takeback TENANT SLOT`: the superblock under a slot back into the pool.
+/// Reads `takeback TENANT SLOT`: returns the superblock in a slot to the pool.
 pub fn take_back_of(arguments: &[&[u8]]) -> Result<AdminCommand, LineFault>
     ensures { result ≡ command_by take_back_row (map (λ word. word.now) arguments.now) }
 {
@@ -55,7 +55,7 @@ pub fn take_back_of(arguments: &[&[u8]]) -> Result<AdminCommand, LineFault>
     Ok(AdminCommand::TakeBack { tenant, slot })
 }
 
-/// `reset TENANT`: all that a tenant has taken away.
+/// Reads `reset TENANT`: takes away everything that a tenant has.
 pub fn reset_of(arguments: &[&[u8]]) -> Result<AdminCommand, LineFault>
     ensures { result ≡ command_by reset_row (map (λ word. word.now) arguments.now) }
 {
@@ -66,7 +66,7 @@ pub fn reset_of(arguments: &[&[u8]]) -> Result<AdminCommand, LineFault>
     Ok(AdminCommand::Reset { tenant })
 }
 
-/// `move TENANT SLOT`: another superblock under a slot.
+/// Reads `move TENANT SLOT`: replaces the superblock in a slot.
 pub fn move_of(arguments: &[&[u8]]) -> Result<AdminCommand, LineFault>
     ensures { result ≡ command_by move_row (map (λ word. word.now) arguments.now) }
 {
@@ -78,7 +78,7 @@ pub fn move_of(arguments: &[&[u8]]) -> Result<AdminCommand, LineFault>
     Ok(AdminCommand::Move { tenant, slot })
 }
 
-/// `pool`: who owns which superblock.
+/// Reads `pool`: lists the owner of each superblock.
 pub fn pool_of(arguments: &[&[u8]]) -> Result<AdminCommand, LineFault>
     ensures { result ≡ command_by pool_row (map (λ word. word.now) arguments.now) }
 {
@@ -88,7 +88,7 @@ pub fn pool_of(arguments: &[&[u8]]) -> Result<AdminCommand, LineFault>
     Ok(AdminCommand::Pool)
 }
 
-/// `alloc ORDER`: a page block of `2^ORDER` frames.
+/// Reads `alloc ORDER`: allocates a page block of `2^ORDER` frames.
 pub fn alloc_of(arguments: &[&[u8]]) -> Result<Command, LineFault>
     ensures { result ≡ command_by alloc_row (map (λ word. word.now) arguments.now) }
 {
@@ -99,7 +99,7 @@ pub fn alloc_of(arguments: &[&[u8]]) -> Result<Command, LineFault>
     Ok(Command::Alloc { order })
 }
 
-/// `free FRAME`: the page block that begins at a frame released.
+/// Reads `free FRAME`: frees the page block that begins at a frame.
 pub fn free_of(arguments: &[&[u8]]) -> Result<Command, LineFault>
     ensures { result ≡ command_by free_row (map (λ word. word.now) arguments.now) }
 {
@@ -110,7 +110,7 @@ pub fn free_of(arguments: &[&[u8]]) -> Result<Command, LineFault>
     Ok(Command::Free { frame })
 }
 
-/// `read PLACE LEN`: bytes read.
+/// Reads `read PLACE LEN`: reads bytes.
 pub fn read_of(arguments: &[&[u8]]) -> Result<Command, LineFault>
     ensures { result ≡ command_by read_row (map (λ word. word.now) arguments.now) }
 {
@@ -122,7 +122,7 @@ pub fn read_of(arguments: &[&[u8]]) -> Result<Command, LineFault>
     Ok(Command::Read { place, len })
 }
 
-/// `write PLACE HEX`: bytes written.
+/// Reads `write PLACE HEX`: writes bytes.
 pub fn write_of(arguments: &[&[u8]]) -> Result<Command, LineFault>
     ensures { result ≡ command_by write_row (map (λ word. word.now) arguments.now) }
 {
@@ -134,7 +134,7 @@ pub fn write_of(arguments: &[&[u8]]) -> Result<Command, LineFault>
     Ok(Command::Write { place, bytes })
 }
 
-/// `cache SIZE ALIGN HEX`: a new cache, with the pattern of its objects.
+/// Reads `cache SIZE ALIGN HEX`: makes a cache whose objects have a pattern.
 pub fn cache_of(arguments: &[&[u8]]) -> Result<Command, LineFault>
     ensures { result ≡ command_by cache_row (map (λ word. word.now) arguments.now) }
 {
@@ -151,7 +151,7 @@ pub fn cache_of(arguments: &[&[u8]]) -> Result<Command, LineFault>
     })
 }
 
-/// `destroy CACHE`: a cache and its slabs given back.
+/// Reads `destroy CACHE`: destroys a cache and frees its slabs.
 pub fn destroy_of(arguments: &[&[u8]]) -> Result<Command, LineFault>
     ensures { result ≡ command_by destroy_row (map (λ word. word.now) arguments.now) }
 {
@@ -162,7 +162,7 @@ pub fn destroy_of(arguments: &[&[u8]]) -> Result<Command, LineFault>
     Ok(Command::Destroy { cache })
 }
 
-/// `take CACHE`: an object out of a cache.
+/// Reads `take CACHE`: takes an object from a cache.
 pub fn take_of(arguments: &[&[u8]]) -> Result<Command, LineFault>
     ensures { result ≡ command_by take_row (map (λ word. word.now) arguments.now) }
 {
@@ -173,7 +173,7 @@ pub fn take_of(arguments: &[&[u8]]) -> Result<Command, LineFault>
     Ok(Command::Take { cache })
 }
 
-/// `give CACHE PLACE`: an object given back to its cache.
+/// Reads `give CACHE PLACE`: gives an object back to its cache.
 pub fn give_of(arguments: &[&[u8]]) -> Result<Command, LineFault>
     ensures { result ≡ command_by give_row (map (λ word. word.now) arguments.now) }
 {
@@ -185,7 +185,7 @@ pub fn give_of(arguments: &[&[u8]]) -> Result<Command, LineFault>
     Ok(Command::Give { cache, place })
 }
 
-/// `reap`: all empty slabs given back.
+/// Reads `reap`: frees all empty slabs.
 pub fn reap_of(arguments: &[&[u8]]) -> Result<Command, LineFault>
     ensures { result ≡ command_by reap_row (map (λ word. word.now) arguments.now) }
 {
@@ -195,7 +195,7 @@ pub fn reap_of(arguments: &[&[u8]]) -> Result<Command, LineFault>
     Ok(Command::Reap)
 }
 
-/// `report`: the figures of the tenant's memory.
+/// Reads `report`: reports the figures of the tenant's memory.
 pub fn report_of(arguments: &[&[u8]]) -> Result<Command, LineFault>
     ensures { result ≡ command_by report_row (map (λ word. word.now) arguments.now) }
 {

@@ -1,84 +1,83 @@
-//! What a line asks for: the events, their commands, a command that is borrowed, and the faults of a line that asks for nothing.
+//! What a line requests: events and their commands, a borrowed form of a command, and the faults of a line.
 
 ghost use Rattle.std.specs.Prelude.{◌≡◌, ◌≤◌, length};
 
 use arrayvec::ArrayVec;
 use model_core::limits::{MOST_BYTES, MOST_PATTERN};
 
-/// What a line without fault asks for.
+/// What a line without a fault requests.
 #[derive(Debug, Drop, PartialEq, Eq)]
 pub enum Event {
-    /// A command of the administrator, who grants superblocks to tenants.
+    /// A command of the administrator.
     Admin(AdminCommand),
-    /// A command of the tenant of this number, be there such a tenant or not.
+    /// A command of the tenant with this number. The tenant need not exist.
     Tenant(u32, Command),
 }
 
-/// A command of the administrator. Tenants are named by number, be there such a tenant or not.
+/// A command of the administrator. The tenants that it names need not exist.
 #[derive(Debug, Drop, PartialEq, Eq)]
 pub enum AdminCommand {
-    /// `admin grant T`: a superblock for the tenant.
+    /// `admin grant T`: gives the tenant a superblock.
     Grant { tenant: u32 },
-    /// `admin takeback T SLOT`: the superblock under this slot of the tenant is taken back.
+    /// `admin takeback T SLOT`: takes the superblock in this slot of the tenant back.
     TakeBack { tenant: u32, slot: u32 },
-    /// `admin reset T`: all that the tenant has is taken back.
+    /// `admin reset T`: takes back everything that the tenant has.
     Reset { tenant: u32 },
-    /// `admin move T SLOT`: this slot of the tenant is put over another superblock.
+    /// `admin move T SLOT`: moves this slot of the tenant to another superblock.
     Move { tenant: u32, slot: u32 },
-    /// `admin pool`: who owns which superblock.
+    /// `admin pool`: lists the owner of each superblock.
     Pool,
 }
 
-/// A command of a tenant. Its arguments are as they were written: none is known to be in range.
+/// A command of a tenant. Its arguments are as written, and may be out of range.
 #[derive(Debug, Drop, PartialEq, Eq)]
 pub enum Command {
-    /// `T alloc K`: a page block of `2^order` frames.
+    /// `T alloc K`: allocates a page block of `2^order` frames.
     Alloc {
         order: u32,
     },
-    /// `T free FRAME`: the page block that begins at this frame of the tenant is given back.
+    /// `T free FRAME`: frees the page block that begins at this frame of the tenant.
     Free {
         frame: u32,
     },
-    /// `T read PLACE LEN`: `len` bytes, from the tenant's byte number `place` on.
+    /// `T read PLACE LEN`: reads `len` bytes from the tenant's place `place` on.
     Read {
         place: u32,
         len: u32,
     },
-    /// `T write PLACE HEX`: 1 to 64 bytes, stored from the tenant's byte number `place` on.
+    /// `T write PLACE HEX`: writes 1 to 64 bytes from the tenant's place `place` on.
     Write {
         place: u32,
         bytes: ArrayVec<u8, MOST_BYTES>,
     },
-    /// `T cache SIZE ALIGN HEX`: a cache of objects of `size` bytes, each at a multiple of `align`,
-    /// and constructed as the 1 to 16 bytes of the pattern, over and over.
+    /// `T cache SIZE ALIGN HEX`: makes a cache of objects of `size` bytes, each at a multiple of `align`
+    /// bytes. A constructed object is filled with the pattern of 1 to 16 bytes, repeated.
     Cache {
         size: u32,
         align: u32,
         pattern: ArrayVec<u8, MOST_PATTERN>,
     },
-    /// `T destroy C`: the cache of this number is destroyed.
+    /// `T destroy C`: destroys the cache with this number.
     Destroy {
         cache: u32,
     },
-    /// `T take C`: an object of the cache.
+    /// `T take C`: takes an object of the cache.
     Take {
         cache: u32,
     },
-    /// `T give C PLACE`: the cache's object that begins at the tenant's byte number `place` is given
-    /// back.
+    /// `T give C PLACE`: gives back the cache's object that begins at the tenant's place `place`.
     Give {
         cache: u32,
         place: u32,
     },
-    /// `T reap`: the empty slabs of all caches are given back.
+    /// `T reap`: frees the empty slabs of all caches.
     Reap,
-    /// `T report`: the figures of the tenant's memory.
+    /// `T report`: reports the figures of the tenant's memory.
     Report,
 }
 
-/// A [`Command`], but for the report, that is borrowed: its bytes are where they lie.
-#[derive(Clone, Copy)]
+/// A [`Command`] that borrows its bytes. A report is not among them.
+#[derive(Clone, Copy, Debug)]
 pub enum Request<'a> {
     Alloc {
         order: u32,
@@ -117,7 +116,7 @@ impl Command {
     ghost use Rattle.words_core.specs.declared.event.Command.TheVariants.{Report};
     ghost use Rattle.words_core.specs.Requests.{command_of, AsksPattern, IsAskable};
 
-    /// The same, borrowed; `None` for the report.
+    /// Borrows it as a [`Request`]. Returns `None` for a report.
     pub fn request(&self) -> Option<Request<'_>>
         ensures same { MatchOption result (self.now ≡ Report) (λ request. command_of request ≡ self.now) }
         ensures askable { IfSome result (λ request. AsksPattern self.now → IsAskable request) }
@@ -154,25 +153,25 @@ impl Command {
     }
 }
 
-/// Why a line says nothing that can be done.
+/// Why a line cannot be run.
 #[derive(Clone, Copy, Debug, PartialEq, Eq)]
 pub enum LineFault {
     /// The line has more than 255 bytes.
     Long,
     /// The first word names no actor, or the second no command of that actor.
     Unknown,
-    /// The number of words isn't that of the command.
+    /// The command takes another number of words.
     Words,
-    /// A word that has to be a number isn't one.
+    /// An argument is not a number.
     Number,
-    /// A word that has to be bytes in hex isn't that.
+    /// An argument is not bytes in hex.
     Hex,
 }
 
 impl LineFault {
     ghost use Rattle.words_core.specs.Texts.{name_of_fault};
 
-    /// The name of the fault, as it is written.
+    /// Returns the name of the fault, as it is written in a reply.
     pub fn name(&self) -> &'static str
         ensures value { result.now ≡ name_of_fault self.now }
         ensures short { length result.now ≤ 7 }

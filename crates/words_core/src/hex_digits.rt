@@ -5,8 +5,8 @@ ghost use Rattle.hex.specs.Hex.{encode_lower};
 
 use crate::window::put_text;
 
-/// Writes the bytes in hex behind the first `at` bytes, and answers where it ends: four at a time, whose eight digits are one
-/// store.
+/// Writes the bytes in hex behind the first `at` bytes and returns the end. It does four bytes at a time: their eight digits are
+/// one store.
 #[inline(always)]
 pub fn put_hex(bytes: &[u8], at: usize, out: &mut [u8]) -> usize
     requires { at + 2 * length bytes.now ≤ length out.old }

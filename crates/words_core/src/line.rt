@@ -1,4 +1,4 @@
-//! A line read: the event that it asks for, nothing, or its fault.
+//! Reads a line as an event, nothing, or a fault.
 
 ghost use Rattle.std.specs.Prelude.{◌≡◌, Option, Result, map};
 ghost use Rattle.std.specs.Str.Lines.{strip_carriage_return};
@@ -16,14 +16,14 @@ use crate::event::{AdminCommand, Command, Event, LineFault};
 use crate::numbers::number;
 use crate::words::split_words;
 
-/// A line has at most this many bytes, without its line feed and one carriage return before that.
+/// The largest number of bytes of a line, without its line feed and one carriage return before that.
 pub const MOST_LINE_BYTES: usize = 255;
 
-/// What a line of a trace says: an event, nothing (a blank line or a comment), or a fault.
+/// Reads a line of a trace. Returns its event, `None` for a blank line or a comment, or its fault.
 ///
-/// The line comes without its line feed; one carriage return at its end is no part of it.
+/// The line comes without its line feed. One carriage return at its end is ignored.
 pub fn read_line(line: &[u8]) -> Result<Option<Event>, LineFault>
-    // It says what is returned, and nothing else.
+    // The line has the returned meaning and no other.
     ensures says { Says line.now result }
     ensures only { (other : Result (Option EventValue) Fault) → Says line.now other → other ≡ result }
     // The same as a function.
@@ -96,7 +96,7 @@ fn asked_of_tenant(words: &[&[u8]]) -> Result<Command, LineFault>
 fn admin_command_of(name: &[u8], arguments: &[&[u8]]) -> Result<AdminCommand, LineFault>
     ensures { result ≡ command_of admin_rows name.now (map (λ word. word.now) arguments.now) }
 {
-    // Tests in turn, as below.
+    // A chain of tests, as below.
     if name == b"grant".as_slice() {
         grant_of(arguments)
     } else if name == b"takeback".as_slice() {
@@ -115,7 +115,7 @@ fn admin_command_of(name: &[u8], arguments: &[&[u8]]) -> Result<AdminCommand, Li
 fn tenant_command_of(name: &[u8], arguments: &[&[u8]]) -> Result<Command, LineFault>
     ensures { result ≡ command_of tenant_rows name.now (map (λ word. word.now) arguments.now) }
 {
-    // Tests in turn: a match of ten byte strings is a tree of more than thirty leaves to the proof.
+    // A chain of tests: to the prover a match on ten byte strings is a tree of more than thirty leaves.
     if name == b"alloc".as_slice() {
         alloc_of(arguments)
     } else if name == b"free".as_slice() {

@@ -3,10 +3,10 @@
 ghost use Rattle.std.specs.Prelude.{◌≡◌, ◌≤◌, decimal, length};
 ghost use Rattle.words_core.specs.Numbers.{number_of};
 
-/// A number has at most this many decimal digits, leading zeros among them: any below `2^32` fits.
+/// The largest number of decimal digits of a number, including leading zeros. Each number below `2^32` fits.
 pub const MOST_DIGITS: usize = 10;
 
-/// The number that a word is: 1 to 10 decimal digits, with a value below `2^32`.
+/// Reads a word of 1 to 10 decimal digits as a number. Returns `None` for any other word, and for a value of `2^32` or more.
 pub fn number(word: &[u8]) -> Option<u32>
     ensures { result ≡ number_of word.now }
 {
@@ -23,7 +23,7 @@ pub fn number(word: &[u8]) -> Option<u32>
     u32::try_from(value).ok()
 }
 
-/// Returns how many decimal digits a number has: one more than its logarithm, and 0 has one.
+/// Returns the number of decimal digits of a number. 0 has one digit.
 #[tactic(auto, using(crate::proofs::DigitLemmas::digits_counted))]
 #[inline(always)]
 pub fn digits_of(number: u32) -> usize

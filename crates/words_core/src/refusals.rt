@@ -1,5 +1,4 @@
-//! The refusal of a reply, converted from each refusal of the private machine. So `?` in a function that returns a [`Refusal`]
-//! passes each of them on.
+//! Converts each refusal of the private machine to the [`Refusal`] of a reply, so that `?` works in functions that return one.
 
 ghost use Rattle.std.specs.Prelude.{◌≡◌};
 ghost use Rattle.words_core.specs.Refusals.{alloc_refusal, read_refusal, cache_refusal, destroy_refusal, take_refusal, give_refusal, take_back_refusal};

@@ -1,4 +1,4 @@
-//! Replies: whom one is for, and what it says.
+//! Replies: addressee and body.
 
 ghost use Rattle.std.specs.Prelude.{◌≡◌, ◌≤◌, length};
 
@@ -8,61 +8,61 @@ use arrayvec::ArrayVec;
 use model_core::limits::{MOST_BYTES, MOST_SUPERBLOCKS};
 use model_core::owner::Owner;
 
-/// Capacity for the owners of all superblocks of a machine.
+/// Capacity of a list of the owners of all superblocks.
 pub const OWNERS: usize = MOST_SUPERBLOCKS as usize;
 
-/// The answer to an event or to a faulty line: to whom, and what.
+/// The reply to an event or to a faulty line.
 #[derive(Debug, Drop, PartialEq, Eq)]
 pub struct Reply {
     pub addressee: Addressee,
     pub body: Body,
 }
 
-/// Whom a reply is for: it says so at the head of each of its lines.
+/// The addressee of a reply. Each line of the reply begins with it.
 #[derive(Clone, Copy, Debug, PartialEq, Eq)]
 pub enum Addressee {
     /// The administrator.
     Admin,
-    /// Nobody known: the line was faulty, or its tenant doesn't exist.
+    /// Nobody in particular: the line was faulty, or its tenant does not exist.
     Nobody,
-    /// The tenant of this number.
+    /// The tenant with this number.
     Tenant(u8),
 }
 
-/// What a reply says.
+/// The body of a reply.
 #[derive(Debug, Drop, PartialEq, Eq)]
 pub enum Body {
-    /// The tenant got this superblock of the machine under this slot of its own.
+    /// The tenant got this superblock in this slot.
     Granted {
         tenant: u8,
         slot: u16,
         superblock: u16,
     },
-    /// This superblock of the machine was taken back.
+    /// This superblock was taken back.
     TakenBack(u16),
-    /// The tenant was emptied, and gave up this many superblocks.
+    /// The tenant was reset and gave up this number of superblocks.
     WasReset {
         tenant: u8,
         superblocks: u16,
     },
-    /// This slot of the tenant was put over this superblock of the machine.
+    /// This slot of the tenant was moved to this superblock.
     Moved {
         tenant: u8,
         slot: u16,
         superblock: u16,
     },
-    /// For each superblock of the machine, by rising number, its owner, if it has one.
+    /// For each superblock, in ascending order, its owner if it has one.
     Owners(ArrayVec<Option<Owner>, OWNERS>),
     /// The first frame of a new page block.
     Frame(u32),
-    /// The order of the page block given back: it had `2^order` frames.
+    /// The order of the freed page block, which had `2^order` frames.
     Freed(u8),
-    /// The bytes read, 1 to 64 of them.
+    /// The 1 to 64 bytes that were read.
     Bytes(ArrayVec<u8, MOST_BYTES>),
-    /// How many bytes were written, 1 to 64.
+    /// The number of bytes written, 1 to 64.
     Written(u32),
-    /// The number of a new cache, and its layout: the bytes from one object to the next, the order of
-    /// the block of a slab, the objects of a slab, and its colour offsets.
+    /// The number of a new cache, and its layout: the bytes from one object to the next, the order of the
+    /// block of a slab, the number of objects in a slab, and the number of colour offsets.
     Cache {
         cache: u8,
         chunk: u32,
@@ -70,58 +70,58 @@ pub enum Body {
         objects: u32,
         colours: u32,
     },
-    /// The cache was destroyed, and its slabs gave back this many frames.
+    /// The cache was destroyed, which freed this number of frames.
     Destroyed(u32),
-    /// The place of an object that was taken: the number of its first byte.
+    /// The place of the object that was taken, that is, the number of its first byte.
     Object(u32),
     /// The object was given back.
     Given,
-    /// The empty slabs gave back this many frames.
+    /// The empty slabs were freed; they had this number of frames.
     Reaped(u32),
     /// The figures of the tenant's memory.
     Report(Report),
-    /// The command was refused, and changed nothing.
+    /// The command was refused and changed nothing.
     Refused(Refusal),
-    /// The line says nothing that can be done.
+    /// The line is faulty.
     Fault(LineFault),
 }
 
-/// Why a command was refused. Each has a number, by which it is also written.
+/// Why a command was refused. A reply has both the number and the name of the refusal.
 #[derive(Clone, Copy, Debug, PartialEq, Eq)]
 pub enum Refusal {
-    /// The tenant has no free block of the order asked for or of a greater one.
+    /// The tenant has no free block of the requested order or above.
     NoFrames = 1,
-    /// The order is greater than that of a superblock.
+    /// The order is above that of a superblock.
     BadOrder,
-    /// No live page block begins at the frame.
+    /// No page block of the tenant begins at the frame.
     NotABlock,
-    /// The range isn't inside one live page block, nor inside one live object.
+    /// The range is not inside one live page block or one live object.
     OutOfReach,
     /// A read of 0 bytes, or of more than 64.
     BadLength,
     /// The size is 0, or above 4096.
     BadSize,
-    /// The alignment isn't one of 8, 16, 32, 64, 128 and 256.
+    /// The alignment is not 8, 16, 32, 64, 128 or 256.
     BadAlign,
-    /// The tenant has as many caches as it may have.
+    /// The tenant has 32 caches, the largest number.
     NoCacheSlot,
-    /// The tenant has no cache of that number.
+    /// The tenant has no cache with that number.
     NoCache,
     /// An object of the cache is live.
     CacheInUse,
-    /// The place isn't the first byte of a live object of that cache.
+    /// The place is not the first byte of a live object of that cache.
     NotAnObject,
-    /// There is no tenant of that number.
+    /// There is no tenant with that number.
     NoTenant,
     /// Every superblock has an owner.
     PoolEmpty,
-    /// The tenant doesn't hold that slot.
+    /// The tenant does not hold that slot.
     NoSlot,
     /// A frame of the slot is taken, by a page block or by a slab.
     SlotBusy,
 }
 
-/// All refusals, by their numbers from 1 on.
+/// All refusals in the order of their numbers, from 1 on.
 pub const REFUSALS: [Refusal; 15] = [
     Refusal::NoFrames,
     Refusal::BadOrder,
@@ -143,7 +143,7 @@ pub const REFUSALS: [Refusal; 15] = [
 impl Refusal {
     ghost use Rattle.words_core.specs.Texts.{number_of_refusal, name_of_refusal};
 
-    /// The number of the refusal, 1 to 15.
+    /// Returns the number of the refusal, 1 to 15.
     pub fn number(&self) -> u8
         ensures { result ≡ number_of_refusal self.now }
     {

@@ -1,4 +1,4 @@
-//! The text of a reply, a line at a time.
+//! The text of a reply, line by line.
 
 ghost use Rattle.std.specs.Prelude.{◌≡◌, ◌+◌, ◌<◌, ◌≤◌, length, slice_get, take, Some};
 ghost use Rattle.words_core.specs.Texts.{owner_text, pool_texts, body_texts, lines_of};
@@ -12,13 +12,13 @@ use arrayvec::ArrayVec;
 use model_core::limits::MOST_SUPERBLOCKS;
 use model_core::owner::Owner;
 
-/// Size of a buffer for the longest line of a reply, its line feed included.
+/// Size in bytes of a buffer for the longest line of a reply with its line feed.
 pub const MOST_REPLY_BYTES: usize = 256;
 
-/// A reply has at most this many lines: those of the table of owners.
+/// The largest number of lines of a reply, that of the table of owners.
 pub const MOST_ROWS: usize = 1 + OWNERS;
 
-/// The number of lines of a reply.
+/// Returns the number of lines of a reply.
 #[tactic(auto, using(crate::proofs::TextLemmas::table_rows))]
 pub fn rows(reply: &Reply) -> usize
     ensures count { result ≡ length (lines_of reply.now) }
@@ -31,7 +31,7 @@ pub fn rows(reply: &Reply) -> usize
     }
 }
 
-/// Writes the line of this row over what `out` held, with its line feed. Rows count from 0.
+/// Writes one line of a reply, with its line feed, in place of what `out` held. Rows count from 0.
 pub fn write_line(reply: &Reply, row: usize, out: &mut ArrayVec<u8, MOST_REPLY_BYTES>)
     requires { row < length (lines_of reply.now) }
     ensures { slice_get (lines_of reply.now) row ≡ Some out.new.items }
@@ -43,7 +43,7 @@ pub fn write_line(reply: &Reply, row: usize, out: &mut ArrayVec<u8, MOST_REPLY_B
     prove!(taken.is_ok());
 }
 
-/// [`write_line`] over the first of the bytes; answers how many they are.
+/// The same as [`write_line`] into the front of some bytes. Returns the length of the line.
 pub fn write_row(reply: &Reply, row: usize, out: &mut [u8]) -> usize
     requires row { row < length (lines_of reply.now) }
     requires space { MOST_REPLY_BYTES ≤ length out.old }
@@ -55,17 +55,17 @@ pub fn write_row(reply: &Reply, row: usize, out: &mut [u8]) -> usize
     put_text(b"\n", at, out)
 }
 
-/// A reply of several lines, with its rows where they lie.
-#[derive(Clone, Copy)]
+/// A reply of several lines that borrows its rows.
+#[derive(Clone, Copy, Debug)]
 pub enum Table<'a> {
-    /// To the administrator: for each superblock, by rising number, its owner, if it has one.
+    /// To the administrator: for each superblock, in ascending order, its owner if it has one.
     Owners(&'a [Option<Owner>]),
-    /// To the tenant of this number: the figures of its memory.
+    /// To the tenant with this number: the figures of its memory.
     Report(u8, &'a Report),
 }
 
 impl Table<'_> {
-    /// The number of its lines.
+    /// Returns the number of its lines.
     #[tactic(auto, using(crate::proofs::TextLemmas::table_rows))]
     pub fn rows(self) -> usize
         requires { HasFewRows self }
@@ -78,7 +78,7 @@ impl Table<'_> {
         }
     }
 
-    /// [`write_row`] of the reply that it is.
+    /// The same as [`write_row`] for this reply.
     pub fn write_row(self, row: usize, out: &mut [u8]) -> usize
         requires rows { HasFewRows self }
         requires row { row < length (lines_of (reply_of_table self)) }
@@ -116,7 +116,7 @@ impl Table<'_> {
     }
 }
 
-/// Writes the line of this row of the body behind the first `at` bytes, and answers where it ends; so do the others.
+/// Writes one line of the body behind the first `at` bytes and returns its end. The other functions here do the same.
 #[tactic(auto, using(crate::proofs::TextLemmas::table_rows))]
 fn put_body(body: &Body, row: usize, at: usize, out: &mut [u8]) -> usize
     requires row { row < length (body_texts (take at out.old) body.now) }
@@ -152,7 +152,7 @@ fn put_owners(owners: &[Option<Owner>], row: usize, at: usize, out: &mut [u8]) -
     }
 }
 
-/// Writes who owns a superblock.
+/// Writes the owner of a superblock.
 #[inline(never)]
 fn put_owner(superblock: u32, owner: Option<Owner>, at: usize, out: &mut [u8]) -> usize
     requires front { at ≤ MOST_FRONT_BYTES }

@@ -1,11 +1,11 @@
-//! Text and numbers, written one behind the other into the front of some bytes.
+//! Writes text and numbers one behind the other into the front of some bytes.
 
 ghost use Rattle.std.specs.Prelude.{◌≡◌, ◌+◌, ◌<◌, ◌≤◌, [], ◌∷◌, ◌++◌, take, drop, decimal, length, slice_range};
 ghost use Rattle.words_core.specs.Digits.{two_digits, five_digits};
 
 use crate::numbers::{MOST_DIGITS, digits_of};
 
-/// Writes the text behind the first `at` bytes, and answers where it ends; so do the others.
+/// Writes the text behind the first `at` bytes and returns its end. The other functions here do the same.
 #[inline(always)]
 pub fn put_text(text: &[u8], at: usize, out: &mut [u8]) -> usize
     requires { at + length text.now ≤ length out.old }
@@ -17,11 +17,11 @@ pub fn put_text(text: &[u8], at: usize, out: &mut [u8]) -> usize
     end
 }
 
-/// A front is written at this width, whatever its length.
+/// A front of any length is stored as this number of bytes.
 const FRONT_BYTES: usize = 16;
 
-/// Writes the number of a tenant and, of the first `len` bytes of `front`, those behind the first; in one store where that number has
-/// one digit, which takes the place of the first. Answers where it ends.
+/// Writes the number of a tenant and the first `len` bytes of `front` without the first of them. If the number has one digit, it
+/// takes the place of that first byte, and all is one store. Returns the end.
 #[inline(always)]
 pub fn put_front(tenant: u8, front: &[u8; FRONT_BYTES], len: usize, out: &mut [u8]) -> usize
     requires some { 0 < len }
@@ -38,7 +38,7 @@ pub fn put_front(tenant: u8, front: &[u8; FRONT_BYTES], len: usize, out: &mut [u
     len
 }
 
-/// [`put_front`] of a number of several digits.
+/// [`put_front`] for a number of several digits.
 #[inline(never)]
 fn put_long_front(tenant: u8, front: &[u8; FRONT_BYTES], len: usize, out: &mut [u8]) -> usize
     requires some { 0 < len }
@@ -89,7 +89,7 @@ fn put_two(number: u32, at: usize, out: &mut [u8]) -> usize
     at + 2
 }
 
-/// The two digits of each number below 100.
+/// The two digits of each number below 100, one after the other.
 static PAIRS: [u8; 200] = *b"\
     00010203040506070809\
     10111213141516171819\
@@ -154,8 +154,8 @@ fn put_five(number: u32, at: usize, out: &mut [u8]) -> usize
     put_two(rest % 100, at, out)
 }
 
-/// Writes a number in fewer instructions than [`put_number`], for the lines that make up a load. It is inlined at one place alone: at
-/// several the function around it grows too large to be inlined.
+/// Writes a number in fewer instructions than [`put_number`], for the frequent lines. Inlined at one call only: with several, the
+/// function around them grows too large to be inlined.
 #[tactic(auto, using(crate::proofs::DigitLemmas::digit_rules))]
 #[inline(always)]
 pub fn put_number_quickly(number: u32, at: usize, out: &mut [u8]) -> usize
@@ -170,7 +170,7 @@ pub fn put_number_quickly(number: u32, at: usize, out: &mut [u8]) -> usize
     put_five(number % 100_000, at, out)
 }
 
-/// Writes a number by `itoa`, which writes backwards: so its digits are counted first.
+/// Writes a number by `itoa`. That writes backwards, so the digits are counted first.
 #[inline(always)]
 pub fn put_number(number: u32, at: usize, out: &mut [u8]) -> usize
     requires space { at + MOST_DIGITS ≤ length out.old }

@@ -1,12 +1,12 @@
-//! The words of a line: runs of bytes that are no blanks.
+//! The words of a line: runs of bytes other than blanks.
 
 ghost use Rattle.std.specs.Prelude.{◌≡◌, ◌<◌, ◌≤◌, ℕ, [], ◌∷◌, false, true, length, map, take, slice_index, MatchOption};
 ghost use Rattle.words_core.specs.Words.{is_blank, words_of};
 
 use arrayvec::ArrayVec;
 
-/// How many words of a line are looked at: no command has as many, so that a line with more is
-/// known by these to have too many.
+/// The number of words of a line that are read. No command has that many, so a longer line is
+/// known to have too many.
 pub const MOST_WORDS: usize = 6;
 
 fn is_blank(byte: u8) -> bool
@@ -15,7 +15,7 @@ fn is_blank(byte: u8) -> bool
     byte == b' ' || byte == b'\t'
 }
 
-/// How many blanks the bytes begin with.
+/// Returns the number of blanks at the front of the bytes.
 fn blanks_len(bytes: &[u8]) -> usize
     ensures fits { result ≤ length bytes.now }
     ensures blanks { (k : ℕ) → k < result → is_blank (slice_index bytes.now k) ≡ true }
@@ -29,7 +29,7 @@ fn blanks_len(bytes: &[u8]) -> usize
     bytes.len()
 }
 
-/// How many bytes stand before the first blank.
+/// Returns the number of bytes before the first blank.
 fn word_len(bytes: &[u8]) -> usize
     ensures fits { result ≤ length bytes.now }
     ensures word { (k : ℕ) → k < result → is_blank (slice_index bytes.now k) ≡ false }
@@ -43,7 +43,7 @@ fn word_len(bytes: &[u8]) -> usize
     bytes.len()
 }
 
-/// The first word, and what follows it; `None` where there are only blanks.
+/// Returns the first word and the bytes behind it, or `None` if there are only blanks.
 fn next_word(bytes: &[u8]) -> Option<(&[u8], &[u8])>
     ensures { MatchOption result (words_of bytes.now ≡ []) (λ found. words_of bytes.now ≡ found.0.now ∷ words_of found.1.now) }
 {
@@ -54,7 +54,7 @@ fn next_word(bytes: &[u8]) -> Option<(&[u8], &[u8])>
     Some(bytes.split_at(word_len(bytes)))
 }
 
-/// The words of a line in their order, without those past the sixth.
+/// Returns the first six words of a line, in order.
 pub fn split_words(line: &[u8]) -> ArrayVec<&[u8], MOST_WORDS>
     ensures { map (λ word. word.now) result.items ≡ take MOST_WORDS (words_of line.now) }
 {
