@@ -8,7 +8,7 @@ use judge_core::{LeftByte, RangeHolder};
 use std::mem::size_of;
 
 /// What was left at a place, if anything was.
-#[derive(Clone, Copy)]
+#[derive(Clone, Copy, Debug)]
 pub(crate) enum KeptByte {
     /// Nothing was.
     Fresh,

@@ -20,7 +20,7 @@ use std::alloc::{AllocError, Global};
 use std::marker::Model;
 
 /// The shadow memory of a tenant: what was left at each place of the slots that it holds.
-#[derive(Drop)]
+#[derive(Debug, Drop)]
 pub struct ShadowMemory {
     order: u8,
     slots: Vec<SlotBytes>,

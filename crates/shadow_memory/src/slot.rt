@@ -15,7 +15,7 @@ use std::alloc::{AllocError, Global};
 use std::marker::Model;
 
 /// A slot, and what was left at each of its places.
-#[derive(Drop)]
+#[derive(Debug, Drop)]
 pub(crate) struct SlotBytes {
     slot: u16,
     /// How many places it has.

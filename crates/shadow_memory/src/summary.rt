@@ -8,7 +8,7 @@ ghost use Rattle.shadow_memory.specs.Summaries.{MayOwn, IsSummarizedBy, any_summ
 use judge_core::RangeHolder;
 
 /// Whose bytes may have been left at some places.
-#[derive(Clone, Copy)]
+#[derive(Clone, Copy, Debug)]
 pub(crate) enum Owners {
     /// Nobody's: nothing was left there.
     Nobody,
@@ -21,7 +21,7 @@ pub(crate) enum Owners {
 }
 
 /// What may have been left at some places: whose bytes, and whether one of them may surely be there.
-#[derive(Clone, Copy)]
+#[derive(Clone, Copy, Debug)]
 pub(crate) struct Summary {
     pub owners: Owners,
     pub sure: bool,
