@@ -1,5 +1,5 @@
 -- For each law of reached machines an instance of its premises, met by computation: slots of 8 frames.
-use Rattle.std.proofs.Common.{◌≡◌, ℕ, ◌<◌, ◌≤◌, false, List, [], ◌∷◌, Some, Ok, replicate, refl, arith}
+use Rattle.std.proofs.Common.{◌≡◌, ℕ, ◌<◌, ◌≤◌, false, List, [], ◌∷◌, Some, Ok, replicate, refl, ap, arith}
 use Rattle.std.specs.Prelude.{codes, slice_get}
 use Rattle.model_core.specs.Blocks.{Block, block, HasFrame, IsTaken, IsChoice, IsSound}
 use Rattle.model_core.specs.BlockLaws.{JoinsTo}
@@ -77,7 +77,7 @@ ReachedJoins-met : ReachedJoins → (j : ℕ) × JoinsTo 3 (holds (reached_machi
 unfolding command_step alloc_step free_step by_need reaped choice taken_blocks empty_machine next_slot after_grant private_step
 ReachedJoins-met law = let joins = law 32 3 0 0 one_block (tt, (tt, tt)) refl in (joins.0, joins.1)
 
--- The second object of the slab
+-- The first two objects of the slab
 
 abbrev the_slab : Slab
 the_slab = record { first = 0; colour = 0; live = replicate 63 false }
@@ -88,6 +88,9 @@ the_cache = record { number = 0; size = 64; align = 8; pattern = 0 ∷ []; made 
 abbrev object : Object
 object = record { cache = the_cache; slab = the_slab; index = 1 }
 
+abbrev first_object : Object
+first_object = record { cache = the_cache; slab = the_slab; index = 0 }
+
 it_is_there : IsObject machine object
 unfolding computed_machine
 it_is_there = record { cache_in = (0, omega arith, refl); slab_in = (0, omega arith, refl); index_in = omega arith }
@@ -96,8 +99,16 @@ its_byte : HasByte object 100
 unfolding layout_of
 its_byte = (omega arith, omega arith)
 
-ReachedApart-met : ReachedApart → object ≡ object
-ReachedApart-met law = law 32 3 entries are_requests object object it_is_there it_is_there 100 its_byte its_byte
+first_is_there : IsObject machine first_object
+unfolding computed_machine
+first_is_there = record { cache_in = (0, omega arith, refl); slab_in = (0, omega arith, refl); index_in = omega arith }
+
+-- what object has the byte is the second, so the first has not
+ReachedApart-met : ReachedApart → ((a : Object) → IsObject machine a → HasByte a 100 → a ≡ object) × (HasByte first_object 100 → ⊥)
+ReachedApart-met law =
+    let only : (a : Object) → IsObject machine a → HasByte a 100 → a ≡ object = λ a there has.
+    law 32 3 entries are_requests a object there it_is_there 100 has its_byte in
+    (only, λ has. absurd (omega (arith, ap (λ o. o.index) (only first_object first_is_there has))))
 
 ReachedRecordsFree-met : ReachedRecordsFree → (0 ≤ 100) × (100 < 4064)
 unfolding layout_of

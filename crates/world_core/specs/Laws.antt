@@ -48,7 +48,7 @@ SameTexts = (limit order superblocks tenants superblocks' tenants' t : ℕ) (eve
     texts_for t (replies_to t (opening_history limit order superblocks tenants events))
     ≡ texts_for t (replies_to t (opening_history limit order superblocks' tenants' events'))
 
--- A private run in which no cache is refused for want of a number is, with the same replies and machine, the run under any
+-- A private run in which no cache is refused for lack of a number is, with the same replies and machine, the run under any
 -- greater limit on caches.
 abbrev pub MoreCaches : Type 0
 MoreCaches = (limit more order : ℕ) (entries : List Entry) (m : Machine) → limit ≤ more
@@ -77,7 +77,7 @@ SameLines = (limit order superblocks tenants superblocks' tenants' t : ℕ) (tra
     lines_for t (output_of limit order trace (opening_world superblocks tenants))
     ≡ lines_for t (output_of limit order trace' (opening_world superblocks' tenants'))
 
--- where no tenant is named, all that the lines of a trace write is shown
+-- if no tenant is named, all that the lines of a trace write is shown
 abbrev pub AllShown : Type 0
 AllShown = (limit order : ℕ) (trace : List ℕ) (w : World) →
     shown_lines None limit order (lines_of_trace trace) w ≡ output_of limit order trace w

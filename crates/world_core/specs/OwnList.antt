@@ -6,7 +6,22 @@ use Rattle.world_core.specs.World.{Exchange}
 
 abbrev pub is_refused : Body → Bool
 is_refused (Body.Refused refusal) = true
-is_refused body = false
+is_refused (Body.Granted tenant slot superblock) = false
+is_refused (Body.TakenBack superblock) = false
+is_refused (Body.WasReset tenant superblocks) = false
+is_refused (Body.Moved tenant slot superblock) = false
+is_refused (Body.Owners owners) = false
+is_refused (Body.Frame frame) = false
+is_refused (Body.Freed order) = false
+is_refused (Body.Bytes bytes) = false
+is_refused (Body.Written count) = false
+is_refused (Body.Cache cache chunk order objects colours) = false
+is_refused (Body.Destroyed frames) = false
+is_refused (Body.Object place) = false
+is_refused Body.Given = false
+is_refused (Body.Reaped frames) = false
+is_refused (Body.Report report) = false
+is_refused (Body.Fault fault) = false
 
 -- the entry, where the number that the event names is the tenant's
 abbrev pub if_named : ℕ → ℕ → Entry → List Entry

@@ -10,7 +10,7 @@ use Rattle.words_core.specs.Cutting.{lines_of_trace}
 use Rattle.world_core.specs.Vocabulary.{Entry, command_step, opening_world, world_step, world_after, own_list, events_of, opening_history}
 use Rattle.world_core.specs.PrivateRun.{private_run}
 
--- what an entry is to the model: an operation, or nothing where it only reads
+-- what an entry is to the model: an operation, or nothing if it only reads
 abbrev pub operations_in : Entry → List Operation
 operations_in (Entry.Ask (Command.Alloc k)) = Operation.Alloc k ∷ []
 operations_in (Entry.Ask (Command.Free first)) = Operation.Free first ∷ []
@@ -65,7 +65,7 @@ ReachedFreeOnce = (limit order x : ℕ) (entries : List Entry) → let m = reach
     (b : Block) × IsFreeIn order m b × HasFrame b x × ((c : Block) → IsFreeIn order m c → HasFrame c x → c ≡ b)
 
 -- An `alloc` that answers a frame splits the free block that is chosen, of some order j, of those that there are once empty
--- slabs are given back by need.
+-- slabs are given back on demand.
 abbrev pub ReachedSplits : Type 0
 ReachedSplits = (limit order k first : ℕ) (entries : List Entry) → AreRequests entries →
     let m = reached_machine limit order entries in
@@ -122,7 +122,7 @@ ReachedObject = (limit order number : ℕ) (entries : List Entry) (c : Cache) �
     cache_of m number ≡ Some c → IsAmple order (layout c).order m
     → (place : ℕ) × ((command_step limit order (Command.Take number) m).answer ≡ Body.Object place)
 
--- So nobody is starved by others: after any trace a tenant whose machine has that room is answered a frame, whatever all
+-- So nobody is starved by others: after any trace a tenant whose machine has that room gets a frame, whatever all
 -- others did.
 abbrev pub NobodyStarves : Type 0
 NobodyStarves = (limit order superblocks tenants t k : ℕ) (trace : List ℕ) (m : Machine) → t < tenants →

@@ -1,8 +1,8 @@
-//! The world of all tenants, as definitions, and the laws of whole runs of it.
+//! Definitions of the world of all tenants, and the laws of its whole runs.
 //!
-//! `specs/` says who owns which superblock, what each event answers and makes of the private machine of each tenant, what of a
-//! run concerns one tenant, and what the bytes of a trace write. The laws, in [`laws`], are over these definitions alone: they
-//! hold whatever program runs the events.
+//! `specs/` defines the owner of each superblock, the reply to each event and its effect on each private machine, the part of a
+//! run that concerns one tenant, and the output for the bytes of a trace. The laws, in [`laws`], are about these definitions
+//! alone, and so hold for any program that runs the events.
 #![tactic(auto)]
 
 pub mod laws;
