@@ -1,33 +1,33 @@
-//! What is kept of a cache and of a slab.
+//! The stored state of a cache and of a slab.
 
 ghost use Rattle.std.specs.Prelude.{◌≡◌};
 
 use layout_core::{Layout, Pattern};
 
-/// A cache: how its slabs are cut, what its objects hold when they are constructed, and how many slabs it has made.
-#[derive(Clone, Copy)]
+/// A cache: the layout of its slabs, the pattern of its constructed objects, and the number of slabs that it made.
+#[derive(Clone, Copy, Debug)]
 pub struct Cache {
     pub layout: Layout,
     pub pattern: Pattern,
-    /// Slabs made since its creation, modulo the number of its colours.
+    /// The number of slabs made since its creation, modulo the number of its colours.
     pub made: u32,
 }
 
-/// What is kept of a slab beside its lists.
-#[derive(Clone, Copy)]
+/// The state of a slab, except its list.
+#[derive(Clone, Copy, Debug)]
 pub struct Kept {
     /// The offset of its first object, in bytes.
     pub colour: u16,
-    /// How many of its objects are live.
+    /// The number of its live objects.
     pub live: u16,
-    /// Of a slab of large objects, at most 16: which are live, object 0 at the least bit.
+    /// For a slab of large objects, at most 16: one bit for each, 1 if it is live. Object 0 is the lowest bit.
     pub outside: u16,
 }
 
 impl Cache {
     ghost use Rattle.slab_tables.specs.Changes.{fresh_kept};
 
-    /// What is kept of the slab that it makes next.
+    /// Returns the state of the slab that it makes next.
     pub(crate) fn next_slab(&self) -> Kept
         ensures { result ≡ fresh_kept self.now }
     {

@@ -1,4 +1,4 @@
-//! Where to look for the slabs of a list: hints, on which only the cost of a change of a list depends.
+//! Hints where to look for the slabs of a list. Only the cost of a change of a list depends on them.
 
 ghost use Rattle.std.specs.Prelude.{◌≡◌, ◌^◌, ◌<◌, ◌≤◌};
 ghost use Rattle.model_core.specs.declared.limits.TheConstants.{MOST_ORDER};
@@ -6,23 +6,23 @@ ghost use Rattle.model_core.specs.declared.limits.TheConstants.{MOST_ORDER};
 use model_core::limits::{MOST_CACHES, MOST_SUPERBLOCKS};
 use std::alloc::{AllocError, Global};
 
-/// The order of a group of frames, or a superblock's where that is less: so a group lies in one slot.
+/// The order of a group of frames. It is a superblock's order if that is less, so a group lies in one slot.
 const GROUP_ORDER: u8 = 5;
 
-/// For each list that is kept the groups of its tenant's frames in which it has slabs, a bit each, and for each slot of a tenant
-/// the superblock that stood under it when a slab was made there.
-#[derive(Drop)]
+/// For each list that is kept, one bit for each group of its tenant's frames: 1 if the list has slabs there. For each slot of a
+/// tenant, the superblock that was in it when a slab was last made there.
+#[derive(Debug, Drop)]
 pub(crate) struct Groups {
     /// A superblock has `2^order` frames.
     order: u8,
     /// A group has `2^group` frames.
     group: u8,
-    /// The bits of a frame's number that tell it from the others of its group.
+    /// The bits of a frame's number that give its index in its group.
     inside: u32,
     /// A list has `2^span` words.
     span: u8,
     words: Vec<u64>,
-    /// By list, whether it is kept.
+    /// For each list, whether it is kept.
     kept: Vec<bool>,
     superblocks: Vec<u32>,
     ghost order_small: { order ≤ 8 },
@@ -31,7 +31,7 @@ pub(crate) struct Groups {
 }
 
 impl Groups {
-    /// No slab, on a machine of `superblocks` superblocks of `2^order` frames and for `tenants` tenants.
+    /// Makes the hints of a machine of `superblocks` superblocks of `2^order` frames for `tenants` tenants, without slabs.
     pub(crate) fn new(
         alloc: Global,
         order: u8,
@@ -56,14 +56,14 @@ impl Groups {
         })
     }
 
-    /// How many frames a group has.
+    /// Returns the number of frames in a group.
     pub(crate) fn size(&self) -> u32
         ensures { 0 < result }
     {
         1 << self.group
     }
 
-    /// How many frames of its group come before the frame.
+    /// Returns the index of a frame in its group.
     #[inline(always)]
     pub(crate) fn before_in_group(&self, frame: u32) -> u32
         ensures { result ≤ frame }
@@ -71,19 +71,19 @@ impl Groups {
         frame & self.inside
     }
 
-    /// Whether two frames are of one group.
+    /// Returns true if two frames are in one group.
     pub(crate) fn is_one(&self, frame: u32, other: u32) -> bool {
         frame >> self.group == other >> self.group
     }
 
-    /// Whether the list is kept.
+    /// Returns true if the list is kept.
     #[inline(always)]
     pub(crate) fn is_kept(&self, list: u32) -> bool {
         let i = list as usize;
         i < self.kept.len() && self.kept[i]
     }
 
-    /// The list is kept from now on, and has no slab.
+    /// Keeps the list from now on. It has no slab.
     pub(crate) fn keep(&mut self, list: u32) {
         let i = list as usize;
         if i < self.kept.len() {
@@ -96,7 +96,7 @@ impl Groups {
         }
     }
 
-    /// The list is not kept any more.
+    /// Stops keeping the list.
     pub(crate) fn leave(&mut self, list: u32) {
         let i = list as usize;
         if i < self.kept.len() {
@@ -104,7 +104,7 @@ impl Groups {
         }
     }
 
-    /// A slab of the list begins at a frame.
+    /// Notes that a slab of the list begins at a frame.
     pub(crate) fn put(&mut self, list: u32, frame: u32) {
         let group = frame >> self.group;
         let i = self.word_of(list, group / 64);
@@ -113,7 +113,7 @@ impl Groups {
         }
     }
 
-    /// No slab of the list begins in the group of the frame.
+    /// Notes that no slab of the list begins in the group of the frame.
     pub(crate) fn take(&mut self, list: u32, frame: u32) {
         let group = frame >> self.group;
         let i = self.word_of(list, group / 64);
@@ -122,7 +122,7 @@ impl Groups {
         }
     }
 
-    /// The frame of the list's tenant is this machine frame now.
+    /// Notes the machine frame of a frame of the list's tenant.
     pub(crate) fn see(&mut self, list: u32, frame: u32, machine_frame: u32) {
         let i = self.slot_of(list, frame);
         if i < self.superblocks.len() {
@@ -130,7 +130,7 @@ impl Groups {
         }
     }
 
-    /// The first frame of the last group before that of the frame in which the list has a slab.
+    /// Returns the first frame of the last group with a slab of the list before the group of this frame.
     pub(crate) fn before(&self, list: u32, frame: u32) -> Option<u32> {
         let group = frame >> self.group;
         let own = self.word(list, group / 64) & !(u64::MAX << (group % 64));
@@ -146,13 +146,13 @@ impl Groups {
         None
     }
 
-    /// The machine frame that the frame of the list's tenant was when a slab was last made in its slot.
+    /// Returns the machine frame that a frame of the list's tenant had when a slab was last made in its slot.
     pub(crate) fn seen_at(&self, list: u32, frame: u32) -> Option<u32> {
         let superblock = *self.superblocks.get(self.slot_of(list, frame))?;
         Some(superblock << self.order | frame % (1 << self.order))
     }
 
-    /// The first frame of the last group that has a bit in word `i` of its list.
+    /// Returns the first frame of the last group whose bit in word `i` of its list is 1.
     fn last_of(&self, i: u32, word: u64) -> u32
         requires { i < 2 ^ 26 }
     {
@@ -160,7 +160,7 @@ impl Groups {
         64 * i + last << self.group
     }
 
-    /// Word `i` of the list, 0 where there is none.
+    /// Returns word `i` of the list, 0 if there is none.
     fn word(&self, list: u32, i: u32) -> u64 {
         let i = self.word_of(list, i);
         if i < self.words.len() {
@@ -170,12 +170,12 @@ impl Groups {
         }
     }
 
-    /// The index of word `i` of the list.
+    /// Returns the index of word `i` of the list.
     fn word_of(&self, list: u32, i: u32) -> usize {
         (list as usize) << self.span | i as usize
     }
 
-    /// The index of the frame's slot among those of all tenants.
+    /// Returns the index of the frame's slot among those of all tenants.
     fn slot_of(&self, list: u32, frame: u32) -> usize {
         let tenant = list as usize / (3 * usize::from(MOST_CACHES));
         usize::from(MOST_SUPERBLOCKS) * tenant + (frame >> self.order) as usize

@@ -2,12 +2,12 @@
 
 ghost use Rattle.std.specs.Prelude.{◌≡◌};
 
-/// The kinds of slabs, each with a list of its own in every cache.
-#[derive(Clone, Copy, PartialEq, Eq)]
+/// The kinds of slabs. Each cache has one list for each kind.
+#[derive(Clone, Copy, Debug, PartialEq, Eq)]
 pub enum Kind {
     /// All objects are live.
     Full,
-    /// Some objects are live, and some are not.
+    /// Some objects are live, but not all.
     Partial,
     /// No object is live.
     Empty,
@@ -16,7 +16,7 @@ pub enum Kind {
 impl Kind {
     ghost use Rattle.slab_tables.specs.Content.{kind_number, kind_of};
 
-    /// The kind of a slab of `count` objects of which `live` are live.
+    /// Returns the kind of a slab with `live` live objects of `count`.
     pub fn of(count: u32, live: u32) -> Kind
         ensures { kind_number result ≡ kind_of count live }
     {
@@ -29,7 +29,7 @@ impl Kind {
         }
     }
 
-    /// The list of the kind among those of a cache: 0 to 2.
+    /// Returns the index of the kind's list among those of a cache, 0 to 2.
     pub(crate) fn number(self) -> u32
         ensures { result ≡ kind_number self }
     {

@@ -1,8 +1,8 @@
-//! The tables of all tenants' slab caches (Bonwick, "The Slab Allocator", USENIX Summer 1994): which caches there are, which
-//! slabs each has, of which kind, and how many of their objects are live.
+//! The tables of all tenants' slab caches (Bonwick, "The Slab Allocator", USENIX Summer 1994): the caches, their slabs with
+//! their kinds, and the numbers of live objects.
 //!
-//! They know no memory: a slab is named by the machine frame at which it begins, and by the frame that its tenant has there.
-//! Which objects of a slab are live stands in the slab's own frame where its objects are small, and here where they are large.
+//! They do not access memory: a slab is named by its first machine frame, and by its first frame in the numbering of its tenant.
+//! The live objects of a slab are recorded in the slab's own frame if its objects are small, and here if they are large.
 //!
 //! Only [`Tables::new`] allocates.
 #![tactic(auto)]

@@ -1,4 +1,4 @@
-//! The lists of slabs, by number among those of all caches.
+//! The numbers of the lists of slabs.
 
 ghost use Rattle.std.specs.Prelude.{◌≡◌, ◌<◌, ◌/◌, ◌%◌, ◌==◌};
 ghost use Rattle.model_core.specs.declared.limits.TheConstants.{MOST_CACHES};
@@ -11,14 +11,14 @@ use model_core::limits::MOST_CACHES;
 /// The list of the slabs of one kind of one cache of one tenant: `3 * (32 * tenant + cache)` for the full ones, and the next two
 /// numbers for the partial and the empty ones.
 ///
-/// So the lists of full slabs are loose ([`klist_core`]): slabs fill up often, and no call asks for the first full one.
-#[derive(Clone, Copy, PartialEq, Eq)]
+/// So the lists of full slabs are loose ([`klist_core`]): slabs fill up often, and no call needs the first full one.
+#[derive(Clone, Copy, Debug, PartialEq, Eq)]
 pub struct ListId {
     pub number: u32,
 }
 
 impl ListId {
-    /// The list of the slabs of a kind of cache `c` of tenant `t`.
+    /// Returns the list of the slabs of a kind of cache `c` of tenant `t`.
     #[inline(always)]
     pub fn of(t: u8, c: u32, kind: Kind) -> ListId
         requires { c < MOST_CACHES }
@@ -29,14 +29,14 @@ impl ListId {
         }
     }
 
-    /// The number of its cache among those of its tenant.
+    /// Returns the number of its cache among those of its tenant.
     pub fn cache(self) -> u32
         ensures { result ≡ self.number / 3 % MOST_CACHES }
     {
         self.number / 3 % u32::from(MOST_CACHES)
     }
 
-    /// Whether it is one of the lists of cache `c` of tenant `t`.
+    /// Returns true if it is one of the lists of cache `c` of tenant `t`.
     #[inline(always)]
     pub fn is_of(self, t: u8, c: u32) -> bool
         requires { c < MOST_CACHES }
@@ -45,7 +45,7 @@ impl ListId {
         self.number / 3 == index_of(t, c) as u32
     }
 
-    /// The kind of its slabs.
+    /// Returns the kind of its slabs.
     pub fn kind(self) -> Kind
         ensures { kind_number result ≡ self.number % 3 }
     {

@@ -1,4 +1,4 @@
-//! Where caches and their lists stand among those of all tenants, and changes of the lists.
+//! The indexes of caches and lists among those of all tenants, and changes of the lists.
 
 ghost use Rattle.std.specs.Prelude.{◌≡◌, ◌≢◌, ℕ, ◌+◌, ◌*◌, ◌^◌, ◌<◌, ◌≤◌, true, Some, None, length, replicate, IsSome, IfSome, IfOk, MatchOption};
 ghost use Rattle.model_core.specs.declared.limits.TheConstants.{MOST_ORDER, MOST_SUPERBLOCKS, MOST_TENANTS, MOST_CACHES};
@@ -12,7 +12,7 @@ use model_core::limits::MOST_CACHES;
 use std::alloc::{AllocError, Global};
 use std::marker::Model;
 
-/// Where cache `c` of tenant `t` stands among those of all tenants.
+/// Returns the index of cache `c` of tenant `t` among the caches of all tenants.
 pub(crate) fn index_of(t: u8, c: u32) -> usize
     requires { c < MOST_CACHES }
     ensures { result ≡ index_of_cache t c }
@@ -20,7 +20,7 @@ pub(crate) fn index_of(t: u8, c: u32) -> usize
     usize::from(MOST_CACHES) * usize::from(t) + c as usize
 }
 
-/// The machine frame at frame `i` of a superblock of `2^order` frames.
+/// Returns the machine frame at frame `i` of a superblock of `2^order` frames.
 pub(crate) fn machine_frame_at(order: u8, superblock: u16, i: u32) -> u32
     requires order { order ≤ MOST_ORDER }
     requires frame { i < 2 ^ order }
@@ -29,17 +29,18 @@ pub(crate) fn machine_frame_at(order: u8, superblock: u16, i: u32) -> u32
     (u32::from(superblock) << order) + i
 }
 
-/// A list of fewer slabs is walked at once.
+/// A list of fewer slabs is walked without using groups.
 const SHORT: u32 = 8;
 
-/// A list that comes to have as many slabs is kept in groups: to walk one of fewer costs no more than to look at its groups.
+/// A list that grows to this number of slabs is kept in groups. For fewer slabs a walk costs no more than a look at its groups.
 const LONG: u32 = 128;
 
-/// A list of fewer slabs is not kept in groups any more. Many changes lie between: a list is walked to put it into groups.
+/// A list that shrinks below this number of slabs is no longer kept in groups. There are many changes between the two numbers,
+/// since a list has to be walked to put it into groups.
 const NOT_LONG: u32 = 64;
 
-/// The lists of the slabs of all caches, and where to look for their slabs.
-#[derive(Drop)]
+/// The lists of the slabs of all caches, with hints where to look for their slabs.
+#[derive(Debug, Drop)]
 pub(crate) struct SlabLists {
     lists: Lists,
     groups: Groups,
@@ -54,7 +55,7 @@ impl Model for SlabLists {
 }
 
 impl SlabLists {
-    /// Three empty lists for each cache of each tenant: no slab begins at any machine frame.
+    /// Makes three empty lists for each cache of each tenant. No slab begins at any machine frame.
     pub(crate) fn new(
         alloc: Global,
         order: u8,
@@ -74,14 +75,14 @@ impl SlabLists {
         })
     }
 
-    /// The lists.
+    /// Returns the lists.
     pub(crate) fn lists(&self) -> &Lists
         ensures { result.now ≡ self.now }
     {
         &self.lists
     }
 
-    /// As [`Lists::any`].
+    /// The same as [`Lists::any`].
     pub(crate) fn any(&self, head: u32) -> Option<u32>
         requires { head < self.now.heads }
         ensures { MatchOption result (IsEmpty self.now.places head) (λ n. is_in head (place_at self.now.places n) ≡ true) }
@@ -89,7 +90,7 @@ impl SlabLists {
         self.lists.any(head)
     }
 
-    /// As [`Lists::insert`], into a list that is not loose.
+    /// The same as [`Lists::insert`] for a list that is not loose.
     pub(crate) fn insert(&mut self, head: u32, machine_frame: u32, key: u32)
         requires head { head < self.old.heads }
         requires by_key { IsByKey head }
@@ -103,7 +104,7 @@ impl SlabLists {
         self.note(head, key);
     }
 
-    /// As [`Lists::remove`].
+    /// The same as [`Lists::remove`].
     #[inline(always)]
     pub(crate) fn remove(&mut self, machine_frame: u32)
         requires machine_frame { machine_frame < length self.old.places }
@@ -120,7 +121,7 @@ impl SlabLists {
         self.lists.remove(machine_frame);
     }
 
-    /// A slab is in the list under the key now.
+    /// Notes that a slab is in the list under the key.
     #[inline(always)]
     fn note(&mut self, head: u32, key: u32)
         requires head { head < self.old.heads }
@@ -133,7 +134,7 @@ impl SlabLists {
         }
     }
 
-    /// As `note`, for a list that is kept in groups, or has become long: then it is kept from now on.
+    /// The same as `note` for a list that is kept in groups or has become long. It is kept in groups from then on.
     #[inline(never)]
     fn note_in_groups(&mut self, head: u32, key: u32)
         requires head { head < self.old.heads }
@@ -147,7 +148,7 @@ impl SlabLists {
         }
     }
 
-    /// The slab is to leave the list, which is kept in groups.
+    /// Notes that the slab is about to leave the list, which is kept in groups.
     #[inline(never)]
     fn forget(&mut self, list: u32, machine_frame: u32, key: u32)
         requires list { list < self.old.heads }
@@ -162,7 +163,7 @@ impl SlabLists {
         }
     }
 
-    /// Whether the slab's neighbours in its list are of other groups than its key.
+    /// Returns true if the slab's neighbours in its list are in other groups than its key.
     fn is_alone(&self, machine_frame: u32, key: u32) -> bool
         requires machine_frame { machine_frame < length self.now.places }
         requires placed { IsPlacedByKey self.now.places machine_frame }
@@ -178,9 +179,9 @@ impl SlabLists {
         }
     }
 
-    /// Moves the slab, which is in the list `from`, into the list `to` under the same key. Does nothing if these are one.
+    /// Moves the slab from the list `from` to the list `to` under the same key. Does nothing if the lists are the same.
     ///
-    /// `slab` is its order: it decides the cost alone.
+    /// `slab` is its order. Only the cost depends on it.
     #[inline(always)]
     pub(crate) fn relist(&mut self, from: u32, to: u32, machine_frame: u32, key: u32, slab: u8)
         requires to { to < self.old.heads }
@@ -194,10 +195,10 @@ impl SlabLists {
         }
     }
 
-    /// Moves the slab, which is in a list, into the list `head` under the same key.
+    /// Moves the slab from its list to the list `head` under the same key.
     ///
-    /// Into a loose list it goes at once. A short list is walked, unless the slab comes at an end of it. In a longer one, a slab
-    /// that comes before it is looked for.
+    /// A loose list takes it at once. A short list is walked, unless the slab belongs at an end of it. In a longer one it searches
+    /// for a slab that comes before it.
     #[inline(never)]
     fn move_to(&mut self, head: u32, machine_frame: u32, key: u32, slab: u8)
         requires head { head < self.old.heads }
@@ -217,7 +218,7 @@ impl SlabLists {
         }
     }
 
-    /// As [`Lists::insert`], into a list that is not short: behind a slab that comes before, if one is found near by.
+    /// The same as [`Lists::insert`] for a list that is not short: behind a slab that comes before, if one is found nearby.
     #[inline(always)]
     fn insert_among(&mut self, head: u32, machine_frame: u32, key: u32, step: u32)
         requires head { head < self.old.heads }
@@ -236,10 +237,10 @@ impl SlabLists {
         }
     }
 
-    /// The machine frame of a slab of the list whose key is below this one and not far from it, if one is found.
+    /// Returns the machine frame of a slab of the list with a key below this one and not far from it, if one is found.
     ///
-    /// It is looked for below `machine_frame` in its group, at a fourth as many frames as the list has slabs, since a short list
-    /// is walked sooner, and then in the last group before in which the list has a slab.
+    /// It searches below `machine_frame` in its group, at as many frames as a fourth of the slabs of the list, since a walk over a
+    /// short list costs less, and then in the last group before that has a slab of the list.
     fn near(&self, head: u32, machine_frame: u32, key: u32, step: u32) -> Option<u32>
         requires head { head < self.now.heads }
         requires machine_frame { machine_frame < length self.now.places }
@@ -257,7 +258,7 @@ impl SlabLists {
         self.near_in_groups(head, key, step)
     }
 
-    /// The machine frame of the list's last slab in the last group before that of the key in which the list has one.
+    /// Returns the machine frame of the list's last slab in the last group before the key's that has one.
     #[inline(never)]
     fn near_in_groups(&self, head: u32, key: u32, step: u32) -> Option<u32>
         requires head { head < self.now.heads }
@@ -273,7 +274,7 @@ impl SlabLists {
         near_below(&self.lists, head, end, step, size, size)
     }
 
-    /// Puts machine frame `to`, which is in no list, into the place of machine frame `from`, if that is in a list.
+    /// Replaces machine frame `from`, if it is in a list, by machine frame `to`, which is in none.
     pub(crate) fn replace(&mut self, from: u32, to: u32)
         requires from { from < length self.old.places }
         requires to { to < length self.old.places }
@@ -287,7 +288,7 @@ impl SlabLists {
         }
     }
 
-    /// Takes all slabs out of the list.
+    /// Removes all slabs from the list.
     pub(crate) fn clear(&mut self, head: u32)
         requires { head < self.old.heads }
         ensures { IsEmptied self.old self.new head }
@@ -298,7 +299,7 @@ impl SlabLists {
     }
 }
 
-/// Keeps the list, which has no more slabs than a long one, in groups from now on.
+/// Keeps the list in groups from now on. It has at most `LONG` slabs.
 #[cold]
 #[inline(never)]
 fn keep(lists: &Lists, groups: &mut Groups, head: u32)
@@ -316,7 +317,8 @@ fn keep(lists: &Lists, groups: &mut Groups, head: u32)
     }
 }
 
-/// The first of `above - step`, `above - 2 * step` and so on that is in the list, as far as `reach` below and at most so many.
+/// Returns the first of `above - step`, `above - 2 * step` and so on that is in the list. It tries at most `most` frames, and
+/// none further below than `reach`.
 fn near_below(lists: &Lists, head: u32, above: u32, step: u32, reach: u32, most: u32) -> Option<u32>
     requires head { head < lists.now.heads }
     requires above { above ≤ length lists.now.places }

@@ -18,14 +18,14 @@ use std::alloc::{AllocError, Global};
 use std::marker::Model;
 
 /// The tables of all tenants' caches.
-#[derive(Drop)]
+#[derive(Debug, Drop)]
 pub struct Tables {
     order: u8,
     lists: SlabLists,
     kept: Vec<Kept>,
     caches: Vec<Option<Cache>>,
     live: Vec<u32>,
-    /// By tenant the number above its highest cache.
+    /// For each tenant, the number above its highest cache.
     below: Vec<u8>,
 }
 
@@ -40,10 +40,10 @@ impl Model for Tables {
 }
 
 impl Tables {
-    /// No cache and no slab, on `superblocks` superblocks of `2^order` frames, for `tenants` tenants, within the limits of a
-    /// machine.
+    /// Makes tables without caches and slabs for `superblocks` superblocks of `2^order` frames and `tenants` tenants, within the
+    /// limits of a machine.
     ///
-    /// It asks for all memory that there will ever be, and answers `AllocError` where that is refused.
+    /// Allocates all memory that will ever be used. Returns `AllocError` if the allocator refuses it.
     pub fn new(
         alloc: Global,
         order: u8,
@@ -72,7 +72,7 @@ impl Tables {
         })
     }
 
-    /// What holds of all tables and of their lists. The call does nothing.
+    /// A law: the invariants of all tables and of their lists. The call does nothing.
     pub fn laws(&self)
         ensures slabs { IsSlabs self.now }
         ensures table { ArePlaces self.now.lists }
@@ -80,21 +80,22 @@ impl Tables {
         self.lists.lists().laws();
     }
 
-    /// A superblock has `2^order` frames.
+    /// Returns the order of a superblock, which has `2^order` frames.
     pub fn order(&self) -> u8
         ensures { result ≡ self.now.top }
     {
         self.order
     }
 
-    /// The lists of the slabs of all caches, by first frame, with their machine frames. A [`ListId`] has the number of each.
+    /// Returns the lists of the slabs of all caches, by first frame, with their machine frames. A [`ListId`] has the number of
+    /// each.
     pub fn lists(&self) -> &Lists
         ensures { result.now ≡ self.now.lists }
     {
         self.lists.lists()
     }
 
-    /// Cache `c` of tenant `t`, if it stands; any number may be asked for.
+    /// Returns cache `c` of tenant `t`, if there is one. Accepts any number.
     pub fn cache(&self, t: u8, c: u32) -> Option<&Cache>
         requires { IsTenant self.now t }
         ensures { option_map (λ x. x.now) result ≡ cache_at self.now t c }
@@ -105,7 +106,7 @@ impl Tables {
         self.caches[index_of(t, c)].as_ref()
     }
 
-    /// A number above those of all caches of tenant `t`: where a loop over them ends.
+    /// Returns a number above those of all caches of tenant `t`. Loops over them end there.
     pub fn caches_below(&self, t: u8) -> u32
         requires { IsTenant self.now t }
         ensures few { result ≤ MOST_CACHES }
@@ -114,7 +115,7 @@ impl Tables {
         u32::from(self.below[usize::from(t)])
     }
 
-    /// What is kept of the slab that begins at the machine frame.
+    /// Returns the state of the slab that begins at the machine frame.
     pub fn kept_of(&self, machine_frame: u32) -> Kept
         requires { machine_frame < length self.now.lists.places }
         ensures { result ≡ kept_at self.now.kept machine_frame }
@@ -122,7 +123,7 @@ impl Tables {
         self.kept[machine_frame as usize]
     }
 
-    /// List and first frame of the slab that begins at the machine frame; None if none does.
+    /// Returns the list and the first frame of the slab that begins at the machine frame, or `None` if none does.
     pub fn place_of(&self, machine_frame: u32) -> Option<(u32, u32)>
         requires { machine_frame < length self.now.lists.places }
         ensures { result ≡ place_at self.now.lists.places machine_frame }
@@ -130,7 +131,8 @@ impl Tables {
         self.lists.lists().place_of(machine_frame)
     }
 
-    /// Frame and machine frame of the first slab of one kind of cache `c` of tenant `t`. A full one is looked for in all frames.
+    /// Returns the frame and the machine frame of the first slab of one kind of cache `c` of tenant `t`. For full slabs it
+    /// searches all frames.
     pub fn first(&self, t: u8, c: u32, kind: Kind) -> Option<(u32, u32)>
         requires tenant { IsTenant self.now t }
         requires cache { c < MOST_CACHES }
@@ -145,7 +147,7 @@ impl Tables {
         }
     }
 
-    /// How many slabs of one kind cache `c` of tenant `t` has.
+    /// Returns the number of slabs of one kind of cache `c` of tenant `t`.
     pub fn count(&self, t: u8, c: u32, kind: Kind) -> u32
         requires tenant { IsTenant self.now t }
         requires cache { c < MOST_CACHES }
@@ -154,7 +156,7 @@ impl Tables {
         self.lists.lists().len(ListId::of(t, c, kind).number)
     }
 
-    /// How many objects of cache `c` of tenant `t` are live.
+    /// Returns the number of live objects of cache `c` of tenant `t`.
     pub fn live(&self, t: u8, c: u32) -> u32
         requires tenant { IsTenant self.now t }
         requires cache { c < MOST_CACHES }
@@ -163,15 +165,15 @@ impl Tables {
         self.live[index_of(t, c)]
     }
 
-    /// Makes a cache of tenant `t` that has made no slab, and answers its number: the least that no cache of the tenant
-    /// has. None, and nothing changed, where all numbers are used.
+    /// Makes a cache of tenant `t` without slabs and returns its number, the least that no cache of the tenant has. Returns
+    /// `None` and changes nothing if all numbers are used.
     pub fn create(&mut self, t: u8, layout: Layout, pattern: Pattern) -> Option<u8>
         requires { IsTenant self.old t }
         ensures answer { MatchOption result (IsAllUsed self.old t) (IsLeastNumber self.old t) }
         ensures created { IfSome result (λ c. self.new ≡ with_cache self.old t c (Some (new_cache layout pattern))) }
         ensures full { IfNone result (self.new ≡ self.old) }
     {
-        // What every layout and every pattern lends, for the invariant.
+        // The laws of the layout and the pattern, for the invariant.
         layout.laws();
         let _bytes = pattern.as_slice();
         let c = self.free_number(t)?;
@@ -187,7 +189,7 @@ impl Tables {
         Some(c)
     }
 
-    /// The least number that no cache of tenant `t` has.
+    /// Returns the least number that no cache of tenant `t` has.
     fn free_number(&self, t: u8) -> Option<u8>
         requires { IsTenant self.now t }
         ensures { MatchOption result (IsAllUsed self.now t) (IsLeastNumber self.now t) }
@@ -200,7 +202,7 @@ impl Tables {
         None
     }
 
-    /// Forgets cache `c` of tenant `t`, which has no slab.
+    /// Removes cache `c` of tenant `t`, which has no slab.
     pub fn remove_cache(&mut self, t: u8, c: u32)
         requires tenant { IsTenant self.old t }
         requires cache { IsSome (cache_at self.old t c) }
@@ -210,7 +212,7 @@ impl Tables {
         self.caches[index_of(t, c)] = None;
     }
 
-    /// Lets loops over the caches of tenant `t` end at its highest one.
+    /// Lowers [`Tables::caches_below`] of tenant `t` to the number above its highest cache.
     pub fn lower(&mut self, t: u8)
         requires { IsTenant self.old t }
         ensures { self.new ≡ self.old }
@@ -222,8 +224,8 @@ impl Tables {
         self.below[usize::from(t)] = below;
     }
 
-    /// Lets the next slab of cache `c` of tenant `t`, an empty one, begin at frame `first`, which is `machine_frame`. The cache
-    /// has made one slab more then, so what was read of it before is out of date.
+    /// Adds the next slab of cache `c` of tenant `t`, an empty one, at frame `first`, which is `machine_frame`. The cache then has
+    /// made one slab more, so values read from it before are out of date.
     pub fn add_slab(&mut self, t: u8, c: u32, cache: &Cache, first: u32, machine_frame: u32)
         requires tenant { IsTenant self.old t }
         requires cache { cache_at self.old t c ≡ Some cache.now }
@@ -240,8 +242,8 @@ impl Tables {
         self.caches[index_of(t, c)] = Some(Cache { made, ..*cache });
     }
 
-    /// Sets how many objects are live in the slab of cache `c` of tenant `t` at frame `first`, which is `machine_frame`. If its
-    /// kind changes, it goes to the list of the new kind, in a number of steps that does not grow with the list.
+    /// Sets the number of live objects in the slab of cache `c` of tenant `t` at frame `first`, which is `machine_frame`. If its
+    /// kind changes, it moves to the list of the new kind, in a number of steps that does not grow with the list.
     #[inline(always)]
     pub fn set_count(
         &mut self,
@@ -273,7 +275,7 @@ impl Tables {
         self.live[i] = self.live[i] + count - before;
     }
 
-    /// Keeps which objects of the slab at the machine frame are live, where they are large.
+    /// Sets the record of the live objects of the slab at the machine frame, if its objects are large.
     pub fn set_outside(&mut self, machine_frame: u32, outside: u16)
         requires { machine_frame < length self.old.lists.places }
         ensures { self.new ≡ with_outside self.old machine_frame outside }
@@ -281,7 +283,7 @@ impl Tables {
         self.kept[machine_frame as usize].outside = outside;
     }
 
-    /// Takes the slab at the machine frame, of which no object is live, out of its list.
+    /// Removes the empty slab at the machine frame from its list.
     pub fn remove_slab(&mut self, machine_frame: u32)
         requires placed { IsSome (place_at self.old.lists.places machine_frame) }
         requires empty { (kept_at self.old.kept machine_frame).live ≡ 0 }
@@ -290,7 +292,7 @@ impl Tables {
         self.lists.remove(machine_frame);
     }
 
-    /// Lets go of all caches and slabs of tenant `t`.
+    /// Removes all caches and slabs of tenant `t`.
     pub fn reset(&mut self, t: u8)
         requires { IsTenant self.old t }
         ensures { IsReset self.old self.new t }
@@ -301,7 +303,7 @@ impl Tables {
         self.below[usize::from(t)] = 0;
     }
 
-    /// Lets go of cache `c` of tenant `t`, where it stands, and of its slabs.
+    /// Removes cache `c` of tenant `t`, if it exists, with its slabs.
     fn clear(&mut self, t: u8, c: u32)
         requires tenant { IsTenant self.old t }
         requires cache { c < MOST_CACHES }
@@ -315,8 +317,8 @@ impl Tables {
         self.caches[i] = None;
     }
 
-    /// Moves all slabs of superblock `from` to superblock `to`, on which none stands: frame by frame, with all that is kept
-    /// of them. Their tenants' frames stay the same.
+    /// Moves all slabs of superblock `from` to superblock `to`, which has none, frame by frame with their state. Their tenants'
+    /// frames stay the same.
     pub fn move_slot(&mut self, from: u16, to: u16)
         requires from { (from + 1) * 2 ^ self.old.top ≤ length self.old.lists.places }
         requires to { (to + 1) * 2 ^ self.old.top ≤ length self.old.lists.places }
