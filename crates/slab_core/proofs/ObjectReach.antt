@@ -1,10 +1,10 @@
 -- Ranges of bytes and the live objects that have them.
-use Rattle.std.proofs.Common.{◌≡◌, ℕ, ◌+◌, ◌-◌, ◌*◌, ◌/◌, ◌^◌, ◌<◌, ◌≤◌, Bool, true, false, Some, refl, sym, ap, ◌∙◌, subst, arith}
-use Rattle.std.specs.Prelude.{◌↔◌}
+use Rattle.std.proofs.Common.{◌≡◌, ℕ, ◌+◌, ◌-◌, ◌*◌, ◌/◌, ◌^◌, ◌<◌, ◌≤◌, true, false, Option, Some, None, refl, sym, ap, ◌∙◌, subst, arith}
+use Rattle.std.specs.Prelude.{◌↔◌, MatchOption, is_some}
 use Rattle.std.proofs.lemmas.Bool.{false≢true}
 use Rattle.std.proofs.lemmas.Nat.{row_fits}
 use Rattle.model_core.specs.Blocks.{block, HasFrame, IsTaken}
-use Rattle.model_core.specs.Layouts.{object_place}
+use Rattle.model_core.specs.Layouts.{object_offset}
 use Rattle.layout_core.specs.Objects.{Holds, IsOnly}
 use Rattle.space_core.specs.Content as spaces
 use Rattle.buddy_core.specs.Content as buddies
@@ -16,6 +16,8 @@ use Rattle.machine_changes.specs.Changes.{Found, found}
 use Rattle.machine_changes.specs.Objects.{IsLiveObject, HasRange, HasNone}
 use Rattle.machine_changes.proofs.Facts.{has_it, one_slab}
 use Rattle.machine_changes.proofs.Objects.{fit_of}
+use Rattle.slab_core.specs.declared.reaching.ObjectSpan.{ObjectSpan}
+use Rattle.slab_core.specs.Reaching.{IsAround}
 use Rattle.slab_core.proofs.ObjectFinding.{in_frame}
 
 -- where no live object has a range, none is found
@@ -83,29 +85,39 @@ module _ (r : spaces.Content) (b : buddies.Content) (s : Content) (t place len :
       pub none_holds : ((i : ℕ) → Holds cache.layout (kept_at s.kept n).colour (place - 4096 * first) len i → ⊥) → HasNone r s t place len
       none_holds none o h = none o.index (holds o h)
 
-      not_live : (i : ℕ) → IsOnly (Holds cache.layout (kept_at s.kept n).colour (place - 4096 * first) len) i
+      pub not_live : (i : ℕ) → IsOnly (Holds cache.layout (kept_at s.kept n).colour (place - 4096 * first) len) i
           → is_live r t cache (kept_at s.kept n) first i ≡ false → HasNone r s t place len
       not_live i only dead o h =
           false≢true (sym dead ∙ (ap (is_live r t cache (kept_at s.kept n) first) (sym (only.only o.index (holds o h))) ∙ (here o h).object.live))
 
-      has_range : (i : ℕ) → IsOnly (Holds cache.layout (kept_at s.kept n).colour (place - 4096 * first) len) i
-          → is_live r t cache (kept_at s.kept n) first i ≡ true → HasRange r s t place len (found cache first n i)
-      has_range i only live =
+      -- the object whose bytes hold the range, if it is live
+      pub is_around : (i offset bytes : ℕ) → IsOnly (Holds cache.layout (kept_at s.kept n).colour (place - 4096 * first) len) i
+          → is_live r t cache (kept_at s.kept n) first i ≡ true
+          → offset ≡ object_offset (layout_numbers cache) (kept_at s.kept n).colour i → bytes ≡ cache.layout.size
+          → IsAround r s t place len (record { cache = c; place = 4096 * first + offset; bytes = bytes })
+      is_around i offset bytes only live at size =
           let is = only.is in
           let low = has.0 in
           let from = is.from in
           let to = is.to in
           record {
-            number = c;
-            begin = object_place (layout_numbers cache) first (kept_at s.kept n).colour i;
-            object = record { slab = q; index = is.object; live = live; begins = refl };
+            object = found cache first n i;
+            live = record { slab = q; index = is.object; live = live; begins = sym (ap (λ k. 4096 * first + k) at) };
+            size = size;
             some = is.some;
             from = omega arith;
             to = omega arith;
           }
 
-      -- the test whether it is live answers whether a live object has the range
-      pub reached : (i : ℕ) → IsOnly (Holds cache.layout (kept_at s.kept n).colour (place - 4096 * first) len) i → (v : Bool)
-          → v ≡ is_live r t cache (kept_at s.kept n) first i → (v ≡ true) ↔ ((o : Found) × HasRange r s t place len o)
-      reached i only true e = (λ yes. (found cache first n i, has_range i only (sym e)), λ some. refl)
-      reached i only false e = (λ yes. absurd (false≢true yes), λ some. absurd (not_live i only (sym e) some.0 some.1))
+-- a live object around the range has it
+has_range : (r : spaces.Content) (s : Content) (t place len : ℕ) (o : ObjectSpan) → IsAround r s t place len o → (x : Found) × HasRange r s t place len x
+has_range r s t place len o is = (
+  is.object,
+  record { number = o.cache; begin = o.place; object = is.live; some = is.some; from = is.from; to = omega (arith, is.to, is.size) },
+)
+
+-- whether one is found
+pub is_found : (r : spaces.Content) (s : Content) (t place len : ℕ) (o : Option ObjectSpan)
+    → MatchOption o (HasNone r s t place len) (IsAround r s t place len) → (is_some o ≡ true) ↔ ((x : Found) × HasRange r s t place len x)
+is_found r s t place len None none = nowhere none
+is_found r s t place len (Some o) is = (λ yes. has_range r s t place len o is, λ some. refl)

@@ -2,3 +2,4 @@ pub mod Calls
 pub mod Objects
 pub mod Fitting
 pub mod Lending
+pub mod Reaching

@@ -1,12 +1,12 @@
-//! Sets of blocks, of one order, by their numbers: a bit each.
+//! Sets of blocks of one order: one bit for each block, by its number.
 
 ghost use Rattle.std.specs.Prelude.{◌≡◌, ℕ, ◌<◌, ◌*◌, ◌==◌, ◌||◌, length};
 ghost use Rattle.slab_core.specs.Fitting.{has_number};
 
-/// How many words have a bit for each frame that a tenant may have.
+/// The number of words with a bit for each frame that a tenant can have.
 pub(crate) const MOST_WORDS: usize = 1024;
 
-/// Whether the set has the block.
+/// Returns true if the set has the block.
 pub(crate) fn has_block(words: &[u64], number: u32) -> bool
     requires { number < 64 * length words.now }
     ensures { result ≡ has_number words.now number }
@@ -14,7 +14,7 @@ pub(crate) fn has_block(words: &[u64], number: u32) -> bool
     words[(number / 64) as usize] >> (number % 64) & 1 == 1
 }
 
-/// Puts the block in.
+/// Adds the block.
 pub(crate) fn add_block(words: &mut [u64], number: u32)
     requires { number < 64 * length words.old }
     ensures len { length words.new ≡ length words.old }

@@ -1,4 +1,4 @@
-//! Caches made.
+//! Makes caches.
 
 ghost use Rattle.std.specs.Prelude.{◌≡◌, ◌≢◌, ℕ, IfNone};
 ghost use Rattle.model_core.specs.Vocabulary.{Machine, create_step};
@@ -13,10 +13,10 @@ use layout_core::{Layout, Pattern};
 use model_core::limits::MOST_CACHES;
 
 impl Slabs {
-    /// Makes a cache of tenant `t` for objects of this layout, which hold the pattern when they are constructed, and
-    /// answers its number: the least that no cache of the tenant has.
+    /// Makes a cache of tenant `t` for objects of this layout, which are constructed with the pattern. Returns its number, the
+    /// least that no cache of the tenant has.
     ///
-    /// None where the tenant has `MOST_CACHES` caches. No memory is touched.
+    /// Returns `None` if the tenant has `MOST_CACHES` caches. Touches no memory.
     pub fn create(&mut self, t: u8, layout: Layout, pattern: Pattern) -> Option<u8>
         requires tenant { IsTenant self.old t }
         ensures answer { (r : spaces.Content) (b : buddies.Content) (m : Machine) → ShowsMachine r b self.old t m

@@ -1,4 +1,4 @@
-//! Whether a block would fit, empty slabs left out of account.
+//! Decides whether a block would fit if all empty slabs were freed.
 
 ghost use Rattle.std.specs.Prelude.{◌≡◌, ◌↔◌, ℕ, ◌-◌, ◌*◌, ◌^◌, ◌<◌, ◌≤◌, true, false, is_some, length, MatchOption};
 ghost use Rattle.model_core.specs.declared.limits.TheConstants.{MOST_CACHES, MOST_ORDER};
@@ -20,7 +20,7 @@ use buddy_core::Buddy;
 use slab_tables::{Kind, Tables};
 use space_core::Space;
 
-/// Whether tenant `t` has a free block of order `k` or more.
+/// Returns true if tenant `t` has a free block of order `k` or more.
 fn has_free(buddy: &Buddy, t: u8, k: u8) -> bool
     requires tenant { t < length buddy.now.tenants }
     requires laws { BuddyLaws buddy.now }
@@ -35,10 +35,10 @@ fn has_free(buddy: &Buddy, t: u8, k: u8) -> bool
 }
 
 impl Slabs {
-    /// Whether a block of order `k` would be found for tenant `t` once all its empty slabs were given back.
+    /// Returns true if a block of order `k` would be found for tenant `t` after all its empty slabs were freed.
     ///
-    /// Where a block is free that is large enough, or no slab is empty, counts and the heads of lists tell. Else only the
-    /// frames of the blocks of order `k` in which empty slabs begin are looked at.
+    /// If a block is free that is large enough, or no slab is empty, this follows from counts and the heads of lists. Otherwise it
+    /// looks only at the frames of those blocks of order `k` in which empty slabs begin.
     pub fn would_fit(&self, space: &Space, buddy: &Buddy, t: u8, k: u8) -> bool
         requires tenant { t < length space.now.slots }
         requires order { k ≤ self.now.top }
@@ -57,7 +57,7 @@ impl Slabs {
         has_free(buddy, t, k) || view.would_fit_in_slabs(&mut [0; MOST_WORDS], k)
     }
 
-    /// As [`Slabs::would_fit`], if no block is free that is large enough. It has the set that a search needs.
+    /// The same as [`Slabs::would_fit`] if no free block is large enough. It uses the set of `self` for the search.
     #[cold]
     #[inline(never)]
     pub(crate) fn fits_by_need(&mut self, space: &Space, buddy: &Buddy, t: u8, k: u8) -> bool
@@ -81,7 +81,7 @@ impl Slabs {
     }
 }
 
-/// What a search reads: the parts, and the tenant for whom it is made.
+/// What a search reads: the parts and its tenant.
 #[derive(Clone, Copy)]
 struct View<'a> {
     tables: &'a Tables,
@@ -91,7 +91,7 @@ struct View<'a> {
 }
 
 impl View<'_> {
-    /// Whether a block of order `k` would fit around an empty slab.
+    /// Returns true if a block of order `k` would fit around an empty slab.
     fn would_fit_in_slabs(self, refused: &mut [u64], k: u8) -> bool
         requires tenant { self.tenant < length self.space.now.slots }
         requires order { k ≤ self.tables.now.top }
@@ -104,7 +104,7 @@ impl View<'_> {
         self.has_empty_slab() && self.would_fit_around(refused, k)
     }
 
-    /// Whether a slab is empty.
+    /// Returns true if some slab is empty.
     fn has_empty_slab(self) -> bool
         requires { IsTenant self.tables.now self.tenant }
         ensures { (result ≡ false) ↔ ((c : ℕ) → c < MOST_CACHES
@@ -119,7 +119,7 @@ impl View<'_> {
         false
     }
 
-    /// Whether a block of order `k` would fit around an empty slab: each block in which one begins is walked.
+    /// Returns true if a block of order `k` would fit around an empty slab. Walks each block in which one begins.
     #[inline(never)]
     fn would_fit_around(self, refused: &mut [u64], k: u8) -> bool
         requires tenant { self.tenant < length self.space.now.slots }
@@ -130,7 +130,7 @@ impl View<'_> {
         ensures fits { (result ≡ true) ↔ WouldFitInSlabs self.entry.space.now self.entry.buddy.now self.entry.tables.now self.entry.tenant k }
         ensures words { length refused.new ≡ length refused.old }
     {
-        // Blocks that have been walked, so that none is walked once more for another cache.
+        // The blocks that were walked, so that none is walked again for another cache.
         let words = refused.len().div_ceil(1 << k);
         let refused = &mut refused[..words];
         refused.fill(0);
@@ -142,7 +142,7 @@ impl View<'_> {
         false
     }
 
-    /// As `would_fit_around`, for cache `c` alone. It skips the blocks that were refused, and adds those that it refuses.
+    /// The same as `would_fit_around` for cache `c` alone. Skips the blocks that were refused, and adds those that it refuses.
     fn would_fit_in_cache(self, refused: &mut [u64], c: u32, k: u8) -> bool
         requires tenant { self.tenant < length self.space.now.slots }
         requires cache { c < MOST_CACHES }
@@ -170,7 +170,7 @@ impl View<'_> {
         false
     }
 
-    /// Whether no frame of the block of order `k` at frame `first` is taken, unless by an empty slab.
+    /// Returns true if no frame of the block of order `k` at frame `first` is taken, except by empty slabs.
     fn is_unused_block(self, first: u32, k: u8) -> bool
         requires tenant { self.tenant < length self.space.now.slots }
         requires first { first < 65536 }
@@ -193,8 +193,8 @@ impl View<'_> {
         true
     }
 
-    /// A frame up to which no frame from this one on is taken, unless by an empty slab. None where this one is taken
-    /// otherwise. `begins` is the order of the taken block that begins here.
+    /// Returns a frame such that no frame from this one up to it is taken, except by empty slabs. Returns `None` if this one is
+    /// taken otherwise. `begins` is the order of the taken block that begins here.
     #[inline(always)]
     fn past_unused(self, frame: u32, begins: Option<u8>) -> Option<u32>
         requires tenant { self.tenant < length self.space.now.slots }
@@ -216,7 +216,7 @@ impl View<'_> {
         }
     }
 
-    /// Whether an empty slab begins at a frame.
+    /// Returns true if an empty slab begins at a frame.
     fn is_idle(self, frame: u32) -> bool
         requires tenant { self.tenant < length self.space.now.slots }
         requires machine_frames { length self.tables.now.lists.places ≡ length self.space.now.owners * 2 ^ self.tables.now.top }

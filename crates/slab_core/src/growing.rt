@@ -1,4 +1,4 @@
-//! How a block becomes a slab: its control record is cleared, and each of its objects constructed.
+//! Makes a block a slab: clears its control record and constructs each of its objects.
 
 ghost use Rattle.std.specs.Prelude.{◌≡◌, ◌↔◌, ℕ, ◌+◌, ◌*◌, ◌^◌, ◌<◌, length, option_map, Some, IsSome, IfSome, IfNone};
 ghost use Rattle.model_core.specs.Vocabulary.{IsLayout, Machine, choice, cache_of, grown, by_need, choice_by_need};
@@ -22,10 +22,10 @@ use model_core::limits::{FRAME_BYTES, RECORD_BYTES, RECORD_OFFSET};
 use space_core::Space;
 
 impl Slabs {
-    /// Makes the next slab of the cache, of which every slab is full.
+    /// Makes the next slab of a cache whose slabs are all full.
     ///
-    /// The tenant's empty slabs are given back for it where a block is found only then. None, and nothing changed, where no
-    /// block is found then either.
+    /// Frees the tenant's empty slabs first if no block is found otherwise. Returns `None` and changes nothing if no block is
+    /// found even then.
     #[inline(always)]
     pub(crate) fn grow(
         &mut self,
@@ -60,8 +60,8 @@ impl Slabs {
         self.make_slab(space, buddy, cache)
     }
 
-    /// Makes the next slab of the cache on a free block. None, and nothing changed, where no block is free that is large
-    /// enough: no slab is given back for it.
+    /// Makes the next slab of the cache on a free block. Returns `None` and changes nothing if no free block is large enough.
+    /// Frees no slab.
     #[inline(always)]
     fn make_slab(
         &mut self,
@@ -102,7 +102,7 @@ impl Slabs {
     }
 }
 
-/// Fills the bytes of an object of the cache with the pattern, over and over.
+/// Fills an object of the cache with the pattern, repeated.
 fn fill(space: &mut Space, cache: TenantCache<'_>, place: u32)
     requires tenant { cache.tenant < length space.old.slots }
     requires in_reach { IsSome (home_of space.old cache.tenant place cache.kept.now.layout.size) }
@@ -112,9 +112,9 @@ fn fill(space: &mut Space, cache: TenantCache<'_>, place: u32)
     cache.kept.pattern.fill(bytes);
 }
 
-/// Makes the block at frame `first` a slab of which no object is live: every object is constructed.
+/// Makes the block at frame `first` an empty slab, with every object constructed.
 ///
-/// It writes each byte of an object once, and those of the control record.
+/// Writes each byte of an object once, and the control record.
 pub(crate) fn construct(space: &mut Space, cache: TenantCache<'_>, first: u32, colour: u32)
     requires tenant { cache.tenant < length space.old.slots }
     requires laws { SpaceLaws space.old }
@@ -132,7 +132,7 @@ pub(crate) fn construct(space: &mut Space, cache: TenantCache<'_>, first: u32, c
     }
 }
 
-/// Clears the control record of the block at frame `first`, where it stands there.
+/// Clears the control record of the block at frame `first`, if it is in the frame.
 fn clear_record(space: &mut Space, cache: TenantCache<'_>, first: u32)
     requires tenant { cache.tenant < length space.old.slots }
     requires laws { SpaceLaws space.old }
@@ -150,7 +150,7 @@ fn clear_record(space: &mut Space, cache: TenantCache<'_>, first: u32)
     }
 }
 
-/// Constructs object `i` of the block at frame `first`, after those before it.
+/// Constructs object `i` of the block at frame `first`, after all objects before it.
 fn construct_one(space: &mut Space, cache: TenantCache<'_>, first: u32, colour: u32, i: u32)
     requires tenant { cache.tenant < length space.old.slots }
     requires layout { IsLayout cache.kept.now.layout.size cache.kept.now.layout.align (layout_numbers cache.kept.now) }

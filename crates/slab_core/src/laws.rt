@@ -1,4 +1,4 @@
-//! What parts that agree lend.
+//! The law of parts that agree.
 
 ghost use Rattle.std.specs.Prelude.{◌<◌, length};
 ghost use Rattle.machine_changes.specs.Shows.{Agree};
@@ -10,8 +10,8 @@ use buddy_core::Buddy;
 use space_core::Space;
 
 impl Slabs {
-    /// Parts that agree lend what holds of each of them, and of each tenant what the laws of the parts ask for. The call does
-    /// nothing.
+    /// A law: if the parts agree, each of them has its invariants, and each tenant has what the laws of the parts require. The
+    /// call does nothing.
     pub fn laws_with(&self, space: &Space, buddy: &Buddy, t: u8)
         requires tenant { t < length space.now.slots }
         requires agree { Agree space.now buddy.now self.now }

@@ -1,10 +1,10 @@
 //! Slab caches over the buddy systems and the memory of all tenants (Bonwick, "The Slab Allocator", USENIX Summer 1994).
 //!
-//! A slab is a block of frames cut into objects of one size. The control record of a slab of small objects stands in the last
-//! 32 bytes of its frame: a bit for each object, 1 where it is live. That of a slab of large objects is kept outside.
+//! A slab is a block of frames cut into objects of one size. The control record of a slab of small objects is in the last
+//! 32 bytes of its frame: one bit for each object, 1 if it is live. That of a slab of large objects is kept outside.
 //!
-//! Every call is proved to be the step of the tenant's private machine, whichever machine the memory, the buddy systems and the
-//! caches show for it, and to spare all other tenants.
+//! Every call for a tenant's command is proved to be the step of the tenant's private machine, which is the one that the memory, the buddy systems and
+//! the caches show for it, and to leave all other tenants unchanged.
 //!
 //! Only [`Slabs::new`] allocates.
 //!
@@ -51,15 +51,16 @@ mod taking;
 use klist_core::Lists;
 pub use model_core::refusals::{DestroyRefusal, GiveRefusal, TakeRefusal};
 pub use model_core::report::CacheRow;
+pub use reaching::ObjectSpan;
 use slab_tables::Tables;
 use std::alloc::{AllocError, Global};
 use std::marker::Model;
 
 /// The caches and slabs of all tenants.
-#[derive(Drop)]
+#[derive(Debug, Drop)]
 pub struct Slabs {
     tables: Tables,
-    /// The set of the blocks that a search refuses: a bit for each frame of the machine.
+    /// The set of the blocks that a search refuses: one bit for each frame of the machine.
     refused: Vec<u64>,
 }
 
@@ -75,9 +76,9 @@ impl Model for Slabs {
 }
 
 impl Slabs {
-    /// No tenant has a cache.
+    /// Makes the tables of a machine on which no tenant has a cache.
     ///
-    /// It asks for all memory that there will ever be, and answers `AllocError` where that is refused.
+    /// Allocates all memory that will ever be used. Returns `AllocError` if the allocator refuses it.
     pub fn new(alloc: Global, order: u8, superblocks: u16, tenants: u8) -> Result<Slabs, AllocError>
         requires order { order ≤ MOST_ORDER }
         requires superblocks { superblocks ≤ MOST_SUPERBLOCKS }
@@ -91,21 +92,22 @@ impl Slabs {
         })
     }
 
-    /// What holds of the caches and slabs of all tenants. The call does nothing.
+    /// A law: the invariants of the caches and slabs of all tenants. The call does nothing.
     pub fn laws(&self)
         ensures { IsSlabs self.now }
     {
         self.tables.laws();
     }
 
-    /// A superblock has `2^order` frames.
+    /// Returns the order of a superblock, which has `2^order` frames.
     pub fn order(&self) -> u8
         ensures { result ≡ self.now.top }
     {
         self.tables.order()
     }
 
-    /// The lists of all caches' slabs, by first frame, with their machine frames. A [`slab_tables::ListId`] has each list's number.
+    /// Returns the lists of all caches' slabs, by first frame, with their machine frames. A [`slab_tables::ListId`] has the
+    /// number of each list.
     pub fn lists(&self) -> &Lists
         ensures same { result.now ≡ self.now.lists }
         ensures hold { ListsHold self.now }

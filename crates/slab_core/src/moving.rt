@@ -1,4 +1,4 @@
-//! Slabs that leave their superblock: with all caches of a tenant, or for another superblock.
+//! Removes all slabs of a tenant, and moves slabs to another superblock.
 
 ghost use Rattle.std.specs.Prelude.{◌≡◌, ℕ, ◌+◌, ◌*◌, ◌^◌, ◌<◌, ◌≤◌, Some, None, length};
 ghost use Rattle.klist_core.specs.Places.{place_at};
@@ -13,9 +13,9 @@ ghost use Rattle.machine_changes.specs.Slots.{HoldTogether};
 use crate::Slabs;
 
 impl Slabs {
-    /// Removes all caches of tenant `t`, with their slabs. All other tenants keep theirs.
+    /// Removes all caches of tenant `t` with their slabs. All other tenants keep theirs.
     ///
-    /// It changes no byte of memory and releases no block: the caller resets the buddy system of the tenant, too.
+    /// Changes no byte of memory and frees no block: the caller also resets the buddy system of the tenant.
     pub fn reset(&mut self, t: u8)
         requires tenant { IsTenant self.old t }
         ensures reset { IsReset self.old self.new t }
@@ -24,11 +24,11 @@ impl Slabs {
         self.tables.reset(t);
     }
 
-    /// Moves all slabs of superblock `from` to superblock `to`, which has no slab: frame by frame, with all that is kept of
-    /// them. The caches of all tenants stay, and so do the first frames of the slabs in the numbering of tenant `t`.
+    /// Moves all slabs of superblock `from` to superblock `to`, which has none, frame by frame with their state. All caches stay,
+    /// and the slabs keep their first frames in the numbering of tenant `t`.
     ///
-    /// It changes no byte of memory. [`space_core::Space::move_slot`] and [`buddy_core::Buddy::move_slot`] come first, with the
-    /// same tenant and superblocks: the three agree again afterwards.
+    /// Changes no byte of memory. Call [`space_core::Space::move_slot`] and [`buddy_core::Buddy::move_slot`] first, with the same
+    /// tenant and superblocks: the three agree again afterwards.
     pub fn move_slot(&mut self, t: u8, from: u16, to: u16)
         requires tenant { IsTenant self.old t }
         requires from { (from + 1) * 2 ^ self.old.top ≤ length self.old.lists.places }
@@ -39,7 +39,7 @@ impl Slabs {
             → spaces.superblock_at r.slots t u ≡ Some from → to < length r.owners → spaces.owner_at r.owners to ≡ None
             → Agree (with_move r t u from to) (buddies.with_holding t (buddies.with_slot u to (buddies.holding_of t b)) b) self.new }
     {
-        // Then it has no slab.
+        // It then has no slab.
         if from == to {
             return;
         }

@@ -9,7 +9,8 @@ ghost use Rattle.slab_tables.specs.declared.cache.Cache as own;
 ghost use Rattle.machine_changes.specs.Shows.{machine_frame_of, has_slab, IsSlab, Agree};
 ghost use Rattle.machine_changes.specs.Changes.{Found};
 ghost use Rattle.machine_changes.specs.Steady.{IsSteady};
-ghost use Rattle.machine_changes.specs.Objects.{HasRange};
+ghost use Rattle.machine_changes.specs.Objects.{HasRange, HasNone};
+ghost use Rattle.slab_core.specs.Reaching.{IsAround};
 
 use crate::Slabs;
 use crate::objects::{Object, Slab, TenantCache};
@@ -17,6 +18,17 @@ use buddy_core::Buddy;
 use model_core::limits::FRAME_BYTES;
 use slab_tables::ListId;
 use space_core::Space;
+
+/// The bytes of a live object of a tenant.
+#[derive(Clone, Copy, Debug, PartialEq, Eq)]
+pub struct ObjectSpan {
+    /// The number of its cache.
+    pub cache: u32,
+    /// The place of its first byte.
+    pub place: u32,
+    /// How many bytes it has.
+    pub bytes: u32,
+}
 
 impl Slabs {
     /// Returns whether the `len` bytes of tenant `t` from byte `place` on lie inside one live object. False if `len` is 0.
@@ -56,26 +68,57 @@ impl Slabs {
         requires around { HasFrame (block first order) (place / FRAME_BYTES) }
         ensures { (result ≡ true) ↔ ((o : Found) × HasRange space.now self.now t place len o) }
     {
+        self.object_around(space, buddy, t, first, machine_frame, order, place, len)
+            .is_some()
+    }
+
+    /// Returns the live object that a range lies inside, if there is one. There is none if `len` is 0. The caller has looked up the
+    /// taken block around `place`, as for [`Slabs::object_in`].
+    #[inline(always)]
+    pub fn object_around(
+        &self,
+        space: &Space,
+        buddy: &Buddy,
+        t: u8,
+        first: u32,
+        machine_frame: u32,
+        order: u8,
+        place: u32,
+        len: u32,
+    ) -> Option<ObjectSpan>
+        requires tenant { t < length space.now.slots }
+        requires agree { Agree space.now buddy.now self.now }
+        requires machine_frame { machine_frame_of self.now.top space.now.slots t first ≡ Some machine_frame }
+        requires below { machine_frame < length self.now.lists.places }
+        requires taken { taken_of (holding_of t buddy.now) first ≡ Some order }
+        requires around { HasFrame (block first order) (place / FRAME_BYTES) }
+        ensures { MatchOption result (HasNone space.now self.now t place len) (IsAround space.now self.now t place len) }
+    {
         self.laws_with(space, buddy, t);
         let _ = order;
         let slab = Slab {
             first,
             machine_frame,
         };
-        let Some(c) = self.slab_at(space, t, slab) else {
-            return false;
-        };
+        let c = self.slab_at(space, t, slab)?;
         let kept = self.tables.cache(t, c).unwrap();
         let colour = u32::from(self.tables.kept_of(machine_frame).colour);
-        let Some(index) = kept.layout.holder(colour, place - FRAME_BYTES * first, len) else {
-            return false;
-        };
+        let index = kept
+            .layout
+            .holder(colour, place - FRAME_BYTES * first, len)?;
         let cache = TenantCache {
             tenant: t,
             number: c,
             kept,
         };
-        self.is_live_object(space, cache, Object { slab, index })
+        if !self.is_live_object(space, cache, Object { slab, index }) {
+            return None;
+        }
+        Some(ObjectSpan {
+            cache: c,
+            place: FRAME_BYTES * first + kept.layout.offset(colour, index),
+            bytes: kept.layout.size(),
+        })
     }
 
     /// The number of the cache of the slab of tenant `t` that begins at these frames, if one does; `space` and `t` are named for

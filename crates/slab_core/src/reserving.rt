@@ -1,4 +1,4 @@
-//! Page blocks reserved beside slabs, by need out of the frames of empty slabs.
+//! Allocates page blocks beside slabs, on demand out of the frames of empty slabs.
 
 ghost use Rattle.std.specs.Prelude.{◌≡◌, ◌≤◌, ◌<◌, ◌↔◌, length, IsSome, IfSome, IfNone};
 ghost use Rattle.model_core.specs.Vocabulary.{block, Machine, choice, choice_by_need, with_block, alloc_step};
@@ -13,10 +13,10 @@ use buddy_core::Buddy;
 use space_core::Space;
 
 impl Slabs {
-    /// Takes a page block of order `k` for tenant `t`, and answers its first frame. Where a block is found only once all empty
-    /// slabs of the tenant are given back, they are given back first.
+    /// Takes a page block of order `k` for tenant `t` and returns its first frame. If a block is found only after all empty slabs
+    /// of the tenant are freed, it frees them first.
     ///
-    /// None, and nothing changed, where none is found then either.
+    /// Returns `None` and changes nothing if no block is found even then.
     #[inline(always)]
     pub fn reserve_by_need(
         &mut self,
@@ -48,8 +48,8 @@ impl Slabs {
         self.reserve(space, buddy, t, k)
     }
 
-    /// Takes a page block of order `k` for tenant `t` out of a free block, and answers its first frame. None, and nothing
-    /// changed, where no block is free that is large enough: no slab is given back for it.
+    /// Takes a page block of order `k` for tenant `t` out of a free block and returns its first frame. Returns `None` and changes
+    /// nothing if no free block is large enough. Frees no slab.
     fn reserve(&self, space: &Space, buddy: &mut Buddy, t: u8, k: u8) -> Option<u32>
         requires tenant { t < length space.now.slots }
         requires order { k ≤ self.now.top }

@@ -1,4 +1,4 @@
-//! Empty slabs given back to the buddy system, their frames zeroed.
+//! Frees empty slabs: zeroes their frames and returns them to the buddy system.
 
 ghost use Rattle.std.specs.Prelude.{◌≡◌, ℕ, ◌<◌, ◌≤◌, ◌^◌, ◌==◌, ◌↔◌, length, flat_map, Some, true, false, OnErr};
 ghost use Rattle.model_core.specs.declared.limits.TheConstants.{MOST_CACHES};
@@ -23,7 +23,7 @@ use slab_tables::Kind;
 use space_core::Space;
 
 impl Slabs {
-    /// Gives back a slab of which no object is live.
+    /// Frees an empty slab.
     fn give_back(
         &mut self,
         space: &mut Space,
@@ -47,7 +47,7 @@ impl Slabs {
         self.tables.remove_slab(slab.machine_frame);
     }
 
-    /// Gives back all slabs of the cache of which no object is live.
+    /// Frees all empty slabs of the cache.
     fn give_back_empty(&mut self, space: &mut Space, buddy: &mut Buddy, cache: TenantCache<'_>)
         requires tenant { cache.tenant < length space.old.slots }
         requires agree { Agree space.old buddy.old self.old }
@@ -73,7 +73,7 @@ impl Slabs {
         }
     }
 
-    /// Gives back all slabs of tenant `t` of which no object is live.
+    /// Frees all empty slabs of tenant `t`.
     pub(crate) fn give_back_all(&mut self, space: &mut Space, buddy: &mut Buddy, t: u8)
         requires tenant { t < length space.old.slots }
         requires agree { Agree space.old buddy.old self.old }
@@ -94,7 +94,7 @@ impl Slabs {
         }
     }
 
-    /// Gives back all slabs of tenant `t` of which no object is live, and answers how many frames they had.
+    /// Frees all empty slabs of tenant `t` and returns the number of their frames.
     pub fn reap(&mut self, space: &mut Space, buddy: &mut Buddy, t: u8) -> u32
         requires tenant { t < length space.old.slots }
         requires agree { Agree space.old buddy.old self.old }
@@ -111,9 +111,10 @@ impl Slabs {
         frames
     }
 
-    /// Destroys cache `c` of tenant `t`: its slabs are given back. Answers how many frames they had.
+    /// Destroys cache `c` of tenant `t`, frees its slabs and returns the number of their frames.
     ///
-    /// `NoCache` where there is no such cache, else `CacheInUse` where an object of it is live; then nothing is changed.
+    /// Refused with `NoCache` if there is no such cache, else with `CacheInUse` if an object of it is live. Then nothing is
+    /// changed.
     pub fn destroy(
         &mut self,
         space: &mut Space,
@@ -148,7 +149,7 @@ impl Slabs {
         Ok(frames)
     }
 
-    /// Whether some slab of cache `c` of tenant `t` has a live object.
+    /// Returns true if some slab of cache `c` of tenant `t` has a live object.
     fn in_use(&self, t: u8, c: u32) -> bool
         requires tenant { IsTenant self.now t }
         requires cache { c < MOST_CACHES }
@@ -157,7 +158,7 @@ impl Slabs {
         0 < self.tables.count(t, c, Kind::Full) || 0 < self.tables.count(t, c, Kind::Partial)
     }
 
-    /// How many frames the slabs of tenant `t` have of which no object is live.
+    /// Returns the number of frames in empty slabs of tenant `t`.
     fn empty_frames(&self, t: u8) -> u32
         requires { IsTenant self.now t }
         ensures { (r : spaces.Content) (b : buddies.Content) (m : Machine) → Agree r b self.now → IsSteady r b self.now t
@@ -170,7 +171,7 @@ impl Slabs {
         frames
     }
 
-    /// How many frames the slabs of cache `c` of tenant `t` have of which no object is live: none where there is no cache.
+    /// Returns the number of frames in empty slabs of cache `c` of tenant `t`, 0 if there is no such cache.
     pub(crate) fn empty_frames_of(&self, t: u8, c: u32) -> u32
         requires tenant { IsTenant self.now t }
         requires cache { c < MOST_CACHES }

@@ -1,4 +1,4 @@
-//! Reports of caches.
+//! The rows of a report for caches.
 
 ghost use Rattle.std.specs.Prelude.{◌≡◌, ◌<◌, length, option_map};
 ghost use Rattle.model_core.specs.declared.limits.TheConstants.{MOST_CACHES};
@@ -14,7 +14,7 @@ use arrayvec::ArrayVec;
 use slab_tables::Kind;
 
 impl Slabs {
-    /// What a report says of the caches of tenant `t`, by rising number.
+    /// Returns the row of each cache of tenant `t`, in ascending order of their numbers.
     pub fn rows(&self, t: u8) -> ArrayVec<CacheRow, 32>
         requires { IsTenant self.now t }
         ensures { (r : spaces.Content) (b : buddies.Content) (m : Machine) → Agree r b self.now → IsSteady r b self.now t → ShowsMachine r b self.now t m
@@ -29,7 +29,7 @@ impl Slabs {
         rows
     }
 
-    /// What a report says of cache `c` of tenant `t`, if it stands.
+    /// Returns the row of cache `c` of tenant `t`, if there is one.
     fn row(&self, t: u8, c: u8) -> Option<CacheRow>
         requires tenant { IsTenant self.now t }
         requires cache { c < MOST_CACHES }
