@@ -12,6 +12,7 @@ pub mod PageCalls
 pub mod Fitting
 pub mod LendBytes
 pub mod LendSpans
+pub mod LiveBytes
 pub mod CacheCalls
 pub mod FrameKinds
 pub mod Stores

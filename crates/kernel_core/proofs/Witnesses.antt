@@ -1,12 +1,12 @@
--- Kernels before their first event show their opening world: an instance of the law that a kernel shows one world at most.
-use Rattle.std.proofs.Common.{◌≡◌, ℕ, ◌≤◌, refl, arith}
+-- Kernels before their first event show their opening world.
+use Rattle.std.proofs.Common.{ℕ, ◌≤◌, refl, arith}
 use Rattle.std.proofs.lemmas.List.{length-replicate}
 use Rattle.model_core.specs.declared.limits.TheConstants.{MOST_SUPERBLOCKS, MOST_TENANTS}
 use Rattle.space_core.proofs.Empty.{empty_space-IsSpace}
 use Rattle.machine_changes.proofs.SlotEmpty.{opening_shows}
 use Rattle.world_core.specs.World.{opening_world}
 use Rattle.kernel_core.specs.Content.{PartsAgree, opening_content}
-use Rattle.kernel_core.specs.Shows.{Shows, OneWorld}
+use Rattle.kernel_core.specs.Shows.{Shows}
 use Rattle.kernel_core.proofs.Opening.{opening_world_shown}
 
 -- superblocks of 8 frames
@@ -25,6 +25,3 @@ opening_agrees superblocks tenants few many = record {
 
 pub opening_shown : (superblocks tenants : ℕ) → superblocks ≤ MOST_SUPERBLOCKS → tenants ≤ MOST_TENANTS → Shows (opening_content 3 superblocks tenants) (opening_world superblocks tenants)
 opening_shown superblocks tenants few many = opening_world_shown 3 superblocks tenants (opening_agrees superblocks tenants few many)
-
-OneWorld-met : OneWorld → opening_world 2 3 ≡ opening_world 2 3
-OneWorld-met law = law (opening_content 3 2 3) (opening_world 2 3) (opening_world 2 3) (opening_shown 2 3 (omega arith) (omega arith)) (opening_shown 2 3 (omega arith) (omega arith))

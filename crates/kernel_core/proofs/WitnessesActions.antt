@@ -1,4 +1,4 @@
--- For each law of stores and of actions an instance of its premises. In one world tenant 0 is alone: it takes a frame, 100 bytes are
+-- For the laws of worlds, of stores and of actions an instance of its premises. In one world tenant 0 is alone: it takes a frame, 100 bytes are
 -- stored there, more than one write has, and it reads the last of them. In the other one tenant 1 is first, and has a frame and stores
 -- of its own.
 use Rattle.std.proofs.Common.{◌≡◌, ℕ, List, [], ◌∷◌, Some, None, refl, ◌∙◌, arith, length, ◌<◌, position, is_none}
@@ -11,12 +11,14 @@ use Rattle.words_core.specs.declared.reply.Addressee.TheVariants as To
 use Rattle.words_core.specs.declared.reply.Body.TheVariants.{Frame, Bytes, Written}
 use Rattle.world_core.specs.Limits.{cache_limit}
 use Rattle.world_core.specs.PrivateStep.{Ask, Grant}
+use Rattle.world_core.specs.World.{World, opening_world, world_step}
 use Rattle.space_core.specs.Content as spaces
 use Rattle.space_core.specs.Changes.{with_grant}
 use Rattle.buddy_core.specs.Content as buddies
 use Rattle.machine_changes.specs.Pages.{stored}
 use Rattle.machine_changes.specs.Slots.{HoldTogether}
 use Rattle.kernel_core.specs.Content.{KernelContent, content_of}
+use Rattle.kernel_core.specs.Shows.{Shows, OneWorld}
 use Rattle.kernel_core.specs.Steps.{Steps}
 use Rattle.kernel_core.specs.Stores.{IsKernel, Stores, Loads, StoresAreWrites, LoadsAreOwn}
 use Rattle.kernel_core.specs.Actions.{Action, Runs, StoresAt, LoadsAt, Acts, AllAct, Sight, Told, Loaded, sights_of, Own, Enters, Stored, LoadedAt, own_seen, OwnSights, SameSights}
@@ -29,7 +31,7 @@ abbrev pub bytes : List ℕ
 bytes = replicate 100 7
 
 -- superblock m, the least without owner, becomes slot 0 of a tenant that has none
-first_slot : (r : spaces.Content) (b : buddies.Content) (t m : ℕ) → HoldTogether r b no_slabs → t < length b.tenants → position is_none r.owners ≡ Some m
+pub first_slot : (r : spaces.Content) (b : buddies.Content) (t m : ℕ) → HoldTogether r b no_slabs → t < length b.tenants → position is_none r.owners ≡ Some m
     → spaces.superblock_at r.slots t 0 ≡ None → m < length r.owners → IsGrantable r b no_slabs t 0 m
 first_slot r b t m together tenant free vacant below = record {
   together = together;
@@ -88,79 +90,79 @@ alone_acts =
 
 -- Beside tenant 1
 
-abbrev space_of_1 : spaces.Content
+abbrev pub space_of_1 : spaces.Content
 space_of_1 = with_grant opened_space 1 0 0
 
-abbrev beside_1 : KernelContent
+abbrev pub beside_1 : KernelContent
 beside_1 = content_of space_of_1 (holders None None (Some 0) None) no_slabs
 
-abbrev beside_2 : KernelContent
+abbrev pub beside_2 : KernelContent
 beside_2 = content_of space_of_1 (holders None None (Some 0) (Some 0)) no_slabs
 
-abbrev beside_3 : KernelContent
+abbrev pub beside_3 : KernelContent
 beside_3 = record beside_2 { space = stored 1 5 (replicate 100 9) space_of_1 }
 
-abbrev space_of_both : spaces.Content
+abbrev pub space_of_both : spaces.Content
 space_of_both = with_grant beside_3.space 0 0 1
 
-abbrev beside_4 : KernelContent
+abbrev pub beside_4 : KernelContent
 beside_4 = content_of space_of_both (holders (Some 1) None (Some 0) (Some 0)) no_slabs
 
-abbrev beside_5 : KernelContent
+abbrev pub beside_5 : KernelContent
 beside_5 = content_of space_of_both (holders (Some 1) (Some 0) (Some 0) (Some 0)) no_slabs
 
-abbrev beside_6 : KernelContent
+abbrev pub beside_6 : KernelContent
 beside_6 = record beside_5 { space = stored 0 5 bytes space_of_both }
 
 -- tenant 1 stores at the place where tenant 0 is to load
-abbrev beside_7 : KernelContent
+abbrev pub beside_7 : KernelContent
 beside_7 = record beside_6 { space = stored 1 104 (9 ∷ []) beside_6.space }
 
-granted_1 : Acts opened (Runs (On.Admin (Do.Grant 1)) (granted_reply 1 0 0)) beside_1
+pub granted_1 : Acts opened (Runs (On.Admin (Do.Grant 1)) (granted_reply 1 0 0)) beside_1
 granted_1 =
     grant_acts opened_space (holders None None None None) no_slabs 1 0 0
     (first_slot opened_space (holders None None None None) 1 0 is_opened.kernel.together (omega arith) refl refl (omega arith))
     (holders_laws None None (Some 0) None (λ k is. absurd (cc)) (λ k is. absurd (cc)) (λ m is is'. cc))
 
-taken_1 : Acts beside_1 (Runs (On.Tenant 1 (Command.Alloc 0)) (to_tenant 1 (Frame 0))) beside_2
+pub taken_1 : Acts beside_1 (Runs (On.Tenant 1 (Command.Alloc 0)) (to_tenant 1 (Frame 0))) beside_2
 taken_1 =
     alloc_acts space_of_1 (holders None None (Some 0) None) no_slabs 1 0 0 3 granted_1.1.together (omega arith) (omega arith) (chosen 0)
     (holders_laws None None (Some 0) (Some 0) (λ k is. absurd (cc)) (λ k is. (cc, refl)) (λ m is is'. cc))
 
-stored_1 : Stores beside_2 1 5 (replicate 100 9) beside_3
+pub stored_1 : Stores beside_2 1 5 (replicate 100 9) beside_3
 stored_1 = record { tenant = omega arith; reach = in_frame space_of_1 beside_2.buddy no_slabs 1 5 100 refl refl (omega arith) (omega arith); is = refl }
 
 kernel_3 : IsKernel beside_3
 kernel_3 = (stores_are_writes beside_2 beside_3 1 5 (replicate 100 9) taken_1.1 stored_1).0
 
-granted_0 : Acts beside_3 (Runs (On.Admin (Do.Grant 0)) (granted_reply 0 0 1)) beside_4
+pub granted_0 : Acts beside_3 (Runs (On.Admin (Do.Grant 0)) (granted_reply 0 0 1)) beside_4
 granted_0 =
     grant_acts beside_3.space (holders None None (Some 0) (Some 0)) no_slabs 0 0 1
     (first_slot beside_3.space (holders None None (Some 0) (Some 0)) 0 1 kernel_3.together (omega arith) refl refl (omega arith))
     (holders_laws (Some 1) None (Some 0) (Some 0) (λ k is. absurd (cc)) (λ k is. (cc, refl)) (λ m is is'. cc))
 
-taken_0 : Acts beside_4 (Runs (On.Tenant 0 (Command.Alloc 0)) (to_tenant 0 (Frame 0))) beside_5
+pub taken_0 : Acts beside_4 (Runs (On.Tenant 0 (Command.Alloc 0)) (to_tenant 0 (Frame 0))) beside_5
 taken_0 =
     alloc_acts space_of_both (holders (Some 1) None (Some 0) (Some 0)) no_slabs 0 0 0 3 granted_0.1.together (omega arith) (omega arith) (chosen 1)
     (holders_laws (Some 1) (Some 0) (Some 0) (Some 0) (λ k is. (cc, refl)) (λ k is. (cc, refl)) (λ m is is'. cc))
 
-stored_0 : Stores beside_5 0 5 bytes beside_6
+pub stored_0 : Stores beside_5 0 5 bytes beside_6
 stored_0 = record { tenant = omega arith; reach = in_frame space_of_both beside_5.buddy no_slabs 0 5 100 refl refl (omega arith) (omega arith); is = refl }
 
-kernel_6 : IsKernel beside_6
+pub kernel_6 : IsKernel beside_6
 kernel_6 = (stores_are_writes beside_5 beside_6 0 5 bytes taken_0.1 stored_0).0
 
-stored_again : Stores beside_6 1 104 (9 ∷ []) beside_7
+pub stored_again : Stores beside_6 1 104 (9 ∷ []) beside_7
 stored_again = record {
   tenant = omega arith;
   reach = in_frame beside_6.space beside_6.buddy no_slabs 1 104 1 refl refl (omega arith) (omega arith);
   is = refl;
 }
 
-kernel_7 : IsKernel beside_7
+pub kernel_7 : IsKernel beside_7
 kernel_7 = (stores_are_writes beside_6 beside_7 1 104 (9 ∷ []) kernel_6 stored_again).0
 
-loaded_0 : Loads beside_7 0 104 7
+pub loaded_0 : Loads beside_7 0 104 7
 loaded_0 = record {
   tenant = omega arith;
   reach = in_frame beside_7.space beside_7.buddy no_slabs 0 104 1 refl refl (omega arith) (omega arith);
@@ -206,6 +208,15 @@ beside_acts = (
 )
 
 -- The laws
+
+-- before and after the first superblock is granted
+OneWorld-met : OneWorld → ((w : World) → Shows opened w → w ≡ opening_world 2 2)
+    × ((w : World) → Shows alone_1 w → w ≡ (world_step cache_limit 3 (On.Admin (Do.Grant 0)) (opening_world 2 2)).world)
+OneWorld-met law = (
+  λ w shown. law opened w (opening_world 2 2) shown is_opened.shows,
+  λ w shown. law alone_1 w (world_step cache_limit 3 (On.Admin (Do.Grant 0)) (opening_world 2 2)).world shown
+      (alone_granted.0.shows (opening_world 2 2) is_opened.shows),
+)
 
 StoresAreWrites-met : StoresAreWrites →
     Steps alone_2 (On.Tenant 0 (Command.Write 5 (record { items = bytes }))) alone_3 (record { addressee = To.Tenant 0; body = Written 100 })

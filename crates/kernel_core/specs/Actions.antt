@@ -26,7 +26,7 @@ abbrev pub AllAct : KernelContent → List Action → KernelContent → Type 0
 AllAct k [] k' = k' ≡ k
 AllAct k (action ∷ actions) k' = (next : KernelContent) × Acts k action next × AllAct next actions k'
 
--- what a tenant sees: what it is told, and the bytes that it loads
+-- what a tenant sees: the replies to it, and the bytes that it loads
 pub data Sight : Type 0 where
   Told : Body → Sight
   Loaded : Option ℕ → Sight
@@ -52,7 +52,7 @@ own_in t (Runs event reply) = map Enters (own_entries t event reply.body)
 own_in t (StoresAt named place bytes) = if named == t then Stored place bytes ∷ [] else []
 own_in t (LoadsAt named place byte) = if named == t then LoadedAt place ∷ [] else []
 
--- the tenant's own list. No byte that is loaded stands in it.
+-- the tenant's own list. It has no byte that is loaded.
 abbrev pub own_actions : ℕ → List Action → List Own
 own_actions t [] = []
 own_actions t (action ∷ actions) = own_in t action ++ own_actions t actions

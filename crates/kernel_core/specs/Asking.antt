@@ -15,12 +15,12 @@ pub record HasStepped (before : KernelContent) (t : ℕ) (request : Request) (an
 abbrev pub RestsStepped : MutBor KernelContent → ℕ → Request → Answer → Fml
 RestsStepped kernel t request answer = Rests the_row kernel (HasStepped kernel.now t request answer)
 
--- the request of a tenant that there is was a step of the world, with the answer to that tenant
+-- the request of an existing tenant was a step of the world, with the answer to that tenant
 abbrev pub RestsRequestedKnown : MutBor KernelContent → ℕ → Request → Answer → Fml
 RestsRequestedKnown kernel t request answer =
     Rests the_row kernel (λ after. Steps kernel.now (Event.Tenant t (command_of request)) after (reply_of_answer t answer))
 
--- the request of a tenant was a step of the world, with the answer to that tenant; nobody is told where there is no such tenant
+-- the request of a tenant was a step of the world, with the answer to that tenant; if there is no such tenant, nobody gets one
 abbrev pub HasAsked : KernelContent → ℕ → Request → Option (ℕ × Answer) → KernelContent → Type 0
 HasAsked before tenant request result after = MatchOption result
     (Steps before (Event.Tenant tenant (command_of request)) after (record { addressee = Addressee.Nobody; body = Body.Refused Refusal.NoTenant }))

@@ -70,7 +70,8 @@ pub record SameSizes (old new : KernelContent) : Type 0 where
 abbrev pub mark_after : Option Owner → Option Owner → Bool → Bool
 mark_after (Some owner) None was = true
 mark_after None (Some owner) was = false
-mark_after _ _ was = was
+mark_after None None was = was
+mark_after (Some owner) (Some next) was = was
 
 -- the owners decide each superblock's mark
 abbrev pub MarksFollow : spaces.Content → spaces.Content → Type 0

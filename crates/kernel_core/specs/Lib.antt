@@ -10,3 +10,4 @@ pub mod Asking
 pub mod Stores
 pub mod Actions
 pub mod Lending
+pub mod Holders

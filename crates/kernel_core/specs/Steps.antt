@@ -21,7 +21,7 @@ abbrev pub HasPattern : Event → Type 0
 HasPattern (Event.Tenant t command) = AsksPattern command
 HasPattern (Event.Admin command) = Unit {0}
 
--- the event is a step of whichever world the parts show
+-- the event is a step of any world that the parts show
 pub record Steps (old : KernelContent) (event : Event) (new : KernelContent) (reply : Reply) : Type 0 where
   pub sizes : SameSizes old new
   pub shows : (w : World) → Shows old w → Shows new (world_step cache_limit old.order event w).world
@@ -31,7 +31,7 @@ pub record Steps (old : KernelContent) (event : Event) (new : KernelContent) (re
   pub marks : MarksFollow old.space new.space
   pub spare : SpareStays old.space new.space
 
--- the command is a step of whichever machine the parts show for the tenant
+-- the command is a step of any machine that the parts show for the tenant
 pub record StepsMachine (old : KernelContent) (t : ℕ) (command : Command) (new : KernelContent) (body : Body) : Type 0 where
   pub does : Does old t (command_step cache_limit old.order command) old.space.owners new body
   pub refused : is_refused body ≡ true → new ≡ old

@@ -1,4 +1,4 @@
-//! The commands of the administrator: superblocks granted, taken back and moved, and who owns them.
+//! The commands of the administrator: grants, take-backs, resets and moves of superblocks, and the table of owners.
 
 ghost use Rattle.std.specs.Prelude.{◌≡◌, ◌<◌, ◌≤◌, false, length, IfOk};
 ghost use Rattle.words_core.specs.Requests.{body_of_answer, HasFewBytes, has_bytes};
@@ -17,9 +17,9 @@ use space_core::{MoveRefusal, PoolEmpty, Space};
 use words_core::{Addressee, Answer, Body, OWNERS, Refusal, Reply};
 
 impl Kernel {
-    /// Gives the tenant the least superblock without owner, under the least slot that it does not hold.
+    /// Gives the tenant the least superblock without an owner, as the least slot that it does not hold.
     ///
-    /// Refuses with `NoTenant`, then with `PoolEmpty` if each superblock has an owner.
+    /// Refused with `NoTenant`, then with `PoolEmpty` if every superblock has an owner.
     pub(crate) fn grant(&mut self, tenant: u32) -> Result<Answer<'static>, Refusal>
         ensures steps { PartsAgree self.new
             → Steps self.old (Event.Admin (AdminCommand.Grant tenant)) self.new (to_admin result) }
@@ -41,10 +41,10 @@ impl Kernel {
         })
     }
 
-    /// Takes the superblock under a slot back from the tenant.
+    /// Takes a slot of the tenant back.
     ///
-    /// Refuses with `NoTenant`, then with `NoSlot` if the tenant does not hold the slot, then with `SlotBusy` if a frame of it is
-    /// taken by a page block or a slab, even an empty one.
+    /// Refused with `NoTenant`, then with `NoSlot` if the tenant does not hold the slot, then with `SlotBusy` if a frame of it is
+    /// taken by a page block or by a slab, even an empty one.
     pub(crate) fn take_back(&mut self, tenant: u32, slot: u32) -> Result<Answer<'static>, Refusal>
         ensures steps { PartsAgree self.new
             → Steps self.old (Event.Admin (AdminCommand.TakeBack tenant slot)) self.new (to_admin result) }
@@ -67,7 +67,8 @@ impl Kernel {
         Ok(Answer::TakenBack(superblock))
     }
 
-    /// Takes all that the tenant has, caches too, and returns how many superblocks that are. Refuses with `NoTenant` alone.
+    /// Takes everything that the tenant has, including its caches, and returns the number of its superblocks. Refused only with
+    /// `NoTenant`.
     pub(crate) fn reset(&mut self, tenant: u32) -> Result<Answer<'static>, Refusal>
         ensures steps { PartsAgree self.new
             → Steps self.old (Event.Admin (AdminCommand.Reset tenant)) self.new (to_admin result) }
@@ -87,9 +88,9 @@ impl Kernel {
         })
     }
 
-    /// Replaces the superblock under a slot by the least one without owner, with all its bytes. Nothing changes for the tenant.
+    /// Replaces the superblock in a slot by the least one without an owner, with all its bytes. Nothing changes for the tenant.
     ///
-    /// Refuses with `NoTenant`, then with `NoSlot`, then with `PoolEmpty`.
+    /// Refused with `NoTenant`, then with `NoSlot`, then with `PoolEmpty`.
     pub(crate) fn move_slot(&mut self, tenant: u32, slot: u32) -> Result<Answer<'static>, Refusal>
         ensures steps { PartsAgree self.new
             → Steps self.old (Event.Admin (AdminCommand.Move tenant slot)) self.new (to_admin result) }
@@ -114,7 +115,7 @@ impl Kernel {
         })
     }
 
-    /// The reply to a request for the table of owners: [`Kernel::step`] of that event.
+    /// Returns the reply to a request for the table of owners, the same as [`Kernel::step`] of that event.
     #[cold]
     #[inline(never)]
     pub fn pool(&self) -> Reply
@@ -126,7 +127,7 @@ impl Kernel {
         }
     }
 
-    /// The owner of each superblock, by rising number, where the kernel keeps them: what [`Kernel::pool`] replies.
+    /// Borrows the owners of all superblocks, in ascending order: the contents of the reply of [`Kernel::pool`].
     pub fn owners(&self) -> &[Option<Owner>]
         ensures steps { Steps self.now (Event.Admin AdminCommand.Pool) self.now
             (record { addressee = Admin; body = Body.Owners (record { items = result.now }) }) }
@@ -137,7 +138,7 @@ impl Kernel {
     }
 }
 
-/// These owners, as a value of their own.
+/// Returns a copy of these owners.
 fn copied(owners: &[Option<Owner>]) -> ArrayVec<Option<Owner>, OWNERS>
     requires { length owners.now ≤ MOST_SUPERBLOCKS }
     ensures { result.items ≡ owners.now }

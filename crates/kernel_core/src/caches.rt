@@ -14,8 +14,8 @@ use layout_core::{Layout, LayoutRefusal, Pattern};
 use words_core::{Answer, Refusal};
 
 impl Kernel {
-    /// Makes a cache for objects of `size` bytes at multiples of `align`, which hold the pattern when they are constructed.
-    // Inlined: if a call left its answer in memory, every request would clear that memory, and read its own answer from there.
+    /// Makes a cache for objects of `size` bytes at multiples of `align` bytes, which are constructed with the pattern.
+    // Inlined: a call would leave its answer in memory, and every request would clear that memory and read its own answer from it.
     #[inline(always)]
     pub(crate) fn make_cache(
         &mut self,
@@ -49,7 +49,7 @@ impl Kernel {
         })
     }
 
-    /// Destroys a cache and returns how many frames its slabs had.
+    /// Destroys a cache and returns the number of frames of its slabs.
     pub(crate) fn destroy(&mut self, t: u8, cache: u32) -> Result<u32, Refusal>
         requires { t < self.old.tenants }
         ensures { StepsMachine self.old t (Command.Destroy cache) self.new (body_of Destroyed result) }
@@ -69,7 +69,7 @@ impl Kernel {
         Ok(self.slabs.take(&mut self.space, &mut self.buddy, t, cache)?)
     }
 
-    /// Gives an object of a cache back.
+    /// Gives an object back to its cache.
     pub(crate) fn give(&mut self, t: u8, cache: u32, place: u32) -> Result<(), Refusal>
         requires { t < self.old.tenants }
         ensures { StepsMachine self.old t (Command.Give cache place) self.new (body_of (λ done. Given) result) }
@@ -80,7 +80,7 @@ impl Kernel {
         )
     }
 
-    /// Gives all empty slabs back and returns how many frames they had.
+    /// Frees all empty slabs and returns the number of their frames.
     pub(crate) fn reap(&mut self, t: u8) -> u32
         requires { t < self.old.tenants }
         ensures { StepsMachine self.old t Command.Reap self.new (Reaped result) }

@@ -1,4 +1,4 @@
-//! What a frame of a tenant is.
+//! The kinds of a tenant's frames.
 
 ghost use Rattle.std.specs.Prelude.{◌≡◌, ℕ, ◌<◌, ◌≤◌, ◌+◌, ◌*◌, ◌/◌, ◌%◌, ◌^◌, false, is_some, MatchOption, IfSome, Some, length, slice_get};
 ghost use Rattle.model_core.specs.Vocabulary.{block, HasFrame, Machine};
@@ -12,25 +12,25 @@ ghost use Rattle.machine_changes.specs.Laws.{is_kind};
 use crate::Kernel;
 use slab_tables::{Kind, ListId};
 
-/// What a frame of a tenant is.
+/// The kind of a frame of a tenant.
 #[derive(Clone, Copy, Debug, PartialEq, Eq)]
 pub enum FrameKind {
     /// The tenant does not hold its slot.
     NotHeld,
-    /// It lies in a held slot and in no taken block.
+    /// It is in a held slot and in no taken block.
     Free,
-    /// It lies in a page block.
+    /// It is in a page block.
     Page,
-    /// It lies in a slab of which all objects are live.
+    /// It is in a full slab: all objects are live.
     Full,
-    /// It lies in a slab of which some objects are live, and not all.
+    /// It is in a partial slab: some objects are live, but not all.
     Partial,
-    /// It lies in a slab of which no object is live.
+    /// It is in an empty slab: no object is live.
     Empty,
 }
 
 impl Kernel {
-    /// What frame `frame` of tenant `t` is.
+    /// Returns the kind of frame `frame` of tenant `t`.
     pub fn frame_at(&self, t: u8, frame: u32) -> FrameKind
         requires { t < self.now.tenants }
         ensures { (m : Machine) → ShowsMachine self.now t m → IsFrame self.now.order m frame result }
@@ -48,8 +48,8 @@ impl Kernel {
         }
     }
 
-    /// What the frames of a slot of tenant `t` are, from its first one on, as many as there are cells: [`Kernel::frame_at`] of each, a
-    /// block at a time. Cells behind those of the slot may be set to anything.
+    /// Sets cells to the kinds of the frames of a slot of tenant `t`, from its first frame on: [`Kernel::frame_at`] of each,
+    /// one block at a time. Cells behind those of the slot may be set to anything.
     pub fn show_frames(&self, t: u8, slot: u16, cells: &mut [FrameKind])
         requires { t < self.now.tenants }
         ensures { (m : Machine) (k : ℕ) (cell : FrameKind) → ShowsMachine self.now t m → k < 2 ^ self.now.order
@@ -65,7 +65,7 @@ impl Kernel {
         }
     }
 
-    /// [`Kernel::show_frames`] of a slot that this superblock is under.
+    /// [`Kernel::show_frames`] for a slot with this superblock.
     fn show_held(&self, superblock: u16, t: u8, slot: u16, cells: &mut [FrameKind])
         requires tenant { t < self.now.tenants }
         requires held { superblock_at self.now t slot ≡ Some superblock }
@@ -86,7 +86,7 @@ impl Kernel {
         }
     }
 
-    /// The first frame of a slot.
+    /// Returns the first frame of a slot.
     fn slot_start(&self, slot: u16) -> u32
         ensures { result ≡ slot * 2 ^ self.now.order }
     {
@@ -94,8 +94,8 @@ impl Kernel {
         u32::from(slot) << self.order()
     }
 
-    /// What a frame of tenant `t` is before which all blocks end that begin before it, and how many frames from there on are the same:
-    /// those of the block that begins there, or one where none does. The order is that of such a block.
+    /// Returns the kind of a frame of tenant `t` that is not inside a block that begins before it, and the number of frames of
+    /// this kind from it on: those of the block that begins there, or one if none does. `order` is the order of that block.
     fn run_at(&self, superblock: u16, t: u8, first: u32, order: Option<u8>) -> (FrameKind, usize)
         requires tenant { t < self.now.tenants }
         requires held { superblock_at self.now t (first / 2 ^ self.now.order) ≡ Some superblock }
@@ -114,7 +114,7 @@ impl Kernel {
         }
     }
 
-    /// The kind of the frames of a taken block that begins at this frame of tenant `t`, in a slot that this superblock is under.
+    /// Returns the kind of the frames of a taken block that begins at this frame of tenant `t`, in a slot with this superblock.
     fn kind_of_block(&self, superblock: u16, t: u8, first: u32) -> FrameKind
         requires tenant { t < self.now.tenants }
         requires held { superblock_at self.now t (first / 2 ^ self.now.order) ≡ Some superblock }
@@ -128,7 +128,7 @@ impl Kernel {
         }
     }
 
-    /// Whether tenant `t` holds the slot of a frame.
+    /// Returns true if tenant `t` holds the slot of a frame.
     fn is_held(&self, t: u8, frame: u32) -> bool
         ensures { result ≡ is_some (superblock_at self.now t (frame / 2 ^ self.now.order)) }
     {
@@ -136,7 +136,7 @@ impl Kernel {
         self.superblock_of(t, frame >> self.order()).is_some()
     }
 
-    /// The list that has the slab that begins at a frame of tenant `t`, if one does.
+    /// Returns the list of the slab that begins at a frame of tenant `t`, if one does.
     fn list_at(&self, t: u8, first: u32) -> Option<ListId>
         requires { t < self.now.tenants }
         ensures { MatchOption result
@@ -149,7 +149,7 @@ impl Kernel {
         Some(ListId { number })
     }
 
-    /// As `list_at`, for a caller who knows that this superblock is under the slot.
+    /// The same as `list_at` if the caller knows that the slot has this superblock.
     fn list_in(&self, superblock: u16, t: u8, first: u32) -> Option<ListId>
         requires tenant { t < self.now.tenants }
         requires held { superblock_at self.now t (first / 2 ^ self.now.order) ≡ Some superblock }
@@ -163,7 +163,7 @@ impl Kernel {
         Some(ListId { number })
     }
 
-    /// The machine frame at a frame of tenant `t`, if it holds the slot.
+    /// Returns the machine frame at a frame of tenant `t`, if it holds the slot.
     fn machine_frame_of(&self, t: u8, frame: u32) -> Option<u32>
         requires { t < self.now.tenants }
         ensures value { result ≡ machine_frame_of self.now.slabs.top self.now.space.slots t frame }
@@ -174,7 +174,7 @@ impl Kernel {
         Some(self.machine_frame_in(superblock, t, frame))
     }
 
-    /// As `machine_frame_of`, for a caller who knows that this superblock is under the slot. Only the contract names `t`.
+    /// The same as `machine_frame_of` if the caller knows that the slot has this superblock. Only the contract uses `t`.
     #[inline(always)]
     pub(crate) fn machine_frame_in(&self, superblock: u16, t: u8, frame: u32) -> u32
         requires { superblock_at self.now t (frame / 2 ^ self.now.order) ≡ Some superblock }
@@ -188,7 +188,7 @@ impl Kernel {
     }
 }
 
-/// The kind of the frames of a slab in the list.
+/// Returns the kind of the frames of a slab in the list.
 fn kind_in(list: ListId) -> FrameKind
     ensures { (order : ℕ) (m : Machine) (frame : ℕ) → IsInSlab m frame (is_kind (list.number % 3)) → IsFrame order m frame result }
 {
@@ -199,8 +199,8 @@ fn kind_in(list: ListId) -> FrameKind
     }
 }
 
-/// Sets the cells from `begin` on and below `end`, which are free so far. Most blocks have one frame: its cell is set without the loop
-/// for more, which becomes a call of `memset`.
+/// Sets the cells from `begin` up to `end`, which are free so far. Most blocks have one frame. Its cell is set without the loop
+/// for more, which is compiled to a call of `memset`.
 fn set_cells(cells: &mut [FrameKind], begin: usize, end: usize, kind: FrameKind)
     requires inside { end ≤ length cells.old }
     requires free { (k : ℕ) (cell : FrameKind) → begin ≤ k → k < end → slice_get cells.old k ≡ Some cell → cell ≡ Free }

@@ -1,4 +1,4 @@
-//! The kernel, and how it is run: events, requests, the administrator's commands.
+//! The kernel, and the functions that run events, requests and the administrator's commands.
 
 ghost use Rattle.std.specs.Prelude.{◌≡◌, ◌↔◌, ℕ, ◌<◌, ◌≤◌, IfOk, IfSome, true, false};
 ghost use Rattle.model_core.specs.declared.limits.TheConstants.{MOST_ORDER, MOST_SUPERBLOCKS, MOST_TENANTS};
@@ -17,7 +17,7 @@ use words_core::{Addressee, AdminCommand, Answer, Body, Event, Refusal, Reply, R
 /// Why a kernel did not boot.
 #[derive(Debug, Drop, Error)]
 pub enum BootError {
-    /// A number of the configuration is out of its range; no memory was asked for.
+    /// A number of the configuration is out of its range. Nothing was allocated.
     #[error("a number of the configuration is out of range")]
     BadConfig,
     /// An allocation was refused.
@@ -25,11 +25,11 @@ pub enum BootError {
     Memory,
 }
 
-/// A machine shared by tenants: its memory with the pool, the buddy systems and the caches of all tenants, run by events.
+/// A machine shared by tenants: its memory with the pool, and the buddy systems and caches of all tenants. Events run it.
 ///
-/// The memory's mapping and the buddy systems have the same superblock under each slot of each tenant, and each slab is a taken
-/// block of its tenant.
-#[derive(Drop)]
+/// The memory and the buddy systems have the same superblock in each slot of each tenant, and each slab is a taken block of its
+/// tenant.
+#[derive(Debug, Drop)]
 pub struct Kernel {
     pub(crate) space: Space,
     pub(crate) buddy: Buddy,
@@ -62,10 +62,10 @@ impl Kernel {
     ghost use Rattle.kernel_core.specs.Asking.{RestsRequested, RestsRequestedKnown, RestsStepped};
     ghost use Rattle.std.specs.Borrow.{sem};
 
-    /// A machine of these sizes: all its memory is zero, and no superblock has an owner.
+    /// Boots a machine of these sizes. All its memory is zero, and no superblock has an owner.
     ///
-    /// `BadConfig` is tested before any memory is asked for, and `Memory` is answered only where an allocation was
-    /// refused. No later call takes memory.
+    /// Returns `BadConfig` before anything is allocated, and `Memory` only if an allocation was refused. No later call
+    /// allocates.
     pub fn boot(alloc: Global, config: Config) -> Result<Kernel, BootError>
         ensures config { (result ≡ Err BootError.BadConfig) ↔ (is_bootable config ≡ false) }
         ensures parts { IfOk result (λ k. k ≡ opening_content config.order config.superblocks config.tenants) }
@@ -103,21 +103,21 @@ impl Kernel {
 
     /// Runs one event and returns the reply. A refused event changes nothing.
     ///
-    /// The pattern of a `cache` command must have at least one byte, as every pattern has that `read_line` returns.
+    /// The pattern of a `cache` command must have at least one byte. Every pattern that `read_line` returns has.
     pub fn step(&mut self, event: &Event) -> Reply
         requires pattern { HasPattern event.now }
         ensures sizes { SameSizes self.old self.new }
 
-        // The event is a step of the world, whichever world the kernel shows.
+        // The event is a step of the world, for any world that the kernel shows.
         ensures shows { (w : World) → Shows self.old w → Shows self.new (world_step cache_limit self.old.order event.now w).world }
         ensures reply { (w : World) → Shows self.old w → result ≡ (world_step cache_limit self.old.order event.now w).reply }
 
         ensures refused { is_refused result.body ≡ true → self.new ≡ self.old }
 
-        // All other tenants keep their slots, the superblocks under them with all their bytes, their blocks, caches and slabs.
+        // All other tenants keep their slots with the superblocks and all their bytes, their blocks, caches and slabs.
         ensures others { (t : ℕ) → is_named t event.now ≡ false → Keeps self.old self.new t }
 
-        // A superblock is marked where it lost its owner, and unmarked where it got one; without owner it keeps its bytes.
+        // A superblock that lost its owner is marked, and one that got an owner is unmarked. Without an owner it keeps its bytes.
         ensures marks { MarksFollow self.old.space self.new.space }
         ensures spare { SpareStays self.old.space self.new.space }
 
@@ -143,7 +143,7 @@ impl Kernel {
         }
     }
 
-    /// Runs a command of a tenant but for the report, and answers it with a value of its own.
+    /// Runs a command of a tenant other than a report. The reply has its own copy of the bytes.
     fn reply_to(&mut self, tenant: u32, request: Request<'_>) -> Reply
         requires { IsAskable request }
         ensures { Steps self.old (Event.Tenant tenant (command_of request.entry)) self.new result }
@@ -160,7 +160,7 @@ impl Kernel {
         }
     }
 
-    /// Runs a command of the administrator, and answers it with a value of its own.
+    /// Runs a command of the administrator. The reply has its own copy of the owners.
     fn reply_to_admin(&mut self, command: &AdminCommand) -> Reply
         ensures { Steps self.old (Event.Admin command.now) self.new result }
     {
@@ -173,10 +173,10 @@ impl Kernel {
         }
     }
 
-    /// Runs a command of the administrator but for `pool`: [`Kernel::step`] of that event, with the answer to the administrator in
-    /// few bytes.
+    /// Runs a command of the administrator other than `pool`: the same as [`Kernel::step`] of that event, with the answer to the
+    /// administrator as a small value.
     ///
-    /// None where the table of owners is asked for: it is [`Kernel::pool`] that tells it, and nothing is done.
+    /// Returns `None` and does nothing if the table of owners is requested. [`Kernel::pool`] returns it.
     #[cold]
     #[inline(never)]
     pub fn administer(&mut self, command: &AdminCommand) -> Option<Answer<'static>>
@@ -199,16 +199,16 @@ impl Kernel {
         })
     }
 
-    /// Runs a command of a tenant but for the report: [`Kernel::step`] of that event, with an answer to the tenant in few bytes. The
-    /// bytes of a read are lent from where they lie.
+    /// Runs a command of a tenant other than a report: the same as [`Kernel::step`] of that event, with the answer to the
+    /// tenant as a small value. It borrows the bytes of a read.
     ///
-    /// None where there is no tenant of that number: nobody is told so, and nothing is done.
+    /// Returns `None` and does nothing if there is no such tenant.
     #[inline(always)]
     pub fn ask(&mut self, tenant: u32, request: Request<'_>) -> Option<(u8, Answer<'_>)>
         requires { IsAskable request }
         ensures* asked { sem 𝓛 (RestsRequested self.entry tenant request.entry result) }
         ensures few { IfSome result (λ answer. HasFewBytes answer.1) }
-        // Bytes are told to a read alone.
+        // Only a read returns bytes.
         ensures bytes { IfSome result (λ answer. asks_bytes request.entry ≡ false → has_bytes answer.1 ≡ false) }
     {
         if tenant >= u32::from(self.buddy.tenants()) {
@@ -218,7 +218,7 @@ impl Kernel {
         Some((t, self.ask_known(t, request)))
     }
 
-    /// [`Kernel::ask`] of a tenant that there is.
+    /// [`Kernel::ask`] for a tenant that exists.
     #[inline(always)]
     pub fn ask_known(&mut self, t: u8, request: Request<'_>) -> Answer<'_>
         requires tenant { t < self.old.tenants }
@@ -231,7 +231,7 @@ impl Kernel {
         self.run(t, request)
     }
 
-    /// Runs a command of a tenant that there is.
+    /// Runs a command of a tenant that exists.
     #[inline(always)]
     pub(crate) fn run(&mut self, t: u8, request: Request<'_>) -> Answer<'_>
         requires tenant { t < self.old.tenants }
@@ -285,7 +285,7 @@ impl Kernel {
         answer
     }
 
-    /// The reply to a request for a report: [`Kernel::step`] of that event.
+    /// Returns the reply to a request for a report, the same as [`Kernel::step`] of that event.
     #[cold]
     #[inline(never)]
     pub fn report(&self, tenant: u32) -> Reply

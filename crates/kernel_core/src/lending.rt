@@ -18,7 +18,7 @@ use model_core::limits::FRAME_BYTES;
 use space_core::Space;
 use words_core::Refusal;
 
-/// Bytes of a tenant that lie inside one live page block or one live object. They can be lent until that is released.
+/// Bytes of a tenant that lie inside one live page block or one live object. They can be lent until that is released, its slot is moved or its tenant is reset.
 #[derive(Clone, Copy, Debug, PartialEq, Eq)]
 pub struct Span {
     pub tenant: u8,

@@ -1,8 +1,8 @@
 //! The kernel of a machine whose memory is shared by tenants.
 //!
-//! [`Kernel::step`] runs one event. It is proved to be a step of the world (`specs/`): who owns which superblock, and a
-//! private machine for each tenant. The laws of whole runs, and of traces from bytes to bytes, are in [`laws`]: whatever
-//! the others do, a tenant is told what its private machine answers.
+//! [`Kernel::step`] runs one event. It is proved to be a step of the world (`specs/`), which has the owner of each superblock
+//! and a private machine for each tenant. The laws of whole runs, and of traces from bytes to bytes, are in [`laws`]:
+//! whatever the others do, a tenant gets the replies of its private machine.
 //!
 //! # Example
 //!
@@ -21,13 +21,14 @@
 //! assert_eq!(rt; refused.body, Body::Refused(Refusal::NoFrames));
 //! ```
 //!
-//! The crate that does this has the line `NAME: kernel_core words_core` in `crates.txt`. `step` requires that the pattern of a
-//! cache has a byte; for other commands this follows from their form.
+//! A crate that does this has the line `NAME: kernel_core words_core` in `crates.txt`. `step` requires that the pattern of a
+//! cache has a byte; other commands have no such requirement.
 #![tactic(auto)]
 
 mod administrator;
 mod caches;
 mod frames;
+mod holders;
 mod kernel;
 pub mod laws;
 mod lending;
@@ -36,6 +37,7 @@ mod pages;
 mod reporting;
 
 pub use frames::FrameKind;
+pub use holders::Holder;
 pub use kernel::{BootError, Kernel};
 pub use lending::Span;
 pub use model_core::config::Config;

@@ -1,4 +1,4 @@
-//! What a kernel tells of itself, and what holds of every kernel.
+//! Lookups in a kernel, and the laws of every kernel.
 
 ghost use Rattle.std.specs.Prelude.{◌≡◌, ◌↔◌, ℕ, ◌*◌, ◌^◌, ◌<◌, ◌≤◌, length, MatchOption, Some};
 ghost use Rattle.model_core.specs.declared.limits.TheConstants.{FRAME_BYTES};
@@ -14,7 +14,7 @@ use slab_core::Slabs;
 use space_core::Space;
 
 impl Kernel {
-    /// The tenant of this number, if there is one.
+    /// Returns the tenant with this number, if there is one.
     #[inline(always)]
     pub fn tenant(&self, tenant: u32) -> Option<u8>
         ensures { MatchOption result (self.now.tenants ≤ tenant) (λ t. (t ≡ tenant) × (t < self.now.tenants)) }
@@ -25,7 +25,7 @@ impl Kernel {
         Some(tenant as u8)
     }
 
-    /// The superblock under slot `slot` of tenant `t`: the one that has both as its owner.
+    /// Returns the superblock in slot `slot` of tenant `t`, that is, the one with this owner.
     pub fn superblock_of(&self, t: u8, slot: u32) -> Option<u16>
         ensures value { result ≡ superblock_at self.now t slot }
         ensures owner { (m : ℕ) → (result ≡ Some m) ↔ (owner_at self.now.space.owners m ≡ Some (owned_by t slot)) }
@@ -37,7 +37,7 @@ impl Kernel {
         self.space.machine_of(t, slot)
     }
 
-    /// The bytes of superblock `superblock`, `2^order * 4096` of them.
+    /// Returns the `2^order * 4096` bytes of superblock `superblock`.
     pub fn machine_bytes(&self, superblock: u16) -> &[u8]
         requires { superblock < self.now.superblocks }
         ensures value { result.now ≡ superblock_bytes self.now superblock }
@@ -46,7 +46,7 @@ impl Kernel {
         self.space.machine_bytes(superblock)
     }
 
-    /// Whether superblock `superblock` keeps bytes of an earlier owner, so that it is set to zero before it is granted.
+    /// Returns true if superblock `superblock` may have bytes of an earlier owner, so that it is zeroed before it is granted.
     pub fn is_marked(&self, superblock: u16) -> bool
         requires { superblock < self.now.superblocks }
         ensures { result ≡ mark_at self.now.space.marks superblock }
@@ -54,64 +54,64 @@ impl Kernel {
         self.space.is_marked(superblock)
     }
 
-    /// A superblock has `2^order` frames of 4096 bytes.
+    /// Returns the order of a superblock, which has `2^order` frames of 4096 bytes.
     pub fn order(&self) -> u32
         ensures { result ≡ self.now.order }
     {
         u32::from(self.buddy.order())
     }
 
-    /// How many superblocks the machine has.
+    /// Returns the number of superblocks of the machine.
     pub fn superblocks(&self) -> u32
         ensures { result ≡ self.now.superblocks }
     {
         u32::from(self.buddy.superblocks())
     }
 
-    /// How many tenants share the machine, numbered from 0.
+    /// Returns the number of tenants that share the machine. They are numbered from 0.
     pub fn tenants(&self) -> u32
         ensures { result ≡ self.now.tenants }
     {
         u32::from(self.buddy.tenants())
     }
 
-    /// The memory, with its pool and its mapping.
+    /// Returns the memory, with its pool and its mapping.
     pub fn space(&self) -> &Space
         ensures { result.now ≡ self.now.space }
     {
         &self.space
     }
 
-    /// The buddy systems: the held slots and the taken blocks of each tenant.
+    /// Returns the buddy systems: the held slots and the taken blocks of each tenant.
     pub fn buddy(&self) -> &Buddy
         ensures { result.now ≡ self.now.buddy }
     {
         &self.buddy
     }
 
-    /// The caches and slabs of all tenants.
+    /// Returns the caches and slabs of all tenants.
     pub fn slabs(&self) -> &Slabs
         ensures { result.now ≡ self.now.slabs }
     {
         &self.slabs
     }
 
-    /// A law: what holds between the parts of every kernel. It costs nothing.
+    /// A law: the relation between the parts of every kernel. The call does nothing.
     pub fn parts_agree(&self)
         ensures { PartsAgree self.now }
     {
         self.laws();
     }
 
-    /// A law of every kernel, so also after [`Kernel::ask`]: in the memory, the last 32 bytes of each slab of small objects are the
-    /// bitmap of its live objects. The call does nothing.
+    /// A law of every kernel, so also after [`Kernel::ask`]: the last 32 bytes of each slab of small objects are the bitmap of its
+    /// live objects. The call does nothing.
     pub fn records_stand(&self)
         ensures { RecordsStand self.now }
     {
         self.laws();
     }
 
-    /// All that holds between the parts, and of each of them. The call does nothing.
+    /// A law: the relation between the parts, and the invariants of each. The call does nothing.
     pub(crate) fn laws(&self)
         ensures agree { PartsAgree self.now }
         ensures records { RecordsStand self.now }

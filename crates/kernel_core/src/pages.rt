@@ -16,8 +16,8 @@ use space_core::Space;
 use words_core::Refusal;
 
 impl Kernel {
-    /// Takes a page block of `2^order` frames and returns its first frame. The tenant's empty slabs are given back if a block is
-    /// found only then.
+    /// Takes a page block of `2^order` frames and returns its first frame. Frees the tenant's empty slabs if a block is found only
+    /// then.
     #[inline(always)]
     pub(crate) fn alloc(&mut self, t: u8, order: u32) -> Result<u32, Refusal>
         requires { t < self.old.tenants }
@@ -33,7 +33,7 @@ impl Kernel {
             .ok_or(Refusal::NoFrames)
     }
 
-    /// Releases the page block that begins at a frame and returns its order. Its bytes stay.
+    /// Frees the page block that begins at a frame and returns its order. Its bytes stay.
     #[inline(always)]
     pub(crate) fn free(&mut self, t: u8, frame: u32) -> Result<u8, Refusal>
         requires { t < self.old.tenants }
@@ -52,10 +52,10 @@ impl Kernel {
             .ok_or(Refusal::NotABlock)
     }
 
-    /// Lends the `len` bytes from `place` on, where they lie.
+    /// Borrows the `len` bytes from `place` on.
     ///
-    /// Refuses with `BadLength` unless `len` is 1 to 64, then with `OutOfReach` if the bytes do not lie inside one live page block
-    /// or one live object of the tenant.
+    /// Refused with `BadLength` unless `len` is 1 to 64, then with `OutOfReach` if the bytes are not inside one live page block or
+    /// one live object of the tenant.
     #[inline(always)]
     pub(crate) fn read(&self, t: u8, place: u32, len: u32) -> Result<&[u8], Refusal>
         requires { t < self.now.tenants }
@@ -72,10 +72,10 @@ impl Kernel {
         Ok(lent(&self.space, superblock, self.order(), t, place, len))
     }
 
-    /// Stores at most 64 bytes from `place` on and returns how many.
+    /// Writes at most 64 bytes from `place` on and returns their number.
     ///
-    /// Refuses with `OutOfReach` if there is no byte, or if they do not lie inside one live page block or one live object of the
-    /// tenant. Then nothing is stored.
+    /// Refused with `OutOfReach` if there is no byte, or if they are not inside one live page block or one live object of the
+    /// tenant. Then nothing is written.
     #[inline(always)]
     pub(crate) fn write(&mut self, t: u8, place: u32, bytes: &[u8]) -> Result<u32, Refusal>
         requires tenant { t < self.old.tenants }
@@ -92,8 +92,8 @@ impl Kernel {
         Ok(len)
     }
 
-    /// Returns the superblock that has a range of tenant `t`; None if the range has no byte, or does not lie inside one live page
-    /// block or inside one live object.
+    /// Returns the superblock that has a range of tenant `t`, or `None` if the range has no byte or is not inside one live page
+    /// block or one live object.
     #[inline(always)]
     pub(crate) fn reached(&self, t: u8, place: u32, len: u32) -> Option<u16>
         requires { t < self.now.tenants }
@@ -111,8 +111,8 @@ impl Kernel {
         Some(superblock)
     }
 
-    /// Whether a range of tenant `t` has a byte and lies inside one live page block or inside one live object. The caller
-    /// knows that this superblock lies under the slot of its first byte.
+    /// Returns true if a range of tenant `t` has a byte and is inside one live page block or one live object. The caller knows
+    /// that this superblock is in the slot of its first byte.
     #[inline(always)]
     fn is_in_reach(&self, superblock: u16, t: u8, place: u32, len: u32) -> bool
         requires tenant { t < self.now.tenants }
@@ -144,7 +144,7 @@ impl Kernel {
     }
 }
 
-/// Lends the bytes of a range of tenant `t` that lies in this superblock, which has `2^order` frames. Only the contract names `t`.
+/// Borrows a range of tenant `t` that is in this superblock of `2^order` frames. Only the contract uses `t`.
 #[inline(always)]
 fn lent(space: &Space, superblock: u16, order: u32, t: u8, place: u32, len: u32) -> &[u8]
     requires order { order ≤ MOST_ORDER }
@@ -159,7 +159,7 @@ fn lent(space: &Space, superblock: u16, order: u32, t: u8, place: u32, len: u32)
     &space.machine_bytes(superblock)[from..from + len as usize]
 }
 
-/// Writes bytes over a range of tenant `t` that lies in this superblock.
+/// Writes bytes over a range of tenant `t` that is in this superblock.
 fn store(space: &mut Space, superblock: u16, t: u8, place: u32, bytes: &[u8])
     requires few { length bytes.now ≤ MOST_BYTES }
     requires home { home_of space.old t place (length bytes.now) ≡ Some superblock }

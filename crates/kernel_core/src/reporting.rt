@@ -19,30 +19,30 @@ use model_core::limits::MOST_ORDER;
 use model_core::report::OrderRow;
 use words_core::{ORDERS, Report};
 
-/// What a tenant's blocks of all orders are, read once.
+/// The figures of a tenant's blocks of all orders.
 #[derive(Drop)]
 struct Blocks {
     /// The blocks of each order, from order 0 on.
     orders: ArrayVec<OrderRow, ORDERS>,
-    /// How many frames lie in taken blocks.
+    /// The number of frames in taken blocks.
     live: u32,
     /// The greatest order of a free block, if there is one.
     top: Option<u8>,
 }
 
 /// The figures of a tenant's frames and blocks in its report.
-#[derive(Drop)]
+#[derive(Debug, Drop)]
 pub struct BlockFigures {
-    /// How many frames the tenant's slots have.
+    /// The number of frames in the tenant's slots.
     pub frames: u32,
-    /// How many of them lie in taken blocks: page blocks and slabs, empty slabs too.
+    /// The number of these in taken blocks: page blocks and slabs, including empty slabs.
     pub live: u32,
     /// The blocks of each order, from order 0 on.
     pub orders: ArrayVec<OrderRow, ORDERS>,
 }
 
 impl Kernel {
-    /// The figures of frames and blocks in a report of tenant `t`: [`Kernel::report`] without the caches, which are not counted.
+    /// Returns the figures of frames and blocks in a report of tenant `t`. It does not count the caches.
     pub fn block_figures(&self, t: u8) -> BlockFigures
         requires { t < self.now.tenants }
         ensures frames { (m : Machine) → ShowsMachine self.now t m → result.frames ≡ frames_held self.now.order m }
@@ -59,8 +59,8 @@ impl Kernel {
         }
     }
 
-    /// The figures of tenant `t`'s memory: its frames, its blocks of each order, and its caches. They are what [`Kernel::report`]
-    /// replies, in half of a reply's bytes.
+    /// Returns the figures of tenant `t`'s memory: its frames, its blocks of each order, and its caches. These are the contents
+    /// of the reply of [`Kernel::report`], in half the bytes.
     pub fn figures(&self, t: u8) -> Report
         requires { t < self.now.tenants }
         ensures machine { (m : Machine) → ShowsMachine self.now t m → result ≡ figures_of self.now.order m }
@@ -71,7 +71,7 @@ impl Kernel {
         let blocks = orders_of(buddy, t);
         let frames = buddy.slots(t) << buddy.order();
         let free = frames - blocks.live;
-        // Without a free frame there is no free block, and no share of the free frames.
+        // Without a free frame there is no free block, and the share is 0.
         let top = if free == 0 { None } else { blocks.top };
         Report {
             frames,
@@ -85,7 +85,7 @@ impl Kernel {
     }
 }
 
-/// The blocks of tenant `t`: a row for each order, the frames of the taken ones, and the greatest order of a free one.
+/// Returns the blocks of tenant `t`: a row for each order, the number of taken frames, and the greatest order of a free block.
 fn orders_of(buddy: &Buddy, t: u8) -> Blocks
     requires tenant { t < length buddy.now.tenants }
     requires fit { AreWithin buddy.now t }
@@ -112,8 +112,8 @@ fn orders_of(buddy: &Buddy, t: u8) -> Blocks
     Blocks { orders, live, top }
 }
 
-/// The share of `free` frames that lie outside one greatest free block, of order `top`, in thousandths; 0 where there is no
-/// free block.
+/// Returns the share of the `free` frames outside one greatest free block, of order `top`, in thousandths. 0 if there is no free
+/// block.
 fn split_share(free: u32, top: Option<u8>) -> u32
     requires free { IfSome top (λ k. 0 < free) }
     requires order { IfSome top (λ k. k ≤ MOST_ORDER) }
