@@ -48,7 +48,7 @@ may_all_be h cells holder place [] = true
 may_all_be h cells holder place (byte ∷ bytes) =
     may_be holder (known_fresh_byte h holder place) (cells place) byte && may_all_be h cells holder (place + 1) bytes
 
--- these bytes are told or written from `begin` on
+-- these bytes are read or written from `begin` on
 abbrev pub with_bytes : Holder → ℕ → List ℕ → Cells → Cells
 with_bytes holder begin bytes cells place =
     if nat_le begin place && nat_lt place (begin + length bytes) then

@@ -54,7 +54,7 @@ can_stand order h b = (nat_le b.order order && b.first % 2 ^ b.order == 0) && (h
 abbrev pub blocks_of_slot : ℕ → ℕ → ℕ → List Block
 blocks_of_slot order k u = map (λ i. block (i * 2 ^ k) k) (range_with_len (u * 2 ^ (order - k)) (2 ^ (order - k)))
 
--- those in held slots of which no frame is taken
+-- those in held slots with no taken frame
 unfoldable pub vacant_blocks : ℕ → Holdings → ℕ → List Block
 vacant_blocks order h k = filter (is_vacant h) (flat_map (blocks_of_slot order k) h.slots)
 

@@ -9,19 +9,43 @@ use Rattle.promise_core.specs.Vocabulary.{KnownCache, Holdings, has_slot, known_
 -- the tenant asks for a cache whose pattern has the byte
 abbrev pub gives_pattern : ℕ → ℕ → Event → Bool
 gives_pattern t byte (Event.Tenant named (Command.Cache size align pattern)) = named == t && list_any (λ b. b == byte) pattern.items
-gives_pattern t byte event = false
+gives_pattern t byte (Event.Tenant named (Command.Alloc k)) = false
+gives_pattern t byte (Event.Tenant named (Command.Free f)) = false
+gives_pattern t byte (Event.Tenant named (Command.Read place len)) = false
+gives_pattern t byte (Event.Tenant named (Command.Write place new)) = false
+gives_pattern t byte (Event.Tenant named (Command.Destroy number)) = false
+gives_pattern t byte (Event.Tenant named (Command.Take number)) = false
+gives_pattern t byte (Event.Tenant named (Command.Give number place)) = false
+gives_pattern t byte (Event.Tenant named Command.Reap) = false
+gives_pattern t byte (Event.Tenant named Command.Report) = false
+gives_pattern t byte (Event.Admin command) = false
 
 -- the tenant writes_byte the byte at the place
 abbrev pub writes_byte : ℕ → ℕ → ℕ → Event → Body → Bool
 writes_byte t place byte (Event.Tenant named (Command.Write begin new)) (Body.Written n) =
     named == t && ((nat_le begin place && nat_lt place (begin + length new.items))
     && slice_index new.items (place - begin) == byte)
-writes_byte t place byte event body = false
+writes_byte t place byte (Event.Tenant named (Command.Alloc k)) body = false
+writes_byte t place byte (Event.Tenant named (Command.Free f)) body = false
+writes_byte t place byte (Event.Tenant named (Command.Read begin len)) body = false
+writes_byte t place byte (Event.Tenant named (Command.Cache size align pattern)) body = false
+writes_byte t place byte (Event.Tenant named (Command.Destroy number)) body = false
+writes_byte t place byte (Event.Tenant named (Command.Take number)) body = false
+writes_byte t place byte (Event.Tenant named (Command.Give number object)) body = false
+writes_byte t place byte (Event.Tenant named Command.Reap) body = false
+writes_byte t place byte (Event.Tenant named Command.Report) body = false
+writes_byte t place byte (Event.Tenant named (Command.Write begin new)) body = false
+writes_byte t place byte (Event.Admin command) body = false
 
 -- the slot of the place is granted to the tenant; slots have 2 ^ order frames
 abbrev pub grants_slot : ℕ → ℕ → ℕ → Event → Body → Bool
 grants_slot order t place (Event.Admin (AdminCommand.Grant named)) (Body.Granted told u superblock) = named == t && slot_of order place == u
-grants_slot order t place event body = false
+grants_slot order t place (Event.Tenant named command) body = false
+grants_slot order t place (Event.Admin (AdminCommand.Grant named)) body = false
+grants_slot order t place (Event.Admin (AdminCommand.TakeBack named u)) body = false
+grants_slot order t place (Event.Admin (AdminCommand.Reset named)) body = false
+grants_slot order t place (Event.Admin (AdminCommand.Move named u)) body = false
+grants_slot order t place (Event.Admin AdminCommand.Pool) body = false
 
 -- the byte is of a pattern that the tenant gave, in these exchanges or before
 abbrev pub was_given : ℕ → ℕ → Bool → List Exchange → Bool
@@ -67,7 +91,7 @@ LeftInHeld = (limit order superblocks tenants t : ℕ) (es : List Exchange) (w :
     → all_allowed es (Ok (opening limit order superblocks tenants)) ≡ Ok w → slice_get w.states t ≡ Some s
     → AreOfHeld order s.has s.cells
 
--- the tenant can be told this
+-- this reply to the tenant is allowed
 abbrev pub may_tell : Known → ℕ → Command → Body → Bool
 may_tell w t command body = is_ok (allowed (Event.Tenant t command) (record { addressee = Addressee.Tenant t; body = body }) w)
 
@@ -95,7 +119,10 @@ uses_memory (Command.Read place len) = true
 uses_memory (Command.Write place bytes) = true
 uses_memory (Command.Take number) = true
 uses_memory (Command.Give number place) = true
-uses_memory command = false
+uses_memory (Command.Cache size align pattern) = false
+uses_memory (Command.Destroy number) = false
+uses_memory Command.Reap = false
+uses_memory Command.Report = false
 
 -- to each of these there is an allowed reply, whatever was asked and answered before, if each reply was allowed
 abbrev pub UseAnswerable : Type 0

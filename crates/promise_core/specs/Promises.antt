@@ -15,7 +15,12 @@ abbrev pub is_for : Event → Bool → Addressee → Bool
 is_for (Event.Tenant t command) true (Addressee.Tenant named) = named == t
 is_for (Event.Tenant t command) false Addressee.Nobody = true
 is_for (Event.Admin command) exists Addressee.Admin = true
-is_for event exists addressee = false
+is_for (Event.Tenant t command) true Addressee.Admin = false
+is_for (Event.Tenant t command) true Addressee.Nobody = false
+is_for (Event.Tenant t command) false Addressee.Admin = false
+is_for (Event.Tenant t command) false (Addressee.Tenant named) = false
+is_for (Event.Admin command) exists Addressee.Nobody = false
+is_for (Event.Admin command) exists (Addressee.Tenant named) = false
 
 -- the reply is for whom it has to be, and one to such an event
 abbrev pub form : Event → Reply → Known → State → Bool
@@ -46,7 +51,10 @@ due (Event.Admin (AdminCommand.TakeBack t u)) w s =
     first_due ((not (has_slot s.has u), Refusal.NoSlot) ∷ (is_slot_busy w.order s.has u, Refusal.SlotBusy) ∷ [])
 due (Event.Admin (AdminCommand.Move t u)) w s =
     first_due ((not (has_slot s.has u), Refusal.NoSlot) ∷ (list_all is_some w.owners, Refusal.PoolEmpty) ∷ [])
-due event w s = None
+due (Event.Tenant t Command.Reap) w s = None
+due (Event.Tenant t Command.Report) w s = None
+due (Event.Admin (AdminCommand.Reset t)) w s = None
+due (Event.Admin AdminCommand.Pool) w s = None
 
 abbrev pub is_one : Refusal → Refusal → Bool
 is_one a b = number_of_refusal a == number_of_refusal b
@@ -55,42 +63,185 @@ is_one a b = number_of_refusal a == number_of_refusal b
 abbrev pub refusals : Event → Body → Known → State → Bool
 refusals event (Body.Refused refusal) w s =
     option_map_or (is_one refusal) (due event w s) (is_one refusal Refusal.NoFrames || is_one refusal Refusal.SlotBusy)
-refusals event body w s = is_none (due event w s)
+refusals event (Body.Granted tenant slot superblock) w s = is_none (due event w s)
+refusals event (Body.TakenBack superblock) w s = is_none (due event w s)
+refusals event (Body.WasReset tenant superblocks) w s = is_none (due event w s)
+refusals event (Body.Moved tenant slot superblock) w s = is_none (due event w s)
+refusals event (Body.Owners told) w s = is_none (due event w s)
+refusals event (Body.Frame f) w s = is_none (due event w s)
+refusals event (Body.Freed k) w s = is_none (due event w s)
+refusals event (Body.Bytes told) w s = is_none (due event w s)
+refusals event (Body.Written n) w s = is_none (due event w s)
+refusals event (Body.Cache number chunk q n colours) w s = is_none (due event w s)
+refusals event (Body.Destroyed frames) w s = is_none (due event w s)
+refusals event (Body.Object place) w s = is_none (due event w s)
+refusals event Body.Given w s = is_none (due event w s)
+refusals event (Body.Reaped frames) w s = is_none (due event w s)
+refusals event (Body.Report r) w s = is_none (due event w s)
+refusals event (Body.Fault fault) w s = is_none (due event w s)
 
 -- all objects in the cache's slabs are live, and there is no room for another slab
 abbrev pub is_used_up : ℕ → Holdings → KnownCache → Bool
 is_used_up order h c = list_all (is_slab_full c) c.live && not (has_vacant_block order h c.order)
+
+-- Each of the promises that follow speaks of some commands. The others are named too, so that a new command has to be put into
+-- each. Which body is an answer to which command `state_after` says alone, and `form` tests.
 
 -- there are no frames where there is no room
 abbrev pub room : Event → Body → Known → State → Bool
 room (Event.Tenant t (Command.Alloc k)) (Body.Refused Refusal.NoFrames) w s = not (has_vacant_block w.order s.has k)
 room (Event.Tenant t (Command.Take number)) (Body.Refused Refusal.NoFrames) w s =
     option_map_or (is_used_up w.order s.has) (known_cache s.has number) false
-room event (Body.Refused Refusal.NoFrames) w s = false
-room event body w s = true
+room (Event.Tenant t (Command.Free f)) (Body.Refused Refusal.NoFrames) w s = false
+room (Event.Tenant t (Command.Read place len)) (Body.Refused Refusal.NoFrames) w s = false
+room (Event.Tenant t (Command.Write place new)) (Body.Refused Refusal.NoFrames) w s = false
+room (Event.Tenant t (Command.Cache size align pattern)) (Body.Refused Refusal.NoFrames) w s = false
+room (Event.Tenant t (Command.Destroy number)) (Body.Refused Refusal.NoFrames) w s = false
+room (Event.Tenant t (Command.Give number place)) (Body.Refused Refusal.NoFrames) w s = false
+room (Event.Tenant t Command.Reap) (Body.Refused Refusal.NoFrames) w s = false
+room (Event.Tenant t Command.Report) (Body.Refused Refusal.NoFrames) w s = false
+room (Event.Admin (AdminCommand.Grant t)) (Body.Refused Refusal.NoFrames) w s = false
+room (Event.Admin (AdminCommand.TakeBack t u)) (Body.Refused Refusal.NoFrames) w s = false
+room (Event.Admin (AdminCommand.Reset t)) (Body.Refused Refusal.NoFrames) w s = false
+room (Event.Admin (AdminCommand.Move t u)) (Body.Refused Refusal.NoFrames) w s = false
+room (Event.Admin AdminCommand.Pool) (Body.Refused Refusal.NoFrames) w s = false
+room event (Body.Refused Refusal.BadOrder) w s = true
+room event (Body.Refused Refusal.NotABlock) w s = true
+room event (Body.Refused Refusal.OutOfReach) w s = true
+room event (Body.Refused Refusal.BadLength) w s = true
+room event (Body.Refused Refusal.BadSize) w s = true
+room event (Body.Refused Refusal.BadAlign) w s = true
+room event (Body.Refused Refusal.NoCacheSlot) w s = true
+room event (Body.Refused Refusal.NoCache) w s = true
+room event (Body.Refused Refusal.CacheInUse) w s = true
+room event (Body.Refused Refusal.NotAnObject) w s = true
+room event (Body.Refused Refusal.NoTenant) w s = true
+room event (Body.Refused Refusal.PoolEmpty) w s = true
+room event (Body.Refused Refusal.NoSlot) w s = true
+room event (Body.Refused Refusal.SlotBusy) w s = true
+room event (Body.Granted tenant slot superblock) w s = true
+room event (Body.TakenBack superblock) w s = true
+room event (Body.WasReset tenant superblocks) w s = true
+room event (Body.Moved tenant slot superblock) w s = true
+room event (Body.Owners told) w s = true
+room event (Body.Frame f) w s = true
+room event (Body.Freed k) w s = true
+room event (Body.Bytes told) w s = true
+room event (Body.Written n) w s = true
+room event (Body.Cache number chunk q n colours) w s = true
+room event (Body.Destroyed frames) w s = true
+room event (Body.Object place) w s = true
+room event Body.Given w s = true
+room event (Body.Reaped frames) w s = true
+room event (Body.Report r) w s = true
+room event (Body.Fault fault) w s = true
 
--- a slot is busy where a frame of it is taken, or a slab without live objects may stand
+-- a slot is busy if a frame of it is taken, or if a slab without live objects may be in it
 abbrev pub busy : Event → Body → Known → State → Bool
 busy (Event.Admin (AdminCommand.TakeBack t u)) (Body.Refused Refusal.SlotBusy) w s =
     is_slot_busy w.order s.has u || list_any (λ c. s.may_have_empty c.number) s.has.caches
-busy event (Body.Refused Refusal.SlotBusy) w s = false
-busy event body w s = true
+busy (Event.Tenant t (Command.Alloc k)) (Body.Refused Refusal.SlotBusy) w s = false
+busy (Event.Tenant t (Command.Free f)) (Body.Refused Refusal.SlotBusy) w s = false
+busy (Event.Tenant t (Command.Read place len)) (Body.Refused Refusal.SlotBusy) w s = false
+busy (Event.Tenant t (Command.Write place new)) (Body.Refused Refusal.SlotBusy) w s = false
+busy (Event.Tenant t (Command.Cache size align pattern)) (Body.Refused Refusal.SlotBusy) w s = false
+busy (Event.Tenant t (Command.Destroy number)) (Body.Refused Refusal.SlotBusy) w s = false
+busy (Event.Tenant t (Command.Take number)) (Body.Refused Refusal.SlotBusy) w s = false
+busy (Event.Tenant t (Command.Give number place)) (Body.Refused Refusal.SlotBusy) w s = false
+busy (Event.Tenant t Command.Reap) (Body.Refused Refusal.SlotBusy) w s = false
+busy (Event.Tenant t Command.Report) (Body.Refused Refusal.SlotBusy) w s = false
+busy (Event.Admin (AdminCommand.Grant t)) (Body.Refused Refusal.SlotBusy) w s = false
+busy (Event.Admin (AdminCommand.Reset t)) (Body.Refused Refusal.SlotBusy) w s = false
+busy (Event.Admin (AdminCommand.Move t u)) (Body.Refused Refusal.SlotBusy) w s = false
+busy (Event.Admin AdminCommand.Pool) (Body.Refused Refusal.SlotBusy) w s = false
+busy event (Body.Refused Refusal.NoFrames) w s = true
+busy event (Body.Refused Refusal.BadOrder) w s = true
+busy event (Body.Refused Refusal.NotABlock) w s = true
+busy event (Body.Refused Refusal.OutOfReach) w s = true
+busy event (Body.Refused Refusal.BadLength) w s = true
+busy event (Body.Refused Refusal.BadSize) w s = true
+busy event (Body.Refused Refusal.BadAlign) w s = true
+busy event (Body.Refused Refusal.NoCacheSlot) w s = true
+busy event (Body.Refused Refusal.NoCache) w s = true
+busy event (Body.Refused Refusal.CacheInUse) w s = true
+busy event (Body.Refused Refusal.NotAnObject) w s = true
+busy event (Body.Refused Refusal.NoTenant) w s = true
+busy event (Body.Refused Refusal.PoolEmpty) w s = true
+busy event (Body.Refused Refusal.NoSlot) w s = true
+busy event (Body.Granted tenant slot superblock) w s = true
+busy event (Body.TakenBack superblock) w s = true
+busy event (Body.WasReset tenant superblocks) w s = true
+busy event (Body.Moved tenant slot superblock) w s = true
+busy event (Body.Owners told) w s = true
+busy event (Body.Frame f) w s = true
+busy event (Body.Freed k) w s = true
+busy event (Body.Bytes told) w s = true
+busy event (Body.Written n) w s = true
+busy event (Body.Cache number chunk q n colours) w s = true
+busy event (Body.Destroyed frames) w s = true
+busy event (Body.Object place) w s = true
+busy event Body.Given w s = true
+busy event (Body.Reaped frames) w s = true
+busy event (Body.Report r) w s = true
+busy event (Body.Fault fault) w s = true
 
 abbrev pub blocks : Event → Body → Known → State → Bool
 blocks (Event.Tenant t (Command.Alloc k)) (Body.Frame f) w s = can_stand w.order s.has (block f k)
-blocks event body w s = true
+blocks (Event.Tenant t (Command.Alloc k)) body w s = true
+blocks (Event.Tenant t (Command.Free f)) body w s = true
+blocks (Event.Tenant t (Command.Read place len)) body w s = true
+blocks (Event.Tenant t (Command.Write place new)) body w s = true
+blocks (Event.Tenant t (Command.Cache size align pattern)) body w s = true
+blocks (Event.Tenant t (Command.Destroy number)) body w s = true
+blocks (Event.Tenant t (Command.Take number)) body w s = true
+blocks (Event.Tenant t (Command.Give number place)) body w s = true
+blocks (Event.Tenant t Command.Reap) body w s = true
+blocks (Event.Tenant t Command.Report) body w s = true
+blocks (Event.Admin (AdminCommand.Grant t)) body w s = true
+blocks (Event.Admin (AdminCommand.TakeBack t u)) body w s = true
+blocks (Event.Admin (AdminCommand.Reset t)) body w s = true
+blocks (Event.Admin (AdminCommand.Move t u)) body w s = true
+blocks (Event.Admin AdminCommand.Pool) body w s = true
 
 abbrev pub objects : Event → Body → Known → State → Bool
 objects (Event.Tenant t (Command.Take number)) (Body.Object place) w s =
     option_map_or (λ c. can_be_taken w.order s.has c place) (known_cache s.has number) false
-objects event body w s = true
+objects (Event.Tenant t (Command.Alloc k)) body w s = true
+objects (Event.Tenant t (Command.Free f)) body w s = true
+objects (Event.Tenant t (Command.Read place len)) body w s = true
+objects (Event.Tenant t (Command.Write place new)) body w s = true
+objects (Event.Tenant t (Command.Cache size align pattern)) body w s = true
+objects (Event.Tenant t (Command.Destroy number)) body w s = true
+objects (Event.Tenant t (Command.Take number)) body w s = true
+objects (Event.Tenant t (Command.Give number place)) body w s = true
+objects (Event.Tenant t Command.Reap) body w s = true
+objects (Event.Tenant t Command.Report) body w s = true
+objects (Event.Admin (AdminCommand.Grant t)) body w s = true
+objects (Event.Admin (AdminCommand.TakeBack t u)) body w s = true
+objects (Event.Admin (AdminCommand.Reset t)) body w s = true
+objects (Event.Admin (AdminCommand.Move t u)) body w s = true
+objects (Event.Admin AdminCommand.Pool) body w s = true
 
 -- a new cache has a number of its own, and its objects fit into a slab at each of its colours
 abbrev pub new_layout : Event → Body → Known → State → Bool
 new_layout (Event.Tenant t (Command.Cache size align pattern)) (Body.Cache number chunk q n colours) w s =
     (nat_lt number w.limit && is_none (known_cache s.has number)) && ((nat_le size chunk && (chunk % align == 0 && nat_le q w.order))
     && ((nat_le 1 n && nat_le 1 colours) && nat_le (align * (colours - 1) + n * chunk) (FRAME_BYTES * 2 ^ q)))
-new_layout event body w s = true
+new_layout (Event.Tenant t (Command.Alloc k)) body w s = true
+new_layout (Event.Tenant t (Command.Free f)) body w s = true
+new_layout (Event.Tenant t (Command.Read place len)) body w s = true
+new_layout (Event.Tenant t (Command.Write place new)) body w s = true
+new_layout (Event.Tenant t (Command.Cache size align pattern)) body w s = true
+new_layout (Event.Tenant t (Command.Destroy number)) body w s = true
+new_layout (Event.Tenant t (Command.Take number)) body w s = true
+new_layout (Event.Tenant t (Command.Give number place)) body w s = true
+new_layout (Event.Tenant t Command.Reap) body w s = true
+new_layout (Event.Tenant t Command.Report) body w s = true
+new_layout (Event.Admin (AdminCommand.Grant t)) body w s = true
+new_layout (Event.Admin (AdminCommand.TakeBack t u)) body w s = true
+new_layout (Event.Admin (AdminCommand.Reset t)) body w s = true
+new_layout (Event.Admin (AdminCommand.Move t u)) body w s = true
+new_layout (Event.Admin AdminCommand.Pool) body w s = true
 
 -- no more frames than are not taken, out of slabs of these caches that may stand
 abbrev pub can_come_back : ℕ → List KnownCache → ℕ → State → Bool
@@ -102,7 +253,21 @@ gives (Event.Tenant t (Command.Free f)) (Body.Freed k) w s = option_eq (λ i j. 
 gives (Event.Tenant t (Command.Destroy number)) (Body.Destroyed frames) w s =
     can_come_back w.order (filter (λ c. c.number == number) s.has.caches) frames s
 gives (Event.Tenant t Command.Reap) (Body.Reaped frames) w s = can_come_back w.order s.has.caches frames s
-gives event body w s = true
+gives (Event.Tenant t (Command.Alloc k)) body w s = true
+gives (Event.Tenant t (Command.Free f)) body w s = true
+gives (Event.Tenant t (Command.Read place len)) body w s = true
+gives (Event.Tenant t (Command.Write place new)) body w s = true
+gives (Event.Tenant t (Command.Cache size align pattern)) body w s = true
+gives (Event.Tenant t (Command.Destroy number)) body w s = true
+gives (Event.Tenant t (Command.Take number)) body w s = true
+gives (Event.Tenant t (Command.Give number place)) body w s = true
+gives (Event.Tenant t Command.Reap) body w s = true
+gives (Event.Tenant t Command.Report) body w s = true
+gives (Event.Admin (AdminCommand.Grant t)) body w s = true
+gives (Event.Admin (AdminCommand.TakeBack t u)) body w s = true
+gives (Event.Admin (AdminCommand.Reset t)) body w s = true
+gives (Event.Admin (AdminCommand.Move t u)) body w s = true
+gives (Event.Admin AdminCommand.Pool) body w s = true
 
 abbrev pub has_owner : (Option Owner → Bool) → ℕ → Known → Bool
 has_owner test superblock w = option_map_or test (slice_get w.owners superblock) false
@@ -117,14 +282,42 @@ owners (Event.Admin (AdminCommand.Move t u)) (Body.Moved named slot superblock) 
     (named == t && slot == u) && has_owner is_none superblock w
 owners (Event.Admin AdminCommand.Pool) (Body.Owners told) w s = length told.items == length w.owners
     && list_all (λ p. option_eq (λ x y. x.tenant == y.tenant && x.slot == y.slot) p.0 p.1) (zip told.items w.owners)
-owners event body w s = true
+owners (Event.Tenant t (Command.Alloc k)) body w s = true
+owners (Event.Tenant t (Command.Free f)) body w s = true
+owners (Event.Tenant t (Command.Read place len)) body w s = true
+owners (Event.Tenant t (Command.Write place new)) body w s = true
+owners (Event.Tenant t (Command.Cache size align pattern)) body w s = true
+owners (Event.Tenant t (Command.Destroy number)) body w s = true
+owners (Event.Tenant t (Command.Take number)) body w s = true
+owners (Event.Tenant t (Command.Give number place)) body w s = true
+owners (Event.Tenant t Command.Reap) body w s = true
+owners (Event.Tenant t Command.Report) body w s = true
+owners (Event.Admin (AdminCommand.Grant t)) body w s = true
+owners (Event.Admin (AdminCommand.TakeBack t u)) body w s = true
+owners (Event.Admin (AdminCommand.Reset t)) body w s = true
+owners (Event.Admin (AdminCommand.Move t u)) body w s = true
+owners (Event.Admin AdminCommand.Pool) body w s = true
 
 -- each byte that is read may be there, and all are read, or written
 abbrev pub bytes : Event → Body → Known → State → Bool
 bytes (Event.Tenant t (Command.Read place len)) (Body.Bytes told) w s = length told.items == len
     && option_map_or (λ holder. may_all_be s.has s.cells holder place told.items) (holder_of s.has place len) false
 bytes (Event.Tenant t (Command.Write place new)) (Body.Written n) w s = length new.items == n
-bytes event body w s = true
+bytes (Event.Tenant t (Command.Alloc k)) body w s = true
+bytes (Event.Tenant t (Command.Free f)) body w s = true
+bytes (Event.Tenant t (Command.Read place len)) body w s = true
+bytes (Event.Tenant t (Command.Write place new)) body w s = true
+bytes (Event.Tenant t (Command.Cache size align pattern)) body w s = true
+bytes (Event.Tenant t (Command.Destroy number)) body w s = true
+bytes (Event.Tenant t (Command.Take number)) body w s = true
+bytes (Event.Tenant t (Command.Give number place)) body w s = true
+bytes (Event.Tenant t Command.Reap) body w s = true
+bytes (Event.Tenant t Command.Report) body w s = true
+bytes (Event.Admin (AdminCommand.Grant t)) body w s = true
+bytes (Event.Admin (AdminCommand.TakeBack t u)) body w s = true
+bytes (Event.Admin (AdminCommand.Reset t)) body w s = true
+bytes (Event.Admin (AdminCommand.Move t u)) body w s = true
+bytes (Event.Admin AdminCommand.Pool) body w s = true
 
 -- how many frames these numbers of blocks have, the first of them of order 0
 abbrev pub frames_of_counts : List ℕ → ℕ
@@ -157,9 +350,23 @@ report (Event.Tenant t Command.Report) (Body.Report r) w s =
     ∷ list_all (is_row s.may_have_empty) (zip s.has.caches r.caches.items)
     ∷ list_all (λ k. slice_index taken k == known_count s.has r.caches.items k) orders
     ∷ list_all (λ k. nat_le (frames_of_counts (drop k free)) (length (vacant_blocks w.order s.has k))) orders ∷ [])
-report event body w s = true
+report (Event.Tenant t (Command.Alloc k)) body w s = true
+report (Event.Tenant t (Command.Free f)) body w s = true
+report (Event.Tenant t (Command.Read place len)) body w s = true
+report (Event.Tenant t (Command.Write place new)) body w s = true
+report (Event.Tenant t (Command.Cache size align pattern)) body w s = true
+report (Event.Tenant t (Command.Destroy number)) body w s = true
+report (Event.Tenant t (Command.Take number)) body w s = true
+report (Event.Tenant t (Command.Give number place)) body w s = true
+report (Event.Tenant t Command.Reap) body w s = true
+report (Event.Tenant t Command.Report) body w s = true
+report (Event.Admin (AdminCommand.Grant t)) body w s = true
+report (Event.Admin (AdminCommand.TakeBack t u)) body w s = true
+report (Event.Admin (AdminCommand.Reset t)) body w s = true
+report (Event.Admin (AdminCommand.Move t u)) body w s = true
+report (Event.Admin AdminCommand.Pool) body w s = true
 
--- how many frames the empty slabs have that a report told of the caches that pass
+-- the number of frames in empty slabs of the caches that pass, by a report
 abbrev pub empty_frames : (ℕ → Bool) → Holdings → Report → ℕ
 empty_frames test h r = sum_by (λ p. if test p.0.number then p.1.empty * 2 ^ p.0.order else 0) (zip h.caches r.caches.items)
 
@@ -173,7 +380,21 @@ still (Event.Tenant t Command.Reap) (Body.Reaped frames) w s =
 still (Event.Tenant t Command.Report) (Body.Report r) w s =
     option_map_or (λ q. list_all (λ p. p.0.free == p.1.free) (zip q.orders.items r.orders.items)
     && list_all (λ p. p.0.empty == p.1.empty) (zip q.caches.items r.caches.items)) s.told true
-still event body w s = true
+still (Event.Tenant t (Command.Alloc k)) body w s = true
+still (Event.Tenant t (Command.Free f)) body w s = true
+still (Event.Tenant t (Command.Read place len)) body w s = true
+still (Event.Tenant t (Command.Write place new)) body w s = true
+still (Event.Tenant t (Command.Cache size align pattern)) body w s = true
+still (Event.Tenant t (Command.Destroy number)) body w s = true
+still (Event.Tenant t (Command.Take number)) body w s = true
+still (Event.Tenant t (Command.Give number place)) body w s = true
+still (Event.Tenant t Command.Reap) body w s = true
+still (Event.Tenant t Command.Report) body w s = true
+still (Event.Admin (AdminCommand.Grant t)) body w s = true
+still (Event.Admin (AdminCommand.TakeBack t u)) body w s = true
+still (Event.Admin (AdminCommand.Reset t)) body w s = true
+still (Event.Admin (AdminCommand.Move t u)) body w s = true
+still (Event.Admin AdminCommand.Pool) body w s = true
 
 -- The step
 
@@ -208,7 +429,22 @@ kept event reply w s = let body = reply.body in
 
 abbrev pub is_no_tenant : Body → Bool
 is_no_tenant (Body.Refused refusal) = is_one refusal Refusal.NoTenant
-is_no_tenant body = false
+is_no_tenant (Body.Granted tenant slot superblock) = false
+is_no_tenant (Body.TakenBack superblock) = false
+is_no_tenant (Body.WasReset tenant superblocks) = false
+is_no_tenant (Body.Moved tenant slot superblock) = false
+is_no_tenant (Body.Owners told) = false
+is_no_tenant (Body.Frame f) = false
+is_no_tenant (Body.Freed k) = false
+is_no_tenant (Body.Bytes told) = false
+is_no_tenant (Body.Written n) = false
+is_no_tenant (Body.Cache number chunk q n colours) = false
+is_no_tenant (Body.Destroyed frames) = false
+is_no_tenant (Body.Object place) = false
+is_no_tenant Body.Given = false
+is_no_tenant (Body.Reaped frames) = false
+is_no_tenant (Body.Report r) = false
+is_no_tenant (Body.Fault fault) = false
 
 -- a tenant that does not exist is said not to
 abbrev pub judged : Event → Reply → Known → Option State → Result Known Promise

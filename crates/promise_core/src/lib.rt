@@ -1,8 +1,8 @@
-//! What every page and object allocator of a partitioning kernel owes its tenants, whatever its policy: twelve promises, as
-//! definitions; and what follows from them alone, in [`laws`].
+//! What every page and object allocator of a partitioning kernel owes its tenants under any policy: twelve promises, as
+//! definitions, and the laws that follow from them alone, in [`laws`].
 //!
-//! `specs/` says what is known after the events and replies so far, and which replies to the next event keep each promise. It
-//! speaks of no program: of any that answers events its replies can be judged.
+//! `specs/` defines what is known after the events and replies so far, and which replies to the next event keep each promise. It
+//! mentions no program, so the replies of any program can be judged.
 #![tactic(auto)]
 
 pub mod laws;

@@ -1,41 +1,41 @@
 //! The promises, by name.
 
-ghost use Rattle.std.specs.Prelude.{◌≡◌};
+ghost use Rattle.std.specs.Prelude.{◌≡◌, Some};
 ghost use Rattle.promise_core.specs.Names.{name_of_promise};
 
 use std::fmt;
 
-/// What is owed with every reply. The first promise that a reply does not keep is the one that it breaks.
+/// A promise that every reply has to keep. If a reply breaks several, the first of them is reported.
 #[derive(Clone, Copy, Debug, PartialEq, Eq)]
 pub enum Promise {
-    /// The reply is addressed to whom it is for, and is one to that event.
+    /// The reply has the right addressee and is one to that event.
     Form,
-    /// A refusal comes where its condition stands, the first of several; and no other.
+    /// If the condition of a refusal holds, the first such refusal comes. Otherwise only `NoFrames` or `SlotBusy` may.
     Refusals,
-    /// No page block and no object is refused for want of frames while one can be had.
+    /// No page block or object is refused for lack of frames while one can be allocated.
     Room,
-    /// No slot without taken frames is busy, unless an empty slab may stand.
+    /// No slot without taken frames is busy, unless an empty slab may be in it.
     Busy,
-    /// A page block is aligned, lies in a held slot and is apart from all that is taken.
+    /// A page block is aligned, lies in a held slot and overlaps nothing that is taken.
     Blocks,
-    /// An object is aligned, lies in a slab of its cache and is apart from its live ones.
+    /// An object is aligned, lies in a slab of its cache and overlaps no live object.
     Objects,
     /// The objects of a new cache fit into its slabs.
     Layout,
-    /// No more frames come back than were there to come back.
+    /// No more frames are freed than empty slabs could have had.
     Gives,
-    /// A superblock has one owner, and each change of owners is told.
+    /// A superblock has one owner, and each change of owners is reported.
     Owners,
-    /// A byte that is read is one that was left there, or that of something fresh.
+    /// A byte that is read was left there, or belongs to something fresh.
     Bytes,
-    /// A report tells what the tenant has.
+    /// A report has the figures of what the tenant has.
     Report,
-    /// What a report told stands until the tenant, or the administrator for it, changes something.
+    /// The figures of a report stay valid until the tenant changes something, or the administrator does for it.
     Still,
 }
 
 impl Promise {
-    /// The name of the promise, as it is written.
+    /// Returns the name of the promise, as it is written.
     pub fn name(&self) -> &'static str
         ensures { result.now ≡ name_of_promise self.now }
     {
@@ -57,6 +57,8 @@ impl Promise {
 }
 
 impl fmt::Display for Promise {
+    ghost output = { λ promise. Some (name_of_promise promise) };
+
     fn fmt<W: fmt::Write>(&self, f: &mut fmt::Formatter<W>) -> fmt::Result {
         f.write_str(self.name())
     }
