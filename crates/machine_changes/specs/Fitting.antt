@@ -7,7 +7,7 @@ use Rattle.slab_tables.specs.declared.cache.Cache as own
 use Rattle.slab_tables.specs.Content.{Content, kept_at, layout_numbers}
 use Rattle.machine_changes.specs.Shows.{IsSlab}
 
--- frame x of tenant t lies in a slab of which no object is live
+-- frame x of tenant t is in an empty slab
 pub record IsIdle (r : spaces.Content) (s : Content) (t x : ℕ) : Type 0 where
   pub number : ℕ
   pub first : ℕ

@@ -42,7 +42,7 @@ ReapedShows = (r r' : spaces.Content) (b b' : buddies.Content) (s s' : Content) 
     → ((c f : ℕ) (x : Cache) (y : Slab) → cache_of m c ≡ Some x → slab_of x f ≡ Some y → gone f ≡ is_empty y)
     → ShowsMachine r' b' s' t (reaped m)
 
--- a slab made on frames of which none was taken is the cache grown
+-- a slab made on untaken frames is the cache grown
 abbrev pub GrownShows : Type 0
 GrownShows = (r r' : spaces.Content) (b b' : buddies.Content) (s s' : Content) (t c : ℕ) (cache : own.Cache) (f n : ℕ) (m : Machine) (x : Cache)
     → IsGrown r r' b b' s s' t c cache f n → IsSteady r b s t → IsLayout cache.layout.size cache.layout.align (layout_numbers cache)

@@ -38,7 +38,7 @@ abbrev pub NextMeets : Type 0
 NextMeets = (r : spaces.Content) (b : buddies.Content) (s : Content) (t u : ℕ) (m : Machine)
     → ShowsMachine r b s t m → IsLeastSlot r.slots t u → next_slot m ≡ u
 
--- superblock m taken from under slot u of tenant t, of which no frame is taken
+-- superblock m taken out of slot u of tenant t, in which no frame is taken
 abbrev pub TakenBackShows : Type 0
 TakenBackShows = (r : spaces.Content) (b : buddies.Content) (s : Content) (t u m : ℕ)
     → HoldTogether r b s → t < length r.slots → spaces.superblock_at r.slots t u ≡ Some m
@@ -51,7 +51,7 @@ BusyMeets = (r : spaces.Content) (b : buddies.Content) (s : Content) (t u : ℕ)
     → HoldTogether r b s → t < length r.slots → ShowsMachine r b s t m
     → HasTaken (buddies.taken_of (buddies.holding_of t b)) (slot_block b.top u) ↔ (is_busy s.top m u ≡ true)
 
--- superblock m stands under no slot, and no slab begins on it
+-- superblock m is in no slot, and no slab begins on it
 pub record IsSpare (b : buddies.Content) (s : Content) (m : ℕ) : Type 0 where
   pub unused : (t u : ℕ) → buddies.superblock_at (buddies.holding_of t b) u ≡ Some m → ⊥
   pub bare : (i : ℕ) → i < 2 ^ s.top → place_at s.lists.places (m * 2 ^ s.top + i) ≡ None
