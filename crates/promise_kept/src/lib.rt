@@ -1,4 +1,4 @@
-//! That the private machine, and so the kernel, keeps the promises.
+//! The private machine, and so the kernel, keeps the promises.
 #![tactic(auto)]
 
 pub mod laws;
