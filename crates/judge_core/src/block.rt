@@ -8,7 +8,7 @@ use model_core::limits::FRAME_BYTES;
 use std::marker::Model;
 
 /// `2^order` frames of a tenant from the first on; the order is at most 8.
-#[derive(Clone, Copy)]
+#[derive(Clone, Copy, Debug)]
 pub struct FrameBlock {
     first: u32,
     order: u8,

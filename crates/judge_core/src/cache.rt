@@ -17,7 +17,7 @@ use std::alloc::{AllocError, Global};
 use std::marker::Model;
 
 /// A cache with its live objects. Sizes are in bytes.
-#[derive(Drop)]
+#[derive(Debug, Drop)]
 pub struct HeldCache {
     number: u8,
     size: u32,

@@ -18,7 +18,7 @@ use model_core::limits::{FRAME_BYTES, MOST_CACHES};
 use std::marker::Model;
 
 /// The held slots, rising, the live page blocks, by rising first frame, and the caches, by rising number.
-#[derive(Drop)]
+#[derive(Debug, Drop)]
 pub struct Held {
     pub(crate) slots: Vec<u16>,
     pub(crate) pages: Vec<FrameBlock>,
