@@ -38,7 +38,7 @@ abbrev pub failing : Result (Unit {0}) Promise → Result (Unit {0}) Failure
 failing (Ok _) = Ok tt
 failing (Err promise) = Err (Failure.Broken promise)
 
--- what is known of a machine of which this is a tenant
+-- what is known of a machine with this tenant
 abbrev pub known_at : Seen → Known → Known
 known_at x w = record w { limit = MOST_CACHES; order = x.left.order }
 

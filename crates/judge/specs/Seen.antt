@@ -10,7 +10,7 @@ use Rattle.shadow_memory.specs.Left.{Left, left_at, left_slots}
 pub record Seen : Type 0 where
   pub has : Holdings
   pub left : Left
-  -- by number of a cache, whether a slab without live objects may stand
+  -- for each number of a cache, whether it may have a slab without live objects
   pub may_have_empty : List Bool
   pub told : Option Report
 

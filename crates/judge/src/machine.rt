@@ -14,7 +14,7 @@ use std::alloc::{AllocError, Global};
 use std::marker::Model;
 
 /// What replies reported of a machine: who owns each superblock, and what each tenant has.
-#[derive(Drop)]
+#[derive(Debug, Drop)]
 pub struct Machine {
     pub(crate) order: u8,
     /// By superblock.

@@ -19,7 +19,7 @@ use words_core::{AdminCommand, Answer, CACHES, Command, Report};
 
 /// What replies reported of a tenant: its slots, pages, caches and objects, what was left at each place, which caches may have
 /// empty slabs, and the last report while it is valid.
-#[derive(Drop)]
+#[derive(Debug, Drop)]
 pub struct Tenant {
     pub(crate) alloc: Global,
     pub(crate) held: Held,
