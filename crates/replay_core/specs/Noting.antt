@@ -10,7 +10,22 @@ pub record Noting (N : Type 0) : Type 0 where
 
 abbrev pub noted_body : {N : Type 0} → Noting N → Body → N → N
 noted_body noting (Body.Refused refusal) n = noting.refused n refusal
-noted_body noting _ n = n
+noted_body noting (Body.Granted tenant slot superblock) n = n
+noted_body noting (Body.TakenBack superblock) n = n
+noted_body noting (Body.WasReset tenant superblocks) n = n
+noted_body noting (Body.Moved tenant slot superblock) n = n
+noted_body noting (Body.Owners owners) n = n
+noted_body noting (Body.Frame frame) n = n
+noted_body noting (Body.Freed order) n = n
+noted_body noting (Body.Bytes bytes) n = n
+noted_body noting (Body.Written count) n = n
+noted_body noting (Body.Cache cache chunk order objects colours) n = n
+noted_body noting (Body.Destroyed frames) n = n
+noted_body noting (Body.Object place) n = n
+noted_body noting Body.Given n = n
+noted_body noting (Body.Reaped frames) n = n
+noted_body noting (Body.Report report) n = n
+noted_body noting (Body.Fault fault) n = n
 
 -- what a reply adds: a refusal that is shown
 abbrev pub noted_reply : {N : Type 0} → Noting N → Option ℕ → Reply → N → N
@@ -24,7 +39,8 @@ noted_fault noting number front (Err fault) n = noting.faulty n number fault fro
 -- what a line adds that reads like this: its fault, or the reply to its event
 abbrev pub noted_reading : {N : Type 0} → Noting N → Option ℕ → ℕ → ℕ → ℕ → List ℕ → Result (Option Event) LineFault → World → N → N
 noted_reading noting only limit order number front (Ok (Some event)) w n = noted_reply noting only (world_step limit order event w).reply n
-noted_reading noting only limit order number front reading w n = noted_fault noting number front reading n
+noted_reading noting only limit order number front (Ok None) w n = noted_fault noting number front (Ok None) n
+noted_reading noting only limit order number front (Err fault) w n = noted_fault noting number front (Err fault) n
 
 -- what the lines add, each in the world that the events before it left; the first has this number
 abbrev pub noted_lines : {N : Type 0} → Noting N → Option ℕ → ℕ → ℕ → ℕ → List (List ℕ) → World → N → N

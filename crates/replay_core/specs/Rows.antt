@@ -5,4 +5,16 @@ use Rattle.world_core.specs.Vocabulary.{AdminCommand, Command, Event}
 abbrev pub HasRows : Event → Type 0
 HasRows (Event.Tenant t Command.Report) = Unit {0}
 HasRows (Event.Admin AdminCommand.Pool) = Unit {0}
-HasRows event = ⊥
+HasRows (Event.Tenant t (Command.Alloc k)) = ⊥
+HasRows (Event.Tenant t (Command.Free f)) = ⊥
+HasRows (Event.Tenant t (Command.Read place len)) = ⊥
+HasRows (Event.Tenant t (Command.Write place bytes)) = ⊥
+HasRows (Event.Tenant t (Command.Cache size align pattern)) = ⊥
+HasRows (Event.Tenant t (Command.Destroy number)) = ⊥
+HasRows (Event.Tenant t (Command.Take number)) = ⊥
+HasRows (Event.Tenant t (Command.Give number place)) = ⊥
+HasRows (Event.Tenant t Command.Reap) = ⊥
+HasRows (Event.Admin (AdminCommand.Grant t)) = ⊥
+HasRows (Event.Admin (AdminCommand.TakeBack t u)) = ⊥
+HasRows (Event.Admin (AdminCommand.Reset t)) = ⊥
+HasRows (Event.Admin (AdminCommand.Move t u)) = ⊥

@@ -1,4 +1,4 @@
-//! Lines of a load whose answers are written where they stay, each with its command known from reading on.
+//! Frequent lines whose answers are written straight into the drain's buffer. Each command has its own copy of the code.
 
 ghost use Rattle.std.specs.Prelude.{◌≡◌, ◌+◌, ◌^◌, ◌<◌, ◌≤◌, false, true, [], Some, Ok, length};
 ghost use Rattle.words_core.specs.Requests.{command_of, IsAskable};
@@ -17,7 +17,7 @@ use quick_core::{LF, read_known_request, read_tenant};
 use streams::Drain;
 use words_core::{Addressee, Request};
 
-/// The commands that make up a load, by number, and all others.
+/// The numbers of the frequent commands, and `RARE` for all others.
 const ALLOC: usize = 0;
 
 const FREE: usize = 1;
@@ -33,9 +33,9 @@ const WRITE: usize = 5;
 const RARE: usize = 6;
 
 impl<N: Notes> Run<N> {
-    /// Runs the lines at the front of a piece as long as they are requests that are read the short way, of tenants that there are and
-    /// whose replies are shown, and the drain has space for an answer; answers the rest of the piece. The lines end in LF, or in CR LF
-    /// if `RETURNS`. By itself, so that its loop has all registers.
+    /// Runs the quick requests at the front of a piece, as long as they are of existing, shown tenants and the drain has space
+    /// for an answer. Returns the rest of the piece. The lines end in LF, or in CR LF if `RETURNS`. Kept out of line, which
+    /// gives its loop all registers.
     #[inline(never)]
     pub fn run_in_place<'a, const RETURNS: bool, D: Drain>(
         &mut self,
@@ -62,8 +62,8 @@ impl<N: Notes> Run<N> {
         rest
     }
 
-    /// Runs and answers the line at the front of these bytes, and answers how long it is; None, and nothing is done, where it is no
-    /// request that is read the short way, or of no tenant that there is and is shown.
+    /// Runs and answers the line at the front of these bytes and returns its length. Returns `None` and does nothing if it is
+    /// no quick request of an existing, shown tenant.
     #[inline(always)]
     fn answer_line<const RETURNS: bool, D: Drain>(
         &mut self,
@@ -87,7 +87,7 @@ impl<N: Notes> Run<N> {
         Some(line.len)
     }
 
-    /// Runs a request of a tenant that there is and is shown, counts its line, and writes what it is answered where it stays.
+    /// Runs a request of an existing, shown tenant, counts its line, and writes the answer straight into the drain's buffer.
     #[inline(always)]
     fn answer_request<const RETURNS: bool, D: Drain>(
         &mut self,
@@ -143,9 +143,9 @@ impl<N: Notes> Run<N> {
         }
     }
 
-    /// [`Run::answer_request`] of one command, which `COMMAND` numbers. Each has a function of its own with one caller, and so for each
-    /// line end: of such a function the compiler makes a part of its caller, however long it is, and what the command may be answered
-    /// is then known where that is written.
+    /// [`Run::answer_request`] for the command with the number `COMMAND`. Each command and each line end has its own instance
+    /// with one caller. A function with one caller is always inlined, so the possible answers are known at the place that
+    /// writes them.
     #[inline]
     fn answer_as<const COMMAND: usize, const RETURNS: bool, D: Drain>(
         &mut self,
@@ -170,7 +170,7 @@ impl<N: Notes> Run<N> {
         self.replies.show_in_place(tenant, answer, drain);
     }
 
-    /// [`Run::answer_as`] of a command that no load is made of.
+    /// [`Run::answer_as`] for a rare command.
     #[cold]
     #[inline(never)]
     fn answer_rare<D: Drain>(

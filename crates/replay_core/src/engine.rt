@@ -1,4 +1,4 @@
-//! The lines of a trace, out of the pieces that a feed gives.
+//! Cuts the pieces that a feed gives into the lines of a trace.
 
 ghost use Rattle.std.specs.Prelude.{◌≡◌, ℕ, ◌+◌, ◌<◌, ◌≤◌, true, false, List, [], ◌++◌, length, IfOk, MatchResult, is_err};
 ghost use Rattle.std.specs.Io.KnownBytes.{Consumes, Appends, IsAtEnd};
@@ -14,22 +14,22 @@ use kernel_core::Kernel;
 use quick_core::{CR_LF, LF, may_begin_request};
 use streams::{Drain, Feed, Stopped};
 
-/// How many bytes are asked for in one pull.
+/// The largest number of bytes of one pull.
 const PIECE_BYTES: usize = 65_536;
 
-/// Which end failed.
+/// The end that failed.
 #[derive(Clone, Copy, Debug, PartialEq, Eq)]
 pub enum EndFailed {
-    /// The feed: all lines that ended in LF have been done, and the unfinished one has not.
+    /// The feed. All lines that ended in LF were processed; the unfinished line was not.
     Feed,
-    /// The drain: it took a beginning of what comes of the last line that was done.
+    /// The drain. It took a prefix of the output of the last line that was processed.
     Drain,
 }
 
-/// Runs the lines of what the feed gives on the kernel, and hands each with its answer to the sink.
+/// Runs the lines that the feed gives on the kernel, and passes each with its answer to the sink.
 ///
-/// Lines are cut at LF wherever the pieces end, and a last line needs none. Each is done as soon as it has come, and the drain
-/// sends what was pushed before the feed is asked for more. Allocates nothing.
+/// Lines end at LF; the ends of pieces have no effect, and the last line needs no LF. Each line is processed as soon as it is
+/// complete, and the drain sends what was pushed before the next pull. Allocates nothing.
 pub fn do_lines<S: Sink, F: Feed, D: Drain>(
     kernel: &mut Kernel,
     sink: &mut S,
@@ -40,14 +40,14 @@ pub fn do_lines<S: Sink, F: Feed, D: Drain>(
     requires more { F.room_left feed.old ≤ S.lines_left sink.old }
     requires feed_fine { F.has_failed feed.old ≡ false }
     requires drain_fine { D.has_failed drain.old ≡ false }
-    // What was given and taken during the call. Where the feed does not tell its bytes, how many it gave is known.
+    // The bytes that were given and taken during the call. If the bytes of the feed are not known, their number is.
     ensures ran { (given : List ℕ) × (taken : List ℕ)
         × Consumes (F.remaining feed.old) (F.remaining feed.new) given
         × Appends (D.contents drain.old) (D.contents drain.new) taken
         × RunsAs S.does S.leaves (F.has_ended feed.new) (sink.old, kernel.old) given taken result (sink.new, kernel.new)
         × (F.room_left feed.new + length given ≡ F.room_left feed.old) }
     ensures ended { IsRunToEnd result (F.has_ended feed.new) }
-    // Then what was given is all that it had.
+    // The bytes given are then all that it had.
     ensures whole { F.has_ended feed.new ≡ true → IsAtEnd (F.remaining feed.new) }
     ensures failed { NamesEndFailed result (F.has_failed feed.new) (D.has_failed drain.new) }
 {
@@ -88,7 +88,7 @@ fn see_unended<S: Sink>(pending: &Pending, sink: &mut S)
     }
 }
 
-/// Does the lines that end in a piece; what follows the last of them becomes pending.
+/// Processes the lines that end in a piece. The bytes behind the last of them become pending.
 fn do_piece<S: Sink, D: Drain>(
     piece: &[u8],
     pending: &mut Pending,
@@ -117,8 +117,7 @@ fn do_piece<S: Sink, D: Drain>(
     Ok(())
 }
 
-/// Does the lines at the front of a piece that are read the short way, where no beginning of a line is pending, and returns the
-/// rest of the piece.
+/// Processes the quick lines at the front of a piece if no beginning of a line is pending. Returns the rest of the piece.
 fn begin_piece<'a, S: Sink, D: Drain>(
     piece: &'a [u8],
     pending: &Pending,
@@ -143,10 +142,9 @@ fn begin_piece<'a, S: Sink, D: Drain>(
     }
 }
 
-/// Does the lines at the front of a piece as long as they are read the short way, and returns the rest of the piece. No beginning
-/// of a line may be pending.
+/// Processes the quick lines at the front of a piece and returns the rest of it. No beginning of a line may be pending.
 ///
-/// Lines that end in CR LF are tried only behind one that did, as `returned` says.
+/// It expects CR LF only after a line that ended so, as `returned` says.
 #[inline(always)]
 fn do_quick_lines<'a, S: Sink, D: Drain>(
     piece: &'a [u8],
@@ -175,7 +173,7 @@ fn do_quick_lines<'a, S: Sink, D: Drain>(
     sink.quick_lines(rest, CR_LF, kernel, drain)
 }
 
-/// Does the line that ends with these bytes. The next line begins.
+/// Processes the line that ends with these bytes. No line is pending then.
 fn end_line<S: Sink, D: Drain>(
     bytes: &[u8],
     pending: &mut Pending,

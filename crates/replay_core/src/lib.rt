@@ -1,5 +1,5 @@
-//! Traces in, replies out: bytes in pieces to bytes in pieces, through the kernel, whatever the pieces are and wherever
-//! an end fails.
+//! Replays a trace on the kernel: bytes in, replies out, both in pieces of any lengths. Either end may fail at any
+//! point.
 //!
 //! # Example
 //!

@@ -1,4 +1,4 @@
-//! Notes of a replay, beside its replies.
+//! Notes that a replay takes beside its replies.
 
 ghost use Rattle.std.specs.Prelude.{◌≡◌, take};
 ghost use Rattle.words_core.specs.Requests.{body_of_answer};
@@ -6,18 +6,18 @@ ghost use Rattle.replay_core.specs.Noting.{Noting, noted_body};
 
 use words_core::{Answer, Body, LineFault, Refusal};
 
-/// What is noted while a trace is replayed: the refusals that are shown, and the faulty lines. It changes nothing of the replies.
+/// Notes of a replay: the refusals that are shown, and the faulty lines. They have no effect on the replies.
 pub trait Notes: Default + Drop {
-    // What each adds to the notes.
+    // The notes after one more of each.
     ghost noting: { Noting Self };
 
     /// Notes a refusal that is shown, before its reply is pushed.
     fn refused(&mut self, refusal: Refusal)
         ensures { self.new ≡ noting.refused self.old refusal };
 
-    /// Notes a faulty line: its number, the first line's being 1, its fault, and the line, or at least its first 256 bytes.
+    /// Notes a faulty line: its number, from 1, its fault, and the line, or at least its first 256 bytes.
     ///
-    /// A line whose end could not be read is noted too, as far as it was read.
+    /// A line whose end could not be read is noted too, with the bytes that were read.
     fn faulty(&mut self, number: u64, fault: LineFault, begin: &[u8])
         ensures { self.new ≡ noting.faulty self.old number fault (take 256 begin.now) };
 }
@@ -42,7 +42,7 @@ pub(crate) fn note_body<N: Notes>(body: &Body, notes: &mut N)
 }
 
 /// No notes.
-#[derive(Default, Drop)]
+#[derive(Debug, Default, Drop)]
 pub struct NoNotes;
 
 impl Notes for NoNotes {

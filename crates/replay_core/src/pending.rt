@@ -9,15 +9,15 @@ use arrayvec::ArrayVec;
 use streams::line_end;
 use words_core::{Event, LineFault, read_line};
 
-/// The beginning of a line whose end has not come: its first 256 bytes, and whether it has more.
-#[derive(Drop)]
+/// The beginning of a line whose end has not arrived: its first 256 bytes, and whether it has more.
+#[derive(Debug, Drop)]
 pub struct Pending {
     pub held: ArrayVec<u8, 256>,
     pub longer: bool,
 }
 
 impl Pending {
-    /// Nothing of a line.
+    /// Makes an empty beginning.
     pub fn new() -> Self
         ensures { HoldsLine [] result }
     {
@@ -27,14 +27,14 @@ impl Pending {
         }
     }
 
-    /// No byte has come.
+    /// Returns true if it has no byte.
     pub fn is_empty(&self) -> bool
         ensures { (line : List ℕ) → HoldsLine line self.now → result ≡ (length line == 0) }
     {
         self.held.is_empty()
     }
 
-    /// The line goes on with these bytes.
+    /// Adds the next bytes of the line.
     pub fn add(&mut self, bytes: &[u8])
         ensures { (line : List ℕ) → HoldsLine line self.old → HoldsLine (line ++ bytes.now) self.new }
     {
@@ -49,7 +49,7 @@ impl Pending {
         }
     }
 
-    /// The line that has come, which is too long where it has more than is held.
+    /// Reads the bytes so far as a line. It is too long if there were more bytes than are held.
     pub fn reading(&self) -> Result<Option<Event>, LineFault>
         ensures reading { (line : List ℕ) → HoldsLine line self.now → result ≡ reading_of line }
         ensures runnable { IsRunnable result }
@@ -61,14 +61,14 @@ impl Pending {
         }
     }
 
-    /// The line ends with these bytes: its reading. The next line begins.
+    /// Returns the reading of the line that ends with these bytes, and empties the beginning for the next line.
     pub fn end_with(&mut self, bytes: &[u8]) -> Result<Option<Event>, LineFault>
         ensures reading { (line : List ℕ) → HoldsLine line self.old → result ≡ reading_of (line ++ bytes.now) }
         ensures runnable { IsRunnable result }
         ensures cleared { (line : List ℕ) → HoldsLine line self.old → HoldsLine [] self.new }
     {
         if self.is_empty() {
-            // It lies whole in these bytes: nothing is copied.
+            // The whole line is in these bytes, so nothing is copied.
             return read_line(bytes);
         }
         self.add(bytes);
@@ -77,7 +77,7 @@ impl Pending {
         reading
     }
 
-    /// The next line begins.
+    /// Empties the beginning for the next line.
     pub(crate) fn clear(&mut self)
         ensures { HoldsLine [] self.new }
     {
@@ -86,7 +86,7 @@ impl Pending {
     }
 }
 
-/// The first line that ends in these bytes, and what follows its LF; `None` if none ends in them.
+/// Returns the first line that ends in these bytes and the bytes behind its LF, or `None` if no line ends in them.
 #[inline(always)]
 pub(crate) fn split_line(bytes: &[u8]) -> Option<(&[u8], &[u8])>
     ensures { MatchOption result (IsOneLine bytes.now)

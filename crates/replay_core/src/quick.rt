@@ -1,4 +1,4 @@
-//! The lines that make up a load, run one after the other, and requests that are not answered in place.
+//! Runs quick lines one after the other, those that are answered in the drain's buffer and those that are not.
 
 ghost use Rattle.std.specs.Prelude.{◌≡◌, ◌+◌, ◌^◌, ◌<◌, ◌≤◌, [], Some, Ok, length, is_err, IfOk, IfSome, MatchResult};
 ghost use Rattle.quick_core.specs.Lines.{ReadsAs};
@@ -19,7 +19,7 @@ use streams::{Drain, Stopped, line_end};
 use words_core::{Addressee, Answer, Refusal, Request};
 
 impl<N: Notes> Run<N> {
-    /// The quick lines of a replay: those that are answered in place, and between them those that are not.
+    /// Runs the quick lines of a replay: those that are answered in the drain's buffer, and between them those that are not.
     pub fn run_ended_lines<'a, const RETURNS: bool, D: Drain>(
         &mut self,
         piece: &'a [u8],
@@ -54,7 +54,8 @@ impl<N: Notes> Run<N> {
         Ok(rest)
     }
 
-    /// Reads the line at the front of what [`Run::run_in_place`] left, the short way. A line that was read in vain is not read again.
+    /// Reads the line at the front of what [`Run::run_in_place`] left as a quick line. A line that was tried in vain is not
+    /// read again.
     #[inline(always)]
     fn read_left<'a, const RETURNS: bool, D: Drain>(
         &self,
@@ -73,8 +74,8 @@ impl<N: Notes> Run<N> {
         }
     }
 
-    /// Runs the lines at the front of the last bytes of a piece as long as they are read the short way, and returns what is left. No
-    /// beginning of a line may be pending.
+    /// Runs the quick lines at the front of the last bytes of a piece and returns what is left. No beginning of a line may be
+    /// pending.
     #[cold]
     #[inline(never)]
     pub fn run_last_lines<'a, D: Drain>(
@@ -104,7 +105,7 @@ impl<N: Notes> Run<N> {
         Ok(rest)
     }
 
-    /// Runs a request that was read off a line, counts the line, and pushes what it shows.
+    /// Runs the request of a line, counts the line, and pushes the answer if it is shown.
     #[inline(never)]
     pub fn answer_apart<D: Drain>(
         &mut self,
@@ -135,8 +136,8 @@ impl<N: Notes> Run<N> {
     }
 }
 
-/// A line by itself, without its line feed, where it has less than `WINDOW` bytes and is read the short way; `None` where it isn't,
-/// or where that is not sure.
+/// Reads a single line, without its line feed, as a quick request. Returns `None` if it has `WINDOW` bytes or more, if it is
+/// none, and if that is not sure.
 fn read_alone<'a>(line: &[u8], buffer: &'a mut [u8; MOST_BYTES]) -> Option<RequestLine<'a>>
     ensures reads { IfSome result (λ read. reading_of line.now ≡ Ok (Some (Tenant read.tenant (command_of read.request)))) }
     ensures askable { IfSome result (λ read. IsAskable read.request) }
@@ -148,7 +149,7 @@ fn read_alone<'a>(line: &[u8], buffer: &'a mut [u8; MOST_BYTES]) -> Option<Reque
     }
 }
 
-/// [`read_alone`] of a line that ends in LF, or in CR LF if `RETURNS`: it is read with other bytes behind it.
+/// [`read_alone`] for a line that ends in LF, or in CR LF if `RETURNS`. Other bytes follow it.
 fn read_in_window<'a, const RETURNS: bool>(
     line: &[u8],
     buffer: &'a mut [u8; MOST_BYTES],

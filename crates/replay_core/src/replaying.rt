@@ -12,11 +12,11 @@ use kernel_core::{Kernel, laws};
 use std::mem;
 use streams::{Drain, Feed, ReplayError, Tally};
 
-/// Runs the trace that the feed gives on the kernel, and pushes the replies into the drain: with `only` those to that
-/// tenant alone, else all.
+/// Runs the trace that the feed gives on the kernel, and pushes the replies into the drain: all of them, or with `only`
+/// those to that tenant.
 ///
-/// Lines are cut at LF wherever the pieces end, and a last line needs none. Each is answered as soon as it has come, and
-/// the drain sends what was pushed before the feed is asked for more. Allocates nothing.
+/// Lines end at LF; the ends of pieces have no effect, and the last line needs no LF. Each line is answered as soon as it is
+/// complete, and the drain sends what was pushed before the next pull. Allocates nothing.
 pub fn replay<F: Feed, D: Drain>(
     kernel: &mut Kernel,
     feed: &mut F,
@@ -25,28 +25,28 @@ pub fn replay<F: Feed, D: Drain>(
 ) -> Result<Tally, ReplayError>
     requires feed_fine { F.has_failed feed.old ≡ false }
     requires drain_fine { D.has_failed drain.old ≡ false }
-    // What was given and taken during the call, and how they hang together, whichever world the kernel showed. Where the feed
-    // does not tell its bytes, how many it gave is known.
+    // The bytes given and taken during the call and their relation, for any world that the kernel showed. If the bytes of the
+    // feed are not known, their number is.
     ensures ran { (given : List ℕ) × (taken : List ℕ)
         × Consumes (F.remaining feed.old) (F.remaining feed.new) given
         × Appends (D.contents drain.old) (D.contents drain.new) taken
         × Replays (F.has_ended feed.new) only kernel.old kernel.new given taken result
         × OnOk result (HasOwnLines only kernel.old given taken)
         × (F.room_left feed.new + length given ≡ F.room_left feed.old) }
-    // From an opening world each of these replies keeps the promises, the ones that are not shown too.
+    // From an opening world each of these replies keeps the promises, including those that are not shown.
     ensures promises { (given : List ℕ) × (taken : List ℕ)
         × Consumes (F.remaining feed.old) (F.remaining feed.new) given
         × Appends (D.contents drain.old) (D.contents drain.new) taken
         × TakesAllowed (F.has_ended feed.new) only kernel.old given taken result }
     ensures ended { IsDone result (F.has_ended feed.new) }
-    // Then what was given is all that it had.
+    // The bytes given are then all that it had.
     ensures whole { F.has_ended feed.new ≡ true → IsAtEnd (F.remaining feed.new) }
     ensures failed { NamesFailed result (F.has_failed feed.new) (D.has_failed drain.new) }
 {
     replay_noted(kernel, feed, drain, only, &mut NoNotes)
 }
 
-/// Does what [`replay`] does, and notes the refusals that are shown and the faulty lines.
+/// The same as [`replay`], and notes the refusals that are shown and the faulty lines.
 pub fn replay_noted<F: Feed, D: Drain, N: Notes>(
     kernel: &mut Kernel,
     feed: &mut F,
@@ -56,8 +56,8 @@ pub fn replay_noted<F: Feed, D: Drain, N: Notes>(
 ) -> Result<Tally, ReplayError>
     requires feed_fine { F.has_failed feed.old ≡ false }
     requires drain_fine { D.has_failed drain.old ≡ false }
-    // What was given and taken during the call, and how they hang together, whichever world the kernel showed. Where the feed
-    // does not tell its bytes, how many it gave is known.
+    // The bytes given and taken during the call and their relation, for any world that the kernel showed. If the bytes of the
+    // feed are not known, their number is.
     ensures ran { (given : List ℕ) × (taken : List ℕ)
         × Consumes (F.remaining feed.old) (F.remaining feed.new) given
         × Appends (D.contents drain.old) (D.contents drain.new) taken
@@ -65,19 +65,19 @@ pub fn replay_noted<F: Feed, D: Drain, N: Notes>(
         × OnOk result (HasOwnLines only kernel.old given taken)
         × (F.room_left feed.new + length given ≡ F.room_left feed.old)
         × Noted N.noting (F.has_ended feed.new) only kernel.old given result notes.old notes.new }
-    // From an opening world each of these replies keeps the promises, the ones that are not shown too.
+    // From an opening world each of these replies keeps the promises, including those that are not shown.
     ensures promises { (given : List ℕ) × (taken : List ℕ)
         × Consumes (F.remaining feed.old) (F.remaining feed.new) given
         × Appends (D.contents drain.old) (D.contents drain.new) taken
         × TakesAllowed (F.has_ended feed.new) only kernel.old given taken result }
     ensures ended { IsDone result (F.has_ended feed.new) }
-    // Then what was given is all that it had.
+    // The bytes given are then all that it had.
     ensures whole { F.has_ended feed.new ≡ true → IsAtEnd (F.remaining feed.new) }
     ensures failed { NamesFailed result (F.has_failed feed.new) (D.has_failed drain.new) }
 {
     laws::own_lines();
     laws::own_shown();
-    // The texts of tenants' numbers, and the counts: each line has a byte at least.
+    // The texts of tenants' numbers, and the counts: each line has at least one byte.
     let _tenants = kernel.tenants();
     let _room = feed.room();
     let mut run = Run::new(only, mem::take(notes));

@@ -1,4 +1,4 @@
-//! The replies of a replay, into a drain.
+//! Pushes the replies of a replay into a drain.
 
 ghost use Rattle.std.specs.Prelude.{◌≡◌, ◌+◌, ◌≤◌, true, Ok, length};
 ghost use Rattle.words_core.specs.declared.reply.Addressee.TheVariants as Addressee;
@@ -16,15 +16,15 @@ use words_core::{
     write_answer_to, write_row,
 };
 
-/// The replies of a replay: those to one tenant alone are shown, or all, and the bytes that the drain took are counted.
-#[derive(Drop)]
+/// The replies of a replay. Shows all of them or those to one tenant, and counts the bytes that the drain took.
+#[derive(Debug, Drop)]
 pub struct Replies {
     pub only: Option<u8>,
     pub written: u128,
 }
 
 impl Replies {
-    /// No byte has been pushed.
+    /// Makes the replies of a new replay: no byte was pushed.
     pub fn new(only: Option<u8>) -> Self
         ensures only { result.only ≡ only }
         ensures none { result.written ≡ 0 }
@@ -32,7 +32,7 @@ impl Replies {
         Replies { only, written: 0 }
     }
 
-    /// Replies to this addressee are shown.
+    /// Returns true if replies to this addressee are shown.
     #[inline(always)]
     pub fn is_shown(&self, addressee: Addressee) -> bool
         ensures { result ≡ is_shown self.now.only addressee }
@@ -44,7 +44,7 @@ impl Replies {
         }
     }
 
-    /// Writes what a tenant is answered where it stays, which is shown, and counts its bytes.
+    /// Writes a shown answer to a tenant straight into the drain's buffer, and counts its bytes.
     #[inline(always)]
     pub fn show_in_place<D: Drain>(&mut self, tenant: u8, answer: Answer<'_>, drain: &mut D)
         requires few { HasFewBytes answer }
@@ -58,7 +58,7 @@ impl Replies {
         self.written += len as u128;
     }
 
-    /// Notes an answer to anyone and pushes it, by way of a buffer for the longest one. Does nothing if it is not shown.
+    /// Notes an answer to any addressee and pushes it through a buffer for the longest one. Does nothing if it is not shown.
     #[cold]
     #[inline(never)]
     pub fn show_to<D: Drain, N: Notes>(
@@ -83,8 +83,8 @@ impl Replies {
         push_all(&text[..len], drain, &mut self.written)
     }
 
-    /// Notes a reply and pushes it, line by line. Does nothing if it is not shown. By itself, since its lines take space that no other
-    /// answer needs.
+    /// Notes a reply and pushes it line by line. Does nothing if it is not shown. Kept out of line, since its lines need stack
+    /// space that no other answer needs.
     #[cold]
     #[inline(never)]
     pub fn show<D: Drain, N: Notes>(

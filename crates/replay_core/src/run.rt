@@ -1,4 +1,4 @@
-//! What a replay makes of lines: it counts them, and shows their answers.
+//! The sink of a replay: counts lines and shows their answers.
 
 ghost use Rattle.std.specs.Prelude.{◌≡◌};
 ghost use Rattle.replay_core.specs.Bounds.{IsWithinLines};
@@ -12,8 +12,8 @@ use quick_core::{CR_LF, LF};
 use streams::{Drain, Stopped, Tally};
 use words_core::{Addressee, Answer, Event, LineFault};
 
-/// What a replay keeps from one line to the next: the counts of a [`Tally`], the replies, and the notes.
-#[derive(Drop)]
+/// The state of a replay between two lines: the counts of a [`Tally`], the replies, and the notes.
+#[derive(Debug, Drop)]
 pub struct Run<N> {
     pub lines: u64,
     pub events: u64,
@@ -26,7 +26,7 @@ pub struct Run<N> {
 impl<N: Notes> Run<N> {
     ghost use Rattle.replay_core.specs.Standing.{tally_of_run};
 
-    /// Before the first line.
+    /// Returns the state before the first line.
     pub fn new(only: Option<u8>, notes: N) -> Self
         ensures only { result.replies.only ≡ only }
         ensures notes { result.notes ≡ notes }
@@ -41,7 +41,7 @@ impl<N: Notes> Run<N> {
         }
     }
 
-    /// Gives the notes back, and returns what has been done.
+    /// Returns the counts, and stores the notes in `notes`.
     pub fn end(self, notes: &mut N) -> Tally
         ensures tally { result ≡ tally_of_run self }
         ensures notes { notes.new ≡ self.notes }
@@ -76,7 +76,7 @@ impl<N: Notes> Sink for Run<N> {
         kernel: &mut Kernel,
         drain: &mut D,
     ) -> Result<&'a [u8], Stopped> {
-        // It is no more than the type has.
+        // The count fits its type.
         let _lines = self.lines;
         if returns {
             self.run_ended_lines::<CR_LF, D>(piece, kernel, drain)
@@ -99,7 +99,7 @@ impl<N: Notes> Sink for Run<N> {
             .show_to(addressee, answer, drain, &mut self.notes)
     }
 
-    // By itself: a function clears the space of its variables when it begins, and a reply of several lines takes 1.5 KB.
+    // Kept out of line: a function clears its stack frame on entry, and a reply of several lines takes 1.5 KB.
     #[cold]
     #[inline(never)]
     fn replied<D: Drain>(

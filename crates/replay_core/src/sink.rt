@@ -1,4 +1,4 @@
-//! What becomes of the lines of a trace.
+//! Receivers of the lines of a trace.
 
 ghost use Rattle.std.specs.Prelude.{◌≡◌, ℕ, ◌+◌, ◌<◌, ◌≤◌, false, List, length, is_err};
 ghost use Rattle.std.specs.Prelude.{Option, Some, None, Ok, Err, IfOk, MatchResult};
@@ -13,22 +13,22 @@ use kernel_core::Kernel;
 use streams::{Drain, Stopped};
 use words_core::{Addressee, Answer, Event, LineFault};
 
-/// What becomes of the lines of a trace: of each with its answer, one after the other.
+/// A receiver of the lines of a trace, each with its answer, in order.
 pub trait Sink {
-    // What a line does: from one state, with the kernel's, to the next. Of what comes of it the first bytes were taken, and the
-    // others were not.
+    // The effect of a line: a step from one state, with the kernel's, to the next. The drain took the first bytes of its
+    // output, and not the others.
     ghost does: { Self × KernelContent → List ℕ → List ℕ → List ℕ → Self × KernelContent → Type 0 };
 
-    // The same, up to what `ran` adds.
+    // The same without the effect of `ran`.
     ghost does_first: { Self × KernelContent → List ℕ → List ℕ → List ℕ → Self × KernelContent → Type 0 };
-    // What the beginning of a line does whose end could not be read.
+    // The effect of the beginning of a line whose end could not be read.
     ghost leaves: { Self → List ℕ → Self → Type 0 };
 
-    // So many lines more can be done at least.
+    // At least this number of further lines can be processed.
     ghost lines_left: { Self → ℕ };
 
-    /// Runs and does the lines at the front of a piece as long as they are read the short way, and returns the rest of the piece.
-    /// The lines end in LF, or in CR LF if `returns`.
+    /// Runs and processes the quick lines at the front of a piece and returns the rest of it. The lines end in LF, or in CR LF if
+    /// `returns`.
     fn quick_lines<'a, D: Drain>(
         &mut self,
         piece: &'a [u8],
@@ -46,7 +46,7 @@ pub trait Sink {
         ensures left { IfOk result (λ rest. lines_left self.old + length rest.now ≤ lines_left self.new + length piece.now) }
         ensures failed { D.has_failed drain.new ≡ is_err result };
 
-    /// Does a line whose event was answered so.
+    /// Processes a line whose event got this answer.
     fn answered<D: Drain>(
         &mut self,
         line: &[u8],
@@ -64,7 +64,7 @@ pub trait Sink {
         ensures left { lines_left self.old ≤ lines_left self.new + 1 }
         ensures failed { D.has_failed drain.new ≡ is_err result };
 
-    /// Does a line whose event changes nothing and has a reply of several lines. [`reply_in_rows`] makes it, if it is wanted.
+    /// Processes a line whose event changes nothing and has a reply of several lines. Call [`reply_in_rows`] for the reply.
     fn replied<D: Drain>(
         &mut self,
         line: &[u8],
@@ -81,7 +81,7 @@ pub trait Sink {
         ensures left { lines_left self.old ≤ lines_left self.new + 1 }
         ensures failed { D.has_failed drain.new ≡ is_err result };
 
-    /// Does a faulty line. `front` is the line, or the beginning of one that is too long.
+    /// Processes a faulty line. `front` is the line, or the beginning of one that is too long.
     fn faulty<D: Drain>(
         &mut self,
         fault: LineFault,
@@ -95,20 +95,21 @@ pub trait Sink {
         ensures left { lines_left self.old ≤ lines_left self.new + 1 }
         ensures failed { D.has_failed drain.new ≡ is_err result };
 
-    /// Does a line that is blank, or a comment.
+    /// Processes a blank line or a comment.
     fn blank(&mut self)
         requires more { 0 < lines_left self.old }
         ensures done { (line : List ℕ) (kernel : KernelContent) (known : Option (List ℕ)) → reading_of line ≡ Ok None
             → HasDone does_first (self.old, kernel) line known known (Ok tt) (self.new, kernel) }
         ensures left { lines_left self.old ≤ lines_left self.new + 1 };
 
-    /// The line has been run and done, and the kernel is as it left it. Not called for the lines of [`Sink::quick_lines`].
+    /// Called after each line was run and processed, with the kernel as the line left it. Not called for the lines of
+    /// [`Sink::quick_lines`].
     fn ran(&mut self, kernel: &Kernel)
         ensures done { (before : Self × KernelContent) (line : List ℕ) (taken : List ℕ) (rest : List ℕ)
             → does_first before line taken rest (self.old, kernel.now) → does before line taken rest (self.new, kernel.now) }
         ensures left { lines_left self.old ≤ lines_left self.new };
 
-    /// Sees the beginning of a line that was read so, and whose end could not be read. It is not run.
+    /// Called with the beginning of a line whose end could not be read, and its reading. The line is not run.
     fn unended(&mut self, reading: Result<Option<Event>, LineFault>, front: &[u8])
         requires more { 0 < lines_left self.old }
         ensures { (line : List ℕ) → reading ≡ reading_of line → IsFrontOf line front.now → leaves self.old line self.new };
