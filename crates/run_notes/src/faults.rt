@@ -7,14 +7,14 @@ use arrayvec::ArrayVec;
 use std::fmt;
 use words_core::LineFault;
 
-/// How many faulty lines are noted.
+/// The number of faulty lines that are noted.
 pub(crate) const MOST_FAULTS: usize = 10;
 
-/// How many bytes of one are.
+/// The number of bytes of each that are noted.
 const MOST_SHOWN: usize = 32;
 
-/// A faulty line: its number, the first one's being 1, what is wrong with it, and its first 32 bytes.
-#[derive(Drop)]
+/// A faulty line: its number, from 1, its fault, and its first 32 bytes.
+#[derive(Debug, Drop)]
 pub struct FaultyLine {
     number: u64,
     fault: LineFault,

@@ -1,5 +1,5 @@
-//! The notes of `partmem --tally`, if you look for what went wrong in a trace: its first faulty lines, and how often each refusal was
-//! answered. No call allocates.
+//! The notes of `partmem --tally`, to find out what went wrong in a trace: its first faulty lines, and the number of times that
+//! each refusal was the answer. No call allocates.
 #![tactic(auto)]
 
 mod faults;

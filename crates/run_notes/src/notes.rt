@@ -10,8 +10,8 @@ use arrayvec::ArrayVec;
 use replay_core::Notes;
 use words_core::{LineFault, REFUSALS, Refusal};
 
-/// The first faulty lines of a trace, and how often each refusal was answered.
-#[derive(Drop)]
+/// The first faulty lines of a trace, and a count of the answers for each refusal.
+#[derive(Debug, Drop)]
 pub struct RunNotes {
     first: ArrayVec<FaultyLine, MOST_FAULTS>,
     times: [u64; REFUSALS.len()],
@@ -24,7 +24,7 @@ impl Default for RunNotes {
 }
 
 impl RunNotes {
-    /// Creates notes of nothing.
+    /// Makes empty notes.
     pub fn new() -> RunNotes
         ensures { result ≡ no_notes }
     {
@@ -41,7 +41,7 @@ impl RunNotes {
         self.first.as_slice()
     }
 
-    /// Returns the refusal of this number, and how often it was answered; `None` if it never was.
+    /// Returns the refusal with this number and the count of its answers, or `None` if there was none.
     pub fn told(&self, number: u8) -> Option<Refused>
         ensures { MatchOption result (times_of self.now number ≡ 0)
             (λ refused. (number_of_refusal refused.refusal ≡ number) × (refused.times ≡ times_of self.now number)) }

@@ -1,4 +1,4 @@
-//! The refusals, and how often each was answered.
+//! The refusals, with a count of the answers for each.
 
 use std::fmt;
 use words_core::Refusal;
@@ -6,8 +6,8 @@ use words_core::Refusal;
 /// The greatest number of a refusal.
 pub const MOST_NUMBER: u8 = 15;
 
-/// A refusal, and how often it was answered.
-#[derive(Clone, Copy)]
+/// A refusal, and the count of its answers.
+#[derive(Clone, Copy, Debug)]
 pub struct Refused {
     pub(crate) refusal: Refusal,
     pub(crate) times: u64,
