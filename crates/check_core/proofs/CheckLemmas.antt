@@ -1,5 +1,5 @@
 -- From the verdicts on replies to the finding.
-use Rattle.std.proofs.Common.{◌≡◌, ℕ, suc, ◌+◌, true, false, List, [], ◌∷◌, Option, Some, None, Result, Ok, Err, length, refl, sym, ap, ◌∙◌, arith}
+use Rattle.std.proofs.Common.{◌≡◌, ℕ, suc, ◌+◌, ◌-◌, ◌≤◌, true, false, List, [], ◌∷◌, ◌++◌, Option, Some, None, Result, Ok, Err, length, refl, sym, ap, subst, ◌∙◌, append_assoc, arith}
 use Rattle.std.specs.Prelude.{◌==◌}
 use Rattle.std.specs.Option.{option_map_or}
 use Rattle.std.proofs.lemmas.Bool.{eqb-true}
@@ -17,21 +17,39 @@ use Rattle.promise_core.specs.Promises.{allowed}
 use Rattle.promise_core.specs.State.{Known}
 use Rattle.check_core.specs.declared.finding.Finding.TheVariants.{Broken, Kept}
 use Rattle.check_core.specs.declared.gathered.Gathered.{Gathered}
-use Rattle.check_core.specs.Checking.{HasGathered}
+use Rattle.check_core.specs.Checking.{ComesToAdd, HasGathered}
 use Rattle.check_core.specs.declared.shown.TheConstants.{MOST_TEXT_BYTES}
 use Rattle.check_core.specs.Forms.{◌>>=◌}
 use Rattle.check_core.specs.Gathered.{whole_of}
 use Rattle.check_core.specs.Reading.{readings_of}
 use Rattle.check_core.specs.Replies.{◌or_else◌, answer_of}
 use Rattle.check_core.specs.Tables.{table_of, reply_of_text}
+use Rattle.check_core.specs.Reading.{HasEnded, HasGiven, MayFollow, Source}
+use Rattle.check_core.proofs.ReadingLemmas.{follows, none_follows, none_later, stand_first}
 use Rattle.check_core.proofs.TableLemmas.{table_takes}
-use Rattle.check_core.specs.Finding.{after_lines, broken_by, finding, refusal_read, lines_to, more_lines, or_broken, refusal_told, reply_in, text_read, verdict_at}
+use Rattle.check_core.specs.Finding.{after_lines, lines_at, broken_by, finding, finding_of, refusal_read, lines_to, more_lines, or_broken, refusal_told, reply_in, text_read, verdict_at}
 
 -- lines that are read as a reply
 
-pub read_there : {k : ℕ} {bytes : List ℕ} {text : Gathered MOST_TEXT_BYTES} {left : Option (List ℕ)} (event : Event) (w : Known)
-    → (come : HasGathered k bytes text left) → k ≡ suc (more_lines event w) → reply_in (suc (more_lines event w)) bytes ≡ text_read come.came
-read_there {bytes = bytes} event w come count = ap (λ n. reply_in n bytes) (sym count) ∙ rw come.are refl
+-- whatever follows
+pub read_first : {k : ℕ} {came : List ℕ} {text : Gathered MOST_TEXT_BYTES} → HasGathered k came text → (more : List ℕ) → reply_in k (came ++ more) ≡ text_read came
+read_first come more = ap (λ (found : Option (List ℕ × List ℕ)). found >>= (λ parts. text_read parts.0)) (stand_first come more)
+
+pub read_there : {k : ℕ} {came : List ℕ} {text : Gathered MOST_TEXT_BYTES} (event : Event) (w : Known) → HasGathered k came text → k ≡ suc (more_lines event w)
+    → (more : List ℕ) → reply_in (suc (more_lines event w)) (came ++ more) ≡ text_read came
+read_there {came = came} event w come count more = ap (λ n. reply_in n (came ++ more)) (sym count) ∙ read_first come more
+
+-- nothing of them is left before what follows
+pub left_after : {k : ℕ} {came : List ℕ} {text : Gathered MOST_TEXT_BYTES} → HasGathered k came text → (more : List ℕ) → after_lines k (came ++ more) ≡ more
+left_after come more = ap (λ (found : Option (List ℕ × List ℕ)). option_map_or (λ parts. parts.1) found []) (stand_first come more)
+
+-- lines that did not come do not come at the end
+pub none_there : (new : Source) (n : ℕ) (part : List ℕ) (event : Event) (w : Known) → HasEnded new → lines_at n part ≡ None → n ≤ suc (more_lines event w)
+    → (more : List ℕ) → MayFollow new more → reply_in (suc (more_lines event w)) (part ++ more) ≡ None
+none_there new n part event w ended none few more may =
+    let lines = suc (more_lines event w) in
+    ap (λ (found : Option (List ℕ × List ℕ)). found >>= (λ parts. text_read parts.0))
+    (none_later (lines - n) n lines (part ++ more) (omega (arith, few)) (none_follows n part more new ended none may))
 
 -- verdicts on replies
 
@@ -98,3 +116,26 @@ pub ends_broken : (line at : ℕ) (ask tell : List ℕ) (w : Known) → ask ≡ 
     → finding line at (readings_of ask) tell w ≡ Broken (record { line = line; reply = at + 1; promise = Promise.Form })
 ends_broken line at ask [] w none ended = absurd cc
 ends_broken line at ask (b ∷ tell) w none ended = ap (λ (bytes : List ℕ). finding line at (readings_of bytes) (b ∷ tell) w) none
+
+-- ---- whatever follows
+
+-- Behind what was given of two texts, that is found which is found of what follows, and it comes to add where that does.
+abbrev pub IsBehind : (w : Known) (asked told : List ℕ) (line at : ℕ) (trace : Source) (now : Known) → Type 0
+IsBehind w asked told line at trace now = (more later : List ℕ) → MayFollow trace more
+    → (finding_of w (asked ++ more) (told ++ later) ≡ finding line at (readings_of more) later now)
+    × (ComesToAdd (readings_of more) later now → ComesToAdd (readings_of (asked ++ more)) (told ++ later) w)
+
+-- with a part of both in front of what follows
+pub behind_parts : {now : Known} {line at : ℕ} {old new : Source} (w : Known) (asked told part answer : List ℕ) → IsBehind w asked told line at old now
+    → HasGiven old new part → (more later : List ℕ) → MayFollow new more
+    → (finding_of w ((asked ++ part) ++ more) ((told ++ answer) ++ later) ≡ finding line at (readings_of (part ++ more)) (answer ++ later) now)
+    × (ComesToAdd (readings_of (part ++ more)) (answer ++ later) now → ComesToAdd (readings_of ((asked ++ part) ++ more)) ((told ++ answer) ++ later) w)
+behind_parts w asked told part answer is given more later may =
+    let (found, adds) = is (part ++ more) (answer ++ later) (follows given more may) in
+    let asks : (asked ++ part) ++ more ≡ asked ++ (part ++ more) = append_assoc asked part more in
+    let tells : (told ++ answer) ++ later ≡ told ++ (answer ++ later) = append_assoc told answer later in (
+      (λ i. finding_of w (asks i) (tells i)) ∙ found,
+      λ more_adds.
+          subst (λ bytes. ComesToAdd (readings_of ((asked ++ part) ++ more)) bytes w) (sym tells)
+          (subst (λ bytes. ComesToAdd (readings_of bytes) (told ++ (answer ++ later)) w) (sym asks) (adds more_adds)),
+    )

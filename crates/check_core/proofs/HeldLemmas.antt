@@ -1,11 +1,12 @@
 -- Lines in the bytes that a reader holds.
-use Rattle.std.proofs.Common.{◌≡◌, ℕ, ◌+◌, ◌-◌, ◌<◌, ◌≤◌, List, [], ◌∷◌, ◌++◌, Option, Some, length, take, drop, sym, ap, subst, ◌∙◌, arith, take-append-drop}
-use Rattle.std.proofs.lemmas.List.{drop-take, drop-drop, length-drop, length-take}
+use Rattle.std.proofs.Common.{◌≡◌, ℕ, ◌+◌, ◌-◌, ◌<◌, ◌≤◌, Bool, true, List, [], ◌∷◌, ◌++◌, Option, Some, length, take, drop, refl, sym, ap, subst, ◌∙◌, arith, take-append-drop}
+use Rattle.std.proofs.lemmas.List.{drop_all, drop-take, drop-drop, length-drop, length-take}
 use Rattle.std.specs.Prelude.{position, ◌==◌}
-use Rattle.std.specs.Io.KnownBytes.{Consumes, prepend_known}
+use Rattle.std.specs.Io.KnownBytes.{Consumes, IsAtEnd, Keeps, prepend_known}
 use Rattle.streams.specs.Lines.{IsOneLine}
 use Rattle.streams.proofs.LineLemmas.{found_cut}
-use Rattle.check_core.proofs.ReadingLemmas.{gives_front, with_feed}
+use Rattle.check_core.specs.Reading.{HasEnded, HasGiven, Source}
+use Rattle.check_core.proofs.ReadingLemmas.{at_end, gives_front, gives_held, gives_none, with_feed}
 use borrow.Rule.Slice.PartMut.{mid_of}
 
 -- what is held
@@ -20,28 +21,87 @@ held_size piece start end within fits =
     let b = length-drop start piece in
     omega (arith, a, b, within, fits)
 
+none_held : (xs : List ℕ) → length xs ≡ 0 → xs ≡ []
+none_held [] none = refl
+none_held (x ∷ xs) none = absurd (omega (arith, none))
+
+-- the bytes from `start` to `end` of a piece are held in front of what a feed has left
+abbrev pub held_source : (piece : List ℕ) (start end : ℕ) (left : Option (List ℕ)) (room : ℕ) (ended failed : Bool) → Source
+held_source piece start end left room ended failed = record {
+  left = prepend_known (drop start (take end piece)) left;
+  room = (end - start) + room;
+  ended = ended;
+  failed = failed;
+}
+
 -- A line of the held bytes, with its LF at an index, is given, and what is behind it is left.
-pub record IsGiven (piece : List ℕ) (start end at : ℕ) (known : Option (List ℕ)) : Type 0 where
-  pub consumed : Consumes (prepend_known (drop start (take end piece)) known) (prepend_known (drop (start + (at + 1)) (take end piece)) known)
+pub record IsGiven (piece : List ℕ) (start end at : ℕ) (left : Option (List ℕ)) (room : ℕ) (ended failed : Bool) : Type 0 where
+  pub given : HasGiven (held_source piece start end left room ended failed) (held_source piece (start + (at + 1)) end left room ended failed)
       (take (at + 1) (mid_of start (end - start) piece))
   pub line : IsOneLine (take at (mid_of start (end - start) piece))
-  pub ended : take (at + 1) (mid_of start (end - start) piece) ≡ take at (mid_of start (end - start) piece) ++ 10 ∷ []
-  pub size : length (take (at + 1) (mid_of start (end - start) piece)) ≡ at + 1
+  pub with_end : take (at + 1) (mid_of start (end - start) piece) ≡ take at (mid_of start (end - start) piece) ++ 10 ∷ []
+  pub within : start + (at + 1) ≤ end
+  pub going_on : ended ≡ true → ⊥
 
-pub line_given : (piece : List ℕ) (start end at : ℕ) (known : Option (List ℕ)) → start ≤ end → at < length (mid_of start (end - start) piece)
-    → position (λ b. b == 10) (mid_of start (end - start) piece) ≡ Some at → IsGiven piece start end at known
-line_given piece start end at known order within found =
+pub line_given : (piece : List ℕ) (start end at : ℕ) (left : Option (List ℕ)) (room : ℕ) (ended failed : Bool) → start ≤ end → end ≤ length piece
+    → (ended ≡ true → start ≡ end) → at < length (mid_of start (end - start) piece)
+    → position (λ b. b == 10) (mid_of start (end - start) piece) ≡ Some at → IsGiven piece start end at left room ended failed
+line_given piece start end at left room ended failed order fits empty within found =
     let mid : List ℕ = mid_of start (end - start) piece in
     let held : drop start (take end piece) ≡ mid = held_is piece start end order in
+    let all : length mid ≡ end - start = held_size piece start end order fits in
     let cut = found_cut mid at found in
     let given : List ℕ = take (at + 1) mid in
+    let size : length given ≡ at + 1 = omega (arith, within, length-take (at + 1) mid) in
     let behind : drop (at + 1) mid ≡ drop (start + (at + 1)) (take end piece) =
     ap (λ (xs : List ℕ). drop (at + 1) xs) (sym held) ∙ drop-drop (at + 1) start (take end piece) in
+    let going_on : ended ≡ true → ⊥ = λ is. let none : start ≡ end = empty is in omega (arith, none, all, within) in
     record {
-      consumed = subst (λ (xs : List ℕ). Consumes (prepend_known (drop start (take end piece)) known) (prepend_known xs known) given) behind
-          (subst (λ (xs : List ℕ). Consumes (prepend_known xs known) (prepend_known (drop (at + 1) mid) known) given) (take-append-drop (at + 1) mid ∙ sym held)
-          (gives_front given (drop (at + 1) mid) known));
+      given = record {
+        bytes = subst (λ (xs : List ℕ). Consumes (prepend_known (drop start (take end piece)) left) (prepend_known xs left) given) behind
+            (subst (λ (xs : List ℕ). Consumes (prepend_known xs left) (prepend_known (drop (at + 1) mid) left) given) (take-append-drop (at + 1) mid ∙ sym held)
+            (gives_front given (drop (at + 1) mid) left));
+        count = omega (arith, size, within, all, order);
+        none_later = λ has. absurd (going_on has.0);
+      };
       line = cut.0;
-      ended = with_feed mid (drop (at + 1) mid) at within cut.1;
-      size = omega (arith, within, length-take (at + 1) mid);
+      with_end = with_feed mid (drop (at + 1) mid) at within cut.1;
+      within = omega (arith, within, all, order);
+      going_on = going_on;
     }
+
+-- All held bytes are given before a pull, which holds what it gives.
+pub all_given : (piece into : List ℕ) (start end count : ℕ) (old new : Option (List ℕ)) (room room' : ℕ) (ended failed ended' failed' : Bool)
+    → start ≤ end → end ≤ length piece → (ended ≡ true → start ≡ end) → Consumes old new (take count into) → room' + count ≡ room
+    → (ended ≡ true → HasEnded (held_source into 0 count new room' ended' failed'))
+    → HasGiven (held_source piece start end old room ended failed) (held_source into 0 count new room' ended' failed') (mid_of start (end - start) piece)
+all_given piece into start end count old new room room' ended failed ended' failed' order fits empty pulled counted stays =
+    let mid : List ℕ = mid_of start (end - start) piece in
+    let size : length mid ≡ end - start = held_size piece start end order fits in
+    record {
+      bytes = subst (λ (xs : List ℕ). Consumes (prepend_known xs old) (prepend_known (take count into) new) mid) (sym (held_is piece start end order))
+          (gives_held mid (take count into) old new pulled);
+      count = omega (arith, size, counted);
+      none_later = λ has. (none_held mid (omega (arith, empty has.0, size)), stays has.0);
+    }
+
+-- .. and before one that failed, which gives none
+pub all_given_failed : (piece into : List ℕ) (start end : ℕ) (old new : Option (List ℕ)) (room room' : ℕ) (ended failed ended' failed' : Bool)
+    → start ≤ end → end ≤ length piece → Keeps old new → room' ≡ room → (ended ≡ true → ⊥)
+    → HasGiven (held_source piece start end old room ended failed) (held_source into end end new room' ended' failed') (mid_of start (end - start) piece)
+all_given_failed piece into start end old new room room' ended failed ended' failed' order fits keeps counted going_on =
+    let mid : List ℕ = mid_of start (end - start) piece in
+    let size : length mid ≡ end - start = held_size piece start end order fits in
+    let none : drop end (take end into) ≡ [] = drop_all end (take end into) (omega (arith, length-take end into)) in
+    record {
+      bytes = subst (λ (xs : List ℕ). Consumes (prepend_known xs old) (prepend_known (drop end (take end into)) new) mid) (sym (held_is piece start end order))
+          (gives_none mid old new (drop end (take end into)) none keeps);
+      count = omega (arith, size, counted);
+      none_later = λ has. absurd (going_on has.0);
+    }
+
+-- the end has come, and nothing is held
+pub ended_here : (into : List ℕ) (count : ℕ) (left : Option (List ℕ)) (room : ℕ) (ended failed : Bool) → count ≡ 0 → ended ≡ (count == 0) → IsAtEnd left
+    → HasEnded (held_source into 0 count left room ended failed)
+ended_here into count left room ended failed none is end =
+    (is ∙ ap (λ n. n == 0) none, at_end (take count into) left (ap (λ (n : ℕ). take n into) none) end)

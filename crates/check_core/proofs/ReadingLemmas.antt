@@ -7,6 +7,7 @@ use Rattle.std.specs.Result.{IsErr}
 use Rattle.std.proofs.lemmas.List.{append-nil, length-take-le, take-append-le, take_all}
 use Rattle.std.proofs.Math.Dec.{eqb-suc-zero}
 use Rattle.std.proofs.lemmas.Bool.{ltb-true, eqb-true}
+use Rattle.std.proofs.lemmas.Option.{same_Some}
 use Rattle.std.proofs.lemmas.Slice.Eq.{bytes_eq-Decides}
 use Rattle.std.specs.Str.{bytes_eq}
 use Rattle.words_core.specs.declared.event.Event.{Event}
@@ -14,13 +15,43 @@ use Rattle.words_core.specs.declared.event.LineFault.{LineFault}
 use Rattle.words_core.specs.Cutting.{lines_of_trace}
 use Rattle.words_core.specs.Grammar.{reading_of}
 use Rattle.streams.specs.Lines.{IsOneLine}
+use Rattle.streams.proofs.MoveLemmas.{consumes_nothing, consumes_more}
 use Rattle.check_core.specs.declared.gathered.Gathered.{Gathered}
 use Rattle.check_core.specs.declared.shown.TheConstants.{MOST_TEXT_BYTES}
 use Rattle.check_core.specs.Checking.{HasGathered}
 use Rattle.check_core.specs.Finding.{line_at, lines_at}
 use Rattle.check_core.specs.Forms.{◌>>=◌}
 use Rattle.check_core.specs.Gathered.{Gathers, whole_of}
-use Rattle.check_core.specs.Reading.{IsPartAtOk, IsNextReading, without_line_feed}
+use Rattle.check_core.specs.Reading.{HasEnded, HasGiven, IsPartAtOk, IsNextReading, MayFollow, Source, readings_of, without_line_feed}
+use Rattle.check_core.proofs.FormLemmas.{bind_some}
+
+-- what a source gave, in turn
+pub gives_nothing : (source : Source) → HasGiven source source []
+gives_nothing source = record { bytes = consumes_nothing source.left; count = omega arith; none_later = λ ended. (refl, ended) }
+
+pub gives_more : {a b c : Source} {xs ys : List ℕ} → HasGiven a b xs → HasGiven b c ys → HasGiven a c (xs ++ ys)
+gives_more {a = a} {b = b} {c = c} {xs = xs} {ys = ys} first later = record {
+  bytes = consumes_more a.left b.left c.left xs ys first.bytes later.bytes;
+  count = omega (arith, first.count, later.count, length-append xs ys);
+  none_later = λ ended.
+      let (none, now) = first.none_later ended in
+      let (nor, still) = later.none_later now in (ap (λ zs. zs ++ ys) none ∙ nor, still);
+}
+
+-- what may follow a part may follow behind it
+pub follows : {old new : Source} {part : List ℕ} → HasGiven old new part → (more : List ℕ) → MayFollow new more → MayFollow old (part ++ more)
+follows given more may ended = let (none, now) = given.none_later ended in ap (λ xs. xs ++ more) none ∙ may now
+
+rest_of : (left : Option (List ℕ)) (given text : List ℕ) → Consumes (Some text) left given → (rest : List ℕ) × (text ≡ given ++ rest) × (IsAtEnd left → rest ≡ [])
+rest_of None given text is = absurd is
+rest_of (Some rest) given text is = (rest, is, λ end. end)
+
+-- the rest of a text that was known
+pub known_rest : {old new : Source} {given : List ℕ} → HasGiven old new given → (text : List ℕ) → old.left ≡ Some text
+    → (rest : List ℕ) × (text ≡ given ++ rest) × MayFollow new rest
+known_rest {new = new} {given = given} is text known =
+    let (rest, same, none) = rest_of new.left given text (subst (λ left. Consumes left new.left given) known is.bytes) in
+    (rest, same, λ ended. none ended.1)
 
 -- the held bytes are given in turn
 pub gives_front : (front behind : List ℕ) (known : Option (List ℕ)) → Consumes (prepend_known (front ++ behind) known) (prepend_known behind known) front
@@ -44,9 +75,9 @@ pub at_end : (bytes : List ℕ) (known : Option (List ℕ)) → bytes ≡ [] →
 at_end bytes None none h = tt
 at_end bytes (Some xs) none h = ap (λ front. front ++ xs) none ∙ h
 
-pub part_at_err : {E : Type 0} (r : Result Bool E) (part : List ℕ) (left : Option (List ℕ)) → IsErr r → IsPartAtOk r part left
-part_at_err (Ok ended) part left h = absurd cc
-part_at_err (Err e) part left h = tt
+pub part_at_err : {E : Type 0} (r : Result Bool E) (part : List ℕ) (new : Source) → IsErr r → IsPartAtOk r part new
+part_at_err (Ok ended) part new h = absurd cc
+part_at_err (Err e) part new h = tt
 
 -- the bytes up to and with an LF
 pub with_feed : (bytes rest : List ℕ) (at : ℕ) → at < length bytes → bytes ≡ (take at bytes ++ 10 ∷ []) ++ rest
@@ -115,88 +146,106 @@ taken_off line =
 none_off : (line : List ℕ) → IsOneLine line → without_line_feed line ≡ line
 none_off line h = ap (λ b. if b then take (length line - 1) line else line) (no_feed_at line (length line - 1) h)
 
--- what becomes of known bytes when a line is taken
-
-record IsTaken (bytes part : List ℕ) (left : Option (List ℕ)) : Type 0 where
-  rest : List ℕ
-  known : left ≡ Some rest
-  line : line_at bytes ≡ Some (part, rest)
-  lines : lines_of_trace bytes ≡ without_line_feed part ∷ lines_of_trace rest
-
-taken_ended : (bytes part line : List ℕ) (left : Option (List ℕ)) → Consumes (Some bytes) left part → IsOneLine line → part ≡ line ++ 10 ∷ [] → IsTaken bytes part left
-taken_ended bytes part line None consumed one is = absurd consumed
-taken_ended bytes part line (Some rest) consumed one is =
-    let e : bytes ≡ (line ++ 10 ∷ []) ++ rest = consumed ∙ ap (λ xs. xs ++ rest) is in
-    record {
-      rest = rest;
-      known = refl;
-      line = ap line_at e ∙ line_again line rest one ∙ ap (λ xs. Some (xs, rest)) (sym is);
-      lines = ap lines_of_trace e ∙ ended_lines line rest one ∙ ap (λ line. line ∷ lines_of_trace rest) (sym (ap without_line_feed is ∙ taken_off line));
-    }
-
--- all that is left, without LF
-taken_last : (bytes part : List ℕ) (left : Option (List ℕ)) → Consumes (Some bytes) left part → IsAtEnd left → (left ≡ Some []) × (bytes ≡ part)
-taken_last bytes part None consumed ends = absurd consumed
-taken_last bytes part (Some rest) consumed ends = (ap (λ xs. Some xs) ends, consumed ∙ ap (λ xs. part ++ xs) ends ∙ append-nil part)
-
 -- the reading of the line that was taken, if one was
 abbrev pub reading_in : List ℕ → Option (Result (Option Event) LineFault)
 reading_in [] = None
 reading_in (b ∷ part) = Some (reading_of (without_line_feed (b ∷ part)))
 
-pub next_taken : {E : Type 0} (r : Result Bool E) (bytes part : List ℕ) (left : Option (List ℕ)) → is_err r ≡ false → Consumes (Some bytes) left part
-    → IsPartAtOk r part left → IsNextReading bytes (reading_in part) left
-next_taken (Ok true) bytes [] left fine consumed (line, one, is) = absurd (omega (arith, ap length is, length-append line (10 ∷ [])))
-next_taken (Ok true) bytes (b ∷ part) left fine consumed (line, one, is) =
-    let taken = taken_ended bytes (b ∷ part) line left consumed one is in
-    (taken.rest, taken.known, ap (λ lines. map reading_of lines) taken.lines)
-next_taken (Ok false) bytes [] left fine consumed is = (taken_last bytes [] left consumed is.1).1
-next_taken (Ok false) bytes (b ∷ part) left fine consumed is =
-    let last = taken_last bytes (b ∷ part) left consumed is.1 in (
-      [],
-      last.0,
-      ap (λ lines. map reading_of lines) (ap lines_of_trace last.1 ∙ last_line b part is.0 ∙ ap (λ line. line ∷ []) (sym (none_off (b ∷ part) is.0))),
-    )
-next_taken (Err error) bytes part left fine consumed is = absurd cc
+read_ended : (part line more : List ℕ) → IsOneLine line → part ≡ line ++ 10 ∷ [] → readings_of (part ++ more) ≡ reading_of line ∷ readings_of more
+read_ended part line more one is = ap (λ xs. readings_of (xs ++ more)) is ∙ ap (λ lines. map reading_of lines) (ended_lines line more one)
 
-pub next_line : (bytes part line : List ℕ) (left : Option (List ℕ)) → Consumes (Some bytes) left part → IsOneLine line → part ≡ line ++ 10 ∷ []
-    → IsNextReading bytes (Some (reading_of line)) left
-next_line bytes part line left consumed one is =
-    let taken = taken_ended bytes part line left consumed one is in
-    let whole : without_line_feed part ≡ line = ap without_line_feed is ∙ taken_off line in
-    (taken.rest, taken.known, ap (λ lines. map reading_of lines) (taken.lines ∙ ap (λ line. line ∷ lines_of_trace taken.rest) whole))
+-- all that is left, without LF
+read_last : (b : ℕ) (part more : List ℕ) → IsOneLine (b ∷ part) → more ≡ []
+    → readings_of ((b ∷ part) ++ more) ≡ reading_of (without_line_feed (b ∷ part)) ∷ readings_of more
+read_last b part more one none =
+    ap (λ xs. readings_of ((b ∷ part) ++ xs)) none ∙ ap readings_of (append-nil (b ∷ part))
+    ∙ ap (λ lines. map reading_of lines) (last_line b part one) ∙ ap (λ line. reading_of line ∷ []) (sym (none_off (b ∷ part) one))
+    ∙ ap (λ xs. reading_of (without_line_feed (b ∷ part)) ∷ readings_of xs) (sym none)
+
+pub next_taken : {E : Type 0} (r : Result Bool E) (part : List ℕ) (new : Source) → is_err r ≡ false → IsPartAtOk r part new
+    → IsNextReading (reading_in part) part new
+next_taken (Ok true) [] new fine (line, one, is) = absurd (omega (arith, ap length is, length-append line (10 ∷ [])))
+next_taken (Ok true) (b ∷ part) new fine (line, one, is) = λ more may.
+    read_ended (b ∷ part) line more one is
+    ∙ ap (λ line. reading_of line ∷ readings_of more) (sym (ap without_line_feed is ∙ taken_off line))
+next_taken (Ok false) [] new fine is = (refl, is.1)
+next_taken (Ok false) (b ∷ part) new fine is = λ more may. read_last b part more is.0 (may is.1)
+next_taken (Err error) part new fine is = absurd cc
+
+pub next_line : (part line : List ℕ) (new : Source) → IsOneLine line → part ≡ line ++ 10 ∷ [] → IsNextReading (Some (reading_of line)) part new
+next_line part line new one is = λ more may. read_ended part line more one is
 
 -- by whether anything was taken
-pub next_none : (bytes part : List ℕ) (left : Option (List ℕ)) → (length part == 0) ≡ true → IsNextReading bytes (reading_in part) left → bytes ≡ []
-next_none bytes [] left none is = is
-next_none bytes (b ∷ part) left none is = absurd (omega (arith, eqb-true (length (b ∷ part)) 0 none))
+pub next_none : (part : List ℕ) (new : Source) → (length part == 0) ≡ true → IsNextReading (reading_in part) part new → IsNextReading None part new
+next_none [] new none is = is
+next_none (b ∷ part) new none is = absurd (omega (arith, eqb-true (length (b ∷ part)) 0 none))
 
-pub next_some : (bytes part : List ℕ) (left : Option (List ℕ)) → (length part == 0) ≡ false → IsNextReading bytes (reading_in part) left
-    → IsNextReading bytes (Some (reading_of (without_line_feed part))) left
-next_some bytes [] left some is = absurd cc
-next_some bytes (b ∷ part) left some is = is
+pub next_some : (part : List ℕ) (new : Source) → (length part == 0) ≡ false → IsNextReading (reading_in part) part new
+    → IsNextReading (Some (reading_of (without_line_feed part))) part new
+next_some [] new some is = absurd cc
+next_some (b ∷ part) new some is = is
 
-pub end_taken : (bytes part : List ℕ) (left : Option (List ℕ)) → IsNextReading bytes (reading_in part) left → (length part == 0) ≡ (length bytes == 0)
-end_taken bytes [] left is = ap (λ (xs : List ℕ). length xs == 0) (sym is)
-end_taken [] (b ∷ part) left (rest, known, lines) = absurd cc
-end_taken (x ∷ bytes) (b ∷ part) left is = eqb-suc-zero (length part) ∙ sym (eqb-suc-zero (length bytes))
+-- something that came is still there, whatever follows
+pub some_behind : (part more : List ℕ) → (length part == 0) ≡ false → (length (part ++ more) == 0) ≡ false
+some_behind [] more some = absurd cc
+some_behind (b ∷ part) more some = eqb-suc-zero (length (part ++ more))
 
--- lines that are gathered: one more
+pub none_behind : (part more : List ℕ) → (length part == 0) ≡ true → more ≡ [] → (length (part ++ more) == 0) ≡ true
+none_behind [] more none rest = ap (λ (xs : List ℕ). length xs == 0) rest
+none_behind (b ∷ part) more none rest = absurd (omega (arith, eqb-true (length (b ∷ part)) 0 none))
 
-pub come_more : {k : ℕ} {bytes : List ℕ} {old new : Gathered MOST_TEXT_BYTES} {left now : Option (List ℕ)} (part line : List ℕ) → HasGathered k bytes old left
-    → Consumes left now part → IsOneLine line → part ≡ line ++ 10 ∷ []
-    → ((front : List ℕ) → Gathers MOST_TEXT_BYTES front old → Gathers MOST_TEXT_BYTES (front ++ part) new) → HasGathered (suc k) bytes new now
-come_more {now = now} part line come consumed one is add =
-    let taken = taken_ended come.rest part line now (subst (λ from. Consumes from now part) come.known consumed) one is in
-    record { came = come.came ++ part; rest = taken.rest; are = rw (come.are, taken.line); gathers = add come.came come.gathers; known = taken.known }
+-- what stands behind the first lines
+
+abbrev before_more : List ℕ → List ℕ × List ℕ → List ℕ × List ℕ
+before_more more found = (found.0, found.1 ++ more)
+
+line_behind : (bytes more : List ℕ) (found : List ℕ × List ℕ) → line_at bytes ≡ Some found → line_at (bytes ++ more) ≡ Some (before_more more found)
+line_behind [] more found is = absurd cc
+line_behind (b ∷ bytes) more found is =
+    elim (b == 10) as (λ t. (if t then Some (b ∷ [], bytes) else (line_at bytes >>= (λ found. Some (b ∷ found.0, found.1)))) ≡ Some found
+    → (if t then Some (b ∷ [], bytes ++ more) else (line_at (bytes ++ more) >>= (λ found. Some (b ∷ found.0, found.1)))) ≡ Some (before_more more found)) [
+      | true ↦ λ same. ap (λ f. Some (before_more more f)) (same_Some (b ∷ [], bytes) found same)
+      | false ↦ λ same.
+          let (last, last_is, end) = bind_some (line_at bytes) (λ found. Some (b ∷ found.0, found.1)) found same in
+          ap (λ (f : Option (List ℕ × List ℕ)). f >>= (λ found. Some (b ∷ found.0, found.1))) (line_behind bytes more last last_is)
+          ∙ ap (λ f. Some (before_more more f)) (same_Some (b ∷ last.0, last.1) found end)
+    ] is
+
+lines_behind : (k : ℕ) (bytes more : List ℕ) (found : List ℕ × List ℕ) → lines_at k bytes ≡ Some found → lines_at k (bytes ++ more) ≡ Some (before_more more found)
+lines_behind zero bytes more found is = ap (λ f. Some (before_more more f)) (same_Some ([], bytes) found is)
+lines_behind (suc k) bytes more found is =
+    let (front, front_is, next) = bind_some (lines_at k bytes) (λ front. line_at front.1 >>= (λ last. Some (front.0 ++ last.0, last.1))) found is in
+    let (last, last_is, end) = bind_some (line_at front.1) (λ last. Some (front.0 ++ last.0, last.1)) found next in
+    ap (λ (f : Option (List ℕ × List ℕ)). f >>= (λ front. line_at front.1 >>= (λ last. Some (front.0 ++ last.0, last.1)))) (lines_behind k bytes more front front_is)
+    ∙ ap (λ (f : Option (List ℕ × List ℕ)). f >>= (λ last. Some (front.0 ++ last.0, last.1))) (line_behind front.1 more last last_is)
+    ∙ ap (λ f. Some (before_more more f)) (same_Some (front.0 ++ last.0, last.1) found end)
+
+-- lines that are gathered stand first, whatever follows
+pub stand_first : {k : ℕ} {came : List ℕ} {text : Gathered MOST_TEXT_BYTES} → HasGathered k came text → (more : List ℕ) → lines_at k (came ++ more) ≡ Some (came, more)
+stand_first {k = k} {came = came} come more = lines_behind k came more (came, []) come.are
+
+pub none_come : {text : Gathered MOST_TEXT_BYTES} → Gathers MOST_TEXT_BYTES [] text → HasGathered 0 [] text
+none_come gathers = record { are = refl; gathers = gathers }
+
+-- one more
+pub come_more : {k : ℕ} {came : List ℕ} {old new : Gathered MOST_TEXT_BYTES} (part line : List ℕ) → HasGathered k came old
+    → IsOneLine line → part ≡ line ++ 10 ∷ [] → ((front : List ℕ) → Gathers MOST_TEXT_BYTES front old → Gathers MOST_TEXT_BYTES (front ++ part) new)
+    → HasGathered (suc k) (came ++ part) new
+come_more {came = came} part line come one is add =
+    let last : line_at part ≡ Some (part, []) =
+    ap line_at (is ∙ sym (append-nil (line ++ 10 ∷ []))) ∙ line_again line [] one ∙ ap (λ xs. Some (xs, [])) (sym is) in
+    record { are = rw (stand_first come part, last) refl; gathers = add came come.gathers }
 
 -- and none that ended
 pub none_later : (j k n : ℕ) (bytes : List ℕ) → j + k ≡ n → lines_at k bytes ≡ None → lines_at n bytes ≡ None
 none_later zero k n bytes sum none = let e : n ≡ k = omega arith in ap (λ m. lines_at m bytes) e ∙ none
 none_later (suc j) k n bytes sum none = none_later j (suc k) n bytes (omega (arith, sum)) (rw none refl)
 
-pub none_more : {k : ℕ} {bytes : List ℕ} {text : Gathered MOST_TEXT_BYTES} {left : Option (List ℕ)} (n : ℕ) (part : List ℕ) (now : Option (List ℕ))
-    → HasGathered k bytes text left → Consumes left now part → IsOneLine part → IsAtEnd now → k < n → lines_at n bytes ≡ None
-none_more {k = k} {bytes = bytes} n part now come consumed one ends more =
-    let all = (taken_last come.rest part now (subst (λ from. Consumes from now part) come.known consumed) ends).1 in
-    none_later (n - suc k) (suc k) n bytes (omega (arith, more)) (rw (come.are, all, no_line part one))
+pub none_more : {k : ℕ} {came : List ℕ} {text : Gathered MOST_TEXT_BYTES} (n : ℕ) (part : List ℕ) → HasGathered k came text → IsOneLine part → k < n
+    → lines_at n (came ++ part) ≡ None
+none_more {k = k} {came = came} n part come one more =
+    none_later (n - suc k) (suc k) n (came ++ part) (omega (arith, more)) (rw (stand_first come part, no_line part one) refl)
+
+-- at the end nothing follows
+pub none_follows : (n : ℕ) (bytes more : List ℕ) (new : Source) → HasEnded new → lines_at n bytes ≡ None → MayFollow new more → lines_at n (bytes ++ more) ≡ None
+none_follows n bytes more new ended none may = ap (λ xs. lines_at n (bytes ++ xs)) (may ended) ∙ ap (lines_at n) (append-nil bytes) ∙ none

@@ -1,19 +1,28 @@
--- The premises of the laws are met.
-use Rattle.std.proofs.Common.{[], ◌∷◌, None, refl, codes}
-use Rattle.words_core.specs.Grammar.{reading_of, reading_of_words, event_of}
-use Rattle.words_core.specs.Words.{words_of}
+-- The premises of the laws are met by a grant, a page block taken and released, and a comment.
+use Rattle.std.proofs.Common.{List, ℕ, [], ◌∷◌, None, codes}
 use Rattle.promise_kept.specs.Written.{IsAllowedText}
 use Rattle.promise_core.specs.declared.promise.Promise.{Promise}
 use Rattle.check_core.specs.Laws.{KeptIsAllowed, IsBreach, BrokenIsNotAllowed}
+use Rattle.check_core.proofs.Examples.{texts_are_found}
 
--- of a trace of one faulty line
-KeptIsAllowed-met : KeptIsAllowed → IsAllowedText None 32 3 2 2 (codes "frob" ∷ []) (codes "!> fault Unknown\n")
-unfolding reading_of reading_of_words event_of words_of
-KeptIsAllowed-met law = law 32 3 2 2 1 (codes "frob\n") (codes "!> fault Unknown\n") refl
+abbrev trace : List ℕ
+trace = codes "admin grant 0\n# a block\n0 alloc 1\n0 free 0\n"
 
--- the same line with another fault
+abbrev lines : List (List ℕ)
+lines = codes "admin grant 0" ∷ codes "# a block" ∷ codes "0 alloc 1" ∷ codes "0 free 0" ∷ []
+
+-- another superblock than partmem's, and a block of two frames, which is released
+abbrev allowed_replies : List ℕ
+allowed_replies = codes "admin> granted 0 slot 0 superblock 1\n0> frame 0\n0> freed 1\n"
+
+KeptIsAllowed-met : KeptIsAllowed → IsAllowedText None 32 3 2 2 lines allowed_replies
+KeptIsAllowed-met law = law 32 3 2 2 4 trace allowed_replies texts_are_found.all_kept
+
+-- the block of two frames is not aligned
+abbrev broken_replies : List ℕ
+broken_replies = codes "admin> granted 0 slot 0 superblock 1\n0> frame 1\n0> freed 1\n"
+
 BrokenIsNotAllowed-met : BrokenIsNotAllowed
-    → IsBreach 32 3 2 2 (codes "frob" ∷ []) (codes "!> fault Words\n") (record { line = 1; reply = 1; promise = Promise.Form })
-unfolding reading_of reading_of_words event_of words_of
+    → IsBreach 32 3 2 2 lines broken_replies (record { line = 3; reply = 2; promise = Promise.Blocks })
 BrokenIsNotAllowed-met law =
-    law 32 3 2 2 (codes "frob\n") (codes "!> fault Words\n") (record { line = 1; reply = 1; promise = Promise.Form }) refl
+    law 32 3 2 2 trace broken_replies (record { line = 3; reply = 2; promise = Promise.Blocks }) texts_are_found.not_aligned

@@ -1,36 +1,40 @@
 -- Verdicts on the replies to the lines of a trace, in turn, how a check ends, and where memory runs out.
-use Rattle.std.specs.Prelude.{◌≡◌, ℕ, suc, Bool, true, false, List, [], ◌∷◌, Option, Some, None, Result, Ok, Err, ◌⊎◌}
+use Rattle.std.specs.Prelude.{◌≡◌, ℕ, suc, Bool, true, false, List, [], ◌∷◌, ◌++◌, Option, Some, None, Result, Ok, Err, ◌⊎◌}
 use Rattle.promise_core.specs.declared.promise.Promise.{Promise}
 use Rattle.world_core.specs.Vocabulary.{Event, LineFault, Reply}
 use Rattle.promise_core.specs.Vocabulary.{allowed, Known}
 use Rattle.judge.specs.Adding.{is_addition}
 use Rattle.judge.specs.Machine.{SeenMachine, ShowsKnown, IsVerdict}
+use Rattle.check_core.specs.declared.finding.Finding.{Finding}
 use Rattle.check_core.specs.declared.finding.Unchecked.{Unchecked}
 use Rattle.check_core.specs.declared.gathered.Gathered.{Gathered}
 use Rattle.check_core.specs.declared.shown.TheConstants.{MOST_TEXT_BYTES}
 use Rattle.check_core.specs.Finding.{after_lines, lines_at, lines_to, more_lines, reply_in, verdict_at}
 use Rattle.check_core.specs.Gathered.{Gathers}
+use Rattle.check_core.specs.Reading.{HasEnded, MayFollow, Source}
 
--- so many lines of the bytes have come, and the others are left
-pub record HasGathered (lines : ℕ) (bytes : List ℕ) (text : Gathered MOST_TEXT_BYTES) (left : Option (List ℕ)) : Type 0 where
-  pub came : List ℕ
-  pub rest : List ℕ
-  pub are : lines_at lines bytes ≡ Some (came, rest)
+-- these bytes have come, so many whole lines
+pub record HasGathered (lines : ℕ) (came : List ℕ) (text : Gathered MOST_TEXT_BYTES) : Type 0 where
+  pub are : lines_at lines came ≡ Some (came, [])
   pub gathers : Gathers MOST_TEXT_BYTES came text
-  pub known : left ≡ Some rest
 
--- The verdict on the reply to a line that reads so: how many lines it has, which are not left after it, where it is allowed, and
--- then what is known after it is shown; or the first promise that it breaks.
-abbrev pub IsLineVerdict : Result ℕ Promise → Result (Option Event) LineFault → List ℕ → Known → SeenMachine
-    → Option (List ℕ) → Type 0
-IsLineVerdict (Ok lines) reading bytes w new left = (lines ≡ lines_to reading w) × (left ≡ Some (after_lines lines bytes))
-    × ((after : Known) × (verdict_at reading bytes w ≡ Ok after) × ShowsKnown new after)
-IsLineVerdict (Err promise) reading bytes w new left = verdict_at reading bytes w ≡ Err promise
+-- The verdict on the reply to a line that reads so, where this was given of the replies, whatever follows: how many lines the reply
+-- has, which are what was given, where it is allowed, and then what is known after it is shown; or the first promise that it breaks.
+abbrev pub IsLineVerdict : Result ℕ Promise → Result (Option Event) LineFault → List ℕ → Known → SeenMachine → Source → Type 0
+IsLineVerdict (Ok lines) reading part w new replies = (lines ≡ lines_to reading w) × ((after : Known) × ShowsKnown new after
+    × ((more : List ℕ) → (verdict_at reading (part ++ more) w ≡ Ok after) × (after_lines lines (part ++ more) ≡ more)))
+IsLineVerdict (Err promise) reading part w new replies =
+    (more : List ℕ) → MayFollow replies more → verdict_at reading (part ++ more) w ≡ Err promise
 
 -- the same where this was gathered as its reply, of which nothing is known that was not before if it is none
 abbrev pub IsTextVerdict : Option (Result (Unit {0}) Promise) → Event → Option Reply → Known → SeenMachine → Type 0
 IsTextVerdict (Some verdict) event found w new = (reply : Reply) × (found ≡ Some reply) × IsVerdict verdict (allowed event reply w) new
 IsTextVerdict None event found w new = (found ≡ None) × ShowsKnown new w
+
+-- a finding is kept only where the trace and the replies have ended
+abbrev pub IsKeptAtEnd : Finding → (trace replies : Source) → Type 0
+IsKeptAtEnd (Finding.Kept lines) trace replies = HasEnded trace × HasEnded replies
+IsKeptAtEnd (Finding.Broken breach) trace replies = Unit {0}
 
 -- Which reader had failed where there is no finding, the trace's or the replies'. Neither had where memory ran out, and then
 -- `short` says on what.
@@ -48,7 +52,8 @@ IsEndedBy (Err why) unread untold short = IsStoppedBy why unread untold short
 abbrev pub AddsAt : Result (Option Event) LineFault → List ℕ → Known → Type 0
 AddsAt (Ok (Some event)) bytes w = (reply : Reply) × (after : Known) × (reply_in (suc (more_lines event w)) bytes ≡ Some reply)
     × (allowed event reply w ≡ Ok after) × (is_addition reply.body ≡ true)
-AddsAt reading bytes w = ⊥
+AddsAt (Ok None) bytes w = ⊥
+AddsAt (Err fault) bytes w = ⊥
 
 -- that is so of the first of these lines, or of a later one, behind replies that are allowed
 abbrev pub ComesToAdd : List (Result (Option Event) LineFault) → List ℕ → Known → Type 0

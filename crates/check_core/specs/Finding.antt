@@ -21,7 +21,7 @@ abbrev pub line_at : List ℕ → Option (List ℕ × List ℕ)
 line_at [] = None
 line_at (b ∷ bytes) = if b == 10 then Some (b ∷ [], bytes) else (line_at bytes >>= (λ found. Some (b ∷ found.0, found.1)))
 
--- the first lines, so many of them, each with its LF, and what follows them
+-- the first `count` lines, each with its LF, and what follows them
 abbrev pub lines_at : ℕ → List ℕ → Option (List ℕ × List ℕ)
 lines_at zero bytes = Some ([], bytes)
 lines_at (suc k) bytes = do
@@ -47,12 +47,39 @@ abbrev pub more_lines : Event → Known → ℕ
 more_lines (Event.Admin AdminCommand.Pool) w = length w.owners
 more_lines (Event.Tenant t Command.Report) w =
     if nat_lt t (length w.states) then 1 + w.order + option_map_or (λ s. length s.has.caches) (slice_get w.states t) 0 else 0
-more_lines event w = 0
+more_lines (Event.Admin (AdminCommand.Grant t)) w = 0
+more_lines (Event.Admin (AdminCommand.TakeBack t u)) w = 0
+more_lines (Event.Admin (AdminCommand.Reset t)) w = 0
+more_lines (Event.Admin (AdminCommand.Move t u)) w = 0
+more_lines (Event.Tenant t (Command.Alloc k)) w = 0
+more_lines (Event.Tenant t (Command.Free f)) w = 0
+more_lines (Event.Tenant t (Command.Read place len)) w = 0
+more_lines (Event.Tenant t (Command.Write place bytes)) w = 0
+more_lines (Event.Tenant t (Command.Cache size align pattern)) w = 0
+more_lines (Event.Tenant t (Command.Destroy number)) w = 0
+more_lines (Event.Tenant t (Command.Take number)) w = 0
+more_lines (Event.Tenant t (Command.Give number place)) w = 0
+more_lines (Event.Tenant t Command.Reap) w = 0
 
 -- the refusal that the reply is, and to whom it goes
 abbrev pub refusal_told : Addressee → Body → Option (Addressee × Refusal)
 refusal_told who (Body.Refused refusal) = Some (who, refusal)
-refusal_told who body = None
+refusal_told who (Body.Granted tenant slot superblock) = None
+refusal_told who (Body.TakenBack superblock) = None
+refusal_told who (Body.WasReset tenant superblocks) = None
+refusal_told who (Body.Moved tenant slot superblock) = None
+refusal_told who (Body.Owners owners) = None
+refusal_told who (Body.Frame frame) = None
+refusal_told who (Body.Freed order) = None
+refusal_told who (Body.Bytes bytes) = None
+refusal_told who (Body.Written count) = None
+refusal_told who (Body.Cache cache chunk order objects colours) = None
+refusal_told who (Body.Destroyed frames) = None
+refusal_told who (Body.Object place) = None
+refusal_told who Body.Given = None
+refusal_told who (Body.Reaped frames) = None
+refusal_told who (Body.Report report) = None
+refusal_told who (Body.Fault fault) = None
 
 -- the same of what was read
 abbrev pub refusal_read : Option Reply → Option (Addressee × Refusal)
@@ -68,7 +95,7 @@ broken_by event (Some told) w =
 abbrev pub fault_reply : LineFault → Reply
 fault_reply fault = record { addressee = Addressee.Nobody; body = Body.Fault fault }
 
--- that stands in the first line
+-- in the first line
 abbrev pub reports_fault : LineFault → List ℕ → Bool
 reports_fault fault bytes = option_map_or (λ found. bytes_eq found.0 (text_of (fault_reply fault))) (lines_at 1 bytes) false
 
@@ -107,4 +134,18 @@ finding_of w trace replies = finding 0 0 (readings_of trace) replies w
 abbrev pub page_in_way : SeenMachine → Event → Body → Option Block
 page_in_way x (Event.Tenant t (Command.Alloc k)) (Body.Frame f) = if nat_le k MOST_ORDER
     then option_map_or (λ y. find (overlaps (block f k)) y.has.pages) (slice_get x.tenants t) None else None
-page_in_way x event body = None
+page_in_way x (Event.Tenant t (Command.Alloc k)) body = None
+page_in_way x (Event.Tenant t (Command.Free f)) body = None
+page_in_way x (Event.Tenant t (Command.Read place len)) body = None
+page_in_way x (Event.Tenant t (Command.Write place bytes)) body = None
+page_in_way x (Event.Tenant t (Command.Cache size align pattern)) body = None
+page_in_way x (Event.Tenant t (Command.Destroy number)) body = None
+page_in_way x (Event.Tenant t (Command.Take number)) body = None
+page_in_way x (Event.Tenant t (Command.Give number place)) body = None
+page_in_way x (Event.Tenant t Command.Reap) body = None
+page_in_way x (Event.Tenant t Command.Report) body = None
+page_in_way x (Event.Admin (AdminCommand.Grant t)) body = None
+page_in_way x (Event.Admin (AdminCommand.TakeBack t u)) body = None
+page_in_way x (Event.Admin (AdminCommand.Reset t)) body = None
+page_in_way x (Event.Admin (AdminCommand.Move t u)) body = None
+page_in_way x (Event.Admin AdminCommand.Pool) body = None

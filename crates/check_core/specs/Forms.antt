@@ -29,7 +29,7 @@ abbrev pub letter_at : ℕ → List ℕ → Option (Option ℕ × List ℕ)
 letter_at letter [] = None
 letter_at letter (b ∷ text) = if b == letter then Some (None, text) else None
 
--- what stands for this byte of a form: a number for a `#`, byte 35, else the byte itself
+-- what may be at this byte of a form: a number for a `#`, byte 35, else the byte itself
 unfoldable pub mark_at : ℕ → List ℕ → Option (Option ℕ × List ℕ)
 mark_at mark text =
     if mark == 35 then (number_at text >>= (λ number. Some (Some number.0, number.1))) else letter_at mark text
@@ -39,7 +39,7 @@ abbrev pub onto : Option ℕ → List ℕ → List ℕ
 onto None numbers = numbers
 onto (Some number) numbers = number ∷ numbers
 
--- the numbers that stand in a form at the front of the text, and what follows it
+-- the numbers in a form at the front of the text, and what follows it
 unfoldable pub form_at : List ℕ → List ℕ → Option (List ℕ × List ℕ)
 form_at [] text = Some ([], text)
 form_at (mark ∷ form) text = do

@@ -2,7 +2,7 @@
 use Rattle.std.specs.Prelude.{◌≡◌, ℕ, nat_lt, if◌then◌else◌, List, length, take, Option, Some, None}
 use Rattle.check_core.specs.declared.gathered.Gathered.{Gathered}
 
--- these bytes have come, of which the first `most` are held
+-- these bytes have come, and the first `most` of them are held
 pub record Gathers (most : ℕ) (came : List ℕ) (g : Gathered most) : Type 0 where
   pub front : g.held.items ≡ take most came
   pub longer : g.longer ≡ nat_lt most (length came)

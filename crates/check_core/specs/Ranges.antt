@@ -7,7 +7,8 @@ use Rattle.words_core.specs.declared.report.TheConstants.{ORDERS, CACHES}
 
 abbrev pub AddresseeFits : Addressee → Type 0
 AddresseeFits (Addressee.Tenant tenant) = tenant < 2 ^ 8
-AddresseeFits who = Unit {0}
+AddresseeFits Addressee.Admin = Unit {0}
+AddresseeFits Addressee.Nobody = Unit {0}
 
 abbrev pub OwnerFits : Option Owner → Type 0
 OwnerFits told = IfSome told (λ owner. (owner.tenant < 2 ^ 8) × (owner.slot < 2 ^ 16))
@@ -45,7 +46,9 @@ BodyFits (Body.Destroyed frames) = frames < 2 ^ 32
 BodyFits (Body.Object place) = place < 2 ^ 32
 BodyFits (Body.Reaped frames) = frames < 2 ^ 32
 BodyFits (Body.Report report) = ReportFits report
-BodyFits body = Unit {0}
+BodyFits Body.Given = Unit {0}
+BodyFits (Body.Refused refusal) = Unit {0}
+BodyFits (Body.Fault fault) = Unit {0}
 
 -- each number and each list of the reply fits its type
 abbrev pub Fits : Reply → Type 0

@@ -1,22 +1,43 @@
 -- What a reader of lines has left, and what it gives.
-use Rattle.std.specs.Prelude.{◌≡◌, ℕ, ◌-◌, ◌==◌, Bool, true, false, if◌then◌else◌, List, [], ◌∷◌, ◌++◌, map, Option, Some, None, Result, Ok, Err, length, take, slice_index}
-use Rattle.std.specs.Io.KnownBytes.{IsAtEnd}
+use Rattle.std.specs.Prelude.{◌≡◌, ℕ, ◌+◌, ◌-◌, ◌==◌, Bool, true, false, if◌then◌else◌, List, [], ◌∷◌, ◌++◌, map, Option, Some, None, Result, Ok, Err, length, take, slice_index}
+use Rattle.std.specs.Io.KnownBytes.{Consumes, IsAtEnd}
 use Rattle.world_core.specs.Vocabulary.{Event, LineFault}
 use Rattle.words_core.specs.Cutting.{lines_of_trace}
 use Rattle.words_core.specs.Grammar.{reading_of}
 use Rattle.streams.specs.Lines.{IsOneLine}
 
--- the bytes that are left, where they are known, how many there are at most, and whether a pull has failed
+-- the bytes that are left, where they are known, how many there are at most, whether a pull has given the end, and whether one has
+-- failed
 pub record Source : Type 0 where
   pub left : Option (List ℕ)
   pub room : ℕ
+  pub ended : Bool
   pub failed : Bool
 
+-- a pull has given the end, and no known byte is left
+abbrev pub HasEnded : Source → Type 0
+HasEnded source = (source.ended ≡ true) × IsAtEnd source.left
+
+-- a source gave these bytes, counted each of them, and gave none after its end
+pub record HasGiven (old new : Source) (given : List ℕ) : Type 0 where
+  pub bytes : Consumes old.left new.left given
+  pub count : new.room + length given ≡ old.room
+  pub none_later : HasEnded old → (given ≡ []) × HasEnded new
+
+-- the source may still give these bytes: any, or none once it has ended
+abbrev pub MayFollow : Source → List ℕ → Type 0
+MayFollow source more = HasEnded source → more ≡ []
+
+-- that is so of two texts which begin with what two sources gave, whatever follows
+abbrev pub WhateverFollows : (trace replies : Source) → (asked told : List ℕ) → (List ℕ → List ℕ → Type 0) → Type 0
+WhateverFollows trace replies asked told IsSo =
+    (more later : List ℕ) → MayFollow trace more → MayFollow replies later → IsSo (asked ++ more) (told ++ later)
+
 -- what was given of a line, unless the source failed: all of it up to and with its LF, or what follows the last LF
-abbrev pub IsPartAtOk : {E : Type 0} → Result Bool E → List ℕ → Option (List ℕ) → Type 0
-IsPartAtOk (Ok true) part left = (line : List ℕ) × IsOneLine line × (part ≡ line ++ 10 ∷ [])
-IsPartAtOk (Ok false) part left = IsOneLine part × IsAtEnd left
-IsPartAtOk (Err e) part left = Unit {0}
+abbrev pub IsPartAtOk : {E : Type 0} → Result Bool E → List ℕ → Source → Type 0
+IsPartAtOk (Ok true) part new = (line : List ℕ) × IsOneLine line × (part ≡ line ++ 10 ∷ [])
+IsPartAtOk (Ok false) part new = IsOneLine part × HasEnded new
+IsPartAtOk (Err e) part new = Unit {0}
 
 -- a line without the LF at its end
 abbrev pub without_line_feed : List ℕ → List ℕ
@@ -25,8 +46,8 @@ without_line_feed line = if slice_index line (length line - 1) == 10 then take (
 abbrev pub readings_of : List ℕ → List (Result (Option Event) LineFault)
 readings_of trace = map reading_of (lines_of_trace trace)
 
--- the reading of the next line, and what is left behind it; None where no line is left
-abbrev pub IsNextReading : List ℕ → Option (Result (Option Event) LineFault) → Option (List ℕ) → Type 0
-IsNextReading bytes None left = bytes ≡ []
-IsNextReading bytes (Some reading) left =
-    (rest : List ℕ) × (left ≡ Some rest) × (readings_of bytes ≡ reading ∷ readings_of rest)
+-- What was given is the next line, which reads so, whatever follows; None where nothing was given, at the end.
+abbrev pub IsNextReading : Option (Result (Option Event) LineFault) → List ℕ → Source → Type 0
+IsNextReading None part new = (part ≡ []) × HasEnded new
+IsNextReading (Some reading) part new =
+    (more : List ℕ) → MayFollow new more → readings_of (part ++ more) ≡ reading ∷ readings_of more

@@ -1,4 +1,4 @@
--- Reading a reply from left to right: the first form that stands at the front says what it is.
+-- Reading a reply from left to right: the first form that is at the front decides what it is.
 use Rattle.std.specs.Prelude.{ℕ, ◌*◌, ◌^◌, ◌==◌, ◌&&◌, List, [], ◌∷◌, codes, length, take, drop, take_while, not, find, slice_index, nat_lt, nat_le, Bool, true, if◌then◌else◌, Option, Some, None, Result, Ok, Err}
 use Rattle.std.specs.Str.{bytes_eq}
 use Rattle.hex.specs.Hex.{decode_of, encode_lower}

@@ -13,8 +13,8 @@ use crate::said::said_at;
 use model_core::limits::MOST_BYTES;
 use words_core::{Addressee, Answer};
 
-/// Returns to whom the reply of one line goes whose whole text the bytes are, with its line feed, and what it says. The bytes of
-/// a read are then in `buffer`. `None` if the bytes are the text of no such reply.
+/// Reads bytes as the whole text of a reply of one line, with its line feed. Returns the addressee and the answer; the bytes of a
+/// read are then in `buffer`. Returns `None` if the bytes are the text of no such reply.
 pub fn read_answer<'a>(
     text: &'a [u8],
     buffer: &'a mut [u8; MOST_BYTES],
@@ -46,7 +46,7 @@ fn answer_of<'a>(
     }
 }
 
-/// Returns to whom a line goes, by its front, and what follows the front.
+/// Returns the addressee at the front of a line and what follows it.
 #[tactic(auto, unfolding(crate::specs::Replies::addressee_at))]
 pub fn addressee_at(text: &[u8]) -> Option<(Addressee, &[u8])>
     ensures { Gives (λ found. (found.0, found.1.now)) result (addressee_at text.now) }

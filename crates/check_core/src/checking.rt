@@ -1,11 +1,11 @@
 //! The check of a trace and the replies to it.
 
-ghost use Rattle.std.specs.Prelude.{◌≡◌, ℕ, ◌+◌, ◌^◌, ◌<◌, ◌==◌, List, Some, IfOk, false, length};
+ghost use Rattle.std.specs.Prelude.{◌≡◌, ℕ, ◌+◌, ◌^◌, ◌<◌, ◌==◌, List, IfOk, true, false, length};
 ghost use Rattle.promise_core.specs.State.{Known};
 ghost use Rattle.judge.specs.Machine.{ShowsKnown};
-ghost use Rattle.check_core.specs.Checking.{ComesToAdd, IsEndedBy};
+ghost use Rattle.check_core.specs.Checking.{ComesToAdd, IsEndedBy, IsKeptAtEnd};
 ghost use Rattle.check_core.specs.Finding.{finding_of};
-ghost use Rattle.check_core.specs.Reading.{readings_of};
+ghost use Rattle.check_core.specs.Reading.{HasEnded, HasGiven, WhateverFollows, readings_of};
 
 use crate::finding::{Breach, Finding, Unchecked};
 use crate::gathered::Gathered;
@@ -29,12 +29,16 @@ pub fn check<T: Feed, R: Feed>(
 ) -> Result<Finding, Unchecked>
     requires trace_fine { trace.old.failed ≡ false }
     requires replies_fine { replies.old.failed ≡ false }
-    ensures found { (w : Known) (asked told : List ℕ) → ShowsKnown machine.old w → trace.old.left ≡ Some asked
-        → replies.old.left ≡ Some told → IfOk result (λ finding. finding ≡ finding_of w asked told) }
+    // What was given of the trace and of the replies. The finding is that of both, whatever follows.
+    ensures found { (asked : List ℕ) × (told : List ℕ) × HasGiven trace.old trace.new asked × HasGiven replies.old replies.new told
+        × ((w : Known) → ShowsKnown machine.old w → IfOk result (λ finding. WhateverFollows trace.new replies.new asked told
+        (λ trace replies. finding ≡ finding_of w trace replies))) }
+    ensures kept { IfOk result (λ finding. IsKeptAtEnd finding trace.new replies.new) }
     // Memory runs out only if something more has to be kept and no promise was broken before.
-    ensures end { IsEndedBy result trace.new.failed replies.new.failed ((w : Known) (asked told : List ℕ)
-        → ShowsKnown machine.old w → trace.old.left ≡ Some asked → replies.old.left ≡ Some told
-        → ComesToAdd (readings_of asked) told w) }
+    ensures end { IsEndedBy result trace.new.failed replies.new.failed ((asked : List ℕ) × (told : List ℕ)
+        × HasGiven trace.old trace.new asked × HasGiven replies.old replies.new told
+        × ((w : Known) → ShowsKnown machine.old w → WhateverFollows trace.new replies.new asked told
+        (λ trace replies. ComesToAdd (readings_of trace) replies w))) }
 {
     let _asked_at_most = trace.room();
     let _told_at_most = replies.room();
@@ -72,7 +76,8 @@ fn has_ended<R: Feed>(
     text: &mut Gathered<MOST_TEXT_BYTES>,
 ) -> Result<bool, Unchecked>
     requires fine { replies.old.failed ≡ false }
-    ensures none { (bytes : List ℕ) → replies.old.left ≡ Some bytes → IfOk result (λ ended. ended ≡ (length bytes == 0)) }
+    ensures none { (part : List ℕ) × HasGiven replies.old replies.new part
+        × IfOk result (λ ended. (ended ≡ (length part == 0)) × (ended ≡ true → HasEnded replies.new)) }
     ensures end { IsEndedBy result false replies.new.failed ⊥ }
 {
     text.clear();

@@ -7,7 +7,7 @@ ghost use Rattle.check_core.specs.Forms.{Gives};
 use arrayvec::ArrayVec;
 
 /// The first `N` of bytes that come in pieces, and whether there were more.
-#[derive(Drop)]
+#[derive(Debug, Drop)]
 pub struct Gathered<const N: usize> {
     held: ArrayVec<u8, N>,
     longer: bool,

@@ -1,10 +1,11 @@
 //! The lines of a reply, gathered.
 
-ghost use Rattle.std.specs.Prelude.{◌≡◌, ℕ, ◌+◌, ◌≤◌, List, None, Ok, IfOk, MatchBool, length, true, false};
+ghost use Rattle.std.specs.Prelude.{◌≡◌, ℕ, ◌+◌, ◌≤◌, List, ◌++◌, None, Ok, IfOk, MatchBool, length, true, false};
 ghost use Rattle.std.specs.Str.{bytes_eq};
 ghost use Rattle.check_core.specs.Checking.{HasGathered, IsEndedBy};
 ghost use Rattle.check_core.specs.Finding.{lines_at};
 ghost use Rattle.check_core.specs.Gathered.{Gathers};
+ghost use Rattle.check_core.specs.Reading.{HasEnded, HasGiven};
 
 use crate::finding::Unchecked;
 use crate::gathered::Gathered;
@@ -30,8 +31,9 @@ pub fn gather<F: Feed>(
     text: &mut Gathered<MOST_TEXT_BYTES>,
 ) -> Result<bool, Unchecked>
     requires fine { replies.old.failed ≡ false }
-    ensures come { (k n : ℕ) (bytes : List ℕ) → k + lines ≡ n → HasGathered k bytes text.old replies.old.left
-        → IfOk result (λ all. MatchBool all (HasGathered n bytes text.new replies.new.left) (lines_at n bytes ≡ None)) }
+    ensures come { (part : List ℕ) × HasGiven replies.old replies.new part
+        × ((k n : ℕ) (came : List ℕ) → k + lines ≡ n → HasGathered k came text.old → IfOk result (λ all. MatchBool all
+        (HasGathered n (came ++ part) text.new) (HasEnded replies.new × (lines_at n (came ++ part) ≡ None)))) }
     ensures room { result ≡ Ok true → replies.new.room + lines ≤ replies.old.room }
     ensures end { IsEndedBy result false replies.new.failed ⊥ }
 {

@@ -1,4 +1,4 @@
-//! What a finding tells: each law is the contract of a function that does nothing, and a caller has the law by the call.
+//! The meaning of a finding. Each law is the contract of an empty function, to be called where a proof needs the law.
 
 ghost use Rattle.check_core.specs.Laws.{BrokenIsNotAllowed, KeptIsAllowed};
 
@@ -7,7 +7,8 @@ pub fn kept_is_allowed()
     ensures { KeptIsAllowed }
 {}
 
-/// If replies are found broken, those before the breach keep every promise, and no reply that begins at the breach does.
+/// If replies are found broken, those before the breach keep every promise, and no reply that begins at the breach, and whose
+/// numbers have the types of `Reply`, does.
 pub fn broken_is_not_allowed()
     ensures { BrokenIsNotAllowed }
 {}

@@ -4,7 +4,7 @@ ghost use Rattle.std.specs.Prelude.{◌≡◌, ℕ, ◌<◌, ◌≤◌, List, So
 ghost use Rattle.words_core.specs.Grammar.{reading_of};
 ghost use Rattle.check_core.specs.Checking.{IsEndedBy};
 ghost use Rattle.check_core.specs.Gathered.{Gathers};
-ghost use Rattle.check_core.specs.Reading.{IsNextReading, without_line_feed};
+ghost use Rattle.check_core.specs.Reading.{HasGiven, IsNextReading, without_line_feed};
 
 use crate::finding::Unchecked;
 use crate::gathered::Gathered;
@@ -19,7 +19,8 @@ pub fn next_reading<F: Feed>(
     line: &mut Gathered<MOST_PART_BYTES>,
 ) -> Result<Option<Result<Option<Event>, LineFault>>, Unchecked>
     requires fine { trace.old.failed ≡ false }
-    ensures reading { (bytes : List ℕ) → trace.old.left ≡ Some bytes → IfOk result (λ reading. IsNextReading bytes reading trace.new.left) }
+    ensures reading { (part : List ℕ) × HasGiven trace.old trace.new part
+        × IfOk result (λ reading. IsNextReading reading part trace.new) }
     ensures less { IfOk result (λ reading. IfSome reading (λ _. trace.new.room < trace.old.room)) }
     ensures end { IsEndedBy result trace.new.failed false ⊥ }
 {

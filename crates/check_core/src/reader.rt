@@ -1,9 +1,8 @@
 //! A text, a line at a time.
 
-ghost use Rattle.std.specs.Prelude.{◌≡◌, ℕ, ◌+◌, ◌^◌, ◌<◌, List, ◌++◌, length, false, is_err, Some, Ok, IfSome, IfNone};
-ghost use Rattle.std.specs.Io.KnownBytes.{Consumes};
+ghost use Rattle.std.specs.Prelude.{◌≡◌, ℕ, ◌^◌, ◌<◌, List, ◌++◌, false, is_err, Some, Ok, IfSome, IfNone};
 ghost use Rattle.check_core.specs.Gathered.{Gathers};
-ghost use Rattle.check_core.specs.Reading.{IsNextReading, IsPartAtOk};
+ghost use Rattle.check_core.specs.Reading.{HasGiven, IsNextReading, IsPartAtOk};
 
 use crate::gathered::Gathered;
 use crate::short::event_of;
@@ -17,7 +16,7 @@ use words_core::Event;
 const PIECE_BYTES: usize = 65_536;
 
 /// Reads the lines of what a feed gives.
-#[derive(Drop)]
+#[derive(Debug, Drop)]
 pub struct LineReader<F: Feed> {
     feed: F,
     // What was pulled and not yet read are the bytes from `start` to `end`.
@@ -27,7 +26,7 @@ pub struct LineReader<F: Feed> {
 }
 
 impl<F: Feed> Model for LineReader<F> {
-    ghost use Rattle.std.specs.Prelude.{◌+◌, ◌-◌, ◌≤◌, take, drop, length};
+    ghost use Rattle.std.specs.Prelude.{◌≡◌, ◌+◌, ◌-◌, ◌≤◌, true, take, drop, length};
     ghost use Rattle.std.specs.Io.KnownBytes.{prepend_known};
     ghost use Rattle.check_core.specs.Reading.{Source};
 
@@ -36,10 +35,12 @@ impl<F: Feed> Model for LineReader<F> {
     ghost view = { λ a. record {
       left = prepend_known (drop a.start (take a.end a.piece)) (F.remaining a.feed);
       room = (a.end - a.start) + F.room_left a.feed;
+      ended = F.has_ended a.feed;
       failed = F.has_failed a.feed;
     } };
 
-    ghost invariant = { λ a. (a.start ≤ a.end) × (a.end ≤ length a.piece) };
+    // Nothing is held after the end.
+    ghost invariant = { λ a. (a.start ≤ a.end) × (a.end ≤ length a.piece) × (F.has_ended a.feed ≡ true → a.start ≡ a.end) };
 }
 
 impl<F: Feed> LineReader<F> {
@@ -47,6 +48,7 @@ impl<F: Feed> LineReader<F> {
     pub fn new(feed: F) -> Self
         ensures left { result.left ≡ F.remaining feed }
         ensures room { result.room ≡ F.room_left feed }
+        ensures ended { result.ended ≡ F.has_ended feed }
         ensures fine { result.failed ≡ F.has_failed feed }
     {
         LineReader {
@@ -70,8 +72,7 @@ impl<F: Feed> LineReader<F> {
     pub fn next<const N: usize>(&mut self, into: &mut Gathered<N>) -> Result<bool, Stopped>
         requires fine { self.old.failed ≡ false }
         // What was given.
-        ensures taken { (part : List ℕ) × Consumes self.old.left self.new.left part × IsPartAtOk result part self.new.left
-            × (self.new.room + length part ≡ self.old.room)
+        ensures taken { (part : List ℕ) × HasGiven self.old self.new part × IsPartAtOk result part self.new
             × ((front : List ℕ) → Gathers N front into.old → Gathers N (front ++ part) into.new) }
         ensures failed { self.new.failed ≡ is_err result }
     {
@@ -93,12 +94,12 @@ impl<F: Feed> LineReader<F> {
         }
     }
 
-    /// Reads the next line of a trace in place, and returns what it says. `None` if it is not read the short way; then nothing is
-    /// read.
+    /// Reads the next line of a trace in place and returns its event. Returns `None` and reads nothing if the line is not a quick
+    /// request.
     #[inline(always)]
     pub fn next_event<const N: usize>(&mut self, into: &mut Gathered<N>) -> Option<Event>
-        ensures reading { IfSome result (λ event. (bytes : List ℕ) → self.old.left ≡ Some bytes
-            → IsNextReading bytes (Some (Ok (Some event))) self.new.left) }
+        ensures reading { IfSome result (λ event. (part : List ℕ) × HasGiven self.old self.new part
+            × IsNextReading (Some (Ok (Some event))) part self.new) }
         ensures less { IfSome result (λ _. self.new.room < self.old.room) }
         ensures failed { self.new.failed ≡ self.old.failed }
         ensures none { IfNone result ((self.new ≡ self.old) × (into.new ≡ into.old)) }

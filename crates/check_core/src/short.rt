@@ -1,4 +1,4 @@
-//! Lines of a load that were read the short way, as events.
+//! Converts quick requests to events.
 
 ghost use Rattle.std.specs.Prelude.{◌≡◌, ◌≤◌, length};
 ghost use Rattle.words_core.specs.Requests.{command_of, IsAskable};
@@ -8,7 +8,7 @@ use arrayvec::ArrayVec;
 use quick_core::RequestLine;
 use words_core::{Command, Event, Request};
 
-/// Returns the event of a line that was read the short way.
+/// Returns the event of a line that the quick reader read.
 pub(crate) fn event_of(line: RequestLine<'_>) -> Event
     requires { IsAskable line.request }
     ensures { result ≡ Tenant line.entry.tenant (command_of line.entry.request) }

@@ -14,7 +14,7 @@ pub const MOST_PART_BYTES: usize = 257;
 pub const MOST_TEXT_BYTES: usize = 65_792;
 
 /// The line that was read last, and the lines that were read as its reply.
-#[derive(Drop)]
+#[derive(Debug, Drop)]
 pub struct Shown {
     pub line: Gathered<MOST_PART_BYTES>,
     pub reply: Gathered<MOST_TEXT_BYTES>,

@@ -10,7 +10,7 @@ use model_core::limits::MOST_ORDER;
 use words_core::{Answer, Command, Event};
 
 /// A frame that a reply gives and that a live page block of the tenant has already.
-#[derive(Clone, Copy)]
+#[derive(Clone, Copy, Debug)]
 pub struct TakenFrame {
     /// The first frame that both blocks have.
     pub frame: u32,

@@ -1,6 +1,6 @@
 //! Verdicts on the reply to one line.
 
-ghost use Rattle.std.specs.Prelude.{◌≡◌, ℕ, ◌+◌, ◌<◌, ◌≤◌, ◌^◌, List, Option, Some, None, Ok, IfOk, false};
+ghost use Rattle.std.specs.Prelude.{◌≡◌, ℕ, ◌+◌, ◌<◌, ◌≤◌, ◌^◌, List, [], ◌++◌, Option, Some, None, Ok, IfOk, false};
 ghost use Rattle.words_core.specs.declared.reply.Reply.{Reply};
 ghost use Rattle.promise_core.specs.State.{Known};
 ghost use Rattle.judge.specs.Adding.{IsAllowedAddition};
@@ -8,6 +8,7 @@ ghost use Rattle.judge.specs.Machine.{SeenMachine, ShowsKnown};
 ghost use Rattle.check_core.specs.Checking.{AddsAt, HasGathered, IsEndedBy, IsLineVerdict, IsTextVerdict};
 ghost use Rattle.check_core.specs.Finding.{broken_by, lines_to, more_lines, refusal_read, reply_in, text_read};
 ghost use Rattle.check_core.specs.Gathered.{Gathers};
+ghost use Rattle.check_core.specs.Reading.{HasGiven, Source};
 ghost use Rattle.check_core.specs.Tables.{table_of};
 
 use crate::answer::read_answer;
@@ -37,11 +38,11 @@ pub(crate) fn judge_line<R: Feed>(
     text: &mut Gathered<MOST_TEXT_BYTES>,
 ) -> Result<LineVerdict, Unchecked>
     requires fine { replies.old.failed ≡ false }
-    ensures judged { (w : Known) (bytes : List ℕ) → ShowsKnown machine.old w → replies.old.left ≡ Some bytes
-        → IfOk result (λ verdict. IsLineVerdict verdict reading.now bytes w machine.new replies.new.left) }
+    ensures judged { (part : List ℕ) × HasGiven replies.old replies.new part × ((w : Known) → ShowsKnown machine.old w
+        → IfOk result (λ verdict. IsLineVerdict verdict reading.now part w machine.new replies.new)) }
     ensures room { IfOk result (λ verdict. IfOk verdict (λ lines. replies.new.room + lines ≤ replies.old.room)) }
-    ensures end { IsEndedBy result false replies.new.failed ((w : Known) (bytes : List ℕ) → ShowsKnown machine.old w
-        → replies.old.left ≡ Some bytes → AddsAt reading.now bytes w) }
+    ensures end { IsEndedBy result false replies.new.failed ((part : List ℕ) × HasGiven replies.old replies.new part
+        × ((w : Known) (more : List ℕ) → ShowsKnown machine.old w → AddsAt reading.now (part ++ more) w)) }
 {
     text.clear();
     match reading {
@@ -61,8 +62,9 @@ fn judge_fault<R: Feed>(
     text: &mut Gathered<MOST_TEXT_BYTES>,
 ) -> Result<LineVerdict, Unchecked>
     requires fine { replies.old.failed ≡ false }
-    ensures judged { (w : Known) (kept : SeenMachine) (bytes : List ℕ) → ShowsKnown kept w → HasGathered 0 bytes text.old replies.old.left
-        → IfOk result (λ verdict. IsLineVerdict verdict (Err fault) bytes w kept replies.new.left) }
+    ensures judged { (part : List ℕ) × HasGiven replies.old replies.new part
+        × ((w : Known) (kept : SeenMachine) → ShowsKnown kept w → Gathers MOST_TEXT_BYTES [] text.old
+        → IfOk result (λ verdict. IsLineVerdict verdict (Err fault) part w kept replies.new)) }
     ensures room { IfOk result (λ verdict. IfOk verdict (λ lines. replies.new.room + lines ≤ replies.old.room)) }
     ensures end { IsEndedBy result false replies.new.failed ⊥ }
 {
@@ -86,11 +88,13 @@ fn judge_event<R: Feed>(
     text: &mut Gathered<MOST_TEXT_BYTES>,
 ) -> Result<LineVerdict, Unchecked>
     requires fine { replies.old.failed ≡ false }
-    ensures judged { (w : Known) (bytes : List ℕ) → ShowsKnown machine.old w → HasGathered 0 bytes text.old replies.old.left
-        → IfOk result (λ verdict. IsLineVerdict verdict (Ok (Some event.now)) bytes w machine.new replies.new.left) }
+    ensures judged { (part : List ℕ) × HasGiven replies.old replies.new part
+        × ((w : Known) → ShowsKnown machine.old w → Gathers MOST_TEXT_BYTES [] text.old
+        → IfOk result (λ verdict. IsLineVerdict verdict (Ok (Some event.now)) part w machine.new replies.new)) }
     ensures room { IfOk result (λ verdict. IfOk verdict (λ lines. replies.new.room + lines ≤ replies.old.room)) }
-    ensures end { IsEndedBy result false replies.new.failed ((w : Known) (bytes : List ℕ) → ShowsKnown machine.old w
-        → HasGathered 0 bytes text.old replies.old.left → AddsAt (Ok (Some event.now)) bytes w) }
+    ensures end { IsEndedBy result false replies.new.failed ((part : List ℕ) × HasGiven replies.old replies.new part
+        × ((w : Known) (more : List ℕ) → ShowsKnown machine.old w → Gathers MOST_TEXT_BYTES [] text.old
+        → AddsAt (Ok (Some event.now)) (part ++ more) w)) }
 {
     if !gather(replies, 1, text)? {
         return Ok(Err(Promise::Form));
@@ -114,12 +118,13 @@ fn judge_lines<R: Feed>(
 ) -> Result<LineVerdict, Unchecked>
     requires fine { replies.old.failed ≡ false }
     requires some { more + 1 < 2 ^ 128 }
-    ensures judged { (w : Known) (bytes : List ℕ) → ShowsKnown machine.old w → more_lines event.now w ≡ more
-        → HasGathered 1 bytes text.old replies.old.left
-        → IfOk result (λ verdict. IsLineVerdict verdict (Ok (Some event.now)) bytes w machine.new replies.new.left) }
+    ensures judged { (part : List ℕ) × HasGiven replies.old replies.new part
+        × ((w : Known) (came : List ℕ) → ShowsKnown machine.old w → more_lines event.now w ≡ more → HasGathered 1 came text.old
+        → IfOk result (λ verdict. IsLineVerdict verdict (Ok (Some event.now)) (came ++ part) w machine.new replies.new)) }
     ensures room { IfOk result (λ verdict. IfOk verdict (λ lines. replies.new.room + lines ≤ replies.old.room + 1)) }
-    ensures end { IsEndedBy result false replies.new.failed ((w : Known) (bytes : List ℕ) → ShowsKnown machine.old w
-        → more_lines event.now w ≡ more → HasGathered 1 bytes text.old replies.old.left → AddsAt (Ok (Some event.now)) bytes w) }
+    ensures end { IsEndedBy result false replies.new.failed ((part : List ℕ) × HasGiven replies.old replies.new part
+        × ((w : Known) (came later : List ℕ) → ShowsKnown machine.old w → more_lines event.now w ≡ more
+        → HasGathered 1 came text.old → AddsAt (Ok (Some event.now)) ((came ++ part) ++ later) w)) }
 {
     let refused = refusal_in(text);
     if !gather(replies, more, text)? {
@@ -137,13 +142,14 @@ fn judge_gathered(
     refused: Option<(Addressee, Refusal)>,
     text: &Gathered<MOST_TEXT_BYTES>,
 ) -> Result<LineVerdict, Unchecked>
-    ensures judged { (w : Known) (bytes : List ℕ) (left : Option (List ℕ)) → ShowsKnown machine.old w
-        → lines ≡ lines_to (Ok (Some event.now)) w → HasGathered lines bytes text.now left
-        → (reply_in lines bytes ≡ None → refused ≡ refusal_read (reply_in 1 bytes))
-        → IfOk result (λ verdict. IsLineVerdict verdict (Ok (Some event.now)) bytes w machine.new left) }
+    ensures judged { (w : Known) (came : List ℕ) (replies : Source) → ShowsKnown machine.old w
+        → lines ≡ lines_to (Ok (Some event.now)) w → HasGathered lines came text.now
+        → ((more : List ℕ) → reply_in lines (came ++ more) ≡ None → refused ≡ refusal_read (reply_in 1 (came ++ more)))
+        → IfOk result (λ verdict. IsLineVerdict verdict (Ok (Some event.now)) came w machine.new replies) }
     ensures lines { IfOk result (λ verdict. IfOk verdict (λ count. count ≡ lines)) }
-    ensures end { IsEndedBy result false false ((w : Known) (bytes : List ℕ) (left : Option (List ℕ)) → ShowsKnown machine.old w
-        → lines ≡ lines_to (Ok (Some event.now)) w → HasGathered lines bytes text.now left → AddsAt (Ok (Some event.now)) bytes w) }
+    ensures end { IsEndedBy result false false ((w : Known) (came more : List ℕ) → ShowsKnown machine.old w
+        → lines ≡ lines_to (Ok (Some event.now)) w → HasGathered lines came text.now
+        → AddsAt (Ok (Some event.now)) (came ++ more) w) }
 {
     match judge_text(machine, event, text)? {
         Some(Ok(())) => Ok(Ok(lines)),

@@ -1,15 +1,24 @@
-use Rattle.std.proofs.Common.{◌≡◌, ℕ, ◌+◌, ◌<◌, ◌≤◌, List, Option, Some, Result, IfOk, IfSome, inl, ap, sym, subst, ◌∙◌, arith}
+use Rattle.std.proofs.Common.{ℕ, ◌+◌, ◌<◌, ◌≤◌, [], ◌++◌, Option, Result, IfOk, IfSome, inl, refl, ap, sym, subst, ◌∙◌, arith}
+use Rattle.std.proofs.lemmas.Result.{IfOk-from_err}
 use Rattle.words_core.specs.declared.event.Event.{Event}
 use Rattle.words_core.specs.declared.event.LineFault.{LineFault}
 use Rattle.promise_core.specs.declared.promise.Promise.{Promise}
-use Rattle.promise_core.specs.State.{Known}
-use Rattle.judge.specs.Machine.{ShowsKnown}
-use Rattle.check_core.specs.Checking.{AddsAt, ComesToAdd, IsLineVerdict}
-use Rattle.check_core.specs.Finding.{after_lines, finding}
+use Rattle.check_core.specs.Checking.{ComesToAdd, IsLineVerdict}
+use Rattle.check_core.specs.Finding.{finding}
 use Rattle.check_core.specs.Reading.{IsNextReading, readings_of}
-use Rattle.check_core.proofs.CheckLemmas.{breaks, ends_broken, ends_kept, goes_on}
+use Rattle.check_core.proofs.CheckLemmas.{behind_parts, breaks, ends_broken, ends_kept, goes_on}
 use Rattle.check_core.proofs.Ending.{adds_later, stopped_reading, stopped_telling}
+use Rattle.check_core.proofs.ReadingLemmas.{gives_more, gives_nothing, none_behind, some_behind}
 use Rattle.check_core.proofs.checking.check.Goals as goal
+
+pub lines-init : goal.lines-init
+lines-init g c = record {
+  given = ([], [], gives_nothing _, gives_nothing _, λ w shows. (w, shows, λ more later may. (refl, λ adds. adds)));
+  trace_fine = c.requires.trace_fine;
+  replies_fine = c.requires.replies_fine;
+  lines = omega arith;
+  replies = omega arith;
+}
 
 pub lines-preserved : goal.lines-preserved
 lines-preserved g c =
@@ -17,58 +26,139 @@ lines-preserved g c =
     c.in_ok-reading.ensures.less in
     let taken = subst (λ (verdict : Result ℕ Promise). IfOk verdict (λ lines. c.judge_line.new.replies.room + lines ≤ c.lines.replies.room)) c.in-Ok.is
     c.in_ok-lines.ensures.room in
+    let here = c.lines.invariant.given in
+    let part = c.in_ok-reading.ensures.reading in
+    let answer = c.in_ok-lines.ensures.judged in
+    let read = subst (λ (read : Option (Result (Option Event) LineFault)). IsNextReading read part.0 c.next_reading.new.trace) c.in-Some.is part.2 in
     record {
-      found = λ w asked told shows asked_is told_is.
-          let here = c.lines.invariant.found w asked told shows asked_is told_is in
-          let read = subst (λ (read : Option (Result (Option Event) LineFault)). IsNextReading here.1 read c.next_reading.new.trace.left) c.in-Some.is
-          (c.in_ok-reading.ensures.reading here.1 here.4) in
-          let judged = subst
-          (λ (verdict : Result ℕ Promise). IsLineVerdict verdict c.in-Some.reading here.2 here.0 c.judge_line.new.machine c.judge_line.new.replies.left)
-          c.in-Ok.is (c.in_ok-lines.ensures.judged here.0 here.2 here.3 here.5) in (
-            judged.2.0,
-            read.0,
-            after_lines c.in-Ok.lines here.2,
-            judged.2.2,
-            read.1,
-            judged.1,
-            here.6 ∙ ap (λ readings. finding c.lines.line c.lines.reply readings here.2 here.0) read.2
-                ∙ goes_on c.lines.line c.lines.reply c.in-Ok.lines c.in-Some.reading (readings_of read.0) here.2 here.0 judged.2.0 judged.2.1 judged.0,
-            λ more.
-                here.7 (subst (λ readings. ComesToAdd readings here.2 here.0) (sym read.2)
-                (adds_later c.in-Ok.lines c.in-Some.reading (readings_of read.0) here.2 here.0 judged.2.0 judged.2.1 judged.0 more)),
-          );
+      given = (
+        here.0 ++ part.0,
+        here.1 ++ answer.0,
+        gives_more here.2 part.1,
+        gives_more here.3 answer.1,
+        λ w shows.
+            let (now, showing, behind) = here.4 w shows in
+            let (count, (after, shown, is)) = subst
+            (λ (verdict : Result ℕ Promise). IsLineVerdict verdict c.in-Some.reading answer.0 now c.judge_line.new.machine c.judge_line.new.replies)
+            c.in-Ok.is (answer.2 now showing) in (
+              after,
+              shown,
+              λ more later may.
+                  let (found, adds) = behind_parts w here.0 here.1 part.0 answer.0 behind part.1 more later may in
+                  let (verdict, left) = is later in (
+                    found ∙ ap (λ readings. finding c.lines.line c.lines.reply readings (answer.0 ++ later) now) (read more may)
+                        ∙ goes_on c.lines.line c.lines.reply c.in-Ok.lines c.in-Some.reading (readings_of more) (answer.0 ++ later) now after verdict count
+                        ∙ ap (λ bytes. finding (c.lines.line + 1) (c.lines.reply + c.in-Ok.lines) (readings_of more) bytes after) left,
+                    λ adds_more. adds (subst (λ readings. ComesToAdd readings (answer.0 ++ later) now) (sym (read more may))
+                        (adds_later c.in-Ok.lines c.in-Some.reading (readings_of more) (answer.0 ++ later) now after verdict count
+                        (subst (λ bytes. ComesToAdd (readings_of more) bytes after) (sym left) adds_more))),
+                  ),
+            ),
+      );
       trace_fine = c.in_ok-reading.ensures.end.0;
       replies_fine = c.in_ok-lines.ensures.end.1;
       lines = omega (arith, c.lines.invariant.lines, less);
       replies = omega (arith, c.lines.invariant.replies, taken);
     }
 
+pub returns-in_err-reading-clause-found : goal.returns-in_err-reading-clause-found
+returns-in_err-reading-clause-found g c =
+    let here = c.lines.invariant.given in
+    let part = c.in_err-reading.ensures.reading in
+    (here.0 ++ part.0, here.1, gives_more here.2 part.1, here.3, λ w shows. IfOk-from_err _ _ c.from_residual.ensures.0)
+
+pub returns-in_err-lines-clause-found : goal.returns-in_err-lines-clause-found
+returns-in_err-lines-clause-found g c =
+    let here = c.lines.invariant.given in
+    let part = c.in_ok-reading.ensures.reading in
+    let answer = c.in_err-lines.ensures.judged in (
+      here.0 ++ part.0,
+      here.1 ++ answer.0,
+      gives_more here.2 part.1,
+      gives_more here.3 answer.1,
+      λ w shows.
+          IfOk-from_err _ _ c.from_residual-in_err-lines.ensures.0,
+    )
+
+pub returns-in_err-has_ended-clause-found : goal.returns-in_err-has_ended-clause-found
+returns-in_err-has_ended-clause-found g c =
+    let here = c.lines.invariant.given in
+    let part = c.in_ok-reading.ensures.reading in
+    let answer = c.in_err-has_ended.ensures.none in (
+      here.0 ++ part.0,
+      here.1 ++ answer.0,
+      gives_more here.2 part.1,
+      gives_more here.3 answer.1,
+      λ w shows.
+          IfOk-from_err _ _ c.from_residual-in_err-has_ended.ensures.0,
+    )
+
 pub returns-in-Err-clause-found : goal.returns-in-Err-clause-found
-returns-in-Err-clause-found g c w asked told shows asked_is told_is =
-    let here = c.lines.invariant.found w asked told shows asked_is told_is in
-    let read = subst (λ (read : Option (Result (Option Event) LineFault)). IsNextReading here.1 read c.next_reading.new.trace.left) c.in-Some.is
-    (c.in_ok-reading.ensures.reading here.1 here.4) in
-    let judged = subst
-    (λ (verdict : Result ℕ Promise). IsLineVerdict verdict c.in-Some.reading here.2 here.0 c.judge_line.new.machine c.judge_line.new.replies.left)
-    c.in-Err.is (c.in_ok-lines.ensures.judged here.0 here.2 here.3 here.5) in
-    c.broken.ensures
-    ∙ sym (here.6 ∙ ap (λ readings. finding c.lines.line c.lines.reply readings here.2 here.0) read.2
-    ∙ breaks c.lines.line c.lines.reply c.in-Err.promise c.in-Some.reading (readings_of read.0) here.2 here.0 judged)
+returns-in-Err-clause-found g c =
+    let here = c.lines.invariant.given in
+    let part = c.in_ok-reading.ensures.reading in
+    let answer = c.in_ok-lines.ensures.judged in
+    let read = subst (λ (read : Option (Result (Option Event) LineFault)). IsNextReading read part.0 c.next_reading.new.trace) c.in-Some.is part.2 in (
+      here.0 ++ part.0,
+      here.1 ++ answer.0,
+      gives_more here.2 part.1,
+      gives_more here.3 answer.1,
+      λ w shows.
+          let (now, showing, behind) = here.4 w shows in
+          let judged = subst
+          (λ (verdict : Result ℕ Promise). IsLineVerdict verdict c.in-Some.reading answer.0 now c.judge_line.new.machine c.judge_line.new.replies)
+          c.in-Err.is (answer.2 now showing) in
+          λ more later may may_later. c.broken.ensures
+          ∙ sym ((behind_parts w here.0 here.1 part.0 answer.0 behind part.1 more later may).0
+          ∙ ap (λ readings. finding c.lines.line c.lines.reply readings (answer.0 ++ later) now) (read more may)
+          ∙ breaks c.lines.line c.lines.reply c.in-Err.promise c.in-Some.reading (readings_of more) (answer.0 ++ later) now (judged later may_later)),
+    )
 
 pub returns-then-branch-clause-found : goal.returns-then-branch-clause-found
-returns-then-branch-clause-found g c w asked told shows asked_is told_is =
-    let here = c.lines.invariant.found w asked told shows asked_is told_is in
-    let none = subst (λ (read : Option (Result (Option Event) LineFault)). IsNextReading here.1 read c.next_reading.new.trace.left) c.in_default.is
-    (c.in_ok-reading.ensures.reading here.1 here.4) in
-    sym (here.6 ∙ ends_kept c.lines.line c.lines.reply here.1 here.2 here.0 none (sym (c.in_ok-has_ended.ensures.none here.2 here.5) ∙ c.if-branch.true))
+returns-then-branch-clause-found g c =
+    let here = c.lines.invariant.given in
+    let part = c.in_ok-reading.ensures.reading in
+    let answer = c.in_ok-has_ended.ensures.none in
+    let (none, ended) = subst (λ (read : Option (Result (Option Event) LineFault)). IsNextReading read part.0 c.next_reading.new.trace) c.in_default.is part.2 in (
+      here.0 ++ part.0,
+      here.1 ++ answer.0,
+      gives_more here.2 part.1,
+      gives_more here.3 answer.1,
+      λ w shows.
+          let (now, showing, behind) = here.4 w shows in
+          λ more later may may_later. sym ((behind_parts w here.0 here.1 part.0 answer.0 behind part.1 more later may).0
+          ∙ ends_kept c.lines.line c.lines.reply (part.0 ++ more) (answer.0 ++ later) now (ap (λ xs. xs ++ more) none ∙ may ended)
+          (none_behind answer.0 later (sym answer.2.0 ∙ c.if-branch.true) (may_later (answer.2.1 c.if-branch.true)))),
+    )
+
+pub returns-then-branch-clause-kept : goal.returns-then-branch-clause-kept
+returns-then-branch-clause-kept g c =
+    let part = c.in_ok-reading.ensures.reading in
+    let read = subst (λ (read : Option (Result (Option Event) LineFault)). IsNextReading read part.0 c.next_reading.new.trace) c.in_default.is part.2 in
+    (read.1, c.in_ok-has_ended.ensures.none.2.1 c.if-branch.true)
 
 pub returns-else-branch-clause-found : goal.returns-else-branch-clause-found
-returns-else-branch-clause-found g c w asked told shows asked_is told_is =
-    let here = c.lines.invariant.found w asked told shows asked_is told_is in
-    let none = subst (λ (read : Option (Result (Option Event) LineFault)). IsNextReading here.1 read c.next_reading.new.trace.left) c.in_default.is
-    (c.in_ok-reading.ensures.reading here.1 here.4) in
-    c.broken-else-branch.ensures
-    ∙ sym (here.6 ∙ ends_broken c.lines.line c.lines.reply here.1 here.2 here.0 none (sym (c.in_ok-has_ended.ensures.none here.2 here.5) ∙ c.if-branch.false))
+returns-else-branch-clause-found g c =
+    let here = c.lines.invariant.given in
+    let part = c.in_ok-reading.ensures.reading in
+    let answer = c.in_ok-has_ended.ensures.none in
+    let (none, ended) = subst (λ (read : Option (Result (Option Event) LineFault)). IsNextReading read part.0 c.next_reading.new.trace) c.in_default.is part.2 in (
+      here.0 ++ part.0,
+      here.1 ++ answer.0,
+      gives_more here.2 part.1,
+      gives_more here.3 answer.1,
+      λ w shows.
+          let (now, showing, behind) = here.4 w shows in
+          λ more later may may_later. c.broken-else-branch.ensures ∙ sym ((behind_parts w here.0 here.1 part.0 answer.0 behind part.1 more later may).0
+          ∙ ends_broken c.lines.line c.lines.reply (part.0 ++ more) (answer.0 ++ later) now (ap (λ xs. xs ++ more) none ∙ may ended)
+          (some_behind answer.0 later (sym answer.2.0 ∙ c.if-branch.false))),
+    )
+
+pub returns-in-Err-clause-kept : goal.returns-in-Err-clause-kept
+returns-in-Err-clause-kept g c = rw c.broken.ensures tt
+
+pub returns-else-branch-clause-kept : goal.returns-else-branch-clause-kept
+returns-else-branch-clause-kept g c = rw c.broken-else-branch.ensures tt
 
 pub returns-in_err-reading-clause-end : goal.returns-in_err-reading-clause-end
 returns-in_err-reading-clause-end g c =
@@ -76,14 +166,19 @@ returns-in_err-reading-clause-end g c =
 
 pub returns-in_err-lines-clause-end : goal.returns-in_err-lines-clause-end
 returns-in_err-lines-clause-end g c =
-    let adds : ((w : Known) (bytes : List ℕ) → ShowsKnown c.lines.machine w → c.lines.replies.left ≡ Some bytes → AddsAt c.in-Some.reading bytes w)
-    → (w : Known) (asked told : List ℕ) → ShowsKnown c.args.machine.now w → c.args.trace.now.left ≡ Some asked → c.args.replies.now.left ≡ Some told
-    → ComesToAdd (readings_of asked) told w = λ at w asked told shows asked_is told_is.
-    let here = c.lines.invariant.found w asked told shows asked_is told_is in
-    let read = subst (λ (read : Option (Result (Option Event) LineFault)). IsNextReading here.1 read c.next_reading.new.trace.left) c.in-Some.is
-    (c.in_ok-reading.ensures.reading here.1 here.4) in
-    here.7 (subst (λ readings. ComesToAdd readings here.2 here.0) (sym read.2) (inl (at here.0 here.2 here.3 here.5))) in
-    stopped_telling c.in_err-lines.field-0.0 _ _ _ _ _ c.from_residual-in_err-lines.ensures.1 c.in_ok-reading.ensures.end.0 adds c.in_err-lines.ensures.end
+    let here = c.lines.invariant.given in
+    let part = c.in_ok-reading.ensures.reading in
+    let read = subst (λ (read : Option (Result (Option Event) LineFault)). IsNextReading read part.0 c.next_reading.new.trace) c.in-Some.is part.2 in
+    stopped_telling c.in_err-lines.field-0.0 _ _ _ _ _ c.from_residual-in_err-lines.ensures.1 c.in_ok-reading.ensures.end.0 (λ answer. (
+      here.0 ++ part.0,
+      here.1 ++ answer.0,
+      gives_more here.2 part.1,
+      gives_more here.3 answer.1,
+      λ w shows.
+          let (now, showing, behind) = here.4 w shows in
+          λ more later may may_later. (behind_parts w here.0 here.1 part.0 answer.0 behind part.1 more later may).1
+          (subst (λ readings. ComesToAdd readings (answer.0 ++ later) now) (sym (read more may)) (inl (answer.2 now later showing))),
+    )) c.in_err-lines.ensures.end
 
 pub returns-in_err-has_ended-clause-end : goal.returns-in_err-has_ended-clause-end
 returns-in_err-has_ended-clause-end g c =

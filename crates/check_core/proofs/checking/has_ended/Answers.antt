@@ -1,11 +1,16 @@
-use Rattle.std.proofs.Common.{Ok, [], refl, subst, ◌∙◌}
-use Rattle.std.specs.Io.KnownBytes.{Consumes}
+use Rattle.std.proofs.Common.{Ok, [], refl, sym, ◌∙◌}
 use Rattle.streams.specs.declared.feed.Stopped.{Stopped}
-use Rattle.check_core.proofs.ReadingLemmas.{end_taken, next_taken}
+use Rattle.check_core.proofs.ReadingLemmas.{next_none, next_taken}
 use Rattle.check_core.proofs.checking.has_ended.Goals as goal
 
 pub returns-in-Ok-clause-none : goal.returns-in-Ok-clause-none
-returns-in-Ok-clause-none g c bytes known =
+returns-in-Ok-clause-none g c =
     let given = c.in-Ok.ensures.taken in
-    c.is_empty.ensures given.0 (given.4 [] c.clear.ensures)
-    ∙ end_taken bytes given.0 _ (next_taken {E = Stopped} (Ok c.in-Ok.field-0) bytes given.0 _ refl (subst (λ now. Consumes now c.next.new.self.left given.0) known given.1) given.2)
+    let is = c.is_empty.ensures given.0 (given.3 [] c.clear.ensures) in (
+      given.0,
+      given.1,
+      (is, λ ended. (next_none given.0 _ (sym is ∙ ended) (next_taken {E = Stopped} (Ok c.in-Ok.field-0) given.0 _ refl given.2)).1),
+    )
+
+pub returns-in-Err-clause-none : goal.returns-in-Err-clause-none
+returns-in-Err-clause-none g c = let given = c.in-Err.ensures.taken in (given.0, given.1, tt)

@@ -1,30 +1,62 @@
-use Rattle.std.proofs.Common.{suc, Bool, Ok, [], ◌∷◌, length, length-append, rules, ap, subst, arith}
+use Rattle.std.proofs.Common.{suc, Bool, Ok, [], ◌∷◌, ◌++◌, length, length-append, rules, ap, sym, subst, append-nil, append_assoc, ◌∙◌, arith}
 use Rattle.streams.specs.declared.feed.Stopped.{Stopped}
 use Rattle.check_core.specs.Checking.{HasGathered}
+use Rattle.check_core.specs.Finding.{lines_at}
 use Rattle.check_core.specs.Reading.{IsPartAtOk}
-use Rattle.check_core.proofs.ReadingLemmas.{come_more, none_more}
+use Rattle.check_core.proofs.ReadingLemmas.{come_more, gives_more, gives_nothing, none_more}
 use Rattle.check_core.proofs.gathering.gather.Goals as goal
+
+pub lines-init : goal.lines-init
+lines-init g c = record {
+  come = ([], gives_nothing _, λ k n came sum before. (k, sum, subst (λ xs. HasGathered k xs c.args.text.now) (sym (append-nil came)) before));
+  fine = search rules;
+  room = omega arith;
+}
 
 pub lines-preserved : goal.lines-preserved
 lines-preserved g c =
+    let passed = c.lines.invariant.come in
     let given = c.in-Ok-true.ensures.taken in
-    let (line, one, is) = subst (λ (b : Bool). IsPartAtOk {E = Stopped} (Ok b) given.0 c.next.new.self.left) c.in-Ok-true.field-0-test given.2 in
+    let (line, one, is) = subst (λ (b : Bool). IsPartAtOk {E = Stopped} (Ok b) given.0 c.next.new.self) c.in-Ok-true.field-0-test given.2 in
     record {
-      come = λ k n bytes sum came.
-          let here = c.lines.invariant.come k n bytes sum came in
-          (suc here.0, omega (arith, here.1, c.lines-test.true), come_more given.0 line here.2 given.1 one is given.4);
+      come = (
+        passed.0 ++ given.0,
+        gives_more passed.1 given.1,
+        λ k n came sum before.
+            let here = passed.2 k n came sum before in (
+              suc here.0,
+              omega (arith, here.1, c.lines-test.true),
+              subst (λ xs. HasGathered (suc here.0) xs c.next.new.into) (append_assoc came passed.0 given.0) (come_more given.0 line here.2 one is given.3),
+            ),
+      );
       fine = search rules;
-      room = omega (arith, c.lines.invariant.room, given.3, c.lines-test.true, ap length is, length-append line (10 ∷ []));
+      room = omega (arith, c.lines.invariant.room, given.1.count, c.lines-test.true, ap length is, length-append line (10 ∷ []));
     }
 
 pub returns-in-Ok-false-clause-come : goal.returns-in-Ok-false-clause-come
-returns-in-Ok-false-clause-come g c k n bytes sum came =
+returns-in-Ok-false-clause-come g c =
+    let passed = c.lines.invariant.come in
     let given = c.in-Ok-false.ensures.taken in
-    let (one, ends) = subst (λ (b : Bool). IsPartAtOk {E = Stopped} (Ok b) given.0 c.next.new.self.left) c.in-Ok-false.field-0-test given.2 in
-    let here = c.lines.invariant.come k n bytes sum came in
-    none_more n given.0 _ here.2 given.1 one ends (omega (arith, here.1, c.lines-test.true))
+    let (one, ends) = subst (λ (b : Bool). IsPartAtOk {E = Stopped} (Ok b) given.0 c.next.new.self) c.in-Ok-false.field-0-test given.2 in (
+      passed.0 ++ given.0,
+      gives_more passed.1 given.1,
+      λ k n came sum before.
+          let here = passed.2 k n came sum before in
+          (ends, ap (lines_at n) (sym (append_assoc came passed.0 given.0)) ∙ none_more n given.0 here.2 one (omega (arith, here.1, c.lines-test.true))),
+    )
+
+pub returns-in-Err-clause-come : goal.returns-in-Err-clause-come
+returns-in-Err-clause-come g c =
+    let passed = c.lines.invariant.come in
+    let given = c.in-Err.ensures.taken in
+    (passed.0 ++ given.0, gives_more passed.1 given.1, λ k n came sum before. tt)
 
 pub returns-clause-come : goal.returns-clause-come
-returns-clause-come g c k n bytes sum came =
-    let here = c.lines.invariant.come k n bytes sum came in
-    subst (λ m. HasGathered m bytes c.lines.text c.lines.replies.left) (omega (arith, here.1, c.lines-test.false)) here.2
+returns-clause-come g c =
+    let passed = c.lines.invariant.come in (
+      passed.0,
+      passed.1,
+      λ k n came sum before.
+          let here = passed.2 k n came sum before in
+          subst (λ m. HasGathered m (came ++ passed.0) c.lines.text) (omega (arith, here.1, c.lines-test.false)) here.2,
+    )

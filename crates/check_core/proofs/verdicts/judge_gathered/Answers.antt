@@ -1,32 +1,42 @@
-use Rattle.std.proofs.Common.{Option, Some, Result, Err, ap, sym, subst, ◌∙◌}
+use Rattle.std.proofs.Common.{◌++◌, Option, Some, Result, Err, ap, sym, subst, ◌∙◌}
 use Rattle.promise_core.specs.declared.promise.Promise.{Promise}
 use Rattle.check_core.specs.Checking.{IsTextVerdict}
-use Rattle.check_core.specs.Finding.{broken_by, text_read}
-use Rattle.check_core.proofs.CheckLemmas.{by_reply, no_reply_judged, read_there}
+use Rattle.check_core.specs.Finding.{broken_by, reply_in, text_read}
+use Rattle.check_core.proofs.CheckLemmas.{by_reply, left_after, no_reply_judged, read_there}
 use Rattle.check_core.proofs.Ending.{adds_at, stopped_on, stopped_so}
 use Rattle.check_core.proofs.verdicts.judge_gathered.Goals as goal
 
 pub returns-in_err-judge_text-clause-end : goal.returns-in_err-judge_text-clause-end
 returns-in_err-judge_text-clause-end c =
-    stopped_on c.in_err-judge_text.field-0.0 _ _ _ _ c.from_residual.ensures.1 (stopped_so c.in_err-judge_text.field-0.0 _ _ _ _ (λ is w bytes left shown count come.
-    let (reply, found, allowed) = is come.came come.gathers in
-    adds_at c.args.event.now reply bytes c.args.machine.now w (read_there c.args.event.now w come count ∙ found) shown allowed) c.in_err-judge_text.ensures.end)
+    stopped_on c.in_err-judge_text.field-0.0 _ _ _ _ c.from_residual.ensures.1 (stopped_so c.in_err-judge_text.field-0.0 _ _ _ _ (λ is w came more shown count come.
+    let (reply, found, allowed) = is came come.gathers in
+    adds_at c.args.event.now reply (came ++ more) c.args.machine.now w (read_there c.args.event.now w come count more ∙ found) shown allowed) c.in_err-judge_text.ensures.end)
 
 pub returns-in-Some-Ok-clause-judged : goal.returns-in-Some-Ok-clause-judged
-returns-in-Some-Ok-clause-judged c w bytes left shown count come told =
-    let (reply, found, after) = subst (λ (verdict : Option (Result Unit Promise)). IsTextVerdict verdict c.args.event.now (text_read come.came) w c.judge_text.new.machine)
-    (c.in-Some-Ok.is ∙ ap (λ (v : Result Unit Promise). Some v) c.in-Some-Ok.field-0-is) (c.in_ok-judge_text.ensures.judged w come.came shown come.gathers) in
-    (count, rw come.are come.known, (after.0, by_reply c.args.event.now bytes w (Some reply) (read_there c.args.event.now w come count ∙ found) ∙ after.1, after.2))
+returns-in-Some-Ok-clause-judged c w came replies shown count come told =
+    let (reply, found, after) = subst (λ (verdict : Option (Result Unit Promise)). IsTextVerdict verdict c.args.event.now (text_read came) w c.judge_text.new.machine)
+    (c.in-Some-Ok.is ∙ ap (λ (v : Result Unit Promise). Some v) c.in-Some-Ok.field-0-is) (c.in_ok-judge_text.ensures.judged w came shown come.gathers) in (
+      count,
+      (
+        after.0,
+        after.2,
+        λ more.
+            (by_reply c.args.event.now (came ++ more) w (Some reply) (read_there c.args.event.now w come count more ∙ found) ∙ after.1, left_after come more),
+      ),
+    )
 
 pub returns-in-Some-Err-clause-judged : goal.returns-in-Some-Err-clause-judged
-returns-in-Some-Err-clause-judged c w bytes left shown count come told =
-    let (reply, found, broken) = subst (λ (verdict : Option (Result Unit Promise)). IsTextVerdict verdict c.args.event.now (text_read come.came) w c.judge_text.new.machine)
-    (c.in-Some-Err.is ∙ ap (λ (v : Result Unit Promise). Some v) c.in-Some-Err.field-0-is) (c.in_ok-judge_text.ensures.judged w come.came shown come.gathers) in
-    by_reply c.args.event.now bytes w (Some reply) (read_there c.args.event.now w come count ∙ found) ∙ broken ∙ sym (ap (λ (p : Promise). Err p) c.in-Some-Err.promise-is)
+returns-in-Some-Err-clause-judged c w came replies shown count come told =
+    let (reply, found, broken) = subst (λ (verdict : Option (Result Unit Promise)). IsTextVerdict verdict c.args.event.now (text_read came) w c.judge_text.new.machine)
+    (c.in-Some-Err.is ∙ ap (λ (v : Result Unit Promise). Some v) c.in-Some-Err.field-0-is) (c.in_ok-judge_text.ensures.judged w came shown come.gathers) in
+    λ more may. by_reply c.args.event.now (came ++ more) w (Some reply) (read_there c.args.event.now w come count more ∙ found) ∙ broken
+    ∙ sym (ap (λ (p : Promise). Err p) c.in-Some-Err.promise-is)
 
 pub returns-in_ok-broken_by-in-None-clause-judged : goal.returns-in_ok-broken_by-in-None-clause-judged
-returns-in_ok-broken_by-in-None-clause-judged c w bytes left shown count come told =
-    let (none, still) = subst (λ (verdict : Option (Result Unit Promise)). IsTextVerdict verdict c.args.event.now (text_read come.came) w c.judge_text.new.machine)
-    c.in-None.is (c.in_ok-judge_text.ensures.judged w come.came shown come.gathers) in
-    let gone = read_there c.args.event.now w come count ∙ none in
-    no_reply_judged c.args.event.now bytes w _ gone (c.in_ok-broken_by-in-None.ensures.broken w still ∙ ap (λ refused. broken_by c.args.event.now refused w) (told (rw count gone)))
+returns-in_ok-broken_by-in-None-clause-judged c w came replies shown count come told =
+    let (none, still) = subst (λ (verdict : Option (Result Unit Promise)). IsTextVerdict verdict c.args.event.now (text_read came) w c.judge_text.new.machine)
+    c.in-None.is (c.in_ok-judge_text.ensures.judged w came shown come.gathers) in
+    λ more may.
+    let gone = read_there c.args.event.now w come count more ∙ none in
+    no_reply_judged c.args.event.now (came ++ more) w _ gone (c.in_ok-broken_by-in-None.ensures.broken w still
+    ∙ ap (λ refused. broken_by c.args.event.now refused w) (told more (ap (λ n. reply_in n (came ++ more)) count ∙ gone)))

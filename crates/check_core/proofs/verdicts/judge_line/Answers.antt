@@ -1,15 +1,19 @@
-use Rattle.std.proofs.Common.{refl}
+use Rattle.std.proofs.Common.{[], refl}
 use Rattle.check_core.proofs.Ending.{ended_so}
+use Rattle.check_core.proofs.ReadingLemmas.{gives_nothing}
 use Rattle.check_core.proofs.verdicts.judge_line.Goals as goal
 
+pub returns-in-None-clause-judged : goal.returns-in-None-clause-judged
+returns-in-None-clause-judged g c = ([], gives_nothing _, λ w shown. rw (c.in-Ok.is, c.in-None.is) (refl, (w, shown, λ more. (refl, refl))))
+
 pub returns-in-Some-clause-judged : goal.returns-in-Some-clause-judged
-returns-in-Some-clause-judged g c w bytes shown known = rw (c.in-Ok.is, c.in-Some.is)
-    (c.judge_event.ensures.judged w bytes shown (record { came = _; rest = bytes; are = refl; gathers = c.clear.ensures; known = known }))
+returns-in-Some-clause-judged g c =
+    let given = c.judge_event.ensures.judged in (given.0, given.1, λ w shown. rw (c.in-Ok.is, c.in-Some.is) (given.2 w shown c.clear.ensures))
 
 pub returns-in-Some-clause-end : goal.returns-in-Some-clause-end
-returns-in-Some-clause-end g c = rw (c.in-Ok.is, c.in-Some.is) (ended_so c.judge_event.result _ _ _ _ (λ adds w bytes shown known.
-    adds w bytes shown (record { came = _; rest = bytes; are = refl; gathers = c.clear.ensures; known = known })) c.judge_event.ensures.end)
+returns-in-Some-clause-end g c = rw (c.in-Ok.is, c.in-Some.is) (ended_so c.judge_event.result _ _ _ _
+    (λ given. (given.0, given.1, λ w more shown. given.2 w more shown c.clear.ensures)) c.judge_event.ensures.end)
 
 pub returns-in-Err-clause-judged : goal.returns-in-Err-clause-judged
-returns-in-Err-clause-judged g c w bytes shown known = rw c.in-Err.is
-    (c.judge_fault.ensures.judged w _ bytes shown (record { came = _; rest = bytes; are = refl; gathers = c.clear.ensures; known = known }))
+returns-in-Err-clause-judged g c =
+    let given = c.judge_fault.ensures.judged in (given.0, given.1, λ w shown. rw c.in-Err.is (given.2 w _ shown c.clear.ensures))
