@@ -1,2 +1,4 @@
 pub mod Reading
+pub mod Refusals
+pub mod Rows
 pub mod SettingsRead

@@ -1,11 +1,12 @@
 -- From what clap found in the words to the machine.
-use Rattle.std.proofs.Common.{◌≡◌, ◌∙◌, ℕ, List, Option, Some, None, subst, refl, ap, sym, codes}
+use Rattle.std.proofs.Common.{◌≡◌, ◌∙◌, ℕ, ◌<◌, List, Option, Some, None, subst, refl, ap, sym, arith, codes}
 use Rattle.clap.specs.Words.{Row, Text, one_of, one_text, rows_of}
 use Rattle.clap.specs.declared.parser.matches.Found.{Found}
 use Rattle.clap.proofs.WalkLemmas.{one_text-rows}
 use Rattle.model_core.specs.declared.config.Config.{Config}
-use Rattle.command_line.specs.Machine.{AsksMachine, AsksSizes, MayWrite, Writes}
+use Rattle.command_line.specs.Machine.{AsksMachine, AsksNoSizes, AsksNoTenant, AsksSizes, IsNoMachine, MayWrite, Writes}
 use Rattle.command_line.specs.declared.machine.Machine.{Machine}
+use Rattle.command_line.specs.declared.outcome.Outcome.{Outcome}
 
 -- a text writes one number
 pub one_number : (text : Option Text) (found : Option ℕ) (n : ℕ) → MayWrite text found → Writes text n → found ≡ Some n
@@ -41,3 +42,48 @@ asks_machine read other m same asks = record {
   sizes = asks_sizes read other m.config same asks.sizes;
   only = subst (λ text. MayWrite text m.only) (same (codes "only")) asks.only;
 }
+
+-- the same is not
+pub asks_no_sizes : (read other : Text → Option Text) → ((name : Text) → read name ≡ other name) → AsksNoSizes read → AsksNoSizes other
+asks_no_sizes read other same none sizes asks = none sizes (asks_sizes other read sizes (λ name. sym (same name)) asks)
+
+asks_no_tenant : (read other : Text → Option Text) → ((name : Text) → read name ≡ other name) → AsksNoTenant read → AsksNoTenant other
+asks_no_tenant read other same none = record {
+  sizes = none.sizes;
+  tenant = none.tenant;
+  asked = asks_sizes read other none.sizes same none.asked;
+  bootable = none.bootable;
+  only = subst (λ text. Writes text none.tenant) (same (codes "only")) none.only;
+  above = none.above;
+}
+
+pub no_machine : (read other : Text → Option Text) (outcome : Outcome) → ((name : Text) → read name ≡ other name)
+    → IsNoMachine read outcome → IsNoMachine other outcome
+no_machine read other (Outcome.BadLine text) same none = (asks_no_sizes read other same none.0, none.1)
+no_machine read other Outcome.NoMemory same none = asks_no_sizes read other same none
+no_machine read other Outcome.BadOnly same none = asks_no_tenant read other same none
+no_machine read other Outcome.Done same none = absurd none
+no_machine read other (Outcome.Help text) same none = absurd none
+no_machine read other (Outcome.Version text) same none = absurd none
+no_machine read other Outcome.Unreadable same none = absurd none
+no_machine read other Outcome.Unwritable same none = absurd none
+
+-- a machine that is asked for names a tenant
+tenant_given : (read : Text → Option Text) (m : Machine) → AsksMachine read m → ¬ AsksNoTenant read
+tenant_given read m asks none =
+    let only : m.only ≡ Some none.tenant = one_number (read (codes "only")) m.only none.tenant asks.only none.only in
+    let tenants : none.sizes.tenants ≡ m.config.tenants =
+    same_number (read (codes "tenants")) none.sizes.tenants m.config.tenants none.asked.tenants asks.sizes.tenants in
+    let below : none.tenant < m.config.tenants = m.below none.tenant only in
+    omega (arith, none.above)
+
+-- a machine that is asked for is found
+pub machine_given : (read : Text → Option Text) (m : Machine) (outcome : Outcome) → AsksMachine read m → ¬ IsNoMachine read outcome
+machine_given read m (Outcome.BadLine text) asks none = none.0 m.config asks.sizes m.bootable
+machine_given read m Outcome.NoMemory asks none = none m.config asks.sizes m.bootable
+machine_given read m Outcome.BadOnly asks none = tenant_given read m asks none
+machine_given read m Outcome.Done asks none = none
+machine_given read m (Outcome.Help text) asks none = none
+machine_given read m (Outcome.Version text) asks none = none
+machine_given read m Outcome.Unreadable asks none = none
+machine_given read m Outcome.Unwritable asks none = none

@@ -1,20 +1,43 @@
 -- From what clap found in the words to the settings.
-use Rattle.std.proofs.Common.{◌≡◌, ◌∙◌, ◌<◌, Bool, List, subst, ap, refl, sym, true, codes}
+use Rattle.std.proofs.Common.{◌≡◌, ◌∙◌, ◌<◌, ⊎_elim, ℕ, Bool, List, [], Option, Some, inl, inr, subst, ap, refl, sym, true, arith, codes}
 use Rattle.std.specs.Option.{ForSome}
-use Rattle.clap.specs.Words.{App, Row, Text, first_of, first_value, is_simple, one_of, one_text, rows_of, takes}
+use Rattle.clap.specs.Words.{App, Row, Text, fault_of, first_of, first_value, is_simple, is_simple_and_free, matches_of, one_of}
+use Rattle.clap.specs.Words.{one_text, rows_of, takes}
 use Rattle.clap.specs.declared.parser.matches.Found.{Found}
 use Rattle.clap.proofs.OnLiterals.{clap_on_literals}
 use Rattle.clap.proofs.WalkLemmas.{first_value-rows}
-use Rattle.command_line.proofs.Reading.{asks_machine, one_text-of_rows, same_number, same_written}
-use Rattle.command_line.specs.Machine.{AsksMachine, AsksNoTenant, MayWrite, Writes}
-use Rattle.command_line.specs.Settings.{Asks, IsAlone, IsFlag, IsInOrder, command_line, machine_of}
+use Rattle.command_line.proofs.Reading.{asks_machine, no_machine, one_number, one_text-of_rows, same_number, same_written}
+use Rattle.command_line.proofs.Refusals.{parsed_as, refused_as, rows_as}
+use Rattle.command_line.specs.Machine.{AsksMachine, IsNoMachine, MayWrite, Writes}
+use Rattle.command_line.specs.Outcome.{IsRefusedBy}
+use Rattle.command_line.specs.Settings.{Asks, IsAlone, IsFlag, IsInOrder, IsNoOwn, IsNoSettings, command_line, parse_faults, machine_of}
 use Rattle.command_line.specs.declared.machine.Machine.{Machine}
+use Rattle.command_line.specs.declared.outcome.Outcome.{Outcome}
 use Rattle.command_line.specs.declared.settings.Settings.{Settings}
 
 -- clap's model gives the matches of such a command line
 pub line_is_simple : is_simple command_line ≡ true
 unfolding clap_on_literals
 line_is_simple = refl
+
+pub line_is_simple_and_free : is_simple_and_free command_line ≡ true
+unfolding clap_on_literals
+line_is_simple_and_free = refl
+
+-- what is known of a parse by such a command
+pub line_rows : {P : Type 0} (a : App) (f : Found) (words : List Text) → a ≡ command_line
+    → (is_simple a ≡ true → (rows_of f ≡ matches_of a words) × P) → rows_of f ≡ matches_of command_line words
+line_rows a f words same found = rows_as command_line a f words line_is_simple same found
+
+pub line_parsed : (a : App) (words : List Text) → a ≡ command_line → (is_simple_and_free a ≡ true → fault_of a words ≡ [])
+    → parse_faults words ≡ []
+unfolding parse_faults
+line_parsed a words same parsed = parsed_as command_line a words line_is_simple_and_free same parsed
+
+pub line_refused : (a : App) (words : List Text) (outcome : Outcome) → a ≡ command_line
+    → (is_simple_and_free a ≡ true → IsRefusedBy (fault_of a words) outcome) → IsRefusedBy (parse_faults words) outcome
+unfolding parse_faults
+line_refused a words outcome same refused = refused_as command_line a words outcome line_is_simple_and_free same refused
 
 -- such a command line is this command
 pub taken_by : (a : App) (words : List Text) → a ≡ command_line → IsInOrder words → takes a words ≡ true
@@ -32,15 +55,30 @@ asks_rows f rows s same asks = record {
   file = asks.file ∙ first_value-rows f (codes "FILE") ∙ ap (first_of (codes "FILE")) same;
 }
 
--- `--only` names no tenant, in the rows too
-pub no_tenant_rows : (f : Found) (rows : List Row) → rows_of f ≡ rows → AsksNoTenant (one_text f) → AsksNoTenant (λ name. one_of name rows)
-no_tenant_rows f rows same (tenant, tenants, only, machine, least) = (
-  tenant,
-  tenants,
-  subst (λ text. Writes text tenant) (one_text-of_rows f rows same (codes "only")) only,
-  subst (λ text. Writes text tenants) (one_text-of_rows f rows same (codes "tenants")) machine,
-  least,
+-- there is no machine, in the rows too
+pub no_machine_rows : (f : Found) (rows : List Row) (outcome : Outcome) → rows_of f ≡ rows → IsNoMachine (one_text f) outcome
+    → IsNoSettings (λ name. one_of name rows) outcome
+no_machine_rows f rows outcome same none = inl (no_machine (one_text f) (λ name. one_of name rows) outcome (one_text-of_rows f rows same) none)
+
+-- the same of a tenant's own list
+pub no_own_rows : (f : Found) (rows : List Row) (m : Machine) (flag : Bool) (outcome : Outcome) → rows_of f ≡ rows → AsksMachine (one_text f) m
+    → IsFlag (one_text f (codes "tally")) flag → IsNoOwn (one_text f) m flag outcome → IsNoSettings (λ name. one_of name rows) outcome
+no_own_rows f rows m flag outcome same machine tally (tenant, own, why) = inr (
+  m,
+  flag,
+  asks_machine (one_text f) (λ name. one_of name rows) m (one_text-of_rows f rows same) machine,
+  subst (λ text. IsFlag text flag) (one_text-of_rows f rows same (codes "tally")) tally,
+  (tenant, subst (λ text. Writes text tenant) (one_text-of_rows f rows same (codes "own")) own, why),
 )
+
+-- a list that can be had is found
+pub own_given : (read : Text → Option Text) (m : Machine) (flag : Bool) (outcome : Outcome) (own : Option ℕ) → MayWrite (read (codes "own")) own
+    → ForSome own (λ t. t < m.config.tenants) → IsAlone own m.only flag → ¬ IsNoOwn read m flag outcome
+own_given read m flag outcome own may below alone (tenant, writes, why) =
+    let is : own ≡ Some tenant = one_number (read (codes "own")) own tenant may writes in
+    let apart : IsAlone (Some tenant) m.only flag = subst (λ o. IsAlone o m.only flag) is alone in
+    let within : tenant < m.config.tenants = below tenant is in
+    ⊎_elim (λ beside. beside.0 apart) (λ beyond. let above = beyond.1 in omega arith) why
 
 -- the machine that the rows ask for is asked for by what was found
 pub machine_asked : (f : Found) (rows : List Row) (s : Settings) → rows_of f ≡ rows → Asks (λ name. one_of name rows) (λ name. first_of name rows) s

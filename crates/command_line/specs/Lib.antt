@@ -1,4 +1,5 @@
 pub mod Arguments
+pub mod Files
 pub mod Machine
 pub mod Outcome
 pub mod Progress

@@ -1,15 +1,18 @@
 -- What the machine that a command line asks for is read from.
-use Rattle.std.specs.Prelude.{◌≡◌, ℕ, ◌^◌, ◌<◌, ◌≤◌, Option, Some, None, codes}
+use Rattle.std.specs.Prelude.{◌≡◌, ℕ, ◌^◌, ◌<◌, ◌≤◌, true, Option, Some, None, codes}
+use Rattle.std.specs.String.{string_bytes}
 use Rattle.std.specs.Str.Parse.{IsNumeral, digits_value, without_leading_plus}
 use Rattle.clap.specs.Words.{Text}
+use Rattle.model_core.specs.Booting.{is_bootable}
 use Rattle.model_core.specs.declared.config.Config.{Config}
 use Rattle.command_line.specs.declared.machine.Machine.{Machine}
+use Rattle.command_line.specs.declared.outcome.Outcome.{Outcome}
 
 -- the text is a number of 32 bits, in decimal digits
 abbrev pub IsNumber : Text → Type 0
 IsNumber text = IsNumeral 10 (without_leading_plus text) × (digits_value 10 (without_leading_plus text) < 2 ^ 32)
 
--- this is the number that stands there
+-- this is the number of the text
 abbrev pub Writes : Option Text → ℕ → Type 0
 Writes None n = ⊥
 Writes (Some text) n = IsNumber text × (n ≡ digits_value 10 (without_leading_plus text))
@@ -31,6 +34,30 @@ pub record AsksMachine (read : Text → Option Text) (machine : Machine) : Type 
   pub sizes : AsksSizes read machine.config
   pub only : MayWrite (read (codes "only")) machine.only
 
--- `--only` is a number that is not below the tenants
-abbrev pub AsksNoTenant : (Text → Option Text) → Type 0
-AsksNoTenant read = (tenant tenants : ℕ) × Writes (read (codes "only")) tenant × Writes (read (codes "tenants")) tenants × (tenants ≤ tenant)
+-- a size is missing or out of its range
+abbrev pub AsksNoSizes : (Text → Option Text) → Type 0
+AsksNoSizes read = (sizes : Config) → AsksSizes read sizes → ¬ (is_bootable sizes ≡ true)
+
+-- what is said then
+abbrev pub bad_size_text : Text
+bad_size_text = codes "error: a size of the machine is missing or out of its range\n"
+
+-- the sizes are in order, and `--only` is a number that is not below the tenants
+pub record AsksNoTenant (read : Text → Option Text) : Type 0 where
+  pub sizes : Config
+  pub tenant : ℕ
+  pub asked : AsksSizes read sizes
+  pub bootable : is_bootable sizes ≡ true
+  pub only : Writes (read (codes "only")) tenant
+  pub above : sizes.tenants ≤ tenant
+
+-- why no machine is found: `NoMemory` comes only if a size is faulty and there is no memory for saying so
+abbrev pub IsNoMachine : (Text → Option Text) → Outcome → Type 0
+IsNoMachine read (Outcome.BadLine text) = AsksNoSizes read × (string_bytes text ≡ bad_size_text)
+IsNoMachine read Outcome.NoMemory = AsksNoSizes read
+IsNoMachine read Outcome.BadOnly = AsksNoTenant read
+IsNoMachine read Outcome.Done = ⊥
+IsNoMachine read (Outcome.Help text) = ⊥
+IsNoMachine read (Outcome.Version text) = ⊥
+IsNoMachine read Outcome.Unreadable = ⊥
+IsNoMachine read Outcome.Unwritable = ⊥

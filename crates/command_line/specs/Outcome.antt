@@ -1,7 +1,10 @@
 -- How a program ends, and what it says about that.
-use Rattle.std.specs.Prelude.{◌≡◌, ◌≢◌, ◌⊎◌, ℕ, ◌++◌, Bool, true, false, Option, Some, None, Result, Ok, Err, codes}
+use Rattle.std.specs.Prelude.{◌≡◌, ◌≢◌, ◌⊎◌, ℕ, ◌++◌, [], Bool, true, false, codes}
+use Rattle.std.specs.Prelude.{Option, Some, None, MatchOption, Result, Ok, Err, MatchResult}
+use Rattle.std.specs.Io.KnownBytes.{Appends, Keeps}
+use Rattle.std.specs.String.{string_bytes}
 use Rattle.clap.specs.declared.error.kind.ErrorKind.{ErrorKind}
-use Rattle.clap.specs.Words.{Text}
+use Rattle.clap.specs.Words.{IsAmong, Kinds, Text}
 use Rattle.streams.specs.declared.tally.Tally.{Tally}
 use Rattle.streams.specs.declared.tally.ReplayError.{ReplayError}
 use Rattle.command_line.specs.declared.outcome.Line.{Line}
@@ -14,7 +17,9 @@ status_of Outcome.Unwritable = 1
 status_of (Outcome.BadLine text) = 2
 status_of Outcome.BadOnly = 2
 status_of Outcome.NoMemory = 3
-status_of other = 0
+status_of Outcome.Done = 0
+status_of (Outcome.Help text) = 0
+status_of (Outcome.Version text) = 0
 
 -- a line that a program prints
 abbrev pub message : Text → Text → Text
@@ -30,7 +35,10 @@ outcome_text program unread unwritten Outcome.Unreadable = Some (message program
 outcome_text program unread unwritten Outcome.Unwritable = Some (message program unwritten)
 outcome_text program unread unwritten Outcome.BadOnly = Some (message program (codes "--only names no tenant"))
 outcome_text program unread unwritten Outcome.NoMemory = Some (message program (codes "not enough memory"))
-outcome_text program unread unwritten other = None
+outcome_text program unread unwritten Outcome.Done = None
+outcome_text program unread unwritten (Outcome.Help text) = None
+outcome_text program unread unwritten (Outcome.Version text) = None
+outcome_text program unread unwritten (Outcome.BadLine text) = None
 
 -- the outcome of a replay
 abbrev pub outcome_of : Result Tally ReplayError → Outcome
@@ -40,9 +48,16 @@ outcome_of (Err (ReplayError.Drain tally)) = Outcome.Unwritable
 
 -- the first failure decides: a send that failed came before a feed that failed, and a flush comes after it
 abbrev pub after_flush : Outcome → (unsent flushed : Bool) → Outcome
+after_flush Outcome.Done unsent true = Outcome.Done
 after_flush Outcome.Done unsent false = Outcome.Unwritable
 after_flush Outcome.Unreadable true flushed = Outcome.Unwritable
-after_flush outcome unsent flushed = outcome
+after_flush Outcome.Unreadable false flushed = Outcome.Unreadable
+after_flush (Outcome.Help text) unsent flushed = Outcome.Help text
+after_flush (Outcome.Version text) unsent flushed = Outcome.Version text
+after_flush Outcome.Unwritable unsent flushed = Outcome.Unwritable
+after_flush (Outcome.BadLine text) unsent flushed = Outcome.BadLine text
+after_flush Outcome.BadOnly unsent flushed = Outcome.BadOnly
+after_flush Outcome.NoMemory unsent flushed = Outcome.NoMemory
 
 -- how a refusal of the parser of this kind may end
 abbrev pub IsReportedAs : ErrorKind → Outcome → Type 0
@@ -50,13 +65,44 @@ IsReportedAs kind (Outcome.Help text) = kind ≡ ErrorKind.DisplayHelp
 IsReportedAs kind (Outcome.Version text) = kind ≡ ErrorKind.DisplayVersion
 IsReportedAs kind (Outcome.BadLine text) = (kind ≢ ErrorKind.DisplayHelp) × (kind ≢ ErrorKind.DisplayVersion) × (kind ≢ ErrorKind.OutOfMemory)
 IsReportedAs kind Outcome.NoMemory = Unit {0}
-IsReportedAs kind _ = ⊥
+IsReportedAs kind Outcome.Done = ⊥
+IsReportedAs kind Outcome.Unreadable = ⊥
+IsReportedAs kind Outcome.Unwritable = ⊥
+IsReportedAs kind Outcome.BadOnly = ⊥
 
--- the command line is faulty, or there was no memory for saying so
-abbrev pub IsBadLine : Outcome → Type 0
-IsBadLine (Outcome.BadLine text) = Unit {0}
-IsBadLine Outcome.NoMemory = Unit {0}
-IsBadLine _ = ⊥
+-- one of these kinds is a fault of the words, and no question for help or for the version
+abbrev pub HasFault : Kinds → Type 0
+HasFault kinds = (kind : ErrorKind) × IsAmong kind kinds × (kind ≢ ErrorKind.DisplayHelp) × (kind ≢ ErrorKind.DisplayVersion)
+
+-- how a refusal by the parser ends that has one of these kinds: with `NoMemory` whichever they are
+abbrev pub IsRefusedBy : Kinds → Outcome → Type 0
+IsRefusedBy kinds (Outcome.Help text) = IsAmong ErrorKind.DisplayHelp kinds
+IsRefusedBy kinds (Outcome.Version text) = IsAmong ErrorKind.DisplayVersion kinds
+IsRefusedBy kinds (Outcome.BadLine text) = HasFault kinds
+IsRefusedBy kinds Outcome.NoMemory = Unit {0}
+IsRefusedBy kinds Outcome.Done = ⊥
+IsRefusedBy kinds Outcome.Unreadable = ⊥
+IsRefusedBy kinds Outcome.Unwritable = ⊥
+IsRefusedBy kinds Outcome.BadOnly = ⊥
+
+-- words that the parser refuses by these kinds are parsed only if there is none
+abbrev pub IsParsedBy : {T : Type 0} → Kinds → Result T Outcome → Type 0
+IsParsedBy kinds parsed = MatchResult parsed (λ _. kinds ≡ []) (IsRefusedBy kinds)
+
+-- the command line is faulty and this is said of it, or there was no memory for saying so
+abbrev pub IsBadLine : Text → Outcome → Type 0
+IsBadLine said (Outcome.BadLine text) = string_bytes text ≡ said
+IsBadLine said Outcome.NoMemory = Unit {0}
+IsBadLine said Outcome.Done = ⊥
+IsBadLine said (Outcome.Help text) = ⊥
+IsBadLine said (Outcome.Version text) = ⊥
+IsBadLine said Outcome.Unreadable = ⊥
+IsBadLine said Outcome.Unwritable = ⊥
+IsBadLine said Outcome.BadOnly = ⊥
+
+-- what is said of a word that is not UTF-8
+abbrev pub not_utf8_text : Text
+not_utf8_text = codes "error: invalid UTF-8 was detected in one or more arguments\n"
 
 -- a command line may be refused so
 abbrev pub IsRefusal : Outcome → Type 0
@@ -65,14 +111,24 @@ IsRefusal (Outcome.Version text) = Unit {0}
 IsRefusal (Outcome.BadLine text) = Unit {0}
 IsRefusal Outcome.BadOnly = Unit {0}
 IsRefusal Outcome.NoMemory = Unit {0}
-IsRefusal _ = ⊥
+IsRefusal Outcome.Done = ⊥
+IsRefusal Outcome.Unreadable = ⊥
+IsRefusal Outcome.Unwritable = ⊥
 
--- a text for standard output was asked for, in place of a run
-abbrev pub AsksForText : Outcome → Type 0
-AsksForText (Outcome.Help text) = Unit {0}
-AsksForText (Outcome.Version text) = Unit {0}
-AsksForText _ = ⊥
+-- the text for standard output that was asked for in place of a run
+abbrev pub requested_text : Outcome → Option Text
+requested_text (Outcome.Help text) = Some (string_bytes text)
+requested_text (Outcome.Version text) = Some (string_bytes text)
+requested_text Outcome.Done = None
+requested_text Outcome.Unreadable = None
+requested_text Outcome.Unwritable = None
+requested_text (Outcome.BadLine text) = None
+requested_text Outcome.BadOnly = None
+requested_text Outcome.NoMemory = None
 
--- How a program ends whose command line was refused: so, or with a text that could not be written.
-abbrev pub IsHandedOut : (refused ended : Outcome) → Type 0
-IsHandedOut refused ended = (ended ≡ refused) ⊎ (AsksForText refused × (ended ≡ Outcome.Unwritable))
+-- How a program ends whose command line was refused, and what its output has before and after. A text that was asked for is
+-- written whole, and the program ends so; or it could not be written. If none was asked for, nothing is written.
+abbrev pub IsHandedOut : (refused ended : Outcome) → (before after : Option Text) → Type 0
+IsHandedOut refused ended before after = MatchOption (requested_text refused)
+    ((ended ≡ refused) × Keeps before after)
+    (λ text. ((ended ≡ refused) × Appends before after text) ⊎ (ended ≡ Outcome.Unwritable))

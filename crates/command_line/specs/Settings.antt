@@ -1,12 +1,15 @@
 -- What a command line of `partmem` asks for: which word is under which name, in clap's words.
-use Rattle.std.specs.Prelude.{◌≡◌, ℕ, ◌-◌, ◌^◌, ◌<◌, Bool, true, false, List, Option, Some, None, option_map, codes}
+use Rattle.std.specs.Prelude.{◌≡◌, ◌⊎◌, ℕ, ◌-◌, ◌^◌, ◌<◌, ◌≤◌, Bool, true, false, List, []}
+use Rattle.std.specs.Prelude.{Option, Some, None, option_map, codes}
 use Rattle.std.specs.Option.{ForSome}
 use Rattle.std.specs.String.{string_bytes}
-use Rattle.clap.specs.Words.{App, Rule, Text, first_of, matches_of, new_rule, one_of, takes, with_rule}
+use Rattle.clap.specs.Words.{App, Kinds, Rule, Text, fault_of, first_of, matches_of, new_rule, one_of, takes, with_rule}
 use Rattle.clap.specs.declared.builder.action.ArgAction.TheVariants.{SetTrue}
 use Rattle.command_line.specs.Arguments.{machine_command, number_rule, positional_rule}
-use Rattle.command_line.specs.Machine.{AsksMachine, MayWrite}
+use Rattle.command_line.specs.Machine.{AsksMachine, IsNoMachine, MayWrite, Writes}
+use Rattle.command_line.specs.Outcome.{IsBadLine, IsRefusedBy}
 use Rattle.command_line.specs.declared.machine.Machine.{Machine}
+use Rattle.command_line.specs.declared.outcome.Outcome.{Outcome}
 use Rattle.command_line.specs.declared.settings.Settings.{Settings}
 
 -- the machine, and the tenant whose lines are written
@@ -54,3 +57,31 @@ IsInOrder words = takes command_line words ≡ true
 pub record CanBeHad (words : List Text) (settings : Settings) : Type 0 where
   pub asked : IsRequestedBy words settings
   pub own_alone : (flag : Bool) → IsFlag (one_of (codes "tally") (matches_of command_line words)) flag → IsAlone settings.own settings.only flag
+
+-- what is said if a tenant's own list is asked for beside replies to one tenant or a tally, and if it is no tenant
+abbrev pub own_beside_text : Text
+own_beside_text = codes "error: --own goes with neither --only nor --tally\n"
+
+abbrev pub own_no_tenant_text : Text
+own_no_tenant_text = codes "partmem: --own names no tenant\n"
+
+-- why a tenant's own list cannot be had of this machine, with a tally or without one: what is asked for beside it is reported first
+abbrev pub IsNoOwn : (Text → Option Text) → Machine → Bool → Outcome → Type 0
+IsNoOwn read machine tally outcome = (tenant : ℕ) × Writes (read (codes "own")) tenant
+    × (((¬ IsAlone (Some tenant) machine.only tally) × IsBadLine own_beside_text outcome)
+    ⊎ (IsAlone (Some tenant) machine.only tally × (machine.config.tenants ≤ tenant) × IsBadLine own_no_tenant_text outcome))
+
+-- why what is under the arguments' names is no settings: it is no machine, or no list of the machine
+abbrev pub IsNoSettings : (Text → Option Text) → Outcome → Type 0
+IsNoSettings read outcome = IsNoMachine read outcome
+    ⊎ ((machine : Machine) × (tally : Bool) × AsksMachine read machine × IsFlag (read (codes "tally")) tally
+    × IsNoOwn read machine tally outcome)
+
+-- the kinds of error by which clap's model refuses these words: none if it takes them
+unfoldable pub parse_faults : List Text → Kinds
+parse_faults words = fault_of command_line words
+
+-- why these words are refused: clap's model refuses them, or it takes them and they ask for no settings
+abbrev pub IsRefusedFor : List Text → Outcome → Type 0
+IsRefusedFor words outcome = IsRefusedBy (parse_faults words) outcome
+    ⊎ ((parse_faults words ≡ []) × IsNoSettings (λ name. one_of name (matches_of command_line words)) outcome)

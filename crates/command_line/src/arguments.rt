@@ -2,23 +2,24 @@
 
 ghost use Rattle.std.specs.Prelude.{◌≡◌, ◌≢◌, ◌≤◌, ◌<◌, ℕ, true, false, IfOk, IfErr, map, option_map};
 ghost use Rattle.std.specs.String.{string_bytes};
-ghost use Rattle.clap.specs.Words.{HasMatchesOf, app_of, first_value, found_of, one_text, rule_of, takes};
+ghost use Rattle.clap.specs.Words.{HasMatchesOf, app_of, fault_of, first_value, found_of, is_simple_and_free, one_text};
+ghost use Rattle.clap.specs.Words.{rule_of, takes};
 ghost use Rattle.command_line.specs.Arguments.{machine_command, number_rule, positional_rule, sizes_command};
 ghost use Rattle.command_line.specs.Machine.{MayWrite, Writes};
-ghost use Rattle.command_line.specs.Outcome.{IsRefusal};
+ghost use Rattle.command_line.specs.Outcome.{IsParsedBy, IsRefusal};
 
 use crate::outcome::{Outcome, not_parsed};
 use clap::{Arg, ArgAction, ArgMatches, Command, value_parser};
 use model_core::limits::{LEAST_ORDER, MOST_ORDER, MOST_SUPERBLOCKS, MOST_TENANTS};
 use std::alloc::{AllocError, Global};
 
-/// What `--version` tells.
+/// What `--version` prints.
 const VERSION: &str = "2.0.0";
 
-/// What a program that runs a trace tells of itself.
-#[derive(Clone, Copy)]
+/// What a program that runs a trace prints about itself.
+#[derive(Clone, Copy, Debug)]
 pub struct Program<'a> {
-    /// The word that it is called by.
+    /// The name of the program.
     pub name: &'a str,
     /// What it does.
     pub about: &'a str,
@@ -30,8 +31,8 @@ pub struct Program<'a> {
     pub unwritten: &'a str,
 }
 
-/// The command of a program that asks for a machine: the sizes with their ranges, and `--only`, with what the program does with
-/// that tenant. The program's own arguments are added to it.
+/// Returns the command of a program that needs a machine: the sizes with their ranges, and `--only` with its help. The program
+/// adds its own arguments.
 pub fn command<'a>(
     alloc: Global,
     program: Program<'a>,
@@ -46,8 +47,8 @@ pub fn command<'a>(
     )
 }
 
-/// The command of a program that asks for the sizes of a machine alone, with their ranges. The program's own arguments are added
-/// to it.
+/// Returns the command of a program that needs only the sizes of a machine, with their ranges. The program adds its own
+/// arguments.
 pub fn sizes_command<'a>(alloc: Global, program: Program<'a>) -> Result<Command<'a>, AllocError>
     ensures { IfOk result (λ command. app_of command ≡ sizes_command program.entry.name.now) }
 {
@@ -72,7 +73,7 @@ pub fn sizes_command<'a>(alloc: Global, program: Program<'a>) -> Result<Command<
         ))
 }
 
-/// A required argument `--name NUMBER`, a number from `least` to `most`.
+/// Returns a required argument `--name NUMBER`, a number from `least` to `most`.
 pub fn number<'a>(alloc: Global, name: &'a str, value: &'a str, least: u32, most: u32) -> Arg<'a>
     ensures rule { rule_of result ≡ number_rule name.entry.now least most }
     ensures local { result.global ≡ false }
@@ -85,7 +86,7 @@ pub fn number<'a>(alloc: Global, name: &'a str, value: &'a str, least: u32, most
         .value_parser(value_parser!(u32).range(i64::from(least)..=i64::from(most)))
 }
 
-/// An argument that is known by its place, as a file.
+/// Returns an argument without a name, such as a file.
 pub fn positional<'a>(alloc: Global, name: &'a str, help: &'a str) -> Arg<'a>
     ensures rule { rule_of result ≡ positional_rule name.entry.now }
     ensures local { result.global ≡ false }
@@ -106,6 +107,9 @@ pub fn parse<'a>(
     ensures refused { IfErr result (λ outcome. IsRefusal outcome × (outcome ≢ Outcome.BadOnly)) }
     ensures takes { IfErr result (λ outcome. takes (app_of command.entry) (map (λ word. word.now) words.entry.now) ≡ true
         → outcome ≡ Outcome.NoMemory) }
+    // Help comes only if it is asked for, the version too, and a faulty line only if there is a fault.
+    ensures kinds { is_simple_and_free (app_of command.entry) ≡ true
+        → IsParsedBy (fault_of (app_of command.entry) (map (λ word. word.now) words.entry.now)) result }
 {
     match command.try_get_matches_from(words) {
         Ok(matches) => Ok(matches),

@@ -1,6 +1,6 @@
 //! The machine that a command line asks for.
 
-ghost use Rattle.std.specs.Prelude.{◌≡◌, ◌<◌, ◌≤◌, ℕ, true, IfErr, IfOk, codes};
+ghost use Rattle.std.specs.Prelude.{◌≡◌, ◌<◌, true, IfErr, IfOk};
 ghost use Rattle.std.specs.Option.{ForSome};
 ghost use Rattle.clap.specs.Words.{found_of, one_text};
 ghost use Rattle.model_core.specs.Booting.{is_bootable};
@@ -13,7 +13,7 @@ use model_core::config::Config;
 use std::alloc::Global;
 
 /// A machine, and the tenant that is written or drawn.
-#[derive(Drop)]
+#[derive(Debug, Drop)]
 pub struct Machine {
     /// The sizes, each in its range.
     pub config: Config,
@@ -24,20 +24,15 @@ pub struct Machine {
 }
 
 impl Machine {
-    ghost use Rattle.command_line.specs.Machine.{AsksMachine, AsksNoTenant};
-    ghost use Rattle.command_line.specs.Outcome.{IsRefusal};
-    ghost use Rattle.command_line.specs.declared.machine.Machine.{Machine};
+    ghost use Rattle.command_line.specs.Machine.{AsksMachine, IsNoMachine};
 
     /// Returns the machine that the command line asks for.
     ///
-    /// Refused with `BadLine` if a size is missing or out of its range, with `BadOnly` if the sizes are in order and `--only` is
-    /// not below the tenants, or with `NoMemory`.
+    /// Refused with `BadLine` if a size is missing or out of its range, or with `NoMemory` if there is no memory for saying so;
+    /// and with `BadOnly` if the sizes are in order and `--only` is not below the tenants.
     pub fn found(alloc: Global, matches: &ArgMatches<'_>) -> Result<Machine, Outcome>
         ensures asked { IfOk result (AsksMachine (one_text (found_of matches.now))) }
-        ensures refused { IfErr result IsRefusal }
-        ensures only { result ≡ Err Outcome.BadOnly → AsksNoTenant (one_text (found_of matches.now)) }
-        ensures given { IfErr result (λ outcome. (machine : Machine) → AsksMachine (one_text (found_of matches.now)) machine
-            → outcome ≡ Outcome.NoMemory) }
+        ensures refused { IfErr result (IsNoMachine (one_text (found_of matches.now))) }
     {
         let config = sizes_found(alloc, matches)?;
         let Some(tenant) = number_written(matches, "only") else {

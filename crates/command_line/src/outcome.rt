@@ -1,8 +1,10 @@
 //! How a program ends, and what it says about that.
 
 ghost use Rattle.std.specs.Prelude.{◌≡◌, Some, option_map};
+ghost use Rattle.std.specs.declared.io.ErrorKind.TheVariants as SystemKind;
 ghost use Rattle.clap.specs.Words.{kind_of};
-ghost use Rattle.command_line.specs.Outcome.{IsBadLine, IsReportedAs, after_flush, line_of, outcome_of, outcome_text, status_of};
+ghost use Rattle.command_line.specs.Outcome.{IsBadLine, IsReportedAs, after_flush, line_of, not_utf8_text, outcome_of};
+ghost use Rattle.command_line.specs.Outcome.{outcome_text, status_of};
 ghost use Rattle.command_line.specs.declared.outcome.Outcome.TheVariants.{NoMemory};
 
 use crate::arguments::Program;
@@ -22,7 +24,7 @@ use streams::{ReplayError, Tally};
 /// | `BadLine` | 2 | what is wrong with the command line, without the name |
 /// | `BadOnly` | 2 | `--only names no tenant` |
 /// | `NoMemory` | 3 | `not enough memory` |
-#[derive(Drop)]
+#[derive(Debug, Drop)]
 pub enum Outcome {
     /// The trace is done.
     Done,
@@ -109,7 +111,7 @@ impl From<AllocError> for Outcome {
 
 /// A faulty command line, with what is wrong with it.
 pub(crate) fn bad_line(alloc: Global, text: &str) -> Outcome
-    ensures { IsBadLine result }
+    ensures { IsBadLine text.now result }
 {
     match String::from_str(alloc, text) {
         Ok(text) => Outcome::BadLine(text),
@@ -119,7 +121,8 @@ pub(crate) fn bad_line(alloc: Global, text: &str) -> Outcome
 
 /// The outcome when the words of the command line could not be taken: there was no memory, or a word is no UTF-8.
 pub(crate) fn not_words(alloc: Global, kind: io::ErrorKind) -> Outcome
-    ensures { IsBadLine result }
+    ensures text { IsBadLine not_utf8_text result }
+    ensures memory { kind ≡ SystemKind.OutOfMemory → result ≡ Outcome.NoMemory }
 {
     if kind == io::ErrorKind::OutOfMemory {
         return Outcome::NoMemory;
@@ -146,7 +149,7 @@ pub(crate) fn not_parsed(alloc: Global, error: &Error) -> Outcome
 }
 
 /// A line on standard error: the program that prints it, and its text.
-#[derive(Clone, Copy)]
+#[derive(Clone, Copy, Debug)]
 pub struct Line<'a> {
     pub program: &'a str,
     pub text: &'a str,

@@ -1,9 +1,10 @@
 //! The process around a run: its words, and what it says at its end.
 
-ghost use Rattle.std.specs.Prelude.{◌≡◌, IfErr, IfOk, map};
+ghost use Rattle.std.specs.Prelude.{◌≡◌, IfErr, IfOk, OnOk, map};
+ghost use Rattle.std.specs.Io.KnownBytes.{Appends};
 ghost use Rattle.std.specs.Process.{exit_status};
 ghost use Rattle.std.specs.String.{string_bytes};
-ghost use Rattle.command_line.specs.Outcome.{IsBadLine, IsHandedOut, status_of};
+ghost use Rattle.command_line.specs.Outcome.{IsBadLine, IsHandedOut, not_utf8_text, status_of};
 
 use crate::arguments::Program;
 use crate::outcome::{Outcome, not_words};
@@ -17,7 +18,7 @@ use std::rt::Env;
 ///
 /// Refused with `BadLine` if a word is no UTF-8, or with `NoMemory`.
 pub fn words_given(rt: &(impl Env + AllocGlobal)) -> Result<Vec<String>, Outcome>
-    ensures { IfErr result IsBadLine }
+    ensures { IfErr result (IsBadLine not_utf8_text) }
 {
     let alloc = rt.alloc();
     match env::args(rt) {
@@ -38,8 +39,10 @@ pub fn texts_of<'a>(alloc: Global, words: &'a [String]) -> Result<Vec<&'a str>, 
 }
 
 /// Writes the text of help or of the version, if that was asked for, and flushes. Returns how the program ends.
+///
+/// If the text could not be written or flushed, this is `Unwritable`, and a part of it may have been written.
 pub fn hand_out<W: Write>(out: &mut W, refused: Outcome) -> Outcome
-    ensures { IsHandedOut refused result }
+    ensures { IsHandedOut refused result (W.contents out.old) (W.contents out.new) }
 {
     let written = match &refused {
         Outcome::Help(text) | Outcome::Version(text) => write_out(out, text.as_str()),
@@ -52,7 +55,9 @@ pub fn hand_out<W: Write>(out: &mut W, refused: Outcome) -> Outcome
 }
 
 /// Writes a text, and flushes.
-fn write_out<W: Write>(out: &mut W, text: &str) -> io::Result<()> {
+fn write_out<W: Write>(out: &mut W, text: &str) -> io::Result<()>
+    ensures { OnOk result (Appends (W.contents out.old) (W.contents out.new) text.now) }
+{
     out.write_all(text.as_bytes())?;
     out.flush()
 }

@@ -1,6 +1,6 @@
 //! The progress of a run in a large file: a line on a terminal, which is erased at the end.
 
-ghost use Rattle.std.specs.Prelude.{◌≡◌, ◌+◌, ◌-◌, ◌^◌, ◌<◌, ◌≤◌, ◌==◌, None, Some, count_by, length, min};
+ghost use Rattle.std.specs.Prelude.{◌≡◌, ◌+◌, ◌-◌, ◌^◌, ◌<◌, ◌≤◌, ◌==◌, false, None, Some, IfSome, count_by, length, min};
 ghost use Rattle.command_line.specs.Progress.{percent_of, position_text};
 
 use crate::arguments::Program;
@@ -17,7 +17,7 @@ const SMALL_BYTES: u64 = 64 << 20;
 const SECONDS_BETWEEN: u64 = 1;
 
 /// How far a run is in a file.
-#[derive(Clone, Copy)]
+#[derive(Clone, Copy, Debug)]
 struct Position {
     /// The line feeds that were read.
     lines: u64,
@@ -60,6 +60,7 @@ impl fmt::Display for Position {
 }
 
 /// The progress of a run in a large file. When it is dropped, the line is erased.
+#[derive(Debug)]
 pub struct Progress<'a, P: Eprint + Clock> {
     to: &'a P,
     name: &'a str,
@@ -74,7 +75,12 @@ impl<'a, P: Eprint + Clock> Progress<'a, P> {
     /// Returns the progress of a run that begins now in a file of `size` bytes, and reads `all` bytes with those of another file.
     /// Returns `None` if the file is empty, if all are at most 64 MiB, or if there is no clock.
     fn begin(to: &'a P, program: Program<'a>, size: u64, all: u64) -> Option<Progress<'a, P>>
+        ensures empty { size ≡ 0 → result ≡ None }
         ensures small { all ≤ 2 ^ 26 → result ≡ None }
+        ensures named { IfSome result (λ progress. progress.name.now ≡ program.entry.name.now) }
+        ensures unread { IfSome result (λ progress. (progress.position.lines ≡ 0) × (progress.position.bytes ≡ 0)) }
+        ensures size { IfSome result (λ progress. progress.position.size ≡ size) }
+        ensures hidden { IfSome result (λ progress. progress.shown ≡ false) }
     {
         if size == 0 || all <= SMALL_BYTES {
             return None;
@@ -135,14 +141,20 @@ impl<P: Eprint + Clock> Drop for Progress<'_, P> {
 /// Returns the progress of a run of `program` that begins now in the file of this path, or in standard input if there is none.
 /// The run may read another file `beside` it.
 ///
-/// Returns `None` if progress is not `wanted`, if one of these is no regular file, or if they have at most 64 MiB together.
+/// Returns `None` if progress is not `wanted`, if one of these is no regular file, if the first is empty, or if they have at
+/// most 64 MiB together.
 pub fn progress_in<'a, P: Files + Eprint + Clock>(
     rt: &'a P,
     program: Program<'a>,
     path: Option<&str>,
     beside: Option<&str>,
     wanted: bool,
-) -> Option<Progress<'a, P>> {
+) -> Option<Progress<'a, P>>
+    ensures unwanted { wanted ≡ false → result ≡ None }
+    ensures named { IfSome result (λ progress. progress.name.now ≡ program.entry.name.now) }
+    ensures unread { IfSome result (λ progress. (progress.position.lines ≡ 0) × (progress.position.bytes ≡ 0)) }
+    ensures hidden { IfSome result (λ progress. progress.shown ≡ false) }
+{
     if !wanted {
         return None;
     }
@@ -162,7 +174,7 @@ fn size_of(rt: &impl Files, path: &str) -> Option<u64> {
 
 /// A reader that gives what another reader gives, and shows the progress of the run before each read: all whole lines that it
 /// gave are done then.
-#[derive(Drop)]
+#[derive(Debug, Drop)]
 pub struct ProgressReader<'a, R: Read, P: Eprint + Clock> {
     reader: R,
     progress: Option<Progress<'a, P>>,
@@ -171,7 +183,8 @@ pub struct ProgressReader<'a, R: Read, P: Eprint + Clock> {
 impl<'a, R: Read, P: Eprint + Clock> ProgressReader<'a, R, P> {
     /// Shows this progress, if there is one, while this reader is read.
     pub fn new(reader: R, progress: Option<Progress<'a, P>>) -> ProgressReader<'a, R, P>
-        ensures { ⟦<ProgressReader<'a, R, P> as Read>⟧.remaining result ≡ R.remaining reader }
+        ensures bytes { ⟦<ProgressReader<'a, R, P> as Read>⟧.remaining result ≡ R.remaining reader }
+        ensures shown { result.progress ≡ progress.entry }
     {
         ProgressReader { reader, progress }
     }

@@ -60,7 +60,7 @@ Example:
   printf 'admin grant 0\\n0 alloc 1\\n0 report\\n' | partmem --order 3 --superblocks 2 --tenants 2";
 
 /// What a command line of `partmem` asks for.
-#[derive(Drop)]
+#[derive(Debug, Drop)]
 pub struct Settings {
     /// The sizes of the machine, each in its range.
     pub config: Config,

@@ -1,11 +1,10 @@
 //! The sizes that a command line asks for.
 
-ghost use Rattle.std.specs.Prelude.{◌≡◌, true, IfErr, IfOk};
+ghost use Rattle.std.specs.Prelude.{◌≡◌, true, IfErr, IfOk, OnErr};
 ghost use Rattle.clap.specs.Words.{found_of, one_text};
 ghost use Rattle.model_core.specs.Booting.{is_bootable};
-ghost use Rattle.command_line.specs.Machine.{AsksSizes};
+ghost use Rattle.command_line.specs.Machine.{AsksNoSizes, AsksSizes, bad_size_text};
 ghost use Rattle.command_line.specs.Outcome.{IsBadLine};
-ghost use Rattle.model_core.specs.declared.config.Config.{Config};
 
 use crate::arguments::number_of;
 use crate::outcome::{Outcome, bad_line};
@@ -15,13 +14,13 @@ use std::alloc::Global;
 
 /// Returns the sizes that the command line asks for.
 ///
-/// Refused with `BadLine` if one is missing or out of its range, or with `NoMemory`.
+/// Refused with `BadLine` if one is missing or out of its range, or with `NoMemory` if there is no memory for saying so.
 pub fn sizes_found(alloc: Global, matches: &ArgMatches<'_>) -> Result<Config, Outcome>
     ensures asked { IfOk result (AsksSizes (one_text (found_of matches.now))) }
     ensures bootable { IfOk result (λ config. is_bootable config ≡ true) }
-    ensures refused { IfErr result IsBadLine }
-    ensures given { IfErr result (λ outcome. (sizes : Config) → AsksSizes (one_text (found_of matches.now)) sizes
-        → is_bootable sizes ≡ true → outcome ≡ Outcome.NoMemory) }
+    ensures refused { IfErr result (IsBadLine bad_size_text) }
+    // So sizes that are given are found, whatever memory there is.
+    ensures given { OnErr result (AsksNoSizes (one_text (found_of matches.now))) }
 {
     let config = Config {
         order: number_of(matches, "order"),

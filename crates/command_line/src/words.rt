@@ -1,12 +1,11 @@
 //! The words of a command line of `partmem`.
 
-ghost use Rattle.std.specs.Prelude.{◌≡◌, ◌<◌, ℕ, true, Option, IfErr, IfOk, map, codes};
+ghost use Rattle.std.specs.Prelude.{◌≡◌, ◌<◌, true, IfErr, IfOk, map, codes};
 ghost use Rattle.std.specs.Option.{ForSome};
-ghost use Rattle.clap.specs.Words.{app_of, found_of, matches_of, one_of, one_text};
+ghost use Rattle.clap.specs.Words.{app_of, found_of, one_text};
 ghost use Rattle.model_core.specs.Booting.{is_bootable};
-ghost use Rattle.command_line.specs.Machine.{AsksNoTenant, MayWrite};
-ghost use Rattle.command_line.specs.Outcome.{IsBadLine, IsRefusal};
-ghost use Rattle.command_line.specs.Settings.{CanBeHad, IsAlone, IsRequestedBy, IsInOrder, command_line};
+ghost use Rattle.command_line.specs.Machine.{MayWrite};
+ghost use Rattle.command_line.specs.Settings.{CanBeHad, IsAlone, IsInOrder, IsNoOwn, IsRefusedFor, IsRequestedBy, command_line};
 ghost use Rattle.command_line.specs.declared.settings.Settings.{Settings};
 
 use crate::arguments::{self, number, number_written, parse, path_of, positional};
@@ -29,9 +28,7 @@ pub fn read_words<'a>(alloc: Global, words: &'a [&'a str]) -> Result<Settings, O
     ensures own { IfOk result (λ settings. ForSome settings.own (λ tenant. tenant < settings.config.tenants)) }
     // Which word is under which name is as clap's model says.
     ensures asked { IfOk result (IsRequestedBy (map (λ word. word.now) words.entry.now)) }
-    ensures refused { IfErr result IsRefusal }
-    ensures bad_only { result ≡ Err Outcome.BadOnly
-        → AsksNoTenant (λ name. one_of name (matches_of command_line (map (λ word. word.now) words.entry.now))) }
+    ensures refused { IfErr result (IsRefusedFor (map (λ word. word.now) words.entry.now)) }
     // Settings that can be had are refused for want of memory alone.
     ensures given { IfErr result (λ outcome. IsInOrder (map (λ word. word.now) words.entry.now)
         → (settings : Settings) → CanBeHad (map (λ word. word.now) words.entry.now) settings → outcome ≡ Outcome.NoMemory) }
@@ -52,7 +49,7 @@ pub fn read_words<'a>(alloc: Global, words: &'a [&'a str]) -> Result<Settings, O
 /// Returns the tenant whose own list is asked for.
 ///
 /// Refused with `BadLine` if replies to one tenant or a tally are asked for too, or if it is no tenant of the machine; or with
-/// `NoMemory`.
+/// `NoMemory` if there is no memory for saying so.
 fn own_found(
     alloc: Global,
     matches: &ArgMatches<'_>,
@@ -62,10 +59,7 @@ fn own_found(
     ensures asked { IfOk result (MayWrite (one_text (found_of matches.now) (codes "own"))) }
     ensures below { IfOk result (λ own. ForSome own (λ tenant. tenant < machine.now.config.tenants)) }
     ensures alone { IfOk result (λ own. IsAlone own machine.now.only tally) }
-    ensures refused { IfErr result IsBadLine }
-    ensures given { IfErr result (λ outcome. (own : Option ℕ) → MayWrite (one_text (found_of matches.now) (codes "own")) own
-        → ForSome own (λ tenant. tenant < machine.now.config.tenants) → IsAlone own machine.now.only tally
-        → outcome ≡ Outcome.NoMemory) }
+    ensures refused { IfErr result (IsNoOwn (one_text (found_of matches.now)) machine.now tally) }
 {
     let Some(tenant) = number_written(matches, "own") else {
         return Ok(None);

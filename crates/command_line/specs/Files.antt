@@ -1,0 +1,18 @@
+-- Files that a command line names.
+use Rattle.std.specs.Prelude.{ℕ, ◌&&◌, ◌||◌, ◌==◌, Bool, not, nat_le, Option, Some, None, if◌then◌else◌}
+use Rattle.std.specs.List.{list_all}
+use Rattle.std.specs.declared.io.Error.{Error}
+use Rattle.clap.specs.Words.{Text}
+use Rattle.command_line.specs.declared.files.WatchedReader.{WatchedReader}
+
+-- the error of the last read that failed, if one has
+abbrev pub last_error : {R : Type 0} → WatchedReader R → Option Error
+last_error reader = reader.error
+
+-- the byte is printable ASCII, and no single quote (39), double quote (34) or backslash (92)
+abbrev pub is_plain_byte : ℕ → Bool
+is_plain_byte byte = nat_le 32 byte && nat_le byte 126 && not (byte == 39 || byte == 34 || byte == 92)
+
+-- a path of such bytes is printed as it is; how any other is quoted is not said
+abbrev pub plain_path : Text → Option Text
+plain_path path = if list_all is_plain_byte path then Some path else None
