@@ -18,7 +18,7 @@ OwnListAlone = (limit order superblocks tenants t : ℕ) (trace : List ℕ) → 
     own_list t (opening_history limit order superblocks tenants (events_of (lines_of_trace (own_trace limit order superblocks tenants t trace))))
     ≡ own_list t (opening_history limit order superblocks tenants (events_of (lines_of_trace trace)))
 
--- .. so the tenant is told the same lines.
+-- .. so the tenant gets the same lines.
 abbrev pub LinesAlone : Type 0
 LinesAlone = (limit order superblocks tenants t : ℕ) (trace : List ℕ) → 3 ≤ order → superblocks * 2 ^ order * 4096 ≤ 2 ^ 32 → tenants ≤ 2 ^ 64 → t < tenants →
     lines_for t (output_of limit order (own_trace limit order superblocks tenants t trace) (opening_world superblocks tenants))

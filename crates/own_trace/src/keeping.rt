@@ -18,22 +18,22 @@ use replay_core::{Drain, EndFailed, Feed, Sink, Stopped, do_lines, push_all, rep
 use thiserror::Error;
 use words_core::{Addressee, AdminCommand, Answer, Body, Event, LineFault, Reply};
 
-/// Which end failed.
+/// The end that failed.
 #[derive(Clone, Copy, Debug, PartialEq, Eq, Drop, Error)]
 pub enum KeepError {
-    /// The feed: all lines that ended in LF have been run, and the unfinished one has not been.
+    /// The feed. All lines that ended in LF were run; the unfinished line was not.
     #[error("the trace could not be read")]
     Feed,
-    /// The drain: a beginning of the own list was pushed, and the kernel has run the line that was cut.
+    /// The drain. A prefix of the own list was pushed, and the kernel has run the line that was cut.
     #[error("the own list could not be written")]
     Drain,
 }
 
-/// Runs the trace that the feed gives on the kernel, and pushes those of its lines into the drain that are the own list of the
-/// tenant: as they stand, each with an LF. What the kernel answers is told nobody.
+/// Runs the trace that the feed gives on the kernel, and pushes the lines of the tenant's own list into the drain, unchanged and
+/// each with an LF. Pushes no reply.
 ///
-/// Lines are cut and run as `replay_core::replay` does: at LF wherever the pieces end, a last line without LF too, and the
-/// drain sends what was pushed before the feed is asked for more. Allocates nothing.
+/// Lines are cut and run as in `replay_core::replay`: they end at LF, the last line needs no LF, and the drain sends what was
+/// pushed before the next pull. Allocates nothing.
 pub fn keep<F: Feed, D: Drain>(
     kernel: &mut Kernel,
     feed: &mut F,
@@ -42,19 +42,19 @@ pub fn keep<F: Feed, D: Drain>(
 ) -> Result<(), KeepError>
     requires feed_fine { F.has_failed feed.old ≡ false }
     requires drain_fine { D.has_failed drain.old ≡ false }
-    // What was given and taken during the call, and how they hang together, whichever world the kernel showed. Where the feed
-    // does not tell its bytes, how many it gave is known.
+    // The bytes given and taken during the call and their relation, for any world that the kernel showed. If the bytes of the
+    // feed are not known, their number is.
     ensures kept { (given : List ℕ) × (taken : List ℕ)
         × Consumes (F.remaining feed.old) (F.remaining feed.new) given
         × Appends (D.contents drain.old) (D.contents drain.new) taken
         × KeepsOwn (F.has_ended feed.new) tenant kernel.old kernel.new given taken result
         × (F.room_left feed.new + length given ≡ F.room_left feed.old) }
     ensures ended { OnOk result (F.has_ended feed.new ≡ true) }
-    // Then what was given is all that it had.
+    // The bytes given are then all that it had.
     ensures whole { F.has_ended feed.new ≡ true → IsAtEnd (F.remaining feed.new) }
     ensures failed { NamesEnd result (F.has_failed feed.new) (D.has_failed drain.new) }
 {
-    // As many lines as there are bytes at most.
+    // There are at most as many lines as bytes.
     let _most = feed.room();
     let mut own = OwnLines { tenant };
     match do_lines(kernel, &mut own, feed, drain) {
@@ -65,7 +65,7 @@ pub fn keep<F: Feed, D: Drain>(
 }
 
 /// Keeps the lines that are the own list of a tenant.
-#[derive(Drop)]
+#[derive(Debug, Drop)]
 pub struct OwnLines {
     pub tenant: u8,
 }
@@ -129,7 +129,7 @@ impl Sink for OwnLines {
         self.keep_event(line, event, is_refusal(answer), drain)
     }
 
-    // By itself: a function clears the space of its variables when it begins, and a reply of several lines takes 1.5 KB.
+    // Kept out of line: a function clears its stack frame on entry, and a reply of several lines takes 1.5 KB.
     #[cold]
     #[inline(never)]
     fn replied<D: Drain>(
@@ -172,7 +172,7 @@ fn is_refused_by(reply: &Reply) -> bool
     matches!(reply.body, Body::Refused(_))
 }
 
-/// Whether an event, refused or not, is in the tenant's own list. A reset is never refused a tenant that there is.
+/// Returns true if an event, refused or not, is in the tenant's own list. A reset of an existing tenant is never refused.
 fn is_own(tenant: u8, event: &Event, refused: bool) -> bool
     ensures { (body : Body) → refused ≡ is_refused body → result ≡ has_entry (own_entries tenant event.now body) }
 {

@@ -1,15 +1,17 @@
-//! What the own lines of a trace are. Each law is the contract of a function that does nothing: a caller has the law by the call.
+//! The laws of a tenant's own lines of a trace. Each is the contract of an empty function, to be called where a proof needs the
+//! law.
 
 ghost use Rattle.own_trace.specs.Laws.{KeptAreOwnList, OwnListAlone, LinesAlone};
 
-/// The entries of the lines that are kept for a tenant are that tenant's own list of the trace, in order: none is left out, and
-/// none is another's.
+/// The entries of the lines that are kept for a tenant are that tenant's own list of the trace, in order. None is left out, and
+/// none is another tenant's.
 pub fn kept_are_own_list()
     ensures { KeptAreOwnList }
 {}
 
-/// Run alone on a new machine of the same sizes, the lines that are kept for a tenant are that own list once more, whatever was
-/// refused others in the trace. So the tenant is told the same lines.
+/// Run alone on a new machine of the same sizes, with slots of at least 8 frames and RAM of at most 2^32 bytes, the lines that
+/// are kept for a tenant have the same own list, whatever the replies to others in the trace were. So the tenant gets the same
+/// reply lines.
 pub fn alone()
     ensures list { OwnListAlone }
     ensures lines { LinesAlone }

@@ -1,5 +1,5 @@
-//! A tenant's own list of a trace, as the lines that stand in the trace: the tenant's commands, and what was granted to it, taken
-//! back and reset. Which these are hangs on the replies, so the trace is run.
+//! A tenant's own list of a trace, as lines of the trace: the tenant's commands, and its grants, take-backs and resets. Which
+//! lines these are depends on the replies, so the trace is run.
 #![tactic(auto)]
 
 mod keeping;

@@ -1,4 +1,4 @@
-//! Requests of tenants, read the short way: the lines that make up a load.
+//! Runs quick requests.
 
 ghost use Rattle.std.specs.Prelude.{◌≡◌, ◌≤◌, false, Some, Ok, length, is_err, IfOk, MatchResult};
 ghost use Rattle.words_core.specs.Grammar.{reading_of};
@@ -18,8 +18,8 @@ use quick_core::read_ended_request;
 use replay_core::{Drain, Stopped};
 use words_core::Request;
 
-/// Runs the lines at the front of a piece as long as they are read the short way, pushes the tenant's own, and returns the rest of
-/// the piece. The lines end in LF, or in CR LF if `RETURNS`.
+/// Runs the quick requests at the front of a piece, pushes the tenant's own, and returns the rest of the piece. The lines end in
+/// LF, or in CR LF if `RETURNS`.
 pub(crate) fn keep_ended_lines<'a, const RETURNS: bool, D: Drain>(
     piece: &'a [u8],
     kernel: &mut Kernel,
@@ -54,8 +54,7 @@ pub(crate) fn keep_ended_lines<'a, const RETURNS: bool, D: Drain>(
 
 /// Runs the request of a line. If the line is the tenant's own, pushes it and a line feed.
 ///
-/// This function and [`run_request`] take `RETURNS`, which they do not use, to have one caller each: the compiler then makes them
-/// a part of it.
+/// This function and [`run_request`] take `RETURNS`, which they do not use, so that each instance has one caller and is inlined.
 fn keep_request<const RETURNS: bool, D: Drain>(
     line: &[u8],
     asked: u32,
