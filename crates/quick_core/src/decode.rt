@@ -1,12 +1,12 @@
-//! Bytes in hex, read.
+//! Decodes bytes in hex.
 
 ghost use Rattle.std.specs.Prelude.{◌≡◌, ◌+◌, ◌*◌, ◌<◌, ◌≤◌, [], ◌∷◌, ◌++◌, IfSome, length, take};
 ghost use Rattle.quick_core.specs.Pairs.{Decodes};
 
 use model_core::limits::MOST_BYTES;
 
-/// Decodes the pairs of hex digits from index `from` on into the front of `out`, as long as there are some and they fit, and
-/// answers how many they are.
+/// Decodes the pairs of hex digits from index `from` on into the front of `out`, up to the first that is none or does not fit,
+/// and returns their number.
 #[inline(always)]
 pub fn decode_at(bytes: &[u8], from: usize, out: &mut [u8; MOST_BYTES]) -> usize
     requires { from ≤ length bytes.now }
@@ -19,7 +19,7 @@ pub fn decode_at(bytes: &[u8], from: usize, out: &mut [u8; MOST_BYTES]) -> usize
     decode_singly(bytes, from, done, most, out)
 }
 
-/// Decodes at most so many pairs, four at a time, and answers how many they are.
+/// Decodes at most `most` pairs, four at a time, and returns their number.
 #[inline(always)]
 fn decode_fours(bytes: &[u8], from: usize, most: usize, out: &mut [u8; MOST_BYTES]) -> usize
     requires few { most ≤ MOST_BYTES }
@@ -46,7 +46,7 @@ fn put_four(four: &[u8; 4], at: usize, out: &mut [u8])
     out[at..at + 4].copy_from_slice(four);
 }
 
-/// Decodes what follows `done` pairs, a pair at a time, and answers how many they are then.
+/// Decodes the pairs behind the first `done`, one at a time, and returns the number of all.
 #[inline(always)]
 fn decode_singly(
     bytes: &[u8],
@@ -72,7 +72,7 @@ fn decode_singly(
     most
 }
 
-/// The bytes of four pairs of hex digits; `None` where one of the eight is no digit.
+/// Returns the bytes of four pairs of hex digits, or `None` if one of the eight is no digit.
 #[inline(always)]
 fn four_pairs_at(bytes: &[u8], at: usize) -> Option<[u8; 4]>
     requires { at + 8 ≤ length bytes.now }
@@ -82,14 +82,14 @@ fn four_pairs_at(bytes: &[u8], at: usize) -> Option<[u8; 4]>
     let second = pair_at(bytes, at + 2);
     let third = pair_at(bytes, at + 4);
     let fourth = pair_at(bytes, at + 6);
-    // Four bytes add up to less.
+    // The sum of four bytes is less.
     if first + second + third + fourth >= NO_DIGIT {
         return None;
     }
     Some([first as u8, second as u8, third as u8, fourth as u8])
 }
 
-/// The byte of a pair of hex digits; `NO_DIGIT` or more where one of them is none.
+/// Returns the byte of a pair of hex digits, or `NO_DIGIT` or more if one of them is none.
 #[inline(always)]
 fn pair_at(bytes: &[u8], at: usize) -> u16
     requires { at + 2 ≤ length bytes.now }
@@ -100,10 +100,10 @@ fn pair_at(bytes: &[u8], at: usize) -> u16
     HIGH_VALUES[bytes[at] as usize] + LOW_VALUES[bytes[at + 1] as usize]
 }
 
-/// Stands in the tables for what is no digit: more than four bytes can add up to.
+/// The entry of the tables for a byte that is no digit. It is greater than the sum of any four bytes.
 const NO_DIGIT: u16 = 1024;
 
-/// Sixteen times the value of each byte as a hex digit, and `NO_DIGIT` where it is none.
+/// Sixteen times the value of each byte as a hex digit, or `NO_DIGIT` if it is none.
 static HIGH_VALUES: [u16; 256] = [
     1024, 1024, 1024, 1024, 1024, 1024, 1024, 1024, 1024, 1024, 1024, 1024, 1024, 1024, 1024, 1024,
     1024, 1024, 1024, 1024, 1024, 1024, 1024, 1024, 1024, 1024, 1024, 1024, 1024, 1024, 1024, 1024,
@@ -123,7 +123,7 @@ static HIGH_VALUES: [u16; 256] = [
     1024, 1024, 1024, 1024, 1024, 1024, 1024, 1024, 1024, 1024, 1024, 1024, 1024,
 ];
 
-/// The value of each byte as a hex digit, and `NO_DIGIT` where it is none.
+/// The value of each byte as a hex digit, or `NO_DIGIT` if it is none.
 static LOW_VALUES: [u16; 256] = [
     1024, 1024, 1024, 1024, 1024, 1024, 1024, 1024, 1024, 1024, 1024, 1024, 1024, 1024, 1024, 1024,
     1024, 1024, 1024, 1024, 1024, 1024, 1024, 1024, 1024, 1024, 1024, 1024, 1024, 1024, 1024, 1024,

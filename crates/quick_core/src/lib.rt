@@ -1,7 +1,7 @@
-//! The short way to read: the lines that make up a load, read in few instructions.
+//! The quick reader: reads the frequent lines in few instructions.
 //!
-//! It reads only where it is sure, and then as `words_core` does: what it reads is what the grammar says of the line. All else goes
-//! the whole way, which a reader of the rules never has to leave.
+//! It returns a request only if it is sure of it; then the request is the one that the grammar gives the line, as in `words_core`.
+//! All other lines are left to `words_core`, so a reader of the rules can ignore this crate.
 #![tactic(auto)]
 
 mod decode;

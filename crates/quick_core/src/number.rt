@@ -1,4 +1,4 @@
-//! A number of few digits, read off a window.
+//! Reads numbers of few digits.
 
 ghost use Rattle.std.specs.Prelude.{◌≡◌, true, ◌+◌, ◌-◌, ◌<◌, ◌≤◌, Some, IfSome, length, slice_range};
 ghost use Rattle.std.specs.Char.{is_ascii_digit};
@@ -7,17 +7,17 @@ ghost use Rattle.quick_core.specs.Lines.{IsLastNumber};
 
 use crate::line_end::line_len;
 
-/// No number that is read has more digits: its value then fits a `u32`.
+/// The largest number of digits that is read. The value then fits a `u32`.
 pub const MOST_READ_DIGITS: usize = 9;
 
 /// A number in some bytes, and the index behind its last digit.
-#[derive(Clone, Copy)]
+#[derive(Clone, Copy, Debug)]
 pub struct Number {
     pub value: u32,
     pub end: usize,
 }
 
-/// The digits from index `from` on, not more than `most` of them, as a number; `None` where there is no digit.
+/// Reads at most `most` digits from index `from` on as a number. Returns `None` if there is no digit.
 #[inline(always)]
 pub fn number_at(bytes: &[u8], from: usize, most: usize) -> Option<Number>
     requires few { most ≤ MOST_READ_DIGITS }
@@ -48,13 +48,13 @@ pub fn number_at(bytes: &[u8], from: usize, most: usize) -> Option<Number>
 }
 
 /// The last number of a line, and the length of the line with its end.
-#[derive(Clone, Copy)]
+#[derive(Clone, Copy, Debug)]
 pub struct LastNumber {
     pub value: u32,
     pub len: usize,
 }
 
-/// The number from index `from` on that the end of its line follows: LF, or CR LF if `RETURNS`.
+/// Reads the number from index `from` on, if the end of the line follows it: LF, or CR LF if `RETURNS`.
 #[inline(always)]
 pub fn last_number<const RETURNS: bool>(bytes: &[u8], from: usize) -> Option<LastNumber>
     requires { from + MOST_READ_DIGITS + 1 < length bytes.now }
@@ -68,7 +68,7 @@ pub fn last_number<const RETURNS: bool>(bytes: &[u8], from: usize) -> Option<Las
     })
 }
 
-/// The value of a digit; more than 9 for a byte that is none.
+/// Returns the value of a digit, or more than 9 for a byte that is none.
 #[inline(always)]
 fn digit_of(byte: u8) -> u32
     ensures digit { result ≤ 9 → is_ascii_digit byte ≡ true }

@@ -1,4 +1,4 @@
-//! The lines that make up a load, read off the front of some bytes.
+//! Reads a frequent line at the front of some bytes.
 
 ghost use Rattle.std.specs.Prelude.{◌≡◌, ◌-◌, ◌+◌, ◌*◌, ◌<◌, ◌≤◌, ◌==◌, Some, Ok, IfSome, codes, length, take, slice_range, slice_index};
 ghost use Rattle.std.specs.List.{position};
@@ -15,21 +15,21 @@ use crate::number::{MOST_READ_DIGITS, Number, last_number, number_at};
 use model_core::limits::MOST_BYTES;
 use words_core::{Request, one_case};
 
-/// A line that was read: whose it is, what it asks for, and its length with its line end.
-#[derive(Clone, Copy)]
+/// A line that was read: its tenant, its request, and its length with the line end.
+#[derive(Clone, Copy, Debug)]
 pub struct RequestLine<'a> {
     pub tenant: u32,
     pub request: Request<'a>,
     pub len: usize,
 }
 
-/// So many bytes have to be there: a line has no more before the bytes that it writes, or with its line end.
+/// The number of bytes that have to be there. No line has more with its line end, or before the bytes that it writes.
 pub const WINDOW: usize = 32;
 
-/// The number of a tenant has at most so many digits here.
+/// The largest number of digits of a tenant's number that is read here.
 pub const MOST_TENANT_DIGITS: usize = 3;
 
-/// The four bytes `allo`, the first of them the lowest; so are the others.
+/// The bytes `allo` as a number, the first byte the lowest. The other constants are alike.
 const ALLO: u32 = 0x6f6c_6c61;
 
 const FREE: u32 = 0x6565_7266;
@@ -42,8 +42,9 @@ const READ: u32 = 0x6461_6572;
 
 const WRIT: u32 = 0x7469_7277;
 
-/// The line at the front of these bytes, where it is an `alloc`, `free`, `take`, `give`, `read` or `write` with its words parted
-/// by one blank, and ended by a line feed; what it writes lies in `buffer` then. `None` if it isn't, or if that is not sure.
+/// Reads the line at the front of these bytes, if it is an `alloc`, `free`, `take`, `give`, `read` or `write` with single blanks
+/// between its words and a line feed at its end. The bytes of a write are then in `buffer`. Returns `None` for any other line, and
+/// if it is not sure.
 #[inline(always)]
 pub fn read_request<'a>(bytes: &[u8], buffer: &'a mut [u8; MOST_BYTES]) -> Option<RequestLine<'a>>
     ensures reads { IfSome result (λ line. ReadsAs bytes.now line.tenant (command_of line.request) line.len) }
@@ -52,7 +53,7 @@ pub fn read_request<'a>(bytes: &[u8], buffer: &'a mut [u8; MOST_BYTES]) -> Optio
     read_ended_request::<LF>(bytes, buffer)
 }
 
-/// [`read_request`] of a line that ends in LF, or in CR LF if `RETURNS`.
+/// [`read_request`] for a line that ends in LF, or in CR LF if `RETURNS`.
 #[inline(always)]
 pub fn read_ended_request<'a, const RETURNS: bool>(
     bytes: &[u8],
@@ -65,13 +66,13 @@ pub fn read_ended_request<'a, const RETURNS: bool>(
     read_known_request::<RETURNS>(bytes, tenant, buffer)
 }
 
-/// Returns false if no request stands at the front of these bytes, as their first byte says: it is the number of a tenant.
+/// Returns false if the first byte shows that no request begins here. A request begins with the number of a tenant.
 #[inline(always)]
 pub fn may_begin_request(bytes: &[u8]) -> bool {
     matches!(bytes, [b'0'..=b'9', ..])
 }
 
-/// The number of the tenant that a line at the front of these bytes names, with a blank behind it.
+/// Reads the number of a tenant, with a blank behind it, at the front of these bytes.
 #[inline(always)]
 pub fn read_tenant(bytes: &[u8]) -> Option<Number>
     ensures size { IfSome result (λ tenant. WINDOW ≤ length bytes.now) }
@@ -84,7 +85,7 @@ pub fn read_tenant(bytes: &[u8]) -> Option<Number>
     (bytes[tenant.end] == b' ').then_some(tenant)
 }
 
-/// [`read_ended_request`] of a line whose tenant is known: what stands behind that number.
+/// [`read_ended_request`] for a line whose tenant was read: reads what follows that number.
 #[inline(always)]
 pub fn read_known_request<'a, const RETURNS: bool>(
     bytes: &[u8],
@@ -108,7 +109,7 @@ pub fn read_known_request<'a, const RETURNS: bool>(
     }
 }
 
-/// Four bytes as one number, the first of them the lowest.
+/// Returns four bytes as one number, the first byte the lowest.
 #[inline(always)]
 fn four_at(bytes: &[u8], at: usize) -> u32
     requires { at + 4 ≤ length bytes.now }
@@ -236,7 +237,7 @@ fn read_line<const RETURNS: bool>(bytes: &[u8], tenant: Number) -> Option<Reques
     })
 }
 
-/// A line that writes bytes, which lie in `buffer` then.
+/// Reads a `write`. Its bytes are then in `buffer`.
 #[inline(always)]
 fn write_line<'a, const RETURNS: bool>(
     bytes: &[u8],
