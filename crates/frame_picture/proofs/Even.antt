@@ -1,10 +1,10 @@
 -- Which lines have columns, from line to line.
-use Rattle.std.proofs.Common.{◌≡◌, ◌≢◌, ℕ, ◌+◌, ◌*◌, ◌/◌, ◌%◌, ◌<◌, ◌≤◌, List, Some, length, slice_get, subst, sym, ◌∙◌, ap, arith, ◌⊎◌, inl, inr}
+use Rattle.std.proofs.Common.{◌≡◌, ◌≢◌, ℕ, ◌+◌, ◌*◌, ◌/◌, ◌%◌, ◌<◌, ◌≤◌, min, List, Some, length, slice_get, subst, sym, ◌∙◌, ap, arith, ◌⊎◌, inl, inr}
 use Rattle.std.proofs.Math.Nat.{mul-le-mul_right, mul-mod_left}
 use Rattle.std.proofs.lemmas.Bool.{cases_order}
 use Rattle.std.proofs.lemmas.Option.{slice_get_within}
 use Rattle.frame_picture.specs.declared.history.Column.{Column}
-use Rattle.frame_picture.specs.Histories.{IsEven}
+use Rattle.frame_picture.specs.Histories.{IsEven, IsComplete}
 
 -- of two multiples of w the factors are in the order of these
 factor_below : (a b w : ℕ) → a * w < b * w → a < b
@@ -49,9 +49,63 @@ half_reach n h w l pos is half = go (cases_order n (2 * h))
         let at : l + 1 ≡ (2 * h + 1 + 1) * w = subst (λ x. l + 1 ≡ (x + 1) * w) e is in
         (omega arith, omega arith)
 
+-- the last line of n columns, where it is a multiple of the width
+last_multiple : (n w l : ℕ) → 0 < w → n * w ≤ l → l < (n + 1) * w → l % w ≡ 0 → l ≡ n * w
+last_multiple n w l pos some all zero =
+    let q : ℕ = l / w in
+    let is : q * w ≡ l = grind arith in
+    let below : q < n + 1 = factor_below q (n + 1) w (omega arith) in
+    let above : n < q + 1 = factor_below n (q + 1) w (omega arith) in
+    let e : q ≡ n = omega arith in
+    sym is ∙ ap (λ x. x * w) e
+
+-- where some lines have no column yet, neither have they in half of the columns of twice the width, and one more is enough
+half_within : (n h w l : ℕ) → n * w < l → l < (n + 1) * w → h ≡ n / 2 → (h * (2 * w) < l) × (l ≤ (h + 1) * (2 * w))
+half_within n h w l some all half = go (cases_order n (2 * h))
+  where
+    go : (n ≡ 2 * h) ⊎ ((n < 2 * h) ⊎ (2 * h < n)) → (h * (2 * w) < l) × (l ≤ (h + 1) * (2 * w))
+    go (inl e) =
+        let from : 2 * h * w < l = subst (λ x. x * w < l) e some in
+        let to : l < (2 * h + 1) * w = subst (λ x. l < (x + 1) * w) e all in
+        (omega arith, omega arith)
+    go (inr (inl below)) = absurd (omega arith)
+    go (inr (inr above)) =
+        let e : n ≡ 2 * h + 1 = omega arith in
+        let from : (2 * h + 1) * w < l = subst (λ x. x * w < l) e some in
+        let to : l < (2 * h + 1 + 1) * w = subst (λ x. l < (x + 1) * w) e all in
+        (omega arith, omega arith)
+
+-- the lines that have no column yet get one
+completes : (columns more : List Column) (w l : ℕ) → length columns * w < l → l ≤ (length columns + 1) * w
+    → ((i : ℕ) (column : Column) → slice_get columns i ≡ Some column → column.line ≡ (i + 1) * w)
+    → length more ≡ length columns + 1 → ((i : ℕ) → i < length columns → slice_get more i ≡ slice_get columns i)
+    → ((column : Column) → slice_get more (length columns) ≡ Some column → column.line ≡ l)
+    → IsComplete more w l
+completes columns more w l some all each one before last = record {
+  all = rw one all;
+  few = rw one (omega arith);
+  each = λ i column there. go i column there (cases_order i (length columns));
+}
+  where
+    go : (i : ℕ) (column : Column) → slice_get more i ≡ Some column → (i ≡ length columns) ⊎ ((i < length columns) ⊎ (length columns < i))
+        → column.line ≡ min ((i + 1) * w) l
+    go i column there (inl e) =
+        let at : column.line ≡ l = last column (subst (λ j. slice_get more j ≡ Some column) e there) in
+        let most : l ≤ (i + 1) * w = subst (λ j. l ≤ (j + 1) * w) (sym e) all in
+        omega (arith, at, most)
+    go i column there (inr (inl below)) =
+        let at : column.line ≡ (i + 1) * w = each i column (sym (before i below) ∙ there) in
+        let within : i + 1 ≤ length columns = omega arith in
+        let most : (i + 1) * w ≤ length columns * w = mul-le-mul_right w within in
+        omega (arith, at, most, some)
+    go i column there (inr (inr above)) = absurd (omega (arith, slice_get_within more i column there))
+
 -- of equal numbers
 pub moved : (columns : List Column) (w w' l l' : ℕ) → w' ≡ w → l' ≡ l → IsEven columns w l → IsEven columns w' l'
 moved columns w w' l l' e e' even = subst (λ x. IsEven columns x l') (sym e) (subst (IsEven columns w) (sym e') even)
+
+pub completed : (columns : List Column) (w w' l l' : ℕ) → w' ≡ w → l' ≡ l → IsComplete columns w l → IsComplete columns w' l'
+completed columns w w' l l' e e' complete = subst (λ x. IsComplete columns x l') (sym e) (subst (IsComplete columns w) (sym e') complete)
 
 module _ (columns : List Column) (w l : ℕ) (even : IsEven columns w l) where
   pos : 0 < w
@@ -102,3 +156,43 @@ module _ (columns : List Column) (w l : ℕ) (even : IsEven columns w l) where
     where
       is : l + 1 ≡ (length columns + 1) * w
       is = next_multiple (length columns) w l even.some even.all zero
+
+  -- the trace ends at a line that has a column
+  pub ends_even : l % w ≡ 0 → IsComplete columns w l
+  ends_even zero =
+      let is : l ≡ length columns * w = last_multiple (length columns) w l pos even.some even.all zero in record {
+        all = omega (arith, is);
+        few = omega (arith, is, pos);
+        each = λ i column there.
+            let at : column.line ≡ (i + 1) * w = even.each i column there in
+            let within : i + 1 ≤ length columns = omega (arith, slice_get_within columns i column there) in
+            let most : (i + 1) * w ≤ length columns * w = mul-le-mul_right w within in
+            omega (arith, at, most, is);
+      }
+
+  -- it ends at one that has none, so that some lines are left
+  some_left : l % w ≢ 0 → length columns * w < l
+  some_left other =
+      let same : length columns * w ≡ l → ⊥ = λ e. other (ap (λ x. x % w) (sym e) ∙ mul-mod_left (length columns) w) in
+      omega (arith, even.some, same)
+
+  -- they get a column
+  pub ends_after : l % w ≢ 0 → (more : List Column) → length more ≡ length columns + 1
+      → ((i : ℕ) → i < length columns → slice_get more i ≡ slice_get columns i)
+      → ((column : Column) → slice_get more (length columns) ≡ Some column → column.line ≡ l)
+      → IsComplete more w l
+  ends_after other more = completes columns more w l (some_left other) (omega (arith, even.all)) even.each
+
+  -- or every second column is given up first
+  pub ends_halved : l % w ≢ 0 → (half more : List Column) → length half ≡ length columns / 2
+      → ((i : ℕ) → i < length half → slice_get half i ≡ slice_get columns (2 * i + 1))
+      → length more ≡ length half + 1 → ((i : ℕ) → i < length half → slice_get more i ≡ slice_get half i)
+      → ((column : Column) → slice_get more (length half) ≡ Some column → column.line ≡ l)
+      → IsComplete more (2 * w) l
+  ends_halved other half more few second =
+      let reach : (length half * (2 * w) < l) × (l ≤ (length half + 1) * (2 * w)) =
+      half_within (length columns) (length half) w l (some_left other) even.all few in
+      completes half more (2 * w) l reach.0 reach.1
+      (λ i column there.
+      let e : column.line ≡ (2 * i + 1 + 1) * w = even.each (2 * i + 1) column (sym (second i (slice_get_within half i column there)) ∙ there) in
+      omega (arith, e))

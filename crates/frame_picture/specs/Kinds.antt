@@ -2,7 +2,7 @@
 use Rattle.std.specs.Prelude.{ℕ}
 use Rattle.kernel_core.specs.declared.frames.FrameKind.{FrameKind}
 
--- where a kind stands among all kinds
+-- the rank of a kind among all kinds
 abbrev pub rank_of : FrameKind → ℕ
 rank_of FrameKind.Page = 0
 rank_of FrameKind.Full = 1

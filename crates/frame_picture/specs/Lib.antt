@@ -1,8 +1,11 @@
+pub mod Bounds
 pub mod Kinds
 pub mod Columns
+pub mod Grids
 pub mod Histories
 pub mod Rectangles
 pub mod Rows
+pub mod Slots
 pub mod Stacks
 pub mod Tones
 pub mod Owned

@@ -1,7 +1,25 @@
--- What is drawn below the rows of a tenant's band in a column: free frames by the order of their blocks, and refusals.
-use Rattle.std.specs.Prelude.{ℕ, zero, suc, ◌+◌, ◌-◌, ◌*◌, ◌^◌, List, slice_get, slice_index, slice_index_or, Option, Some, None}
+-- What is drawn of a tenant beside and below the rows of its band: its figures, its free frames by the order of their blocks, and
+-- its refusals.
+use Rattle.std.specs.Prelude.{ℕ, zero, suc, ◌+◌, ◌-◌, ◌*◌, ◌^◌, List, replicate, slice_get, slice_index, slice_index_or, Option, Some, None}
 use Rattle.frame_picture.specs.declared.history.Column.{Column}
 use Rattle.frame_picture.specs.declared.history.Figures.{Figures}
+
+-- no frame is held
+abbrev pub empty_figures : Figures
+empty_figures = record { held = 0; taken = 0; free = replicate 9 0 }
+
+-- what tenant t has of frames in a column, if it is there
+abbrev pub column_figures : ℕ → Option Column → Figures
+column_figures t None = empty_figures
+column_figures t (Some column) = slice_index_or column.figures.items t empty_figures
+
+-- in column n; none where there is no column
+abbrev pub figures_in_column : List Column → ℕ → ℕ → Figures
+figures_in_column columns t n = column_figures t (slice_get columns n)
+
+-- how many of them are taken
+abbrev pub taken_in_column : List Column → ℕ → ℕ → ℕ
+taken_in_column columns t n = (figures_in_column columns t n).taken
 
 -- how many frames lie in the free blocks of n orders from k on, where there are so many of each order
 abbrev pub frames_of_orders : List ℕ → ℕ → ℕ → ℕ

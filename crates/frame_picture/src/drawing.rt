@@ -1,4 +1,4 @@
-//! What each row of a column is drawn as.
+//! The tones of the rows of a column.
 
 ghost use Rattle.std.specs.Prelude.{◌≡◌, ℕ, ◌+◌, ◌-◌, ◌^◌, ◌<◌, ◌≤◌, ◌==◌, List, Some, min, length, take, count_by, slice_get, slice_index, slice_index_or};
 ghost use Rattle.frame_picture.specs.Kinds.{rank_of};
@@ -14,34 +14,34 @@ use crate::kinds::{KINDS, TAKEN_KINDS, of_rank, rank};
 use crate::owned::OwnSheets;
 use kernel_core::FrameKind;
 
-/// A band has at most this many rows.
+/// The largest number of rows of a band.
 pub const MOST_ROWS: usize = 256;
 
-/// What a row is drawn as.
-#[derive(Clone, Copy)]
+/// The tone of a row.
+#[derive(Clone, Copy, Debug)]
 pub struct Tone {
-    /// The kind of most of its taken frames; where none is taken, free or not held.
+    /// The kind of most of its taken frames. If none is taken, free or not held.
     pub kind: FrameKind,
-    /// How many quarters of its frames are taken, rounded up: 0 to 4.
+    /// The taken share of its frames in quarters, rounded up: 0 to 4.
     pub quarters: u8,
 }
 
 impl Tone {
-    /// What a row is drawn as of which nothing is held.
+    /// The tone of a row in which nothing is held.
     pub const NOT_HELD: Tone = Tone {
         kind: FrameKind::NotHeld,
         quarters: 0,
     };
 }
 
-/// Whether a row that is drawn as `cell` is drawn as `tone`.
+/// Returns true if the tones are equal.
 pub fn is_tone(tone: Tone, cell: Tone) -> bool
     ensures { result ≡ is_tone tone cell }
 {
     rank(cell.kind) == rank(tone.kind) && cell.quarters == tone.quarters
 }
 
-/// Sets the rows of tenant `t` in as many of the columns as there are cells for.
+/// Sets the tones of tenant `t`'s rows in the first columns, as many as there are cells for.
 pub fn set_cells(cells: &mut [[Tone; MOST_ROWS]], columns: &[Column], t: u8, grid: Grid)
     ensures { (at row : ℕ) (column : Column) (rows : List Tone) → slice_get columns.now at ≡ Some column → slice_get cells.new at ≡ Some rows
         → row < 256 → row < grid.rows → IsRowTone column t grid row (slice_index_or rows row not_held) }
@@ -54,7 +54,7 @@ pub fn set_cells(cells: &mut [[Tone; MOST_ROWS]], columns: &[Column], t: u8, gri
     }
 }
 
-/// Sets the rows of tenant `t` in a column.
+/// Sets the tones of tenant `t`'s rows in a column.
 fn set_rows(rows: &mut [Tone; MOST_ROWS], column: &Column, own: &OwnSheets, t: u8, grid: Grid)
     requires { IsOwn t column.now.sheets.items own.now }
     ensures { (row : ℕ) → row < 256 → row < grid.rows → IsRowTone column.now t grid row (slice_index_or rows.new row not_held) }
@@ -64,7 +64,7 @@ fn set_rows(rows: &mut [Tone; MOST_ROWS], column: &Column, own: &OwnSheets, t: u
     }
 }
 
-/// What a row is drawn as, if it is shown.
+/// Returns the tone of a row.
 fn row_tone(column: &Column, own: &OwnSheets, t: u8, grid: Grid, row: u32) -> Tone
     requires { IsOwn t column.now.sheets.items own.now }
     ensures { row < grid.rows → IsRowTone column.now t grid row result }
@@ -77,7 +77,7 @@ fn row_tone(column: &Column, own: &OwnSheets, t: u8, grid: Grid, row: u32) -> To
     tone_of(&counts, frames.end - frames.start)
 }
 
-/// How many frames of a row have each kind; those that the column doesn't show are not held.
+/// Returns the number of a row's frames of each kind. Frames that the column does not show are not held.
 fn row_counts(column: &Column, own: &OwnSheets, t: u8, grid: Grid, row: u32) -> [usize; KINDS]
     requires row { row < grid.rows }
     requires own { IsOwn t column.now.sheets.items own.now }
@@ -101,7 +101,7 @@ fn row_counts(column: &Column, own: &OwnSheets, t: u8, grid: Grid, row: u32) -> 
     counts
 }
 
-/// What a row of so many frames is drawn as, of which so many have each kind.
+/// Returns the tone of a row with these numbers of frames of each kind.
 fn tone_of(counts: &[usize; KINDS], frames: u32) -> Tone
     requires { 0 < frames }
     ensures most { IsMostCommon (drawn_kinds (taken_cells (slice_index counts.now))) (slice_index counts.now) (rank_of result.kind) }
@@ -118,7 +118,7 @@ fn tone_of(counts: &[usize; KINDS], frames: u32) -> Tone
     }
 }
 
-/// How many quarters of so many frames are taken, rounded up.
+/// Returns the taken share of a number of frames in quarters, rounded up.
 fn quarters_of(taken: usize, frames: u32) -> u8
     requires { 0 < frames }
     ensures { result ≡ quarters_of taken frames }
@@ -127,7 +127,7 @@ fn quarters_of(taken: usize, frames: u32) -> u8
     (4 * taken).div_ceil(u64::from(frames)).min(4) as u8
 }
 
-/// How many of tenant `t`'s frames from `first` on, and below `end`, the sheets show of each kind, and how many together.
+/// Counts tenant `t`'s frames from `first` up to `end` that the sheets show: of each kind, and together.
 fn count_kinds(
     sheets: &[Sheet],
     own: &OwnSheets,
@@ -152,7 +152,7 @@ fn count_kinds(
     (counts, shown)
 }
 
-/// The same of the sheets that are listed.
+/// The same for the listed sheets.
 fn count_listed(
     sheets: &[Sheet],
     own: &OwnSheets,
@@ -178,7 +178,7 @@ fn count_listed(
     (counts, shown)
 }
 
-/// The cells of tenant `t`'s frames from `first` on, and below `end`, that a sheet shows.
+/// Returns the cells of tenant `t`'s frames from `first` up to `end` that a sheet shows.
 fn cells_of(sheet: &Sheet, t: u8, order: u32, first: u32, end: u32) -> &[FrameKind]
     requires order { order ≤ 8 }
     requires rising { first ≤ end }
@@ -197,7 +197,7 @@ fn cells_of(sheet: &Sheet, t: u8, order: u32, first: u32, end: u32) -> &[FrameKi
     &cells[from..to]
 }
 
-/// Counts cells by their kinds, and together.
+/// Counts cells, of each kind and together.
 fn count_cells(cells: &[FrameKind], counts: &mut [usize; KINDS], shown: &mut usize)
     ensures kinds { (k : ℕ) → k < 6 → slice_index counts.old k + length cells.now < 2 ^ 64
         → slice_index counts.new k ≡ slice_index counts.old k + count_by (λ cell. rank_of cell == k) cells.now }
@@ -210,7 +210,7 @@ fn count_cells(cells: &[FrameKind], counts: &mut [usize; KINDS], shown: &mut usi
     *shown = shown.saturating_add(cells.len());
 }
 
-/// Where the greatest of the first counts stands, of several the first.
+/// Returns the index of the greatest of the first `kinds` counts, of several the first.
 fn greatest_at(counts: &[usize; KINDS], kinds: usize) -> usize
     requires some { 0 < kinds }
     requires all { kinds ≤ KINDS }

@@ -1,25 +1,23 @@
-//! Which frames the rows of a tenant's band stand for.
+//! The frames that the rows of a tenant's band show.
 
-ghost use Rattle.std.specs.Prelude.{◌≡◌, ℕ, ◌+◌, ◌*◌, ◌^◌, ◌<◌, ◌≤◌, min, Some, slice_get, MatchOption};
+ghost use Rattle.std.specs.Prelude.{◌≡◌, ℕ, ◌+◌, ◌*◌, ◌^◌, ◌<◌, ◌≤◌, max, min, MatchOption};
 ghost use Rattle.std.specs.Int.{div_ceil};
-ghost use Rattle.model_core.specs.declared.owner.Owner.{Owner};
-ghost use Rattle.frame_picture.specs.declared.history.Column.{Column};
-ghost use Rattle.frame_picture.specs.declared.history.Sheet.{Sheet};
-ghost use Rattle.frame_picture.specs.Histories.{columns_of};
+ghost use Rattle.frame_picture.specs.Bounds.{IsGreatest, IsLeastPower};
+ghost use Rattle.frame_picture.specs.Slots.{IsAbove, IsSheetOf, HasSlot};
 
 use crate::history::{Column, History, Sheet};
 use std::ops::Range;
 
-/// Which frames the rows of a band stand for.
-#[derive(Clone, Copy, PartialEq, Eq)]
+/// The frames that the rows of a band show.
+#[derive(Clone, Copy, Debug, PartialEq, Eq)]
 pub struct Grid {
     /// A superblock has `2^order` frames.
     pub order: u32,
-    /// How many frames are shown: those of the slots up to the greatest that was ever held, and of one slot at least.
+    /// The number of frames shown: those of the slots up to the greatest that was ever held, and of at least one slot.
     pub frames: u32,
-    /// How many frames a row has, a power of two; the last row may have fewer.
+    /// The number of frames of a row, a power of two. The last row may have fewer.
     pub frames_per_row: u32,
-    /// How many rows there are.
+    /// The number of rows.
     pub rows: u32,
     ghost small: { order ≤ 8 },
     ghost some: { 0 < frames_per_row },
@@ -27,14 +25,12 @@ pub struct Grid {
 }
 
 impl Grid {
-    /// The rows of tenant `t`, at most `most_rows`.
+    ghost use Rattle.frame_picture.specs.Grids.{IsGridOf};
+
+    /// Returns the rows of tenant `t`, at most `most_rows`.
     pub fn of(history: &History, t: u8, most_rows: u32) -> Grid
         requires { 0 < most_rows }
-        ensures order { result.order ≡ history.now.order }
-        ensures few { result.rows ≤ most_rows }
-        ensures held { (i s : ℕ) (column : Column) (sheet : Sheet) (owner : Owner) → slice_get (columns_of history.now) i ≡ Some column
-            → slice_get column.sheets.items s ≡ Some sheet → sheet.owner ≡ Some owner → owner.tenant ≡ t
-            → (owner.slot + 1) * 2 ^ history.now.order ≤ result.frames }
+        ensures { IsGridOf history.now t most_rows result }
     {
         let order = history.order();
         let mut slots = 1;
@@ -51,7 +47,7 @@ impl Grid {
         }
     }
 
-    /// The frames of a row: the first one, and the number above the last one.
+    /// Returns the frames of a row: the first one, and the number above the last one.
     pub fn frames_of(self, row: u32) -> Range<u32>
         requires { row < self.rows }
         ensures start { result.start ≡ row * self.frames_per_row }
@@ -62,13 +58,13 @@ impl Grid {
         start..start.saturating_add(self.frames_per_row).min(self.frames)
     }
 
-    /// How many slots lie from one mark to the next where there are at most so many marks, the first one at slot 0: the least
-    /// power of two; where 2^15 are too few there is one mark alone.
+    /// Returns the distance in slots between marks, if there are at most `most_marks`, the first one at slot 0: the least power of
+    /// two. If 2^15 is too few, there is only one mark.
     pub fn slots_between(self, most_marks: u32) -> u32
         requires { 0 < most_marks }
         ensures some { 0 < result }
         ensures all { self.frames ≤ most_marks * (result * 2 ^ self.order) }
-        ensures least { (k : ℕ) → k < 16 → self.frames ≤ most_marks * (2 ^ k * 2 ^ self.order) → result ≤ 2 ^ k }
+        ensures least { IsLeastPower (λ slots. self.frames ≤ most_marks * (slots * 2 ^ self.order)) (max self.frames 1) result }
     {
         for power in 0..16u32 {
             let between = 1 << power;
@@ -81,7 +77,7 @@ impl Grid {
         self.frames.max(1)
     }
 
-    /// The first frame of a slot, if it is shown.
+    /// Returns the first frame of a slot, if it is shown.
     pub fn slot_start(self, slot: u32) -> Option<u32>
         ensures { MatchOption result (self.frames ≤ slot * 2 ^ self.order)
             (λ frame. (frame ≡ slot * 2 ^ self.order) × (frame < self.frames)) }
@@ -95,11 +91,12 @@ impl Grid {
     }
 }
 
-/// The least power of two by which so many frames make at most `most_rows` rows; more than 2^15 in a row all share one.
+/// Returns the least power of two such that `frames` frames make at most `most_rows` rows. If 2^15 is too few, all are one row.
 fn frames_per_row(frames: u32, most_rows: u32) -> u32
     requires { 0 < most_rows }
     ensures some { 0 < result }
     ensures few { div_ceil frames result ≤ most_rows }
+    ensures least { IsLeastPower (λ size. div_ceil frames size ≤ most_rows) (max frames 1) result }
 {
     for power in 0..16u32 {
         let frames_per_row = 1 << power;
@@ -110,7 +107,7 @@ fn frames_per_row(frames: u32, most_rows: u32) -> u32
     frames.max(1)
 }
 
-/// How many rows so many frames make.
+/// Returns the number of rows of a number of frames.
 fn rows_up_to(frames: u32, frames_per_row: u32) -> u32
     requires { 0 < frames_per_row }
     ensures { result ≡ div_ceil frames frames_per_row }
@@ -118,11 +115,10 @@ fn rows_up_to(frames: u32, frames_per_row: u32) -> u32
     frames.div_ceil(frames_per_row)
 }
 
-/// The number above the greatest slot that tenant `t` holds in a column.
+/// Returns the number above the greatest slot that tenant `t` holds in a column, 0 if it holds none.
 fn slots_in(column: &Column, t: u8) -> u32
     ensures few { result ≤ 2 ^ 16 }
-    ensures above { (s : ℕ) (sheet : Sheet) (owner : Owner) → slice_get column.now.sheets.items s ≡ Some sheet
-        → sheet.owner ≡ Some owner → owner.tenant ≡ t → owner.slot < result }
+    ensures greatest { IsGreatest (IsAbove (λ slot. HasSlot t slot column.now)) 0 result }
 {
     let mut slots = 0;
     for sheet in &column.sheets {
@@ -131,10 +127,10 @@ fn slots_in(column: &Column, t: u8) -> u32
     slots
 }
 
-/// The number above the slot of a sheet, if tenant `t` holds it, else 0.
+/// Returns the number above the slot of a sheet if tenant `t` holds it, else 0.
 fn slots_up_to(sheet: &Sheet, t: u8) -> u32
     ensures few { result ≤ 2 ^ 16 }
-    ensures above { (owner : Owner) → sheet.now.owner ≡ Some owner → owner.tenant ≡ t → result ≡ owner.slot + 1 }
+    ensures greatest { IsGreatest (IsAbove (λ slot. IsSheetOf t slot sheet.now)) 0 result }
 {
     if let Some(owner) = sheet.owner
         && owner.tenant == t

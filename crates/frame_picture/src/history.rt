@@ -1,6 +1,6 @@
-//! What a machine was like over the lines of a trace.
+//! The states of a machine over the lines of a trace.
 
-ghost use Rattle.std.specs.Prelude.{◌≡◌, ℕ, ◌+◌, ◌*◌, ◌/◌, ◌%◌, ◌^◌, ◌<◌, ◌≤◌, ◌⊎◌, IfOk, Option, Some, length, slice_get, slice_index, slice_set, vec_len};
+ghost use Rattle.std.specs.Prelude.{◌≡◌, ℕ, ◌+◌, ◌*◌, ◌/◌, ◌%◌, ◌^◌, ◌<◌, ◌≤◌, ◌⊎◌, min, IfOk, Option, Some, length, replicate, slice_get, slice_index, slice_set, vec_len};
 ghost use Rattle.model_core.specs.declared.limits.TheConstants.{MOST_ORDER, MOST_TENANTS};
 
 use crate::showing::{show_figures, show_refused, show_sheets};
@@ -8,64 +8,64 @@ use kernel_core::{FrameKind, Kernel};
 use model_core::owner::Owner;
 use std::alloc::{AllocError, Global};
 
-/// A history should have at most so many columns, so that what is kept of them is never more than the machine's own memory.
+/// The largest number of columns. With it a history never takes more than the machine's own memory.
 pub const MOST_COLUMNS: u32 = 4096;
 
 /// A superblock at some time.
-#[derive(Drop)]
+#[derive(Debug, Drop)]
 pub struct Sheet {
     /// Its owner, if it has one.
     pub owner: Option<Owner>,
-    /// What each of its frames is, where it has an owner.
+    /// The kind of each of its frames, if it has an owner.
     pub cells: Vec<FrameKind>,
 }
 
-/// The greatest order of a block is 8.
+/// The number of orders of blocks, 0 to 8.
 pub const ORDERS: usize = 9;
 
-/// What a tenant has of frames, as a report tells it.
-#[derive(Clone, Copy)]
+/// A tenant's frames, as in its report.
+#[derive(Clone, Copy, Debug)]
 pub struct Figures {
-    /// How many frames its slots have.
+    /// The number of frames of its slots.
     pub held: u32,
-    /// How many of them lie in taken blocks.
+    /// The number of these in taken blocks.
     pub taken: u32,
-    /// By order, how many blocks are free.
+    /// The number of free blocks of each order.
     pub free: [u32; ORDERS],
 }
 
 /// The machine after some line.
-#[derive(Drop)]
+#[derive(Debug, Drop)]
 pub struct Column {
-    /// How many lines had been run.
+    /// The number of lines run before.
     pub line: u32,
-    /// By superblock.
+    /// The superblocks, by number.
     pub sheets: Vec<Sheet>,
-    /// By tenant: how many frames it has, and how many of them are free in blocks of which order.
+    /// The figures of each tenant.
     pub figures: Vec<Figures>,
-    /// By tenant: how many of its requests had been refused for want of frames.
+    /// For each tenant, the number of its requests refused so far for lack of frames.
     pub refused: Vec<u32>,
 }
 
-/// The machine after every so many lines of a trace, in columns of which there is a fixed number.
+/// The states of a machine over a trace, in a fixed number of columns, each with the same number of lines.
 ///
-/// How long the trace is isn't known before its end, and a pipe can't be read twice. So each line has a column of its own at
-/// first; and whenever all columns are used, every second one is given up, and those to come stand for twice as many lines.
-/// No memory is asked for once a history is made, however long the trace is.
-#[derive(Drop)]
+/// The length of the trace is unknown before its end, and a pipe cannot be read twice. So each line has its own column at first.
+/// Whenever all columns are in use, every second one is dropped, and later ones have twice as many lines. A history allocates
+/// nothing after it is made, for traces of any length.
+#[derive(Debug, Drop)]
 pub struct History {
     /// A superblock has `2^order` frames.
     order: u32,
     superblocks: u32,
     tenants: u32,
     columns: Vec<Column>,
-    /// By tenant: how many of its requests were refused for want of frames.
+    /// For each tenant, the number of its requests refused for lack of frames.
     refused: Vec<u32>,
-    /// How many of the columns are in use.
+    /// The number of columns in use.
     kept: usize,
-    /// How many lines a column stands for.
+    /// The number of lines of a column.
     width: u32,
-    /// How many lines have been run.
+    /// The number of lines run.
     lines: u32,
     ghost small: { order ≤ MOST_ORDER },
     ghost few: { tenants ≤ MOST_TENANTS },
@@ -76,14 +76,15 @@ pub struct History {
 impl History {
     ghost use Rattle.frame_picture.specs.declared.history.Column.{Column};
     ghost use Rattle.frame_picture.specs.Columns.{IsColumnAfter};
-    ghost use Rattle.frame_picture.specs.Histories.{drawn_order, superblocks_of, tenants_of, columns_of, most_columns_of, width_of, line_count, refusals_of, SameShape, IsEven};
+    ghost use Rattle.frame_picture.specs.Histories.{drawn_order, superblocks_of, tenants_of, columns_of, most_columns_of, width_of, line_count, refusals_of, SameShape, Doubles, IsEven, IsComplete};
 
-    /// No line has been run yet; there are at most so many columns.
+    /// Makes the history of a machine that has run no line, with at most `most_columns` columns.
     pub fn new(alloc: Global, kernel: &Kernel, most_columns: u32) -> Result<History, AllocError>
         ensures order { IfOk result (λ history. drawn_order history ≡ kernel.now.order) }
         ensures superblocks { IfOk result (λ history. superblocks_of history ≡ kernel.now.superblocks) }
         ensures tenants { IfOk result (λ history. tenants_of history ≡ kernel.now.tenants) }
         ensures most_columns { IfOk result (λ history. most_columns_of history ≡ most_columns) }
+        ensures refused { IfOk result (λ history. refusals_of history ≡ replicate kernel.now.tenants 0) }
         ensures lines { IfOk result (λ history. line_count history ≡ 0) }
         ensures width { IfOk result (λ history. width_of history ≡ 1) }
         ensures even { IfOk result (λ history. IsEven (columns_of history) (width_of history) (line_count history)) }
@@ -105,7 +106,7 @@ impl History {
         })
     }
 
-    /// A superblock of the machine has `2^order` frames.
+    /// Returns the order of a superblock, which has `2^order` frames.
     pub fn order(&self) -> u32
         ensures value { result ≡ drawn_order self.now }
         ensures small { result ≤ 8 }
@@ -113,14 +114,14 @@ impl History {
         self.order
     }
 
-    /// Returns how many superblocks the machine has.
+    /// Returns the number of superblocks of the machine.
     pub fn superblocks(&self) -> u32
         ensures value { result ≡ superblocks_of self.now }
     {
         self.superblocks
     }
 
-    /// How many tenants share the machine.
+    /// Returns the number of tenants that share the machine.
     pub fn tenants(&self) -> u32
         ensures value { result ≡ tenants_of self.now }
         ensures few { result ≤ 64 }
@@ -128,14 +129,14 @@ impl History {
         self.tenants
     }
 
-    /// How many columns there are at most.
+    /// Returns the largest number of columns.
     pub fn most_columns(&self) -> usize
         ensures { result ≡ most_columns_of self.now }
     {
         self.columns.len()
     }
 
-    /// The columns in use.
+    /// Returns the columns in use.
     pub fn columns(&self) -> &[Column]
         ensures all { result.now ≡ columns_of self.now }
         ensures fit { length result.now ≤ most_columns_of self.now }
@@ -143,7 +144,7 @@ impl History {
         &self.columns[..self.kept]
     }
 
-    /// How many lines a column stands for; the last one may stand for fewer.
+    /// Returns the number of lines of a column. The last one may have fewer.
     pub fn width(&self) -> u32
         ensures value { result ≡ width_of self.now }
         ensures some { 0 < result }
@@ -151,17 +152,18 @@ impl History {
         self.width
     }
 
-    /// How many lines have been run.
+    /// The number of lines run.
     pub fn lines(&self) -> u32
         ensures { result ≡ line_count self.now }
     {
         self.lines
     }
 
-    /// A request of tenant `t` was refused for want of frames, in the line that is run now.
+    /// Counts a request of tenant `t` that was refused for lack of frames, in the line that is run now.
     pub fn add_refusal(&mut self, t: u8)
-        ensures counted { slice_index (refusals_of self.old) t < u32.MAX
-            → refusals_of self.new ≡ slice_set (refusals_of self.old) t (slice_index (refusals_of self.old) t + 1) }
+        ensures counted { refusals_of self.new
+            ≡ slice_set (refusals_of self.old) t (min (slice_index (refusals_of self.old) t + 1) u32.MAX) }
+        ensures sizes { SameShape self.old self.new }
         ensures lines { line_count self.new ≡ line_count self.old }
         ensures width { width_of self.new ≡ width_of self.old }
         ensures columns { columns_of self.new ≡ columns_of self.old }
@@ -171,12 +173,15 @@ impl History {
         }
     }
 
-    /// One more line has been run, and the kernel stands after it.
+    /// Counts one more line, after which the kernel is in this state.
     pub fn add_line(&mut self, kernel: &Kernel)
         ensures counted { line_count self.old < u32.MAX → line_count self.new ≡ line_count self.old + 1 }
         ensures sizes { SameShape self.old self.new }
+        ensures refused { refusals_of self.new ≡ refusals_of self.old }
         ensures width { width_of self.old ≤ width_of self.new }
-        ensures full { (width_of self.new ≡ width_of self.old) ⊎ (length (columns_of self.old) ≡ most_columns_of self.old) }
+        // If this line gets a column and all are in use, the width doubles.
+        ensures full { (width_of self.new ≡ width_of self.old)
+            ⊎ ((line_count self.new % width_of self.old ≡ 0) × Doubles self.old self.new) }
         ensures even { line_count self.old < 2 ^ 30 → IsEven (columns_of self.old) (width_of self.old) (line_count self.old)
             → IsEven (columns_of self.new) (width_of self.new) (line_count self.new) }
         ensures shown { (i : ℕ) (column : Column) → slice_get (columns_of self.new) i ≡ Some column
@@ -190,12 +195,13 @@ impl History {
         }
     }
 
-    /// Where this line, the next one, is to have a column and all are used, every second one is given up.
+    /// Drops every second column if the next line, `line`, gets a column and all are in use.
     fn halve_if_full(&mut self, line: u32)
         ensures lines { line_count self.new ≡ line_count self.old }
         ensures sizes { SameShape self.old self.new }
+        ensures refused { refusals_of self.new ≡ refusals_of self.old }
         ensures width { width_of self.old ≤ width_of self.new }
-        ensures full { (width_of self.new ≡ width_of self.old) ⊎ (length (columns_of self.old) ≡ most_columns_of self.old) }
+        ensures full { (width_of self.new ≡ width_of self.old) ⊎ ((line % width_of self.old ≡ 0) × Doubles self.old self.new) }
         ensures shown { (i : ℕ) (column : Column) → slice_get (columns_of self.new) i ≡ Some column
             → (k : ℕ) × (slice_get (columns_of self.old) k ≡ Some column) }
         ensures even { line ≡ line_count self.old + 1 → line ≤ 2 ^ 30 → IsEven (columns_of self.old) (width_of self.old) (line_count self.old)
@@ -208,12 +214,17 @@ impl History {
         }
     }
 
-    /// The trace has ended: the lines that have no column yet get one.
+    /// Ends the history: the lines that have no column yet get one.
     pub fn end(&mut self, kernel: &Kernel)
         ensures lines { line_count self.new ≡ line_count self.old }
         ensures sizes { SameShape self.old self.new }
+        ensures refused { refusals_of self.new ≡ refusals_of self.old }
+        ensures done { line_count self.old % width_of self.old ≡ 0 → self.new ≡ self.old }
         ensures width { width_of self.old ≤ width_of self.new }
-        ensures full { (width_of self.new ≡ width_of self.old) ⊎ (length (columns_of self.old) ≡ most_columns_of self.old) }
+        ensures full { (width_of self.new ≡ width_of self.old) ⊎ Doubles self.old self.new }
+        ensures complete { 0 < most_columns_of self.old → line_count self.old ≤ 2 ^ 30
+            → IsEven (columns_of self.old) (width_of self.old) (line_count self.old)
+            → IsComplete (columns_of self.new) (width_of self.new) (line_count self.new) }
         ensures shown { (i : ℕ) (column : Column) → slice_get (columns_of self.new) i ≡ Some column
             → ((k : ℕ) × (slice_get (columns_of self.old) k ≡ Some column)) ⊎ IsColumnAfter kernel.now (line_count self.new) (refusals_of self.new) column }
     {
@@ -226,10 +237,11 @@ impl History {
         self.keep(kernel);
     }
 
-    /// Keeps what the kernel is like now, in the next column.
+    /// Stores the state of the kernel in the next column.
     fn keep(&mut self, kernel: &Kernel)
         ensures lines { line_count self.new ≡ line_count self.old }
         ensures sizes { SameShape self.old self.new }
+        ensures refused { refusals_of self.new ≡ refusals_of self.old }
         ensures width { width_of self.new ≡ width_of self.old }
         ensures one { length (columns_of self.old) < most_columns_of self.old → length (columns_of self.new) ≡ length (columns_of self.old) + 1 }
         ensures none { most_columns_of self.old ≤ length (columns_of self.old) → columns_of self.new ≡ columns_of self.old }
@@ -243,11 +255,12 @@ impl History {
         }
     }
 
-    /// Gives up every second column, the first one first: what is left stands for twice as many lines.
+    /// Drops every second column, from the first on. The remaining ones have twice as many lines.
     fn halve(&mut self)
         ensures lines { line_count self.new ≡ line_count self.old }
         ensures sizes { SameShape self.old self.new }
-        ensures width { width_of self.old < 2 ^ 31 → width_of self.new ≡ 2 * width_of self.old }
+        ensures refused { refusals_of self.new ≡ refusals_of self.old }
+        ensures width { width_of self.new ≡ min (2 * width_of self.old) u32.MAX }
         ensures wider { width_of self.old ≤ width_of self.new }
         ensures half { length (columns_of self.new) ≡ length (columns_of self.old) / 2 }
         ensures second { (i : ℕ) → i < length (columns_of self.new)
@@ -276,7 +289,7 @@ impl Column {
     ghost use Rattle.world_core.specs.World.{World};
     ghost use Rattle.frame_picture.specs.Columns.{IsColumnOf, IsColumnAfter};
 
-    /// A column that shows no machine yet.
+    /// Makes a column that shows no machine yet.
     fn new(alloc: Global, kernel: &Kernel) -> Result<Column, AllocError> {
         kernel.parts_agree();
         let mut sheets = Vec::with_capacity(alloc, kernel.superblocks() as usize)?;
@@ -294,7 +307,7 @@ impl Column {
         })
     }
 
-    /// Shows what the kernel is like now, after so many lines; by tenant so many requests were refused for want of frames.
+    /// Stores the state of the kernel after `line` lines, and each tenant's number of requests refused for lack of frames.
     fn show(&mut self, kernel: &Kernel, line: u32, refused: &[u32])
         ensures { IsColumnAfter kernel.now line refused.now self.new }
     {
@@ -303,7 +316,7 @@ impl Column {
         self.show_world(kernel);
     }
 
-    /// Shows what the kernel is like now.
+    /// Stores the state of the kernel.
     fn show_world(&mut self, kernel: &Kernel)
         ensures line { self.new.line ≡ self.old.line }
         ensures refused { self.new.refused ≡ self.old.refused }

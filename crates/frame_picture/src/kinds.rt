@@ -5,10 +5,10 @@ ghost use Rattle.frame_picture.specs.Kinds.{rank_of};
 
 use kernel_core::FrameKind;
 
-/// How many kinds of frames there are.
+/// The number of kinds of frames.
 pub const KINDS: usize = 6;
 
-/// The first so many are those of taken frames.
+/// The number of kinds of taken frames, which come first.
 pub const TAKEN_KINDS: usize = 4;
 
 /// All kinds.
@@ -21,7 +21,7 @@ pub const ALL: [FrameKind; KINDS] = [
     FrameKind::NotHeld,
 ];
 
-/// Where a kind stands among all kinds.
+/// Returns the index of a kind in `ALL`.
 pub fn rank(kind: FrameKind) -> usize
     ensures value { result ≡ rank_of kind }
     ensures within { result < KINDS }
@@ -36,7 +36,7 @@ pub fn rank(kind: FrameKind) -> usize
     }
 }
 
-/// The kind that stands there among all kinds.
+/// Returns the kind with this index in `ALL`.
 pub fn of_rank(rank: usize) -> FrameKind
     requires { rank < KINDS }
     ensures { rank_of result ≡ rank }

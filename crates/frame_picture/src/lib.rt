@@ -1,9 +1,8 @@
-//! What became of the frames of a machine over the lines of a trace, and what a picture shows of it.
+//! The states of a machine's frames over the lines of a trace, and the part of them that a picture shows.
 //!
-//! A [`history::History`] keeps what each frame is in its tenant's private machine, after every so many lines, in memory that
-//! is taken once. What is drawn of it is worked out here as values: the rows of a band ([`grid`]), what each row is drawn as in
-//! a column ([`rows`]), the rectangles of equal rows ([`rectangles`]) and what stands below them ([`stacks`]). `picture_svg`
-//! writes these values as text.
+//! A [`history::History`] has the kind of each frame at regular intervals of lines, in memory that is allocated once. This crate
+//! computes what is drawn of it as values: the rows of a band ([`grid`]), the tone of each row in a column ([`drawing`]), the
+//! rectangles of equal rows ([`rectangles`]) and the part below them ([`stacks`]). `picture_svg` writes these values as text.
 #![tactic(auto)]
 
 pub mod drawing;

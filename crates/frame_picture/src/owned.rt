@@ -7,16 +7,16 @@ ghost use Rattle.frame_picture.specs.Owned.{IsOwn};
 use crate::history::Sheet;
 use model_core::limits::MOST_SUPERBLOCKS;
 
-/// How many sheets of a tenant are listed at most: all, on a machine within its limits.
+/// The largest number of listed sheets of a tenant. On a machine within its limits these are all.
 pub const MOST_LISTED: usize = MOST_SUPERBLOCKS as usize;
 
 /// The indices of a tenant's sheets in a column, found once for all rows.
-#[derive(Drop)]
+#[derive(Debug, Drop)]
 pub struct OwnSheets {
-    /// The indices of the first of them, rising, and how many are listed.
+    /// The indices of the first of them, ascending, and the number of these.
     pub listed: [u16; MOST_LISTED],
     pub len: usize,
-    /// Sheets from this index on were not searched. On a machine within its limits there are none, or none of the tenant.
+    /// Sheets from this index on were not searched. On a machine within its limits there are none of the tenant.
     pub rest: usize,
 }
 
@@ -35,7 +35,7 @@ impl OwnSheets {
         ensures { IsOwn t sheets.now self.new }
     {
         let most = sheets.len().min(1 << 16);
-        // Counted apart, since a count in `self` would be written back after each sheet.
+        // A local count: one in `self` would be written back after each sheet.
         let (mut len, mut rest) = (0, 0);
         'sheets: while rest < most && len < MOST_LISTED {
             if is_of(&sheets[rest], t) {
@@ -49,7 +49,7 @@ impl OwnSheets {
     }
 }
 
-/// Whether a sheet is of tenant `t`.
+/// Returns true if tenant `t` owns the superblock of a sheet.
 fn is_of(sheet: &Sheet, t: u8) -> bool
     ensures { result ≡ false → (order first end : ℕ) → cells_in order t first end sheet.now ≡ [] }
 {

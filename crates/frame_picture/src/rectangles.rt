@@ -1,4 +1,4 @@
-//! Equal cells as rectangles: a run of rows of one tone that is the same in the columns beside.
+//! Joins equal cells to rectangles: a run of rows of one tone that is the same in adjacent columns.
 
 ghost use Rattle.std.specs.Prelude.{◌≡◌, ◌≢◌, ℕ, ◌+◌, ◌-◌, ◌<◌, ◌≤◌, length, drop, MatchOption, IfSome};
 ghost use Rattle.std.specs.List.{prefix_len};
@@ -7,20 +7,20 @@ ghost use Rattle.frame_picture.specs.Rectangles.{run_at, run_in, IsRectangle, Go
 use crate::drawing::{MOST_ROWS, Tone, is_tone};
 
 /// A rectangle of cells of one tone.
-#[derive(Clone, Copy, PartialEq, Eq)]
+#[derive(Clone, Copy, Debug, PartialEq, Eq)]
 pub struct Rectangle {
     /// Its first column.
     pub column: usize,
     /// Its lowest row.
     pub row: usize,
-    /// How many columns it has.
+    /// The number of its columns.
     pub columns: usize,
-    /// How many rows it has.
+    /// The number of its rows.
     pub rows: usize,
 }
 
-/// The rectangle of a tone that begins in a row and ends before column `end`, if there is one: its run of rows is the same in
-/// all its columns, and not in those beside it.
+/// Returns the rectangle of a tone that begins in a row and ends before column `end`, if there is one. Its run of rows is the same
+/// in all its columns, and differs in the columns beside it.
 pub fn rectangle_at(
     columns: &[[Tone; MOST_ROWS]],
     tone: Tone,
@@ -52,7 +52,7 @@ pub fn rectangle_at(
     })
 }
 
-/// How many rows from this one on are of the tone in a column, where the row below isn't; 0 elsewhere.
+/// Returns the number of rows of the tone from this one on in a column, if a run of the tone begins here, else 0.
 fn run_in(
     columns: &[[Tone; MOST_ROWS]],
     tone: Tone,
@@ -68,7 +68,7 @@ fn run_in(
     run_at(tone, &columns[column][..rows], row)
 }
 
-/// How many cells from this row on are of the tone, where the one below isn't; 0 elsewhere.
+/// Returns the number of cells of the tone from this row on, if a run of the tone begins here, else 0.
 fn run_at(tone: Tone, cells: &[Tone], row: usize) -> usize
     requires { row < length cells.now }
     ensures { result ≡ run_at tone cells.now row }

@@ -1,4 +1,4 @@
-//! What a kernel is like, put down.
+//! Stores the state of a kernel.
 
 ghost use Rattle.std.specs.Prelude.{◌≡◌, ℕ, ◌+◌, ◌*◌, ◌^◌, ◌<◌, ◌≤◌, Some, length, slice_get, slice_index};
 ghost use Rattle.world_core.specs.Vocabulary.{Owner, OrderRow, World};
@@ -14,7 +14,7 @@ use kernel_core::{FrameKind, Kernel};
 use model_core::owner::Owner;
 use model_core::report::OrderRow;
 
-/// Shows the owner and the frames of each superblock.
+/// Stores the owner and the frames of each superblock.
 pub fn show_sheets(sheets: &mut [Sheet], kernel: &Kernel)
     ensures owners { (w : World) (s : ℕ) (sheet : Sheet) → Shows kernel.now w → slice_get sheets.new s ≡ Some sheet
         → sheet.owner ≡ owner_at w.owners s }
@@ -27,7 +27,7 @@ pub fn show_sheets(sheets: &mut [Sheet], kernel: &Kernel)
     }
 }
 
-/// Shows a superblock of this owner.
+/// Stores a superblock of this owner.
 fn show_sheet(sheet: &mut Sheet, kernel: &Kernel, owner: Option<Owner>)
     ensures owner { sheet.new.owner ≡ owner }
     ensures cells { (w : World) → Shows kernel.now w → AreCells kernel.now.order w owner sheet.new.cells.items }
@@ -38,7 +38,7 @@ fn show_sheet(sheet: &mut Sheet, kernel: &Kernel, owner: Option<Owner>)
     }
 }
 
-/// Shows what the frames of a tenant's slot are.
+/// Stores the kinds of the frames of a tenant's slot.
 fn show_cells(cells: &mut [FrameKind], kernel: &Kernel, t: u8, slot: u16)
     ensures { (w : World) (m : Machine) (k : ℕ) (cell : FrameKind) → Shows kernel.now w → slice_get w.machines t ≡ Some m
         → slot * 2 ^ kernel.now.order + k < 2 ^ 32 → slice_get cells.new k ≡ Some cell
@@ -52,7 +52,7 @@ fn show_cells(cells: &mut [FrameKind], kernel: &Kernel, t: u8, slot: u16)
     show_beyond(cells, kernel, known, slot, 1usize << kernel.order());
 }
 
-/// Shows what the frames behind the first `from` of a tenant's slot are: there are none where each slot has as many cells as frames.
+/// Stores the kinds of a slot's frames behind the first `from`. There are none if each slot has as many cells as frames.
 fn show_beyond(cells: &mut [FrameKind], kernel: &Kernel, t: u8, slot: u16, from: usize)
     requires { t < kernel.now.tenants }
     ensures kept { (k : ℕ) → k < from → slice_get cells.new k ≡ slice_get cells.old k }
@@ -68,7 +68,7 @@ fn show_beyond(cells: &mut [FrameKind], kernel: &Kernel, t: u8, slot: u16, from:
     }
 }
 
-/// Shows the figures of each tenant.
+/// Stores the figures of each tenant.
 pub fn show_figures(figures: &mut [Figures], kernel: &Kernel)
     ensures { (w : World) (m : Machine) (t : ℕ) (own : Figures) → Shows kernel.now w → slice_get w.machines t ≡ Some m
         → slice_get figures.new t ≡ Some own → AreFigures kernel.now.order m own }
@@ -80,7 +80,7 @@ pub fn show_figures(figures: &mut [Figures], kernel: &Kernel)
     }
 }
 
-/// The figures of tenant `t`, as a report tells them.
+/// Returns the figures of tenant `t`, as in its report.
 fn figures_of(kernel: &Kernel, t: u32) -> Figures
     ensures { (w : World) (m : Machine) → Shows kernel.now w → slice_get w.machines t ≡ Some m → AreFigures kernel.now.order m result }
 {
@@ -95,7 +95,7 @@ fn figures_of(kernel: &Kernel, t: u32) -> Figures
     }
 }
 
-/// How many blocks are free, by order.
+/// Returns the number of free blocks of each order.
 fn free_by_order(rows: &[OrderRow]) -> [u32; ORDERS]
     requires { length rows.now ≤ ORDERS }
     ensures { (k : ℕ) (row : OrderRow) → slice_get rows.now k ≡ Some row → slice_index result k ≡ row.free }
@@ -107,7 +107,7 @@ fn free_by_order(rows: &[OrderRow]) -> [u32; ORDERS]
     free
 }
 
-/// Shows how many requests were refused, by tenant.
+/// Stores the number of refused requests of each tenant.
 pub fn show_refused(shown: &mut [u32], refused: &[u32])
     ensures { (t count : ℕ) → slice_get shown.new t ≡ Some count → count ≡ slice_index refused.now t }
 {

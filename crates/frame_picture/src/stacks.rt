@@ -1,16 +1,14 @@
-//! What stands below the rows of a band: a tenant's free frames by the order of their blocks, and where it was refused some.
+//! The part below the rows of a band: a tenant's free frames by the order of their blocks, and the lines in which it was refused.
 
-ghost use Rattle.std.specs.Prelude.{◌≡◌, ◌≢◌, ◌-◌, ◌*◌, ◌^◌, ◌<◌, ◌≤◌, ℕ, Some, length, slice_get, MatchOption};
-ghost use Rattle.frame_picture.specs.declared.history.Column.{Column};
-ghost use Rattle.frame_picture.specs.declared.history.Figures.{Figures};
-ghost use Rattle.frame_picture.specs.Stacks.{frames_of_orders, free_in_column, free_before, refused_until, refused_before};
+ghost use Rattle.std.specs.Prelude.{◌≡◌, ◌≢◌, ◌-◌, ◌*◌, ◌^◌, ◌<◌, ◌≤◌, MatchOption, SomeIndex};
+ghost use Rattle.frame_picture.specs.Bounds.{IsGreatest};
+ghost use Rattle.frame_picture.specs.Stacks.{figures_in_column, taken_in_column, frames_of_orders, free_in_column, free_before, refused_until, refused_before};
 
 use crate::history::{Column, Figures, ORDERS};
 
-/// What tenant `t` has of frames in a column; nothing where there is none.
+/// Returns the figures of tenant `t` in a column, or `Figures::NONE` if there are none.
 pub fn figures_at(columns: &[Column], t: u8, column: usize) -> Figures
-    ensures { (at : Column) (figures : Figures) → slice_get columns.now column ≡ Some at → slice_get at.figures.items t ≡ Some figures
-        → result ≡ figures }
+    ensures { result ≡ figures_in_column columns.now t column }
 {
     match columns.get(column) {
         Some(column) => column
@@ -22,10 +20,9 @@ pub fn figures_at(columns: &[Column], t: u8, column: usize) -> Figures
     }
 }
 
-/// The most frames of tenant `t` that are taken in a column.
+/// Returns the largest number of taken frames of tenant `t` in a column, 0 without columns.
 pub fn most_taken(columns: &[Column], t: u8) -> u32
-    ensures all { (n : ℕ) (at : Column) (figures : Figures) → slice_get columns.now n ≡ Some at → slice_get at.figures.items t ≡ Some figures
-        → figures.taken ≤ result }
+    ensures { IsGreatest (λ frames. SomeIndex columns.now (λ n. taken_in_column columns.now t n ≡ frames)) 0 result }
 {
     let mut most = 0;
     for column in 0..columns.len() {
@@ -34,7 +31,7 @@ pub fn most_taken(columns: &[Column], t: u8) -> u32
     most
 }
 
-/// How many frames of tenant `t` lie in free blocks of this order and of greater ones, in a column.
+/// Returns the number of tenant `t`'s frames in free blocks of this order and above, in a column.
 pub fn free_at(columns: &[Column], t: u8, order: usize, column: usize) -> u64
     requires { order < ORDERS }
     ensures { result ≡ free_in_column columns.now t order column }
@@ -48,7 +45,7 @@ pub fn free_at(columns: &[Column], t: u8, order: usize, column: usize) -> u64
     }
 }
 
-/// How many frames lie in free blocks of this order and of greater ones.
+/// Returns the number of frames in free blocks of this order and above.
 fn free_from(figures: &Figures, order: usize) -> u64
     requires { order < ORDERS }
     ensures { result ≡ frames_of_orders figures.now.free order (9 - order) }
@@ -61,7 +58,7 @@ fn free_from(figures: &Figures, order: usize) -> u64
     frames
 }
 
-/// How many frames so many blocks of an order have.
+/// Returns the number of frames of a number of blocks of an order.
 fn frames_of_blocks(blocks: u32, order: usize) -> u64
     requires { order < ORDERS }
     ensures value { result ≡ blocks * 2 ^ order }
@@ -70,7 +67,7 @@ fn frames_of_blocks(blocks: u32, order: usize) -> u64
     u64::from(blocks) << order
 }
 
-/// How many they turn to where a column begins, if to another number than before; they begin at 0.
+/// Returns [`free_at`] of a column if it differs from that of the column before, which is 0 before the first.
 pub fn turn_at(columns: &[Column], t: u8, order: usize, column: usize) -> Option<u64>
     requires { order < ORDERS }
     ensures { MatchOption result (free_in_column columns.now t order column ≡ free_before columns.now t order column)
@@ -85,10 +82,9 @@ pub fn turn_at(columns: &[Column], t: u8, order: usize, column: usize) -> Option
     if frames == before { None } else { Some(frames) }
 }
 
-/// The most frames of tenant `t` that are free in a column, or 1.
+/// Returns the largest number of free frames of tenant `t` in a column, but at least 1.
 pub fn most_free(columns: &[Column], t: u8) -> u64
-    ensures some { 0 < result }
-    ensures all { (n : ℕ) → n < length columns.now → free_in_column columns.now t 0 n ≤ result }
+    ensures { IsGreatest (λ frames. SomeIndex columns.now (λ n. free_in_column columns.now t 0 n ≡ frames)) 1 result }
 {
     let mut most = 1;
     for column in 0..columns.len() {
@@ -97,7 +93,7 @@ pub fn most_free(columns: &[Column], t: u8) -> u64
     most
 }
 
-/// How many requests of tenant `t` were refused for want of frames in the lines of a column.
+/// Returns the number of requests of tenant `t` refused for lack of frames in the lines of a column.
 pub fn refused_in(columns: &[Column], t: u8, column: usize) -> u32
     ensures { result ≡ refused_until columns.now t column - refused_before columns.now t column }
 {
@@ -109,7 +105,7 @@ pub fn refused_in(columns: &[Column], t: u8, column: usize) -> u32
     refused_at(columns, t, column).saturating_sub(before)
 }
 
-/// How many had been refused up to a column.
+/// Returns the number of those refused up to a column.
 pub fn refused_at(columns: &[Column], t: u8, column: usize) -> u32
     ensures { result ≡ refused_until columns.now t column }
 {

@@ -1,12 +1,12 @@
-use Rattle.std.proofs.Common.{◌≡◌, ℕ, ◌^◌, ◌<◌, ◌≤◌, Some, slice_get}
-use Rattle.model_core.specs.declared.owner.Owner.{Owner}
-use Rattle.frame_picture.specs.declared.history.Sheet.{Sheet}
+use Rattle.std.proofs.Common.{◌^◌, ◌≤◌}
+use Rattle.frame_picture.specs.Bounds.{IsGreatest}
+use Rattle.frame_picture.specs.Slots.{IsAbove, IsSheetOf}
+use Rattle.frame_picture.proofs.SlotLemmas.{AnyBefore}
 use Rattle.frame_picture.proofs.grid.slots_in.Given as goal
 
--- above the slots so far
+-- of the sheets so far
 abbrev pub invariant-loop-sheet : goal.invariant-loop-sheet
 invariant-loop-sheet l = record {
   few : l.slots ≤ 2 ^ 16;
-  above : (s : ℕ) (sheet : Sheet) (owner : Owner) → s < l.sheet-index → slice_get l.column.sheets.items s ≡ Some sheet
-      → sheet.owner ≡ Some owner → owner.tenant ≡ l.t → owner.slot < l.slots;
+  greatest : IsGreatest (IsAbove (λ slot. AnyBefore (IsSheetOf l.t slot) l.column.sheets.items l.sheet-index)) 0 l.slots;
 }

@@ -31,7 +31,7 @@ returns-then-line-self-eq0-clause-shown c = λ i column there.
         → ((k : ℕ) × (slice_get (columns_of c.args.self.now) k ≡ Some column)) ⊎ IsColumnAfter c.args.kernel.now (line_count c.keep.new.self) (refusals_of c.keep.new.self) column
     told column (inl old) = inl (c.halve_if_full.ensures.shown old.0 column old.1)
     told column (inr new) = inr (subst (λ lines. IsColumnAfter c.args.kernel.now lines (refusals_of c.keep.new.self) column) (sym c.keep.ensures.lines)
-        (subst (λ refused. IsColumnAfter c.args.kernel.now c.saturating_add-line.result refused column) (sym c.keep.ensures.sizes.refused) new))
+        (subst (λ refused. IsColumnAfter c.args.kernel.now c.saturating_add-line.result refused column) (sym c.keep.ensures.refused) new))
 
 pub returns-else-line-self-eq0-clause-even : goal.returns-else-line-self-eq0-clause-even
 returns-else-line-self-eq0-clause-even c = λ small even.

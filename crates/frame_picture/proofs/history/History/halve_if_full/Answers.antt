@@ -10,5 +10,5 @@ returns-then-self-len-clause-even c = λ next small even.
     let due : (line_count c.args.self.now + 1) % width ≡ 0 = subst (λ x. x % width ≡ 0) next c.if-line-self-eq0.true in
     let at : line_count c.args.self.now + 1 ≡ (count + 1) * width = next_multiple count width _ even.some even.all due in
     let fits : width < 2 ^ 31 = omega (arith, at, next, small) in
-    moved _ _ _ _ _ (c.halve.ensures.width fits) c.halve.ensures.lines
+    moved _ _ _ _ _ (omega (arith, c.halve.ensures.width, fits)) c.halve.ensures.lines
     (halves _ _ _ even due (columns_of c.halve.new.self) c.halve.ensures.half c.halve.ensures.second)
