@@ -1,7 +1,10 @@
 //! The picture of a trace, in SVG.
 
-ghost use Rattle.std.specs.Prelude.{◌≡◌, ◌+◌, ◌<◌, IfOk, IfSome, IfNone, vec_len};
+ghost use Rattle.std.specs.Prelude.{◌≡◌, ◌+◌, min, IfOk, IfSome, IfNone, option_copied};
+ghost use Rattle.frame_picture.specs.Grids.{IsGridOf};
 ghost use Rattle.frame_picture.specs.Histories.{most_columns_of, tenants_of};
+ghost use Rattle.picture_svg.specs.Pictures.{drawn_tenants, end_of_tenants, first_tenant, label_gap_of, most_columns_in, most_rows_of, IsPictureOf, IsSamePicture};
+ghost use Rattle.picture_svg.specs.Texts.{WritesText};
 
 use crate::svg::{HEAD, band_height, draw_band, draw_head, draw_opening};
 use frame_picture::drawing::{MOST_ROWS, Tone, set_cells};
@@ -15,7 +18,7 @@ use std::ops::Range;
 const TALL_BANDS: u32 = 4;
 
 /// Which tenants are drawn, and the cells of one band.
-#[derive(Drop)]
+#[derive(Debug, Drop)]
 pub struct Picture {
     /// The first tenant who is drawn, and the number above the last.
     first: u8,
@@ -28,9 +31,12 @@ pub struct Picture {
 impl Picture {
     /// A picture of a history, drawn when it is at its end: of the tenant `only`, or of all without it.
     pub fn new(alloc: Global, history: &History, only: Option<u8>) -> Result<Picture, AllocError>
-        ensures one { IfOk result (λ picture. IfSome only (λ t. t < 255 → (picture.first ≡ t) × (picture.end ≡ t + 1))) }
-        ensures all { IfOk result (λ picture. IfNone only ((picture.first ≡ 0) × (picture.end ≡ tenants_of history.now))) }
-        ensures cells { IfOk result (λ picture. vec_len picture.cells ≡ most_columns_of history.now) }
+        ensures one { IfOk result (λ picture. IfSome only
+            (λ t. (first_tenant picture ≡ t) × (end_of_tenants picture ≡ min (t + 1) u8.MAX))) }
+        ensures all { IfOk result (λ picture. IfNone only
+            ((first_tenant picture ≡ 0) × (end_of_tenants picture ≡ tenants_of history.now))) }
+        ensures columns { IfOk result (λ picture. most_columns_in picture ≡ most_columns_of history.now) }
+        ensures gap { IfOk result (λ picture. label_gap_of picture ≡ 0) }
     {
         let (first, end) = match only {
             Some(t) => (t, t.saturating_add(1)),
@@ -51,13 +57,18 @@ impl Picture {
         self.label_gap = pixels;
     }
 
-    /// Draws what became of the frames in the trace of this name, and flushes. Of a history with more columns than that of `new` the first are drawn.
+    /// Draws what became of the frames in the trace of this name, and flushes. Of a history with more columns than that of `new`
+    /// the first are drawn.
     pub fn draw<W: Write>(
         &mut self,
         history: &History,
         name: Option<&str>,
         out: &mut W,
-    ) -> io::Result<()> {
+    ) -> io::Result<()>
+        ensures kept { IsSamePicture self.old self.new }
+        ensures drawn { WritesText result (W.contents out.old) (W.contents out.new)
+            (IsPictureOf self.old history.now (option_copied name.entry)) }
+    {
         let mut height = HEAD;
         for t in self.first..self.end {
             height = height.saturating_add(band_height(self.grid(history, t)));
@@ -78,7 +89,9 @@ impl Picture {
     }
 
     /// The rows of a tenant's band.
-    fn grid(&self, history: &History, t: u8) -> Grid {
+    fn grid(&self, history: &History, t: u8) -> Grid
+        ensures { IsGridOf history.now t (most_rows_of (drawn_tenants self.now)) result }
+    {
         let bands = u32::from(self.end.saturating_sub(self.first)).max(TALL_BANDS);
         let most_rows = TALL_BANDS * MOST_ROWS as u32 / bands;
         Grid::of(history, t, most_rows)

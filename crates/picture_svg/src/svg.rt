@@ -1,6 +1,15 @@
 //! The text of a picture, in SVG: what the other modules work out, each value where it stands.
 
-ghost use Rattle.std.specs.Prelude.{◌<◌, ◌≤◌, length};
+ghost use Rattle.std.specs.Prelude.{◌≡◌, ◌+◌, ◌-◌, ◌*◌, ◌/◌, ◌^◌, ◌<◌, ◌≤◌, ◌++◌, ℕ, List, ⊤, flat_map, length, option_copied};
+ghost use Rattle.std.specs.List.{range_with_len};
+ghost use Rattle.frame_picture.specs.declared.rectangles.Rectangle.{Rectangle};
+ghost use Rattle.frame_picture.specs.Histories.{columns_of, drawn_order, line_count, superblocks_of, width_of};
+ghost use Rattle.frame_picture.specs.Rectangles.{AreRectangles, CoverTone};
+ghost use Rattle.picture_svg.specs.Bands.{IsBand, IsFiguresText, IsStackText};
+ghost use Rattle.picture_svg.specs.Sizes.{band_height, row_height, rows_height};
+ghost use Rattle.picture_svg.specs.Texts.{WritesText, escaped, opening_text, rectangle_path, tenant_title, title_text};
+ghost use Rattle.picture_svg.specs.Cells.{class_of, AreRows, AreShadePaths, IsTonePath};
+ghost use Rattle.picture_svg.specs.Marks.{depth_class, layer_text, middle_of, refusals_text, scale_text, turn_text};
 
 use frame_picture::drawing::{MOST_ROWS, Tone};
 use frame_picture::grid::Grid;
@@ -89,7 +98,9 @@ struct Decimal {
 
 impl Decimal {
     /// `n` parts of `d`; none where `d` is 0.
-    fn ratio(n: u32, d: u64) -> Decimal {
+    fn ratio(n: u32, d: u64) -> Decimal
+        ensures { result.hundred_millionths ≡ n * 10 ^ 8 / d }
+    {
         Decimal {
             hundred_millionths: (u64::from(n) * 100_000_000).checked_div(d).unwrap_or(0),
         }
@@ -97,6 +108,11 @@ impl Decimal {
 }
 
 impl fmt::Display for Decimal {
+    ghost use Rattle.std.specs.Prelude.{Some};
+    ghost use Rattle.picture_svg.specs.Texts.{parts_text};
+
+    ghost output = { λ d. Some (parts_text d.hundred_millionths) };
+
     fn fmt<W: fmt::Write>(&self, f: &mut fmt::Formatter<W>) -> fmt::Result {
         let whole = self.hundred_millionths / 100_000_000;
         let rest = self.hundred_millionths % 100_000_000;
@@ -108,7 +124,9 @@ impl fmt::Display for Decimal {
 const SHADES: [(&str, u8); 4] = [(" one", 1), (" two", 2), (" three", 3), ("", 4)];
 
 /// The class of a kind of cells.
-fn class_of(cell: FrameKind) -> &'static str {
+fn class_of(cell: FrameKind) -> &'static str
+    ensures { result.now ≡ class_of cell }
+{
     match cell {
         FrameKind::NotHeld => "none",
         FrameKind::Free => "free",
@@ -132,7 +150,9 @@ fn name_of(cell: FrameKind) -> &'static str {
 }
 
 /// Draws the beginning of a picture of this height.
-pub fn draw_opening<W: Write>(out: &mut W, height: u32) -> io::Result<()> {
+pub fn draw_opening<W: Write>(out: &mut W, height: u32) -> io::Result<()>
+    ensures { WritesText result (W.contents out.old) (W.contents out.new) (λ text. text ≡ opening_text height) }
+{
     writeln!(
         out,
         "<svg xmlns=\"http://www.w3.org/2000/svg\" viewBox=\"0 0 {WHOLE_WIDTH} {height}\" width=\"{WHOLE_WIDTH}\" height=\"{height}\">"
@@ -145,7 +165,11 @@ pub fn draw_opening<W: Write>(out: &mut W, height: u32) -> io::Result<()> {
 }
 
 /// Draws the title and the legend; a trace that was read from standard input has no name.
-pub fn draw_head<W: Write>(out: &mut W, history: &History, name: Option<&str>) -> io::Result<()> {
+pub fn draw_head<W: Write>(out: &mut W, history: &History, name: Option<&str>) -> io::Result<()>
+    ensures { WritesText result (W.contents out.old) (W.contents out.new) (λ text. (legend : List ℕ)
+        × (text ≡ title_text (line_count history.now) (option_copied name.entry) (superblocks_of history.now)
+        (2 ^ drawn_order history.now) (width_of history.now) ++ legend)) }
+{
     let lines = history.lines();
     let width = history.width();
     let superblocks = history.superblocks();
@@ -167,7 +191,9 @@ pub fn draw_head<W: Write>(out: &mut W, history: &History, name: Option<&str>) -
 }
 
 /// Draws the legend of the frames: a colour for each kind, and for a refused request.
-fn draw_kinds<W: Write>(out: &mut W) -> io::Result<()> {
+fn draw_kinds<W: Write>(out: &mut W) -> io::Result<()>
+    ensures { WritesText result (W.contents out.old) (W.contents out.new) (λ _. ⊤) }
+{
     let mut x = LEFT;
     for cell in ALL {
         draw_swatch(out, x, 64, class_of(cell))?;
@@ -181,6 +207,7 @@ fn draw_kinds<W: Write>(out: &mut W) -> io::Result<()> {
 /// Draws the legend of the free frames: a colour for each order, the greatest one first.
 fn draw_orders<W: Write>(out: &mut W, order: usize) -> io::Result<()>
     requires { order < ORDERS }
+    ensures { WritesText result (W.contents out.old) (W.contents out.new) (λ _. ⊤) }
 {
     writeln!(
         out,
@@ -201,7 +228,9 @@ fn draw_orders<W: Write>(out: &mut W, order: usize) -> io::Result<()>
 }
 
 /// The class of free blocks whose order is so far below that of a superblock.
-fn depth_class(depth: usize) -> &'static str {
+fn depth_class(depth: usize) -> &'static str
+    ensures { result.now ≡ depth_class depth }
+{
     match depth {
         0 => "d0",
         1 => "d1",
@@ -216,7 +245,9 @@ fn depth_class(depth: usize) -> &'static str {
 }
 
 /// Writes a name as text of SVG. A control character, which no such text can hold, becomes a question mark.
-fn write_escaped<W: Write>(out: &mut W, name: &[u8]) -> io::Result<()> {
+fn write_escaped<W: Write>(out: &mut W, name: &[u8]) -> io::Result<()>
+    ensures { WritesText result (W.contents out.old) (W.contents out.new) (λ text. text ≡ flat_map escaped name.now) }
+{
     for byte in name {
         match *byte {
             b'&' => out.write_all(b"&amp;")?,
@@ -238,7 +269,9 @@ pub fn draw_band<W: Write>(
     cells: &[[Tone; MOST_ROWS]],
     top: u32,
     gap: u32,
-) -> io::Result<()> {
+) -> io::Result<()>
+    ensures { WritesText result (W.contents out.old) (W.contents out.new) (IsBand history.now t grid cells.now top gap) }
+{
     let height = rows_height(grid);
     let y = top.saturating_add(ABOVE);
     let bottom = y.saturating_add(height);
@@ -264,7 +297,9 @@ fn draw_rows<W: Write>(
     columns: &[[Tone; MOST_ROWS]],
     grid: Grid,
     foot: u32,
-) -> io::Result<()> {
+) -> io::Result<()>
+    ensures { WritesText result (W.contents out.old) (W.contents out.new) (AreRows columns.now grid foot) }
+{
     writeln!(
         out,
         "<g class=\"cells\" transform=\"translate({LEFT} {foot}) scale({} -{})\">",
@@ -288,7 +323,9 @@ fn draw_shades<W: Write>(
     kind: FrameKind,
     columns: &[[Tone; MOST_ROWS]],
     grid: Grid,
-) -> io::Result<()> {
+) -> io::Result<()>
+    ensures { WritesText result (W.contents out.old) (W.contents out.new) (AreShadePaths columns.now grid kind) }
+{
     let rows = MOST_ROWS.min(grid.rows as usize);
     for (shade, quarters) in SHADES {
         if quarters == 4 || grid.frames_per_row > 1 {
@@ -307,6 +344,7 @@ fn draw_tone<W: Write>(
     rows: usize,
 ) -> io::Result<()>
     requires { rows ≤ MOST_ROWS }
+    ensures { WritesText result (W.contents out.old) (W.contents out.new) (IsTonePath columns.now rows tone shade.now) }
 {
     write!(out, "<path class=\"{}{shade}\" d=\"", class_of(tone.kind))?;
     draw_cells(out, tone, columns, rows)?;
@@ -321,6 +359,9 @@ fn draw_cells<W: Write>(
     rows: usize,
 ) -> io::Result<()>
     requires { rows ≤ MOST_ROWS }
+    ensures { WritesText result (W.contents out.old) (W.contents out.new)
+        (λ text. (rectangles : List Rectangle) × CoverTone columns.now tone rows rectangles
+        × (text ≡ flat_map rectangle_path rectangles)) }
 {
     for column in 0..columns.len() {
         draw_ended(out, tone, columns, rows, column + 1)?;
@@ -339,6 +380,9 @@ fn draw_ended<W: Write>(
     requires some { 0 < end }
     requires within { end ≤ length columns.now }
     requires few { rows ≤ MOST_ROWS }
+    ensures { WritesText result (W.contents out.old) (W.contents out.new)
+        (λ text. (rectangles : List Rectangle) × AreRectangles columns.now tone rows rows (end - 1) end rectangles
+        × (text ≡ flat_map rectangle_path rectangles)) }
 {
     for row in 0..rows {
         if let Some(rectangle) = rectangle_at(columns, tone, rows, row, end) {
@@ -349,7 +393,9 @@ fn draw_ended<W: Write>(
 }
 
 /// Draws a rectangle.
-fn draw_rectangle<W: Write>(out: &mut W, rectangle: Rectangle) -> io::Result<()> {
+fn draw_rectangle<W: Write>(out: &mut W, rectangle: Rectangle) -> io::Result<()>
+    ensures { WritesText result (W.contents out.old) (W.contents out.new) (λ text. text ≡ rectangle_path rectangle) }
+{
     let Rectangle {
         column,
         row,
@@ -360,12 +406,16 @@ fn draw_rectangle<W: Write>(out: &mut W, rectangle: Rectangle) -> io::Result<()>
 }
 
 /// How wide each of so many columns is.
-fn column_width(columns: usize) -> Decimal {
+fn column_width(columns: usize) -> Decimal
+    ensures { result.hundred_millionths ≡ WIDTH * 10 ^ 8 / columns }
+{
     Decimal::ratio(WIDTH, columns as u64)
 }
 
 /// How high a row is.
-fn row_height(grid: Grid) -> u32 {
+fn row_height(grid: Grid) -> u32
+    ensures { result ≡ row_height grid.rows }
+{
     ROWS_HEIGHT
         .checked_div(grid.rows)
         .unwrap_or(1)
@@ -373,17 +423,23 @@ fn row_height(grid: Grid) -> u32 {
 }
 
 /// How high the rows are together.
-fn rows_height(grid: Grid) -> u32 {
+fn rows_height(grid: Grid) -> u32
+    ensures { result ≡ rows_height grid.rows }
+{
     grid.rows.saturating_mul(row_height(grid))
 }
 
 /// How high a band is, with its title, free frames and axes.
-pub fn band_height(grid: Grid) -> u32 {
+pub fn band_height(grid: Grid) -> u32
+    ensures { result ≡ band_height grid.rows }
+{
     rows_height(grid).saturating_add(ABOVE + BELOW)
 }
 
 /// Draws a colour of the legend.
-fn draw_swatch<W: Write>(out: &mut W, x: u32, y: u32, class: &str) -> io::Result<()> {
+fn draw_swatch<W: Write>(out: &mut W, x: u32, y: u32, class: &str) -> io::Result<()>
+    ensures { WritesText result (W.contents out.old) (W.contents out.new) (λ _. ⊤) }
+{
     writeln!(
         out,
         "<rect class=\"{class}\" x=\"{x}\" y=\"{y}\" width=\"14\" height=\"14\"/><rect class=\"frame\" x=\"{x}\" y=\"{y}\" width=\"14\" height=\"14\"/>"
@@ -391,14 +447,18 @@ fn draw_swatch<W: Write>(out: &mut W, x: u32, y: u32, class: &str) -> io::Result
 }
 
 /// Says beside a colour what it stands for.
-fn draw_word<W: Write>(out: &mut W, x: u32, y: u32, word: &str) -> io::Result<()> {
+fn draw_word<W: Write>(out: &mut W, x: u32, y: u32, word: &str) -> io::Result<()>
+    ensures { WritesText result (W.contents out.old) (W.contents out.new) (λ _. ⊤) }
+{
     let x = x.saturating_add(20);
     let y = y.saturating_add(11);
     writeln!(out, "<text x=\"{x}\" y=\"{y}\">{word}</text>")
 }
 
 /// Draws the title of a band.
-fn draw_title<W: Write>(out: &mut W, t: u8, grid: Grid, top: u32) -> io::Result<()> {
+fn draw_title<W: Write>(out: &mut W, t: u8, grid: Grid, top: u32) -> io::Result<()>
+    ensures { WritesText result (W.contents out.old) (W.contents out.new) (λ text. text ≡ tenant_title t grid.frames_per_row top) }
+{
     let y = top.saturating_add(ABOVE - 8);
     writeln!(
         out,
@@ -416,7 +476,9 @@ fn draw_title<W: Write>(out: &mut W, t: u8, grid: Grid, top: u32) -> io::Result<
 }
 
 /// Draws the frame of the rows, and the numbers of frames at their left.
-fn draw_frames_axis<W: Write>(out: &mut W, grid: Grid, y: u32, bottom: u32) -> io::Result<()> {
+fn draw_frames_axis<W: Write>(out: &mut W, grid: Grid, y: u32, bottom: u32) -> io::Result<()>
+    ensures { WritesText result (W.contents out.old) (W.contents out.new) (λ _. ⊤) }
+{
     let x = LEFT - 6;
     writeln!(
         out,
@@ -447,7 +509,9 @@ fn draw_frames_axis<W: Write>(out: &mut W, grid: Grid, y: u32, bottom: u32) -> i
 
 /// Draws at the right of the rows a tick where a slot begins, and of some slots the number and a line across. However many
 /// slots there are, both stay apart.
-fn draw_slots_axis<W: Write>(out: &mut W, grid: Grid, y: u32, bottom: u32) -> io::Result<()> {
+fn draw_slots_axis<W: Write>(out: &mut W, grid: Grid, y: u32, bottom: u32) -> io::Result<()>
+    ensures { WritesText result (W.contents out.old) (W.contents out.new) (λ _. ⊤) }
+{
     let x = LEFT + WIDTH;
     writeln!(
         out,
@@ -472,7 +536,9 @@ fn draw_slots_axis<W: Write>(out: &mut W, grid: Grid, y: u32, bottom: u32) -> io
 }
 
 /// Draws a tick where a slot begins, as far as ticks stay apart.
-fn draw_slot_ticks<W: Write>(out: &mut W, grid: Grid, bottom: u32) -> io::Result<()> {
+fn draw_slot_ticks<W: Write>(out: &mut W, grid: Grid, bottom: u32) -> io::Result<()>
+    ensures { WritesText result (W.contents out.old) (W.contents out.new) (λ _. ⊤) }
+{
     let x = LEFT + WIDTH;
     let between = grid.slots_between(grid.rows.clamp(1, MOST_SLOT_TICKS));
     out.write_all(b"<path class=\"axis\" d=\"")?;
@@ -505,7 +571,9 @@ fn frames_step(frames: u32) -> u32 {
 
 /// Says beside the title of a band what there is at the end, the most that was taken in a column, and how often the tenant was
 /// refused for want of frames.
-fn draw_figures<W: Write>(out: &mut W, columns: &[Column], t: u8, top: u32) -> io::Result<()> {
+fn draw_figures<W: Write>(out: &mut W, columns: &[Column], t: u8, top: u32) -> io::Result<()>
+    ensures { WritesText result (W.contents out.old) (W.contents out.new) (IsFiguresText columns.now t top) }
+{
     let x = LEFT + 90;
     let y = top.saturating_add(ABOVE - 8);
     let last = columns.len().saturating_sub(1);
@@ -526,7 +594,9 @@ fn draw_refusals<W: Write>(
     t: u8,
     y: u32,
     gap: u32,
-) -> io::Result<()> {
+) -> io::Result<()>
+    ensures { WritesText result (W.contents out.old) (W.contents out.new) (λ text. text ≡ refusals_text columns.now t y gap) }
+{
     writeln!(
         out,
         "<text class=\"right\" x=\"{}\" y=\"{}\">refused</text>",
@@ -544,7 +614,9 @@ fn draw_refusals<W: Write>(
 }
 
 /// How far to the right the middle of a column is, of so many.
-fn middle_of(column: usize, columns: usize) -> u32 {
+fn middle_of(column: usize, columns: usize) -> u32
+    ensures { result ≡ middle_of column columns }
+{
     let halves = (column as u64).saturating_mul(2).saturating_add(1);
     let way = halves
         .saturating_mul(u64::from(WIDTH / 2))
@@ -554,7 +626,9 @@ fn middle_of(column: usize, columns: usize) -> u32 {
 }
 
 /// Draws the free frames of tenant `t` over a foot, by the order of their free block: those of the greatest order lowest.
-fn draw_stack<W: Write>(out: &mut W, history: &History, t: u8, foot: u32) -> io::Result<()> {
+fn draw_stack<W: Write>(out: &mut W, history: &History, t: u8, foot: u32) -> io::Result<()>
+    ensures { WritesText result (W.contents out.old) (W.contents out.new) (IsStackText history.now t foot) }
+{
     let top = foot.saturating_sub(STACK);
     let most = most_free(history.columns(), t);
     writeln!(
@@ -573,7 +647,11 @@ fn draw_layers<W: Write>(
     t: u8,
     foot: u32,
     most: u64,
-) -> io::Result<()> {
+) -> io::Result<()>
+    ensures { WritesText result (W.contents out.old) (W.contents out.new)
+        (λ text. text ≡ flat_map (layer_text (columns_of history.now) t (drawn_order history.now) foot most)
+        (range_with_len 0 (drawn_order history.now + 1))) }
+{
     let columns = history.columns();
     let order = history.order() as usize;
     for k in 0..=order {
@@ -591,7 +669,9 @@ fn draw_layers<W: Write>(
 }
 
 /// Draws the frame of a stack, and how many frames its top and its foot mean.
-fn draw_scale<W: Write>(out: &mut W, top: u32, foot: u32, most: u64) -> io::Result<()> {
+fn draw_scale<W: Write>(out: &mut W, top: u32, foot: u32, most: u64) -> io::Result<()>
+    ensures { WritesText result (W.contents out.old) (W.contents out.new) (λ text. text ≡ scale_text top foot most) }
+{
     writeln!(
         out,
         "<rect class=\"frame\" x=\"{LEFT}\" y=\"{top}\" width=\"{WIDTH}\" height=\"{STACK}\"/>"
@@ -612,6 +692,8 @@ fn draw_scale<W: Write>(out: &mut W, top: u32, foot: u32, most: u64) -> io::Resu
 /// Draws where the free frames in blocks of an order and of greater ones become another number.
 fn draw_turns<W: Write>(out: &mut W, columns: &[Column], t: u8, order: usize) -> io::Result<()>
     requires { order < ORDERS }
+    ensures { WritesText result (W.contents out.old) (W.contents out.new)
+        (λ text. text ≡ flat_map (turn_text columns.now t order) (range_with_len 0 (length columns.now))) }
 {
     for at in 0..columns.len() {
         if let Some(frames) = turn_at(columns, t, order, at) {
@@ -622,7 +704,9 @@ fn draw_turns<W: Write>(out: &mut W, columns: &[Column], t: u8, order: usize) ->
 }
 
 /// Draws the numbers of lines below a foot.
-fn draw_lines_axis<W: Write>(out: &mut W, history: &History, foot: u32) -> io::Result<()> {
+fn draw_lines_axis<W: Write>(out: &mut W, history: &History, foot: u32) -> io::Result<()>
+    ensures { WritesText result (W.contents out.old) (W.contents out.new) (λ _. ⊤) }
+{
     let step = lines_step(history.lines());
     let text = foot.saturating_add(18);
     for k in 0..11u32 {

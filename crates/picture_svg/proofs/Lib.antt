@@ -1,0 +1,5 @@
+pub mod CellLemmas
+pub mod MarkLemmas
+pub mod PictureLemmas
+pub mod TextLemmas
+pub mod Writing

@@ -1,0 +1,78 @@
+-- A whole picture.
+use Rattle.std.specs.Prelude.{◌≡◌, ℕ, ◌+◌, ◌-◌, ◌*◌, ◌/◌, ◌^◌, max, min, List, [], ◌∷◌, ◌++◌, Option, codes, fold, length, map, vec_len}
+use Rattle.std.specs.List.{concat}
+use Rattle.frame_picture.specs.declared.drawing.TheConstants.{MOST_ROWS}
+use Rattle.frame_picture.specs.declared.drawing.Tone.{Tone}
+use Rattle.frame_picture.specs.declared.grid.Grid.{Grid}
+use Rattle.frame_picture.specs.declared.history.History.{History}
+use Rattle.frame_picture.specs.Grids.{IsGridOf}
+use Rattle.frame_picture.specs.Histories.{columns_of, drawn_order, line_count, superblocks_of, width_of}
+use Rattle.picture_svg.specs.declared.picture.Picture.{Picture}
+use Rattle.picture_svg.specs.declared.picture.TheConstants.{TALL_BANDS}
+use Rattle.picture_svg.specs.declared.svg.TheConstants.{HEAD}
+use Rattle.picture_svg.specs.Bands.{AreCellsOf, IsBand}
+use Rattle.picture_svg.specs.Sizes.{band_height, lower}
+use Rattle.picture_svg.specs.Texts.{opening_text, title_text}
+
+-- the first tenant who is drawn, and the number above the last
+abbrev pub first_tenant : Picture → ℕ
+first_tenant picture = picture.first
+
+abbrev pub end_of_tenants : Picture → ℕ
+end_of_tenants picture = picture.end
+
+-- how many columns it has cells for
+abbrev pub most_columns_in : Picture → ℕ
+most_columns_in picture = vec_len picture.cells
+
+-- how many pixels the word at the marks of refusals is moved down
+abbrev pub label_gap_of : Picture → ℕ
+label_gap_of picture = picture.label_gap
+
+-- how many tenants are drawn
+abbrev pub drawn_tenants : Picture → ℕ
+drawn_tenants picture = end_of_tenants picture - first_tenant picture
+
+-- the same tenants are drawn in as many columns
+pub record IsSamePicture (old new : Picture) : Type 0 where
+  pub first : first_tenant new ≡ first_tenant old
+  pub end : end_of_tenants new ≡ end_of_tenants old
+  pub columns : most_columns_in new ≡ most_columns_in old
+  pub gap : label_gap_of new ≡ label_gap_of old
+
+-- how many rows each of so many bands has at most
+abbrev pub most_rows_of : ℕ → ℕ
+most_rows_of bands = TALL_BANDS * MOST_ROWS / max bands TALL_BANDS
+
+-- where bands of so many rows end, the first of which begins at a height
+abbrev pub bottom_of : ℕ → List ℕ → ℕ
+bottom_of top rows = fold (λ top rows. lower top (band_height rows)) top rows
+
+abbrev pub rows_of : List Grid → List ℕ
+rows_of grids = map (λ grid. grid.rows) grids
+
+-- the band of tenant t, of as many columns as there are cells for
+pub record IsBandOf (picture : Picture) (history : History) (t : ℕ) (grid : Grid) (top : ℕ) (text : List ℕ) : Type 0 where
+  pub cells : List (List Tone)
+  pub is_grid : IsGridOf history t (most_rows_of (drawn_tenants picture)) grid
+  pub long : length cells ≡ min (length (columns_of history)) (most_columns_in picture)
+  pub are_cells : AreCellsOf (columns_of history) t grid cells
+  pub is_band : IsBand history t grid cells top (label_gap_of picture) text
+
+-- the bands of the tenants from t on, one below the other
+abbrev pub AreBands : Picture → History → ℕ → ℕ → List Grid → List ℕ → Type 0
+AreBands picture history t top [] text = text ≡ []
+AreBands picture history t top (grid ∷ grids) text = (band : List ℕ) × (rest : List ℕ)
+    × IsBandOf picture history t grid top band
+    × AreBands picture history (t + 1) (lower top (band_height grid.rows)) grids rest × (text ≡ band ++ rest)
+
+-- The picture of a history, of the trace of this name: a title, and a band for each tenant that is drawn. The legend is open.
+pub record IsPictureOf (picture : Picture) (history : History) (name : Option (List ℕ)) (text : List ℕ) : Type 0 where
+  pub grids : List Grid
+  pub legend : List ℕ
+  pub bands : List ℕ
+  pub tenants : length grids ≡ drawn_tenants picture
+  pub are_bands : AreBands picture history (first_tenant picture) HEAD grids bands
+  pub whole : text ≡ concat (opening_text (bottom_of HEAD (rows_of grids))
+      ∷ title_text (line_count history) name (superblocks_of history) (2 ^ drawn_order history) (width_of history)
+      ∷ legend ∷ bands ∷ codes "</svg>\n" ∷ [])
