@@ -1,1 +1,2 @@
 pub mod WatchingLemmas
+pub mod TableLemmas

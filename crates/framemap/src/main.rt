@@ -1,6 +1,6 @@
 //! Runs a trace on a new machine whose memory is shared by tenants, and writes a picture of its frames to standard output.
 //!
-//! `framemap --order S --superblocks N --tenants T [--only T] [--columns C] [FILE]`
+//! `framemap --order S --superblocks N --tenants T [--only T] [--columns C] [--figures] [FILE]`
 //!
 //! The exits are those of `command_line::Outcome`. If a FILE could not be opened or read, its name and the system's reason
 //! are printed too.
@@ -9,6 +9,7 @@
 ghost use Rattle.std.specs.Prelude.{◌≡◌, OnErr};
 ghost use Rattle.command_line.specs.declared.outcome.Outcome.{Outcome};
 
+mod figures;
 mod run;
 mod settings;
 mod watched;

@@ -1,4 +1,4 @@
-//! A trace on a new machine, and its picture.
+//! A trace on a new machine, and its picture or its figures.
 
 ghost use Rattle.std.specs.Prelude.{◌≡◌, ℕ, List, Some, false, length, OnOk};
 ghost use Rattle.command_line.specs.declared.outcome.Outcome.TheVariants as Outcome;
@@ -6,6 +6,7 @@ ghost use Rattle.words_core.specs.Cutting.{lines_of_trace};
 ghost use Rattle.world_core.specs.Output.{events_of};
 ghost use Rattle.framemap.specs.Watching.{HasWatched};
 
+use crate::figures::write_figures;
 use crate::settings::Settings;
 use crate::watched::Watched;
 use command_line::Outcome;
@@ -21,7 +22,7 @@ use streams::LineLimit;
 const LINES_ABOVE: u64 = 1 << 30;
 
 /// How a run ended, and how many lines of the trace were events.
-#[derive(Drop)]
+#[derive(Debug, Drop)]
 pub struct Drawn {
     pub outcome: Outcome,
     pub events: u64,
@@ -70,8 +71,7 @@ pub fn run<F: Feed + Drop, W: Write>(
     if watch(&mut kernel, feed, &mut watched).is_err() {
         return Drawn::at_once(Outcome::Unreadable);
     }
-    let name = settings.file.as_deref().map(file_name);
-    let outcome = match picture.draw(&watched.history, name, writer) {
+    let outcome = match write(settings, &watched.history, &mut picture, writer) {
         Ok(()) => Outcome::Done,
         Err(_) => Outcome::Unwritable,
     };
@@ -79,6 +79,24 @@ pub fn run<F: Feed + Drop, W: Write>(
         outcome,
         events: watched.events,
     }
+}
+
+/// Writes the picture of a history, or the table of its figures.
+fn write<W: Write>(
+    settings: &Settings,
+    history: &History,
+    picture: &mut Picture,
+    writer: &mut W,
+) -> io::Result<()> {
+    if settings.figures {
+        let (first, end) = match settings.machine.only {
+            Some(t) => (t, t.saturating_add(1)),
+            None => (0, history.tenants() as u8),
+        };
+        return write_figures(writer, history, first, end);
+    }
+    let name = settings.file.as_deref().map(file_name);
+    picture.draw(history, name, writer)
 }
 
 /// What follows the last slash of a path.

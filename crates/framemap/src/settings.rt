@@ -1,6 +1,6 @@
 //! The command line.
 
-use clap::Command;
+use clap::{Arg, ArgAction, Command};
 use command_line::{Machine, Outcome, Program, number, parse, path_of, positional};
 use frame_picture::history::MOST_COLUMNS;
 use std::alloc::{AllocError, Global};
@@ -24,9 +24,12 @@ const ONLY: &str = "Draws this tenant alone, a number below the tenants";
 const AFTER_HELP: &str = "\
 The picture is one SVG on standard output. The lines of a trace are those of partmem --help.
 
+The table of --figures has comma-separated values. A row is a tenant in a column: the lines run until then, the tenant, its
+frames that are held and taken, its requests refused for want of frames, and its free blocks of each order.
+
 Exit status:
-  0  the trace is done, and its picture written; or --help or --version
-  1  the trace could not be read, or the picture or this help could not be written
+  0  the trace is done, and its picture or table written; or --help or --version
+  1  the trace could not be read, or the picture, table or help could not be written
   2  the command line is faulty
   3  there is not enough memory
 
@@ -34,12 +37,14 @@ Example:
   printf 'admin grant 0\\n0 alloc 1\\n' | framemap --order 3 --superblocks 2 --tenants 2 > picture.svg";
 
 /// What a command line asks for.
-#[derive(Drop)]
+#[derive(Debug, Drop)]
 pub struct Settings {
     /// The machine, and the tenant who alone is drawn.
     pub machine: Machine,
     /// How many columns the picture has at most: 1 to 4096.
     pub columns: u32,
+    /// A table of the figures is written, and no picture.
+    pub figures: bool,
     /// The path of the trace, as it was written; standard input without it.
     pub file: Option<String>,
 }
@@ -51,6 +56,7 @@ pub fn read_words<'a>(alloc: Global, words: &'a [&'a str]) -> Result<Settings, O
     Ok(Settings {
         machine: Machine::found(alloc, &matches)?,
         columns: columns.clamp(1, MOST_COLUMNS),
+        figures: matches.get_flag("figures"),
         file: path_of(alloc, &matches, "FILE")?,
     })
 }
@@ -62,6 +68,12 @@ fn command<'a>(alloc: Global) -> Result<Command<'a>, AllocError> {
             number(alloc, "columns", "C", 1, MOST_COLUMNS)
                 .help("Columns of the picture, at most: 1 to 4096 [default: 600]")
                 .required(false),
+        )?
+        .arg(
+            Arg::new(alloc, "figures")
+                .long("figures")
+                .help("Writes a table of the figures in each column, in place of the picture")
+                .action(ArgAction::SetTrue),
         )?
         .arg(positional(alloc, "FILE", "The trace [default: standard input]"))
 }

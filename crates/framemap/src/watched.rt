@@ -13,7 +13,7 @@ use replay_core::{Drain, Sink, Stopped};
 use words_core::{Addressee, Answer, Event, LineFault, Refusal};
 
 /// Keeps what the machine is like after each line of a trace, and counts the events. No reply is written.
-#[derive(Drop)]
+#[derive(Debug, Drop)]
 pub struct Watched {
     pub history: History,
     /// How many of the lines were events.

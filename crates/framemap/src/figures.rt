@@ -1,0 +1,93 @@
+//! The figures of a history as a table of comma-separated values.
+
+ghost use Rattle.std.specs.Prelude.{◌≡◌, ◌+◌, ◌≤◌, Some, flat_map};
+ghost use Rattle.frame_picture.specs.Stacks.{column_figures, refused_in};
+ghost use Rattle.picture_svg.specs.Texts.{WritesText};
+ghost use Rattle.framemap.specs.Tables.{column_rows, free_cell, heading_text, row_text, table_text};
+
+use frame_picture::history::{Column, Figures, History, ORDERS};
+use std::io::{self, Write};
+
+/// Writes a row for each column and each tenant from `first` on and below `end`, under a row of headings, and flushes.
+pub fn write_figures<W: Write>(out: &mut W, history: &History, first: u8, end: u8) -> io::Result<()>
+    ensures { WritesText result (W.contents out.old) (W.contents out.new) (λ text. text ≡ table_text history.now first end) }
+{
+    let orders = history.order() as usize + 1;
+    write_headings(out, orders)?;
+    for column in history.columns() {
+        write_column(out, column, orders, first, end)?;
+    }
+    out.flush()
+}
+
+/// Writes the headings of a row's cells, for this number of orders.
+fn write_headings<W: Write>(out: &mut W, orders: usize) -> io::Result<()>
+    ensures { WritesText result (W.contents out.old) (W.contents out.new) (λ text. text ≡ heading_text orders) }
+{
+    out.write_all(b"line,tenant,held,taken,refused")?;
+    for order in 0..orders {
+        write!(out, ",free{order}")?;
+    }
+    out.write_all(b"\n")
+}
+
+/// Writes the rows of a column.
+fn write_column<W: Write>(
+    out: &mut W,
+    column: &Column,
+    orders: usize,
+    first: u8,
+    end: u8,
+) -> io::Result<()>
+    requires { orders ≤ ORDERS }
+    ensures { WritesText result (W.contents out.old) (W.contents out.new)
+        (λ text. text ≡ column_rows orders first end column.now) }
+{
+    for t in first..end {
+        write_row(out, column, orders, t)?;
+    }
+    Ok(())
+}
+
+/// Writes the row of a tenant: the lines that had been run, its number, its frames that are held and taken, how many of its
+/// requests had been refused for want of frames, and how many blocks are free, by order.
+fn write_row<W: Write>(out: &mut W, column: &Column, orders: usize, t: u8) -> io::Result<()>
+    requires { orders ≤ ORDERS }
+    ensures { WritesText result (W.contents out.old) (W.contents out.new) (λ text. text ≡ row_text orders column.now t) }
+{
+    let figures = figures_of(column, t);
+    let (held, taken) = (figures.held, figures.taken);
+    let line = column.line;
+    let refused = refused_to(column, t);
+    write!(out, "{line},{t},{held},{taken},{refused}")?;
+    write_cells(out, &figures.free[..orders])?;
+    out.write_all(b"\n")
+}
+
+/// Writes each number behind a comma.
+fn write_cells<W: Write>(out: &mut W, numbers: &[u32]) -> io::Result<()>
+    ensures { WritesText result (W.contents out.old) (W.contents out.new) (λ text. text ≡ flat_map free_cell numbers.now) }
+{
+    for number in numbers {
+        write!(out, ",{number}")?;
+    }
+    Ok(())
+}
+
+/// What tenant `t` has of frames in a column.
+fn figures_of(column: &Column, t: u8) -> Figures
+    ensures { result ≡ column_figures t (Some column.now) }
+{
+    column
+        .figures
+        .get(t as usize)
+        .copied()
+        .unwrap_or(Figures::NONE)
+}
+
+/// How many requests of tenant `t` had been refused for want of frames.
+fn refused_to(column: &Column, t: u8) -> u32
+    ensures { result ≡ refused_in t (Some column.now) }
+{
+    column.refused.get(t as usize).copied().unwrap_or(0)
+}
