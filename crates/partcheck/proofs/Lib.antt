@@ -1,2 +1,4 @@
 pub mod Reading
+mod Rows
 pub mod Sound
+pub mod Texts

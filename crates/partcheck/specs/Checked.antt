@@ -1,11 +1,12 @@
 -- How a check ends, and what its finding says of two texts.
-use Rattle.std.specs.Prelude.{ℕ, List, None}
+use Rattle.std.specs.Prelude.{◌≡◌, ℕ, List, None}
 use Rattle.world_core.specs.Vocabulary.{Config, MOST_CACHES}
 use Rattle.words_core.specs.Cutting.{lines_of_trace}
 use Rattle.promise_core.specs.State.{Known, opening}
 use Rattle.promise_kept.specs.Written.{IsAllowedText}
 use Rattle.check_core.specs.declared.finding.Finding.{Finding}
 use Rattle.check_core.specs.declared.finding.Unchecked.TheVariants as Not
+use Rattle.check_core.specs.Finding.{finding_of}
 use Rattle.check_core.specs.Laws.{IsBreach}
 use Rattle.partcheck.specs.declared.checked.Checked.{Checked}
 
@@ -29,3 +30,8 @@ IsSoundFinding config (Finding.Kept lines) trace replies =
     IsAllowedText None MOST_CACHES config.order config.superblocks config.tenants (lines_of_trace trace) replies
 IsSoundFinding config (Finding.Broken breach) trace replies =
     IsBreach MOST_CACHES config.order config.superblocks config.tenants (lines_of_trace trace) replies breach
+
+-- it is the finding of these texts, and says this of them
+abbrev pub IsFindingOf : Config → Finding → (trace replies : List ℕ) → Type 0
+IsFindingOf config finding trace replies =
+    (finding ≡ finding_of (opening_of config) trace replies) × IsSoundFinding config finding trace replies

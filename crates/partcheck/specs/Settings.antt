@@ -1,10 +1,24 @@
 -- What a command line asks for: which word stands under which name, in clap's words.
-use Rattle.std.specs.Prelude.{◌≡◌, true, List, Option, Some, codes}
+use Rattle.std.specs.Prelude.{◌≡◌, ◌⊎◌, true, if◌then◌else◌, List, [], Option, Some, None, codes, unwrap_or}
+use Rattle.std.specs.Str.{bytes_eq}
 use Rattle.std.specs.String.{string_bytes}
-use Rattle.clap.specs.Words.{App, Rule, Text, first_of, matches_of, one_of, with_rule}
+use Rattle.clap.specs.Words.{App, Kinds, Rule, Text, fault_of, first_of, matches_of, one_of, takes, with_rule}
 use Rattle.command_line.specs.Arguments.{positional_rule, sizes_command}
-use Rattle.command_line.specs.Machine.{AsksSizes}
+use Rattle.command_line.specs.Machine.{AsksNoSizes, AsksSizes, bad_size_text}
+use Rattle.command_line.specs.Outcome.{IsBadLine, IsRefusedBy}
+use Rattle.command_line.specs.declared.outcome.Outcome.{Outcome}
 use Rattle.partcheck.specs.declared.settings.Settings.{Settings}
+use Rattle.check_core.specs.declared.finding.Unchecked.{Unchecked}
+
+-- the path of the trace; `-` is standard input
+abbrev pub trace_file : Settings → Option Text
+trace_file settings = if bytes_eq (string_bytes settings.trace) (codes "-") then None else Some (string_bytes settings.trace)
+
+-- the name of the file without which a check ended so
+abbrev pub file_without : Settings → Unchecked → Text
+file_without settings Unchecked.Replies = string_bytes settings.replies
+file_without settings Unchecked.Trace = unwrap_or (trace_file settings) (codes "standard input")
+file_without settings Unchecked.Memory = unwrap_or (trace_file settings) (codes "standard input")
 
 -- the settings are what stands under the arguments' names: `read` of those that are read as a type, `whole` of the files
 pub record AsksCheck (read whole : Text → Option Text) (settings : Settings) : Type 0 where
@@ -24,3 +38,27 @@ check_command_line =
 abbrev pub IsCheckRequestedBy : List Text → Settings → Type 0
 IsCheckRequestedBy words settings = let rows = matches_of check_command_line words in
     AsksCheck (λ name. one_of name rows) (λ name. first_of name rows) settings
+
+-- clap's model takes these words
+unfoldable pub IsCheckInOrder : List Text → Type 0
+IsCheckInOrder words = takes check_command_line words ≡ true
+
+-- why a file is not found: it is not named, or there is no memory for its name
+abbrev pub IsNoFile : Option Text → Outcome → Type 0
+IsNoFile path outcome =
+    ((path ≡ None) × IsBadLine (codes "error: TRACE and REPLIES are required\n") outcome) ⊎ (outcome ≡ Outcome.NoMemory)
+
+-- why what is under the arguments' names is no settings: a size is faulty, or a file is not found
+abbrev pub IsNoCheck : (read whole : Text → Option Text) → Outcome → Type 0
+IsNoCheck read whole outcome =
+    (AsksNoSizes read × IsBadLine bad_size_text outcome) ⊎ IsNoFile (whole (codes "TRACE")) outcome ⊎ IsNoFile (whole (codes "REPLIES")) outcome
+
+-- the kinds of error by which clap's model refuses these words: none if it takes them
+unfoldable pub check_faults : List Text → Kinds
+check_faults words = fault_of check_command_line words
+
+-- why these words are refused: clap's model refuses them, or it takes them and they ask for no settings
+abbrev pub IsCheckRefusedFor : List Text → Outcome → Type 0
+IsCheckRefusedFor words outcome = let rows = matches_of check_command_line words in
+    IsRefusedBy (check_faults words) outcome
+    ⊎ ((check_faults words ≡ []) × IsNoCheck (λ name. one_of name rows) (λ name. first_of name rows) outcome)

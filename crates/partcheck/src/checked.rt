@@ -10,7 +10,7 @@ use command_line::{FileError, Outcome, tell, tell_file};
 use std::process::ExitCode;
 
 /// How a check ended.
-#[derive(Clone, Copy)]
+#[derive(Clone, Copy, Debug)]
 pub enum Checked {
     /// With a finding, which was written.
     Found(Finding),

@@ -2,10 +2,9 @@
 
 ghost use Rattle.std.specs.Prelude.{◌≡◌, ℕ, List, true, false, Some, IfOk, ◌⊎◌};
 ghost use Rattle.model_core.specs.Booting.{is_bootable};
-ghost use Rattle.check_core.specs.Checking.{ComesToAdd, IsEndedBy};
-ghost use Rattle.check_core.specs.Finding.{finding_of};
-ghost use Rattle.check_core.specs.Reading.{readings_of};
-ghost use Rattle.partcheck.specs.Checked.{IsSoundFinding, opening_of};
+ghost use Rattle.check_core.specs.Checking.{ComesToAdd, IsEndedBy, IsKeptAtEnd};
+ghost use Rattle.check_core.specs.Reading.{HasGiven, WhateverFollows, readings_of};
+ghost use Rattle.partcheck.specs.Checked.{IsFindingOf, opening_of};
 
 use check_core::{Finding, LineReader, Shown, Unchecked, check, laws};
 use judge::Machine;
@@ -26,15 +25,18 @@ pub fn run<T: Feed, R: Feed>(
     requires bootable { is_bootable config ≡ true }
     requires trace_fine { trace.old.failed ≡ false }
     requires replies_fine { replies.old.failed ≡ false }
-    // Of what the two have.
-    ensures found { (asked told : List ℕ) → trace.old.left ≡ Some asked → replies.old.left ≡ Some told
-        → IfOk result (λ finding. finding ≡ finding_of (opening_of config) asked told) }
-    ensures sound { (asked told : List ℕ) → trace.old.left ≡ Some asked → replies.old.left ≡ Some told
-        → IfOk result (λ finding. IsSoundFinding config finding asked told) }
+    // What was given of the trace and of the replies. Both are found to be this and say so, whatever follows.
+    ensures found { (asked : List ℕ) × (told : List ℕ) × HasGiven trace.old trace.new asked × HasGiven replies.old replies.new told
+        × IfOk result (λ finding. WhateverFollows trace.new replies.new asked told (IsFindingOf config finding)) }
+    ensures kept { IfOk result (λ finding. IsKeptAtEnd finding trace.new replies.new) }
+    // The same of texts that were known.
+    ensures known { (asked told : List ℕ) → trace.old.left ≡ Some asked → replies.old.left ≡ Some told
+        → IfOk result (λ finding. IsFindingOf config finding asked told) }
     // Memory runs out before the first line, or where something more has to be kept and no promise was broken before.
-    ensures end { IsEndedBy result trace.new.failed replies.new.failed
-        (((trace.new ≡ trace.old) × (replies.new ≡ replies.old)) ⊎ ((asked told : List ℕ) → trace.old.left ≡ Some asked
-        → replies.old.left ≡ Some told → ComesToAdd (readings_of asked) told (opening_of config))) }
+    ensures end { IsEndedBy result trace.new.failed replies.new.failed (((trace.new ≡ trace.old) × (replies.new ≡ replies.old))
+        ⊎ ((asked : List ℕ) × (told : List ℕ) × HasGiven trace.old trace.new asked × HasGiven replies.old replies.new told
+        × WhateverFollows trace.new replies.new asked told
+        (λ trace replies. ComesToAdd (readings_of trace) replies (opening_of config)))) }
 {
     laws::kept_is_allowed();
     laws::broken_is_not_allowed();

@@ -47,7 +47,7 @@ Example:
 const STANDARD_INPUT: &str = "-";
 
 /// What a command line requests.
-#[derive(Drop)]
+#[derive(Debug, Drop)]
 pub struct Settings {
     /// The sizes of the machine, each in its range.
     pub config: Config,
@@ -59,8 +59,13 @@ pub struct Settings {
 }
 
 impl Settings {
+    ghost use Rattle.std.specs.Prelude.{option_copied};
+    ghost use Rattle.partcheck.specs.Settings.{file_without, trace_file};
+
     /// Returns the path of the trace. `None` if it is standard input.
-    pub fn trace_path(&self) -> Option<&str> {
+    pub fn trace_path(&self) -> Option<&str>
+        ensures { option_copied result ≡ trace_file self.now }
+    {
         match self.trace.as_str() {
             STANDARD_INPUT => None,
             path => Some(path),
@@ -68,7 +73,9 @@ impl Settings {
     }
 
     /// Returns the name of the file without which a check ended so.
-    pub fn name_of(&self, why: Unchecked) -> &str {
+    pub fn name_of(&self, why: Unchecked) -> &str
+        ensures { result.now ≡ file_without self.now why }
+    {
         match why {
             Unchecked::Replies => self.replies.as_str(),
             _ => self.trace_path().unwrap_or("standard input"),

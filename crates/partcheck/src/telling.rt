@@ -1,8 +1,17 @@
 //! The line of a finding.
 
+ghost use Rattle.std.specs.Prelude.{◌≡◌, ℕ, List, OnOk, flat_map, option_copied, take};
+ghost use Rattle.std.specs.Char.Escape.{escape_ascii};
+ghost use Rattle.std.specs.Io.KnownBytes.{Appends};
+ghost use Rattle.std.specs.List.{list_all};
+ghost use Rattle.std.specs.Str.Lines.{strip_carriage_return};
+ghost use Rattle.check_core.specs.Reading.{without_line_feed};
+ghost use Rattle.partcheck.specs.Telling.{AppendsFinding, HasRead, begin_text, breach_text, counted_word, cut_mark, excerpt_of, excerpt_text};
+ghost use Rattle.partcheck.specs.Telling.{has_filled_ends, if_read, is_plain_text, is_reply_byte, is_shown_plain, kept_text, plain_byte};
+ghost use Rattle.partcheck.specs.Telling.{reason_text, trace_line, words_of_promise};
+
 use check_core::{Breach, Finding, Shown, TakenFrame};
 use promise_core::promise::Promise;
-use std::fmt;
 use std::io::{self, Write};
 
 /// Limit on the bytes of a line of a trace that are printed. Only a faulty line has more.
@@ -17,66 +26,106 @@ pub fn write_finding<W: Write>(
     finding: &Finding,
     shown: &Shown,
     tenants: u32,
-) -> io::Result<()> {
-    match finding {
-        Finding::Kept(lines) => write_kept(out, *lines, tenants)?,
-        Finding::Broken(breach) => write_breach(out, breach, shown)?,
-    }
+) -> io::Result<()>
+    ensures written { OnOk result (AppendsFinding finding.now shown.now tenants (W.contents out.old) (W.contents out.new)) }
+{
+    write_line(out, finding, shown, tenants)?;
     out.flush()
 }
 
-fn write_kept<W: Write>(out: &mut W, lines: u128, tenants: u32) -> io::Result<()> {
-    let lines_word = if lines == 1 { "line" } else { "lines" };
-    let tenants_word = if tenants == 1 { "tenant" } else { "tenants" };
+fn write_line<W: Write>(
+    out: &mut W,
+    finding: &Finding,
+    shown: &Shown,
+    tenants: u32,
+) -> io::Result<()>
+    ensures { OnOk result (AppendsFinding finding.now shown.now tenants (W.contents out.old) (W.contents out.new)) }
+{
+    match finding {
+        Finding::Kept(lines) => write_kept(out, *lines, tenants),
+        Finding::Broken(breach) => write_breach(out, breach, shown),
+    }
+}
+
+fn write_kept<W: Write>(out: &mut W, lines: u128, tenants: u32) -> io::Result<()>
+    ensures { OnOk result (Appends (W.contents out.old) (W.contents out.new) (kept_text lines tenants)) }
+{
+    let lines_word = counted("line", "lines", lines);
+    let tenants_word = counted("tenant", "tenants", u128::from(tenants));
     writeln!(out, "kept: {lines} {lines_word}, {tenants} {tenants_word}")
 }
 
-fn write_breach<W: Write>(out: &mut W, breach: &Breach, shown: &Shown) -> io::Result<()> {
+/// Returns the word for a number of things.
+fn counted<'a>(one: &'a str, several: &'a str, count: u128) -> &'a str
+    ensures { result.now ≡ counted_word one.entry.now several.entry.now count }
+{
+    if count == 1 { one } else { several }
+}
+
+fn write_breach<W: Write>(out: &mut W, breach: &Breach, shown: &Shown) -> io::Result<()>
+    ensures { OnOk result ((asked told : List ℕ) → HasRead asked told shown.now
+        → Appends (W.contents out.old) (W.contents out.new) (breach_text breach.now asked told shown.now.taken)) }
+{
     let Breach {
         line,
         reply,
         promise,
     } = breach;
-    let asked = TextShown {
-        text: line_read(shown.line.front()),
-        most: MOST_LINE_BYTES,
-        none: "no more lines",
-    };
-    let told = TextShown {
-        text: lines_read(shown.reply.front()),
-        most: MOST_REPLY_BYTES,
-        none: "nothing",
-    };
-    write!(
-        out,
-        "line {line}, reply {reply}: {asked}, answered {told}: {promise}: "
-    )?;
-    match (promise, shown.taken) {
-        (Promise::Blocks, Some(TakenFrame { frame, page })) => {
-            let (order, first) = (page.order(), page.first());
-            writeln!(
+    write!(out, "line {line}, reply {reply}: ")?;
+    let asked = line_read(shown.line.front());
+    write_shown(out, asked, MOST_LINE_BYTES, "no more lines")?;
+    out.write_all(b", answered ")?;
+    let told = lines_read(shown.reply.front());
+    write_shown(out, told, MOST_REPLY_BYTES, "nothing")?;
+    write!(out, ": {promise}: ")?;
+    write_reason(out, *promise, shown.taken)?;
+    out.write_all(b"\n")
+}
+
+/// Writes why a promise is broken: the page block in the way if one was found, or what the promise asks.
+fn write_reason<W: Write>(
+    out: &mut W,
+    promise: Promise,
+    taken: Option<TakenFrame>,
+) -> io::Result<()>
+    ensures { OnOk result (Appends (W.contents out.old) (W.contents out.new) (reason_text promise taken)) }
+{
+    match (promise, taken) {
+        (Promise::Blocks, Some(taken)) => {
+            let (frame, order, first) = (taken.frame, taken.page.order(), taken.page.first());
+            write!(
                 out,
                 "frame {frame} lies in the block of order {order} at frame {first}"
             )
         }
-        _ => {
-            let words = words_of(*promise);
-            writeln!(out, "{words}")
-        }
+        _ => out.write_all(words_of(promise).as_bytes()),
     }
 }
 
 /// Returns a line of a trace without the line feed and the carriage return at its end. `None` if nothing was read.
-fn line_read(text: &[u8]) -> Option<&[u8]> {
+fn line_read(text: &[u8]) -> Option<&[u8]>
+    ensures { option_copied result ≡ if_read trace_line text.now }
+{
     match text {
         [] => None,
-        [line @ .., b'\r', b'\n'] | [line @ .., b'\n'] => Some(line),
+        [line @ .., b'\n'] => Some(without_return(line)),
         line => Some(line),
     }
 }
 
+fn without_return(line: &[u8]) -> &[u8]
+    ensures { result.now ≡ strip_carriage_return line.now }
+{
+    match line {
+        [rest @ .., b'\r'] => rest,
+        _ => line,
+    }
+}
+
 /// Returns the lines of a reply without the last line feed. `None` if nothing was read.
-fn lines_read(text: &[u8]) -> Option<&[u8]> {
+fn lines_read(text: &[u8]) -> Option<&[u8]>
+    ensures { option_copied result ≡ if_read without_line_feed text.now }
+{
     match text {
         [] => None,
         [lines @ .., b'\n'] => Some(lines),
@@ -84,42 +133,120 @@ fn lines_read(text: &[u8]) -> Option<&[u8]> {
     }
 }
 
-/// A text as it is printed: its lines, joined by ` / `, up to `most` bytes, those that are no printable ASCII in hex; or the words
-/// for none.
-#[derive(Clone, Copy)]
-struct TextShown<'a> {
-    text: Option<&'a [u8]>,
+/// Writes a text, up to `most` bytes, or the words for none.
+fn write_shown<W: Write>(
+    out: &mut W,
+    text: Option<&[u8]>,
     most: usize,
-    none: &'a str,
-}
-
-impl fmt::Display for TextShown<'_> {
-    fn fmt<W: fmt::Write>(&self, f: &mut fmt::Formatter<W>) -> fmt::Result {
-        let none = self.none;
-        let Some(text) = self.text else {
-            return write!(f, "{none}");
-        };
-        let begin = text.get(..self.most).unwrap_or(text);
-        for byte in begin {
-            write_byte(*byte, f)?;
-        }
-        if begin.len() < text.len() {
-            write!(f, "…")?;
-        }
-        Ok(())
+    none: &str,
+) -> io::Result<()>
+    ensures { OnOk result (Appends (W.contents out.old) (W.contents out.new) (excerpt_text none.now most (option_copied text.entry))) }
+{
+    match text {
+        None => out.write_all(none.as_bytes()),
+        Some(text) => write_excerpt(out, text, most, none),
     }
 }
 
-fn write_byte<W: fmt::Write>(byte: u8, f: &mut fmt::Formatter<W>) -> fmt::Result {
-    match byte {
-        b'\n' => write!(f, " / "),
-        b' '..=b'~' => write!(f, "{}", char::from(byte)),
-        _ => write!(f, "\\x{byte:02x}"),
+fn write_excerpt<W: Write>(out: &mut W, text: &[u8], most: usize, none: &str) -> io::Result<()>
+    ensures { OnOk result (Appends (W.contents out.old) (W.contents out.new) (excerpt_of none.now most text.now)) }
+{
+    write_begin(out, text, front(text, most), none)?;
+    out.write_all(cut_mark(most < text.len()).as_bytes())
+}
+
+/// Returns what a text ends with if it is cut.
+fn cut_mark(is_cut: bool) -> &'static str
+    ensures { result.now ≡ cut_mark is_cut }
+{
+    if is_cut { "…" } else { "" }
+}
+
+/// Returns the first bytes of a text, at most `most`.
+fn front(text: &[u8], most: usize) -> &[u8]
+    ensures { result.now ≡ take most text.now }
+{
+    &text[..most.min(text.len())]
+}
+
+/// Writes the beginning of a text. A plain text has its lines joined by ` / `. Any other one, and one that reads as the words for
+/// none, is in quotes and escaped: so none looks like another text or like a finding.
+fn write_begin<W: Write>(out: &mut W, text: &[u8], begin: &[u8], none: &str) -> io::Result<()>
+    ensures { OnOk result (Appends (W.contents out.old) (W.contents out.new) (begin_text none.now text.now begin.now)) }
+{
+    if is_shown_plain(text, none) {
+        return write_plain(out, begin);
     }
+    out.write_all(b"'")?;
+    write_escaped(out, begin)?;
+    out.write_all(b"'")
+}
+
+/// Returns true if a text is plain, and does not read as the words for none.
+fn is_shown_plain(text: &[u8], none: &str) -> bool
+    ensures { result ≡ is_shown_plain none.now text.now }
+{
+    is_plain(text) && text != none.as_bytes()
+}
+
+/// Returns true if a text has only bytes that commands and replies have, at least one of them, and no blank at either end.
+fn is_plain(text: &[u8]) -> bool
+    ensures { result ≡ is_plain_text text.now }
+{
+    has_filled_ends(text) && has_reply_bytes(text)
+}
+
+fn has_filled_ends(text: &[u8]) -> bool
+    ensures { result ≡ has_filled_ends text.now }
+{
+    !matches!(text, [] | [b' ', ..] | [.., b' '])
+}
+
+fn has_reply_bytes(text: &[u8]) -> bool
+    ensures { result ≡ list_all is_reply_byte text.now }
+{
+    text.iter().all(|byte| {
+        matches!(*byte, b'0'..=b'9' | b'A'..=b'Z' | b'a'..=b'z' | b' ' | b'!' | b'>' | b'\n')
+    })
+}
+
+/// Writes the lines of a plain text, joined by ` / `.
+fn write_plain<W: Write>(out: &mut W, text: &[u8]) -> io::Result<()>
+    ensures { OnOk result (Appends (W.contents out.old) (W.contents out.new) (flat_map plain_byte text.now)) }
+{
+    for byte in text {
+        match *byte {
+            b'\n' => out.write_all(b" / ")?,
+            byte => out.write_all(&[byte])?,
+        }
+    }
+    Ok(())
+}
+
+/// Writes the bytes of a text that is in quotes.
+fn write_escaped<W: Write>(out: &mut W, text: &[u8]) -> io::Result<()>
+    ensures { OnOk result (Appends (W.contents out.old) (W.contents out.new) (flat_map escape_ascii text.now)) }
+{
+    for byte in text {
+        write_escape(out, *byte)?;
+    }
+    Ok(())
+}
+
+fn write_escape<W: Write>(out: &mut W, byte: u8) -> io::Result<()>
+    ensures { OnOk result (Appends (W.contents out.old) (W.contents out.new) (escape_ascii byte)) }
+{
+    let mut rest = byte.escape_ascii();
+    'escape: while let Some(escaped) = rest.next() {
+        out.write_all(&[escaped])?;
+    }
+    Ok(())
 }
 
 /// Returns what a promise asks.
-fn words_of(promise: Promise) -> &'static str {
+fn words_of(promise: Promise) -> &'static str
+    ensures { result.now ≡ words_of_promise promise }
+{
     match promise {
         Promise::Form =>
             "a reply is for whom it has to be, and a refusal or the reply to that command",

@@ -1,9 +1,10 @@
 //! The words of a command line.
 
-ghost use Rattle.std.specs.Prelude.{◌≡◌, Some, IfOk, map};
+ghost use Rattle.std.specs.Prelude.{◌≡◌, Some, IfErr, IfOk, map};
 ghost use Rattle.std.specs.String.{string_bytes};
 ghost use Rattle.clap.specs.Words.{app_of, first_value, found_of};
-ghost use Rattle.partcheck.specs.Settings.{IsCheckRequestedBy, check_command_line};
+ghost use Rattle.partcheck.specs.Settings.{IsCheckInOrder, IsCheckRefusedFor, IsCheckRequestedBy, IsNoFile, check_command_line};
+ghost use Rattle.partcheck.specs.declared.settings.Settings.{Settings};
 
 use crate::settings::{PROGRAM, Settings};
 use clap::{ArgMatches, Command};
@@ -11,9 +12,15 @@ use command_line::{Outcome, parse, path_of, positional, sizes_command, sizes_fou
 use std::alloc::{AllocError, Global};
 
 /// Reads the words of a command line, without the program's name.
+///
+/// Refused with `Help` or `Version` if that is asked for, with `BadLine` if the words are faulty, or with `NoMemory`.
 pub fn read_words<'a>(alloc: Global, words: &'a [&'a str]) -> Result<Settings, Outcome>
     // Which word is under which name is as clap's model says.
     ensures asked { IfOk result (IsCheckRequestedBy (map (λ word. word.now) words.entry.now)) }
+    ensures refused { IfErr result (IsCheckRefusedFor (map (λ word. word.now) words.entry.now)) }
+    // Settings that are asked for are refused for want of memory alone.
+    ensures given { IfErr result (λ outcome. IsCheckInOrder (map (λ word. word.now) words.entry.now)
+        → (settings : Settings) → IsCheckRequestedBy (map (λ word. word.now) words.entry.now) settings → outcome ≡ Outcome.NoMemory) }
 {
     let matches = parse(alloc, command(alloc)?, words)?;
     Ok(Settings {
@@ -27,7 +34,8 @@ pub fn read_words<'a>(alloc: Global, words: &'a [&'a str]) -> Result<Settings, O
 ///
 /// Refused with `BadLine` if there is none, or with `NoMemory`.
 fn required_path(alloc: Global, matches: &ArgMatches<'_>, name: &str) -> Result<String, Outcome>
-    ensures { IfOk result (λ path. first_value (found_of matches.now) name.now ≡ Some (string_bytes path)) }
+    ensures path { IfOk result (λ path. first_value (found_of matches.now) name.now ≡ Some (string_bytes path)) }
+    ensures refused { IfErr result (IsNoFile (first_value (found_of matches.now) name.now)) }
 {
     match path_of(alloc, matches, name)? {
         Some(path) => Ok(path),

@@ -1,20 +1,38 @@
-use Rattle.std.proofs.Common.{inl, inr, refl}
-use Rattle.std.proofs.lemmas.Result.{IfOk-weaker}
+use Rattle.std.proofs.Common.{[], inl, inr, refl}
+use Rattle.std.proofs.lemmas.Result.{IfOk-from_err, IfOk-weaker}
 use Rattle.check_core.proofs.Ending.{ended_so, ran_out}
-use Rattle.partcheck.specs.Checked.{opening_of}
-use Rattle.partcheck.proofs.Sound.{sound}
+use Rattle.check_core.proofs.ReadingLemmas.{gives_nothing}
+use Rattle.partcheck.specs.Checked.{IsFindingOf, opening_of}
+use Rattle.partcheck.proofs.Sound.{finds, known_texts}
 use Rattle.partcheck.proofs.run.run.Goals as goal
 
-pub returns-clause-sound : goal.returns-clause-sound
-returns-clause-sound g c asked told asked_is told_is =
-    IfOk-weaker c.check-found.result _ _ (λ finding is. sound c.kept_is_allowed.ensures c.broken_is_not_allowed.ensures c.args.config finding asked told is)
-    (c.check-found.ensures.found (opening_of c.args.config) asked told c.in_ok-machine.ensures asked_is told_is)
+pub returns-in_err-machine-clause-found : goal.returns-in_err-machine-clause-found
+returns-in_err-machine-clause-found g c = ([], [], gives_nothing _, gives_nothing _, IfOk-from_err _ _ c.from_residual.ensures.0)
 
 pub returns-in_err-machine-clause-end : goal.returns-in_err-machine-clause-end
 returns-in_err-machine-clause-end g c =
     ran_out c.from_residual.result _ _ _ c.from_residual.ensures.1 c.requires.trace_fine c.requires.replies_fine (inl (refl, refl))
 
+pub returns-clause-found : goal.returns-clause-found
+returns-clause-found g c =
+    let given = c.check-found.ensures.found in (
+      given.0,
+      given.1,
+      given.2,
+      given.3,
+      IfOk-weaker c.check-found.result _ _ (λ finding so more later may might.
+          finds c.kept_is_allowed.ensures c.broken_is_not_allowed.ensures c.args.config finding _ _ (so more later may might))
+          (given.4 (opening_of c.args.config) c.in_ok-machine.ensures),
+    )
+
+pub returns-clause-known : goal.returns-clause-known
+returns-clause-known g c asked told asked_is told_is =
+    let given = c.check-found.ensures.found in
+    IfOk-weaker c.check-found.result _ _ (λ finding so. known_texts (IsFindingOf c.args.config finding) given.2 given.3
+    (λ more later may might. finds c.kept_is_allowed.ensures c.broken_is_not_allowed.ensures c.args.config finding _ _ (so more later may might))
+    asked told asked_is told_is) (given.4 (opening_of c.args.config) c.in_ok-machine.ensures)
+
 pub returns-clause-end : goal.returns-clause-end
 returns-clause-end g c =
     ended_so c.check-found.result _ _ _ _
-    (λ adds. inr (λ asked told asked_is told_is. adds (opening_of c.args.config) asked told c.in_ok-machine.ensures asked_is told_is)) c.check-found.ensures.end
+    (λ adds. inr (adds.0, adds.1, adds.2, adds.3, adds.4 (opening_of c.args.config) c.in_ok-machine.ensures)) c.check-found.ensures.end
