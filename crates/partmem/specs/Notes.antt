@@ -27,4 +27,7 @@ HasNoted noting m Outcome.Unwritable count ended given notes notes' = (lines : L
     × HasCome ended given lines × (length lines ≡ count) × ((tail ≡ []) ⊎ (given ≡ with_line_feeds lines ++ tail))
     × (notes' ≡ with_unended noting lines tail (with_notes noting m lines notes))
 HasNoted noting m Outcome.NoMemory count ended given notes notes' = notes' ≡ notes
-HasNoted noting m _ count ended given notes notes' = ⊥
+HasNoted noting m (Outcome.Help text) count ended given notes notes' = ⊥
+HasNoted noting m (Outcome.Version text) count ended given notes notes' = ⊥
+HasNoted noting m (Outcome.BadLine text) count ended given notes notes' = ⊥
+HasNoted noting m Outcome.BadOnly count ended given notes notes' = ⊥

@@ -18,7 +18,7 @@ tally_of (Ok tally) = tally
 tally_of (Err (ReplayError.Feed tally)) = tally
 tally_of (Err (ReplayError.Drain tally)) = tally
 
--- the same where so many of the bytes were not written
+-- the same if this number of the bytes was not written
 abbrev pub without_unwritten : Tally → ℕ → Tally
 without_unwritten tally unwritten = record { lines = tally.lines; events = tally.events; faults = tally.faults; written = tally.written - unwritten }
 

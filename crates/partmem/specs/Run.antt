@@ -18,7 +18,7 @@ shown_replies m lines = shown_lines m.only cache_limit m.config.order lines (ope
 abbrev pub private_replies : Config → ℕ → List ℕ → List (List ℕ)
 private_replies config t trace = private_lines cache_limit config.order config.superblocks config.tenants t trace
 
--- whatever the others do, a tenant is told what its private machine answers; with `only` nothing else is written
+-- whatever the others do, the lines for a tenant are those of its private machine; with `only` nothing else is written
 abbrev pub IsPrivate : Option ℕ → Config → List ℕ → List ℕ → Type 0
 IsPrivate None config trace written = (t : ℕ) → t < config.tenants → lines_for t written ≡ private_replies config t trace
 IsPrivate (Some t) config trace written = t < config.tenants → written ≡ with_line_feeds (private_replies config t trace)
@@ -32,7 +32,10 @@ Answers m Outcome.Done given written = (written ≡ shown_replies m (lines_of_tr
 Answers m Outcome.Unreadable given written = written ≡ shown_replies m (ended_lines given)
 Answers m Outcome.Unwritable given written = IsBeginning written (shown_replies m (lines_of_trace given))
 Answers m Outcome.NoMemory given written = (given ≡ []) × (written ≡ [])
-Answers m _ given written = ⊥
+Answers m (Outcome.Help text) given written = ⊥
+Answers m (Outcome.Version text) given written = ⊥
+Answers m (Outcome.BadLine text) given written = ⊥
+Answers m Outcome.BadOnly given written = ⊥
 
 -- What was held back is the end of it: the writer took the rest, and nothing else.
 abbrev pub IsHeldBack : (before writer : Option (List ℕ)) → (held written sent : List ℕ) → Type 0
@@ -46,7 +49,10 @@ HasReached Outcome.Unreadable false before writer held written sent = (sent ≡ 
 HasReached Outcome.Unreadable true before writer held written sent = IsHeldBack before writer held written sent
 HasReached Outcome.Unwritable failed before writer held written sent = IsHeldBack before writer held written sent
 HasReached Outcome.NoMemory failed before writer held written sent = sent ≡ []
-HasReached _ failed before writer held written sent = ⊥
+HasReached (Outcome.Help text) failed before writer held written sent = ⊥
+HasReached (Outcome.Version text) failed before writer held written sent = ⊥
+HasReached (Outcome.BadLine text) failed before writer held written sent = ⊥
+HasReached Outcome.BadOnly failed before writer held written sent = ⊥
 
 -- What is counted when the run ended so: the lines that were run, and what the writer took. If the replies could not be written,
 -- all lines had been answered before a flush or a send failed, or the last line that was run is the one whose reply was cut.
@@ -59,7 +65,10 @@ Tallies m Outcome.Unwritable tally ended unread given written sent =
     ⊎ ((lines : List (List ℕ)) × (line : List ℕ) × HasCome ended given (lines ++ line ∷ [])
     × IsCutIn (shown_replies m) lines line written × Counts tally (lines ++ line ∷ []) sent)
 Tallies m Outcome.NoMemory tally ended unread given written sent = tally ≡ no_tally
-Tallies m _ tally ended unread given written sent = ⊥
+Tallies m (Outcome.Help text) tally ended unread given written sent = ⊥
+Tallies m (Outcome.Version text) tally ended unread given written sent = ⊥
+Tallies m (Outcome.BadLine text) tally ended unread given written sent = ⊥
+Tallies m Outcome.BadOnly tally ended unread given written sent = ⊥
 
 -- Which end had failed when the run ended so; a trace is done only at its end. Where both had, a send failed before the feed did,
 -- or the feed before the last flush.
@@ -68,12 +77,21 @@ EndsAs Outcome.Done ended unread unwritten unsent = (ended ≡ true) × (unread 
 EndsAs Outcome.Unreadable ended unread unwritten unsent = (unread ≡ true) × (unsent ≡ false)
 EndsAs Outcome.Unwritable ended unread unwritten unsent = (unwritten ≡ true) × (unread ≡ true → unsent ≡ true)
 EndsAs Outcome.NoMemory ended unread unwritten unsent = (unread ≡ false) × (unwritten ≡ false)
-EndsAs _ ended unread unwritten unsent = ⊥
+EndsAs (Outcome.Help text) ended unread unwritten unsent = ⊥
+EndsAs (Outcome.Version text) ended unread unwritten unsent = ⊥
+EndsAs (Outcome.BadLine text) ended unread unwritten unsent = ⊥
+EndsAs Outcome.BadOnly ended unread unwritten unsent = ⊥
 
 -- how much of the trace was given when the run ended so: a beginning, and all of it where it is done
 abbrev pub IsGiven : Outcome → List ℕ → List ℕ → Type 0
 IsGiven Outcome.Done trace given = trace ≡ given
-IsGiven outcome trace given = IsBeginning given trace
+IsGiven (Outcome.Help text) trace given = IsBeginning given trace
+IsGiven (Outcome.Version text) trace given = IsBeginning given trace
+IsGiven Outcome.Unreadable trace given = IsBeginning given trace
+IsGiven Outcome.Unwritable trace given = IsBeginning given trace
+IsGiven (Outcome.BadLine text) trace given = IsBeginning given trace
+IsGiven Outcome.BadOnly trace given = IsBeginning given trace
+IsGiven Outcome.NoMemory trace given = IsBeginning given trace
 
 -- However the run ended, what was written is a beginning of the whole that the trace gives.
 pub record IsOfTrace (outcome : Outcome) (trace given whole written : List ℕ) : Type 0 where

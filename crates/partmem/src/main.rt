@@ -4,9 +4,9 @@
 //!
 //! The exits are those of [`Outcome`].
 //!
-//! With `--tally` a line, before what is told of the exit, tells what was done, however the run ended:
-//! `partmem: 6 lines, 6 events, 0 faults, 214 bytes written`; and behind that, why a file could not be opened or read, how often
-//! each refusal was told, and the first faulty lines with what is wrong with them.
+//! `--tally` prints the counts of the run, however it ended: `partmem: 6 lines, 6 events, 0 faults, 214 bytes written`. Then come
+//! the message of the exit, the reason why a file could not be opened or read, the count of each refusal, and the first faulty
+//! lines with their faults.
 #![tactic(auto)]
 
 ghost use Rattle.std.specs.Prelude.{◌≡◌, OnErr};
@@ -32,13 +32,13 @@ use std::io::{self, IsTerminal, Read, Write};
 use std::process::ExitCode;
 use std::rt::{Clock, Env, Files};
 
-/// The bytes that are written at once, where the trace has not to be waited for.
+/// The number of bytes written at once, unless the program has to wait for more of the trace.
 const BUFFER_BYTES: usize = 65_536;
 
 fn main(rt: HostRuntime) -> ExitCode {
     match read_command_line(&rt) {
         Ok(settings) => {
-            // Replies on the terminal show how far the run is, and no other line is written between them.
+            // Replies on a terminal show how far the run is, so no line of progress is written between them.
             let wanted = rt.stderr().is_terminal() && !rt.stdout().is_terminal();
             let progress = progress_in(&rt, PROGRAM, settings.file.as_deref(), None, wanted);
             let ran = run_from(&rt, &settings, progress);
@@ -51,17 +51,17 @@ fn main(rt: HostRuntime) -> ExitCode {
     }
 }
 
-/// How a run ended, and what is told behind that.
+/// How a run ended, and what is printed after that.
 #[derive(Drop)]
 struct Ran {
     ended: Ended,
     /// Why the trace could not be opened or read.
     error: Option<FileError>,
-    /// What was noted, if it was asked for.
+    /// The notes, if they were requested.
     notes: Option<RunNotes>,
 }
 
-/// What the command line asks for.
+/// The settings of the command line.
 fn read_command_line(rt: &(impl Env + AllocGlobal)) -> Result<Settings, Outcome> {
     let words = words_given(rt)?;
     let texts = texts_of(rt.alloc(), words.as_slice())?;
@@ -87,7 +87,7 @@ fn run_from<P: Eprint + Clock>(
     }
 }
 
-/// Runs the trace of a reader into standard output; one that could not be opened, for whatever cause, is unreadable.
+/// Runs the trace of a reader into standard output. A trace that could not be opened is unreadable.
 fn run_opened<R: Read + Drop>(
     rt: &(impl Print + AllocGlobal),
     settings: &Settings,
@@ -185,7 +185,7 @@ fn run_between<R: Read + Drop, W: Write + Drop, N: Notes>(
     )
 }
 
-/// Tells how a run ended: its tally first, if it was asked for, and what was noted last.
+/// Prints how a run ended: its tally first, if that was requested, and the notes last.
 fn tell_run(rt: &impl Eprint, settings: &Settings, ran: Ran) -> ExitCode {
     if settings.tally {
         tell_tally(rt, &ran.ended.tally);
@@ -205,8 +205,8 @@ fn tell_run(rt: &impl Eprint, settings: &Settings, ran: Ran) -> ExitCode {
     code
 }
 
-/// Prints how often each refusal was answered, and the first faulty lines. If the replies could not be written, some of these answers
-/// were not, so the lines say that they count answers.
+/// Prints the count of each refusal, and the first faulty lines. If the replies could not be written, some of these answers were
+/// not, so the lines say that they count answers.
 fn tell_notes(rt: &impl Eprint, notes: &RunNotes, outcome: &Outcome) {
     let counted = match outcome {
         Outcome::Unwritable => " answered",
@@ -222,7 +222,7 @@ fn tell_notes(rt: &impl Eprint, notes: &RunNotes, outcome: &Outcome) {
     }
 }
 
-/// Tells what was done, on standard error.
+/// Prints the tally on standard error.
 fn tell_tally(rt: &impl Eprint, tally: &Tally) {
     let Tally {
         lines,

@@ -8,16 +8,16 @@ use own_trace::KeepError;
 use replay_core::{ReplayError, Tally};
 
 /// A run that has ended.
-#[derive(Drop)]
+#[derive(Debug, Drop)]
 pub struct Ended {
     /// How it ended.
     pub outcome: Outcome,
-    /// What was done until then.
+    /// The counts of the run up to then.
     pub tally: Tally,
 }
 
 impl Ended {
-    /// Nothing was done.
+    /// Returns the end of a run in which nothing was done.
     pub fn at_once(outcome: Outcome) -> Ended
         ensures { result ≡ ended_at_once outcome }
     {
@@ -39,7 +39,7 @@ pub fn outcome_of_kept(kept: &Result<(), KeepError>) -> Outcome
     }
 }
 
-/// What had been done when a replay answered so and so many of the bytes were not written.
+/// Returns the tally of a replay with this result, less the unwritten bytes.
 pub fn tally_of(replayed: &Result<Tally, ReplayError>, unwritten: usize) -> Tally
     ensures { result ≡ without_unwritten (tally_of replayed.now) unwritten }
 {

@@ -16,8 +16,8 @@ use std::alloc::Global;
 use std::io::Write;
 use std::mem;
 
-/// Boots a new machine of these sizes, runs the trace on it, and writes those of its lines that are the own list of the tenant;
-/// flushes, and ends, as [`run`](crate::run::run) does. No reply is written.
+/// Boots a new machine of these sizes, runs the trace on it, and writes the lines of the tenant's own list. Flushes and ends as
+/// [`run`](crate::run::run) does. Writes no reply.
 pub fn run_own<F: Feed, W: Write>(
     alloc: Global,
     machine: &Machine,
@@ -27,7 +27,7 @@ pub fn run_own<F: Feed, W: Write>(
 ) -> Outcome
     requires feed_fine { F.has_failed feed.old ≡ false }
     requires drain_fine { ⟦<WriterDrain<W> as Drain>⟧.has_failed drain.old ≡ false }
-    // What was given of the trace, what was written, and how much of that the writer took.
+    // The bytes given of the trace, the bytes written, and how many of these the writer took.
     ensures kept { (given : List ℕ) × (written : List ℕ) × (sent : List ℕ)
         × Consumes (F.remaining feed.old) (F.remaining feed.new) given
         × Appends (⟦<WriterDrain<W> as Drain>⟧.contents drain.old) (⟦<WriterDrain<W> as Drain>⟧.contents drain.new) written
@@ -47,7 +47,7 @@ pub fn run_own<F: Feed, W: Write>(
         Err(BootError::BadConfig) => unreachable!(),
     };
     let kept = keep(&mut kernel, feed, drain, tenant);
-    // The system takes all memory back at once when the process ends, sooner than piece by piece.
+    // When the process ends, the system frees all memory at once, which is faster than piece by piece.
     mem::forget(kernel);
     let flushed = flush(drain);
     outcome_of_kept(&kept).after_flush(drain.send_failed(), flushed)

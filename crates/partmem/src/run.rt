@@ -15,8 +15,8 @@ use std::alloc::Global;
 use std::io::Write;
 use std::mem;
 
-/// Boots a new machine of these sizes, replays the trace and flushes: after a failed feed too, but not after a failed
-/// drain. The first failure decides. The notes are those of [`replay_noted`].
+/// Boots a new machine of these sizes, replays the trace and flushes, also after a failed feed but not after a failed drain.
+/// The first failure decides the outcome. The notes are those of [`replay_noted`].
 pub fn run<F: Feed, W: Write, N: Notes>(
     alloc: Global,
     machine: &Machine,
@@ -26,7 +26,7 @@ pub fn run<F: Feed, W: Write, N: Notes>(
 ) -> Ended
     requires feed_fine { F.has_failed feed.old ≡ false }
     requires drain_fine { ⟦<WriterDrain<W> as Drain>⟧.has_failed drain.old ≡ false }
-    // What was given of the trace, what was written, how much of that the writer took, what the tally counts, and what was noted.
+    // The bytes given of the trace, the bytes written, how many of these the writer took, the counts of the tally, and the notes.
     ensures ran { (given : List ℕ) × (written : List ℕ) × (sent : List ℕ)
         × Consumes (F.remaining feed.old) (F.remaining feed.new) given
         × Appends (⟦<WriterDrain<W> as Drain>⟧.contents drain.old) (⟦<WriterDrain<W> as Drain>⟧.contents drain.new) written
@@ -38,7 +38,7 @@ pub fn run<F: Feed, W: Write, N: Notes>(
         × IfSome (F.remaining feed.old) (λ trace.
         IsOfTrace result.outcome trace given (shown_replies machine.now (lines_of_trace trace)) written)
         × HasNoted N.noting machine.now result.outcome result.tally.lines (F.has_ended feed.new) given notes.old notes.new }
-    // Each of these replies keeps the promises, the ones that are not shown too.
+    // Each of these replies keeps the promises, including those that are not shown.
     ensures promises { (given : List ℕ) × (written : List ℕ) × (sent : List ℕ)
         × Consumes (F.remaining feed.old) (F.remaining feed.new) given
         × Appends (⟦<WriterDrain<W> as Drain>⟧.contents drain.old) (⟦<WriterDrain<W> as Drain>⟧.contents drain.new) written
@@ -56,7 +56,7 @@ pub fn run<F: Feed, W: Write, N: Notes>(
         Err(BootError::BadConfig) => unreachable!(),
     };
     let replayed = replay_noted(&mut kernel, feed, drain, machine.only, notes);
-    // The system takes all memory back at once when the process ends, sooner than piece by piece.
+    // When the process ends, the system frees all memory at once, which is faster than piece by piece.
     mem::forget(kernel);
     let flushed = flush(drain);
     Ended {
@@ -65,14 +65,14 @@ pub fn run<F: Feed, W: Write, N: Notes>(
     }
 }
 
-/// Flushes a drain that has not failed; answers whether the writer then has all that the drain took.
+/// Flushes a drain that has not failed. Returns true if the writer has received everything.
 pub(crate) fn flush<W: Write>(drain: &mut WriterDrain<W>) -> bool
     ensures bytes { Keeps (⟦<WriterDrain<W> as Drain>⟧.contents drain.old) (⟦<WriterDrain<W> as Drain>⟧.contents drain.new) }
     ensures empty { result ≡ true → ⟦<WriterDrain<W> as Drain>⟧.held_back drain.new ≡ [] }
     ensures failed { ⟦<WriterDrain<W> as Drain>⟧.has_failed drain.new ≡ not result }
     ensures stopped { ⟦<WriterDrain<W> as Drain>⟧.has_failed_to_send drain.old ≡ true → result ≡ false }
     ensures sends { ⟦<WriterDrain<W> as Drain>⟧.has_failed_to_send drain.new ≡ ⟦<WriterDrain<W> as Drain>⟧.has_failed_to_send drain.old }
-    // A drain that had failed has not been touched.
+    // A drain that had failed was not flushed.
     ensures fine { ⟦<WriterDrain<W> as Drain>⟧.has_failed drain.old ≡ true → result ≡ false }
 {
     !drain.failed() && drain.flush().is_ok()
