@@ -8,7 +8,8 @@
 
 #define PIECE_BYTES ((size_t)16) /* the sizes and the alignment of allocations in the tables */
 
-/* A machine's memory. It lies at the beginning of the tables, and held[2] of the machine is its address. */
+/* A machine's memory. A copy lies at the beginning of the tables, and held[2] of the machine is its address. The tables may be an
+ * array of char, in which C allows no object of another type: so the copy is made and read by memcpy, and never used in place. */
 struct state {
     uint8_t *ram;
     uint8_t *next; /* the free bytes of the tables, and how many there are */
@@ -32,6 +33,15 @@ struct allocation {
 
 /* The machine that boots, or NULL: outside of boot every allocation is refused. */
 static struct state *booting;
+
+/* The state of a machine that is booted. Only what is used of it is loaded; memcpy would be a call, since -ffreestanding makes one
+ * of each. */
+static inline struct state state_of(const partmem_machine *machine)
+{
+    struct state state;
+    __builtin_memcpy(&state, machine->held[2], sizeof state);
+    return state;
+}
 
 static struct allocation allocate_in_tables(size_t bytes)
 {
@@ -86,13 +96,13 @@ partmem_status partmem_boot_with(partmem_machine *machine, const partmem_config 
     if (!is_bootable(config)) return PARTMEM_BAD_CONFIG;
     if (!is_aligned(memory->ram, PARTMEM_FRAME_BYTES) || !is_aligned(memory->tables, PIECE_BYTES)) return PARTMEM_BAD_MEMORY;
     const size_t table_bytes = PARTMEM_TABLE_BYTES(config->order, config->superblocks, config->tenants);
-    booting = memory->tables;
-    *booting = (struct state){memory->ram, memory->tables, table_bytes / PIECE_BYTES * PIECE_BYTES,
-                              PARTMEM_RAM_BYTES(config->order, 1), config->superblocks, config->tenants, 0, release};
-    (void)allocate_in_tables(sizeof *booting);
+    struct state state = {memory->ram, memory->tables, table_bytes / PIECE_BYTES * PIECE_BYTES,
+                          PARTMEM_RAM_BYTES(config->order, 1), config->superblocks, config->tenants, 0, release};
+    booting = &state;
+    (void)allocate_in_tables(sizeof state); /* the place of the copy */
     partmem_status status = partmem_boot_kernel(machine, config);
     booting = NULL;
-    if (status == PARTMEM_DONE) machine->held[2] = memory->tables;
+    if (status == PARTMEM_DONE) machine->held[2] = memcpy(memory->tables, &state, sizeof state);
     return status;
 }
 
@@ -103,14 +113,14 @@ partmem_status partmem_boot_in(partmem_machine *machine, const partmem_config *c
 
 partmem_status partmem_end(partmem_machine *machine)
 {
-    struct state *tables = machine->held[2];
     partmem_status status = partmem_end_kernel(machine);
     if (status != PARTMEM_DONE) return status;
+    const struct state state = state_of(machine);
+    void *tables = machine->held[2];
     machine->held[2] = NULL;
-    if (tables->release) {
-        void (*release)(void *) = tables->release;
-        release(tables->ram);
-        release(tables);
+    if (state.release) {
+        state.release(state.ram);
+        state.release(tables);
     }
     return PARTMEM_DONE;
 }
@@ -119,21 +129,23 @@ partmem_status partmem_end(partmem_machine *machine)
 
 void *partmem_superblock_address(const partmem_machine *machine, uint32_t superblock)
 {
-    const struct state *state = machine->held[2];
-    return state && superblock < state->superblocks ? state->ram + state->unit * superblock : NULL;
+    if (!machine->held[2]) return NULL;
+    const struct state state = state_of(machine);
+    return superblock < state.superblocks ? state.ram + state.unit * superblock : NULL;
 }
 
 partmem_status partmem_find_place(partmem_tenant tenant, const void *at, uint32_t *place)
 {
-    const struct state *state = tenant.machine->held[2];
     partmem_owner owner;
     *place = 0;
-    if (!state) return PARTMEM_NO_MACHINE;
-    if (tenant.number >= state->tenants) return PARTMEM_NO_TENANT;
-    const size_t offset = (uintptr_t)at - (uintptr_t)state->ram, superblock = offset / state->unit;
-    if (superblock >= state->superblocks) return PARTMEM_NOT_HELD;
+    if (!tenant.machine->held[2]) return PARTMEM_NO_MACHINE;
+    const struct state state = state_of(tenant.machine);
+    if (tenant.number >= state.tenants) return PARTMEM_NO_TENANT;
+    const size_t offset = (uintptr_t)at - (uintptr_t)state.ram;
+    const size_t superblock = offset >> __builtin_ctzl(state.unit); /* a power of two: a division would take longer */
+    if (superblock >= state.superblocks) return PARTMEM_NOT_HELD;
     partmem_status status = partmem_find_superblock(tenant.machine, (uint32_t)superblock, &owner);
     if (status != PARTMEM_DONE || !owner.is_owned || owner.tenant != tenant.number) return PARTMEM_NOT_HELD;
-    *place = (uint32_t)(owner.slot * state->unit + offset % state->unit);
+    *place = (uint32_t)(owner.slot * state.unit + (offset & (state.unit - 1)));
     return PARTMEM_DONE;
 }

@@ -2,9 +2,14 @@
  *
  * A machine has RAM in superblocks. Its administrator grants them to tenants. A tenant allocates page blocks and takes objects
  * from what it was granted, and uses them in place. Whatever the others do, a tenant gets the same results and finds the same
- * bytes as if it were alone, if the caller keeps the DUTIES at the end of this file. That is proved of the library's source in
- * Rattle, for calls, loads and stores one after another. It is tested for loads and stores during calls of other threads, and of
- * the functions in C: partmem_boot, partmem_boot_in, partmem_end, partmem_superblock_address and partmem_find_place.
+ * bytes as if it were alone with the same grants, take-backs and resets, if the caller keeps the DUTIES at the end of this file.
+ *
+ * That is PROVED of the library's source in Rattle, for commands, loads and stores one after another, where loads and stores name
+ * their bytes by places and not by addresses. Numbers of superblocks are the administrator's, and depend on all tenants. TESTED:
+ * that an address leads to the bytes of its place, and stays; loads and stores during calls of other threads; the functions in C,
+ * which are partmem_boot, partmem_boot_in, partmem_end, partmem_superblock_address, partmem_find_place, partmem_strerror,
+ * partmem_version and the three inline functions of this file. NEITHER: that the duties are kept, the hardware, and time. The
+ * last comment of this file says each exactly.
  *
  *     frame       4096 bytes
  *     superblock  2^order frames of RAM: order 3 to 8, superblocks 1 to 256, tenants 1 to 64. Numbered from 0 in a machine.
@@ -32,8 +37,11 @@
  *     struct session *session = object.at;
  *     partmem_give(client, sessions.cache, object.place)
  *
+ * partmem_heap.h has malloc by size and free by address for a tenant, over these calls. partmem.hpp has both for C++17.
+ * partmem_watched.h has AddressSanitizer and valgrind see most of what breaks duties 4 and 5 below, and leaks.
+ *
  * MEMORY. A machine uses the memory that partmem_boot_in is given: RAM, at most 256 MiB, and tables, whose sizes are constants.
- * No other call allocates. For more memory or more tenants boot several machines: client c is then the tenant
+ * No call but a boot allocates. For more memory or more tenants boot several machines: client c is then the tenant
  * {&machines[c / 64], c % 64}. Of the C library memcpy, memmove and memset are used, and nothing else: no system call, no thread,
  * no clock. (An unproved library also has write, for its notice.) partmem_boot gets the memory from aligned_alloc and malloc, and
  * partmem_end frees it. A program that does not call partmem_boot is linked without these.
@@ -46,30 +54,36 @@
  * ALIGNMENT. RAM begins on a page, so an address has the alignment of its place up to 4096 bytes: page blocks and their frames
  * begin on pages, and an object of alignment 64 lies at a multiple of 64.
  *
- * LONGEST CALLS, in microseconds, of a tenant that holds a whole machine, on a busy 2.5 GHz Xeon:
+ * LONGEST CALLS, in microseconds, the least of 9 runs, of a tenant that holds a whole machine (for a move, all but one
+ * superblock), on a busy 2.5 GHz Xeon:
  *
  *     order, RAM                                           4, 1 MiB  4, 16 MiB  6, 64 MiB  8, 64 MiB  8, 256 MiB
  *     reap or destroy, or alloc or take that has to reap,
  *     every frame in an empty slab                               27       2400      14000      14000       56000
- *     reap of 64 empty slabs of 32 KiB                           20         70        149        134         157
+ *     reap of 64 empty slabs of 32 KiB (32 in 1 MiB)             20         70        149        134         157
  *     alloc that is refused, with empty slabs everywhere          3         46        106         31         245
  *     reset, a slab in each frame                                 2         30        116        114         438
  *     move                                                        4         14         60        222         236
  *     first lend or write in a superblock after its grant         2          9         37        136         134
  *     take that makes a slab                                      2          4          6          6           7
  *
- * An alloc or take that finds no free block zeroes all empty slabs of the tenant. A kernel that cannot wait so long has small
- * orders and tenants, reaps a tenant after every 64 of its gives (only a give empties a slab, and when it reaps may depend on
- * that tenant's calls alone), and makes the call in the tenant's own time slice.
+ * An alloc or take that finds a block only in frames of empty slabs first zeroes all empty slabs of the tenant. A kernel that
+ * cannot wait so long has small orders and tenants, reaps a tenant after every 64 of its gives (only a give empties a slab, and
+ * when it reaps may depend on that tenant's calls alone), and makes the call in the tenant's own time slice. The last helps
+ * only if the kernel can interrupt a call: Linux with preempt=full can; with preempt=voluntary or none others wait for its end.
  *
- * PROCESSOR. x86-64-v2, with the System V calling convention. On an older processor a call ends in an illegal instruction. With
- * gcc and clang `__builtin_cpu_supports("sse4.2") && __builtin_cpu_supports("popcnt")` tests for it.
+ * PROCESSOR. x86-64-v2, with the System V calling convention. On an older processor a call may end in an illegal instruction.
+ * With gcc and clang `__builtin_cpu_supports("sse4.2") && __builtin_cpu_supports("popcnt")` tests for it.
  */
 #ifndef PARTMEM_H
 #define PARTMEM_H
 
+#ifdef __KERNEL__ /* Linux, which has neither of the others */
+#include <linux/types.h>
+#else
 #include <stddef.h>
 #include <stdint.h>
+#endif
 
 #ifdef __cplusplus
 extern "C" {
@@ -102,17 +116,21 @@ extern "C" {
 
 /* ---- Status -----------------------------------------------------------------------------------------------------------------
  *
- * A refusal answers a request: its number is that of traces, and except POOL_EMPTY it follows from what the tenant itself did
- * and was granted. An error is a mistake of the caller. After either, nothing has changed and all results of a direct call are
- * zeroes, so `at` is NULL. partmem_event and partmem_line say at their declarations what they do instead.
+ * A refusal answers a request: its number is that of traces, and except POOL_EMPTY it follows from what the tenant itself did,
+ * its grants, take-backs and resets, and the machine's order and number of tenants. An error is a mistake of the caller, or
+ * NO_MEMORY. After either, nothing has changed and all results of a direct call are zeroes, so `at` is NULL. partmem_read,
+ * partmem_event and partmem_line say at their declarations what they do instead.
+ *
+ * No number makes a call write more than its declaration says: a buffer gets the bytes that were read, at most
+ * PARTMEM_MOST_BYTES, or the text of a line, at most PARTMEM_MOST_TEXT_BYTES.
  *
  * Each function lists what it returns besides DONE, and returns the first that applies. All functions with a tenant return
- * NO_MACHINE and NO_TENANT before what they list. */
+ * NO_MACHINE and NO_TENANT before what they list, but for a wrong number of bytes in partmem_write and partmem_make_cache. */
 typedef enum partmem_status {
     PARTMEM_DONE = 0,
 
     /* refusals */
-    PARTMEM_NO_FRAMES = 1,      /* no free block is large enough, even after empty slabs were given back */
+    PARTMEM_NO_FRAMES = 1,      /* no free block is large enough, even if empty slabs were given back */
     PARTMEM_BAD_ORDER = 2,      /* the order is larger than a superblock's */
     PARTMEM_NOT_A_BLOCK = 3,    /* no live page block begins at the place */
     PARTMEM_OUT_OF_REACH = 4,   /* the bytes are none, or not inside one live page block or one live object */
@@ -128,11 +146,11 @@ typedef enum partmem_status {
     PARTMEM_NO_SLOT = 14,       /* the tenant does not hold that slot */
     PARTMEM_SLOT_BUSY = 15,     /* a page block or a slab, even an empty one, has frames of the slot */
 
-    /* errors of the caller */
+    /* errors: mistakes of the caller, and NO_MEMORY */
     PARTMEM_NO_MACHINE = 32,       /* no machine was booted here, or it has ended */
     PARTMEM_HAS_MACHINE = 33,      /* there is a machine already, which stays */
-    PARTMEM_BAD_CONFIG = 34,       /* a number of the partmem_config is out of range */
-    PARTMEM_BAD_MEMORY = 35,       /* the RAM or the tables are NULL, or not aligned */
+    PARTMEM_BAD_CONFIG = 34,       /* a number of the partmem_config, or of a heap's, is out of range */
+    PARTMEM_BAD_MEMORY = 35,       /* the RAM or the tables are NULL, or not aligned; or a heap with runs has no slots in a row */
     PARTMEM_NO_MEMORY = 36,        /* an allocation failed */
     PARTMEM_NO_SUPERBLOCK = 37,    /* the machine has no superblock of that number */
     PARTMEM_NOT_HELD = 38,         /* the address is not in a superblock of that tenant */
@@ -143,8 +161,9 @@ typedef enum partmem_status {
     PARTMEM_STATUS_BITS = 0x7fffffff /* no status: it makes the type 32 bits wide */
 } partmem_status;
 
-/* Returns the name and the meaning of a status, "NoFrames: no free block .."; a refusal's name is that of traces. Any number is
- * allowed, and the text is never freed. */
+/* Returns the name and the meaning of a status, "NoFrames: no free block .."; a refusal's name is that of traces. Any number may
+ * be passed from C. From C++ a number above 0x7fffffff may not: its conversion to the enumeration is undefined there. The text is
+ * never freed. */
 const char *partmem_strerror(partmem_status status);
 
 /* Returns the library's version, in the form of PARTMEM_VERSION. */
@@ -177,7 +196,9 @@ typedef struct partmem_config {
     uint32_t tenants;     /* 1 to 64 */
 } partmem_config;
 
-/* The memory of a machine. Its bytes before boot do not matter. */
+/* The memory of a machine. Its bytes before boot do not matter. It may be an array of char, as above, as far as the library is
+ * concerned. What the caller stores in lent bytes is another matter: by the letter of C an array of char holds nothing but char.
+ * A compiler that goes by it is given memory without a declared type, or -fno-strict-aliasing, as kernels are compiled. */
 typedef struct partmem_memory {
     void *ram;    /* PARTMEM_RAM_BYTES, at a multiple of 4096 */
     void *tables; /* PARTMEM_TABLE_BYTES, at a multiple of 16 */
@@ -200,8 +221,8 @@ typedef struct partmem_memory {
 
 /* Boots a machine in which no superblock has an owner, in memory that is the library's until partmem_end. *config and *memory
  * are read in the call alone. Superblock m lies at ram + m * PARTMEM_RAM_BYTES(order, 1), and is not touched before it is under a
- * slot. Returns HAS_MACHINE, BAD_CONFIG, BAD_MEMORY, and NO_MEMORY only if PARTMEM_TABLE_BYTES says too little, which tests
- * exclude. */
+ * slot. Returns HAS_MACHINE, BAD_CONFIG, BAD_MEMORY, and NO_MEMORY if PARTMEM_TABLE_BYTES says too little: it says enough for
+ * each of 7671 sizes that tests boot, of 98304 that there are. */
 PARTMEM_CHECKED partmem_status partmem_boot_in(partmem_machine *machine, const partmem_config *config,
                                                const partmem_memory *memory);
 
@@ -211,6 +232,9 @@ PARTMEM_CHECKED partmem_status partmem_boot(partmem_machine *machine, const part
 /* Ends the machine, which can be booted again. Memory of partmem_boot is freed, and memory of partmem_boot_in is the caller's
  * again, with the tenants' bytes in it. Returns NO_MACHINE. */
 partmem_status partmem_end(partmem_machine *machine);
+
+/* Returns the bytes of each superblock, 4096 << order. 0 without a machine. */
+uint32_t partmem_superblock_bytes(partmem_machine *machine);
 
 /* ---- For the administrator ----------------------------------------------------------------------------------------------- */
 
@@ -224,12 +248,12 @@ typedef struct partmem_slot {
  * POOL_EMPTY. */
 PARTMEM_CHECKED partmem_status partmem_grant(partmem_tenant tenant, partmem_slot *granted);
 
-/* Takes back a slot whose frames are all free, so nothing in it is lent. An empty slab has its frames until partmem_reap.
- * Returns NO_SLOT, SLOT_BUSY. */
+/* Takes back a slot whose frames are all free, so nothing in it is lent. An empty slab has its frames until it is freed, by
+ * partmem_reap, partmem_destroy_cache or on demand. Returns NO_SLOT, SLOT_BUSY. */
 PARTMEM_CHECKED partmem_status partmem_take_back(partmem_tenant tenant, uint32_t slot);
 
-/* Replaces the superblock of a slot by the first one without an owner, and copies all its bytes, if one was lent or written since
- * the grant. The tenant is not notified; what was lent in the slot has to be lent again. Returns NO_SLOT, POOL_EMPTY. */
+/* Replaces the superblock of a slot by the first one without an owner, and copies all its bytes, if one was lent, written or in a
+ * slab since the grant. The tenant is not notified; what was lent in the slot has to be lent again. Returns NO_SLOT, POOL_EMPTY. */
 PARTMEM_CHECKED partmem_status partmem_move(partmem_tenant tenant, uint32_t slot, partmem_slot *moved);
 
 /* Takes back all that the tenant has: page blocks, objects, caches and slots. */
@@ -248,15 +272,15 @@ typedef struct partmem_owner {
 /* Finds the owner of a superblock. Returns NO_MACHINE, NO_SUPERBLOCK. */
 PARTMEM_CHECKED partmem_status partmem_find_superblock(partmem_machine *machine, uint32_t superblock, partmem_owner *owner);
 
-/* Returns the address of a superblock, for devices and dumps: NULL without a machine or such a superblock. Before the first lend
- * or write in its slot since the grant, old bytes lie there, and NOT the zeroes that its owner reads. */
+/* Returns the address of a superblock, for devices and dumps: NULL without a machine or such a superblock. Before the first lend,
+ * write or new slab in its slot since the grant, old bytes lie there, and NOT the zeroes that its owner reads. */
 void *partmem_superblock_address(const partmem_machine *machine, uint32_t superblock);
 
 /* ---- Page blocks --------------------------------------------------------------------------------------------------------- */
 
 /* Allocates 2^order frames, and lends them. A frame has what the tenant left there in a page block since the grant; if it was in
- * none since then, or in a slab after that, it has zeroes. The first lend or write in a slot since its grant clears the whole
- * superblock under it. Returns BAD_ORDER, NO_FRAMES. */
+ * none since then, or in a slab after that, it has zeroes. The first lend, write or new slab in a slot since its grant clears
+ * the whole superblock under it. Returns BAD_ORDER, NO_FRAMES. */
 PARTMEM_CHECKED partmem_status partmem_alloc(partmem_tenant tenant, uint32_t order, partmem_lent *block);
 
 /* Frees the page block that begins at the place. Returns NOT_A_BLOCK. */
@@ -306,8 +330,9 @@ PARTMEM_CHECKED partmem_status partmem_lend(partmem_tenant tenant, uint32_t plac
 /* Lends the live object of a cache that begins at the place. Returns NO_CACHE, NOT_AN_OBJECT. */
 PARTMEM_CHECKED partmem_status partmem_lend_object(partmem_tenant tenant, uint32_t cache, uint32_t place, partmem_lent *object);
 
-/* Lends the whole live page block around a place: with partmem_alloc the only source of frames to map (duty 11). Returns
- * OUT_OF_REACH, of an object's place too. */
+/* Lends the whole live page block around a place: with partmem_alloc the only source of frames to map (duty 11), and before a
+ * free the way to learn what to unmap (duty 12). partmem_lend is none: its bytes may be an object's, whose frame later belongs to
+ * another tenant. Returns OUT_OF_REACH, of an object's place too. */
 PARTMEM_CHECKED partmem_status partmem_lend_block(partmem_tenant tenant, uint32_t place, partmem_lent *block);
 
 /* Returns the address of bytes that partmem_lend lends, or NULL. */
@@ -324,7 +349,8 @@ PARTMEM_INLINE void *partmem_object_at(partmem_tenant tenant, uint32_t cache, ui
     return partmem_lend_object(tenant, cache, place, &object) == PARTMEM_DONE ? object.at : NULL;
 }
 
-/* Copies out 1 to 64 bytes that partmem_lend could lend. Returns BAD_LENGTH, OUT_OF_REACH; `to` is then all zeroes. */
+/* Copies out 1 to 64 bytes that partmem_lend could lend. Returns BAD_LENGTH, OUT_OF_REACH. If it is not done, it writes no byte
+ * of `to`. [Proved if `to` has `bytes` bytes. For a larger `bytes`, which duty 2 forbids, it is only tested.] */
 PARTMEM_CHECKED partmem_status partmem_read(partmem_tenant tenant, uint32_t place, void *to, size_t bytes);
 
 /* Copies in 1 to 64 bytes, where partmem_lend could lend them. Returns NOT_AN_EVENT for another number of bytes (before
@@ -353,8 +379,21 @@ typedef struct partmem_block {
     uint32_t bytes;
 } partmem_block;
 
-/* Finds what a place lies in. The next begins at found->place + found->bytes. */
+/* Finds what a place lies in. The next begins at found->place + found->bytes, which is 0 behind the last of 2^32 places. */
 PARTMEM_CHECKED partmem_status partmem_find_block(partmem_tenant tenant, uint32_t place, partmem_block *found);
+
+#define PARTMEM_OF_NO_CACHE 0xffffffffu /* the number of no cache */
+
+/* A live object or a live page block: `bytes` bytes from `place` on. */
+typedef struct partmem_object {
+    uint32_t cache; /* the number of the object's cache, PARTMEM_OF_NO_CACHE of a page block */
+    uint32_t place;
+    uint32_t bytes;
+} partmem_object;
+
+/* Finds the live object or the live page block that the byte at a place lies in, with the place from which it can be given back
+ * or freed. Returns OUT_OF_REACH if the byte is in none: in a free frame or object, or behind the last byte of an object. */
+PARTMEM_CHECKED partmem_status partmem_find_object(partmem_tenant tenant, uint32_t place, partmem_object *found);
 
 /* How many blocks of an order are free, and how many are page blocks or slabs. */
 typedef struct partmem_order_row {
@@ -423,7 +462,7 @@ enum {
     PARTMEM_FREED = 8,      /* the order of the block */
     PARTMEM_BYTES = 9,      /* how many bytes; they are at the beginning of the buffer */
     PARTMEM_WRITTEN = 10,   /* how many bytes */
-    PARTMEM_MADE = 11,      /* cache, chunk, order of its slabs, objects and colours of each */
+    PARTMEM_MADE = 11,      /* cache, chunk, order of its slabs, objects of each, colours */
     PARTMEM_DESTROYED = 12, /* how many frames were freed */
     PARTMEM_OBJECT = 13,    /* place */
     PARTMEM_GIVEN = 14,
@@ -472,12 +511,13 @@ PARTMEM_CHECKED partmem_status partmem_line(partmem_machine *machine, const char
  *     stay where they are, and nobody else touches them: the caller uses lent bytes alone. aligned_alloc, malloc and free are one
  *     allocator. [Anything.]
  *  4. Bounds. A load or store stays inside the lent bytes. An object ends at its size, not where the next begins. [It hits
- *     another object, or the record of which objects are live.]
+ *     another object or block, the record of which objects are live, or, past a superblock, another tenant's memory or yours.]
  *  5. Endings. Nobody uses lent bytes after the call that ends their lifetime; after a move they are lent again. [A tenant
  *     stores into memory that belongs to another by now.]
  *  6. Flows. What was loaded for one tenant is not stored for another, or shown to it. No address is stored in lent bytes or
  *     shown to a tenant: a move changes it, and which it is says what the others did. Links are places. [Tenants learn of each
- *     other by the caller's own doing. No memory is damaged.]
+ *     other by the caller's own doing. No memory is damaged.] A program that calls malloc cannot keep to places: partmem_heap.h
+ *     says what is lost and what stays if a tenant stores its own addresses.
  *  7. Users. Whoever keeps objects of its own in the caches of a tenant lets the tenant's user neither lend, read, write, give
  *     nor destroy there. [The user changes the caller's own objects.]
  *  8. Threads. One call at a time on a machine: from any thread, under a lock of the caller's. No call from a signal or
@@ -485,11 +525,10 @@ PARTMEM_CHECKED partmem_status partmem_line(partmem_machine *machine, const char
  *     and stores in lent bytes need no lock against calls, except a write to them, a read of them, and a call that ends their
  *     lifetime.
  *  9. Ring 0. SSE is enabled, and the stack is aligned as C requires. A user's xmm registers are saved before the first call and
- *     restored after the last. The direction flag is clear. There are 4096 bytes of stack above a guard page, and no interrupt
- *     uses them: the library also uses the 128 bytes below its stack pointer. [Registers leak from tenant to tenant; the stack
- *     overflows.]
- *     libpartmem_kernel.a and libpartmem_linux.a require of this only the direction flag and 4096 bytes of stack. Interrupts may
- *     use the same stack, if it has space for both.
+ *     restored after the last. The direction flag is clear. There are 4096 bytes of stack, beside what memcpy, memmove and memset
+ *     take, above a guard page, and no interrupt uses them: the library also uses the 128 bytes below its stack pointer.
+ *     [Registers leak from tenant to tenant; the stack overflows.] libpartmem_kernel.a and libpartmem_linux.a require of this
+ *     only the direction flag and the stack. Interrupts may use the same stack, if it has space for both.
  * 10. After the end. Whoever uses the memory after partmem_end, or after a crash, clears it first. [It reads the tenants'
  *     bytes.]
  * 11. Mapping. Page tables map page blocks alone, as partmem_alloc and partmem_lend_block return them. [An object of 4096 bytes
@@ -501,13 +540,16 @@ PARTMEM_CHECKED partmem_status partmem_line(partmem_machine *machine, const char
  * 14. Booting. One partmem_boot or partmem_boot_in at a time in a program, on any thread. [One variable of the library says which
  *     machine boots: two machines get the same memory.]
  *
- * PROVED of the library's source: what each call returns and does, of the machine and of each tenant; that a store in lent
- * bytes is the write of these bytes, and a load a read; that over any list of calls, lines, events, loads and stores since boot
- * a tenant gets and loads what a private machine gives to it. TESTED: that the address is that of these bytes and stays, and that
- * nothing is left there from before the grant or move; where superblocks, blocks and objects lie; that only a boot allocates, and
- * no more than the sizes of the macros; partmem_superblock_address and partmem_find_place; loads and stores beside calls on other
- * threads; this file against the library.
- * NEITHER: the duties; hardware, page tables and devices; time and processor caches, and what they tell; the stack of duty 9. */
+ * PROVED of the library's source in Rattle: what each call returns and does, of the machine and of each tenant, except for the
+ * functions in C; that a store in lent bytes is the write of these bytes, and that a loaded byte is the private machine's at its
+ * place; that over any list of commands (by calls, lines or events), loads and stores since boot a tenant gets and loads what a
+ * private machine gives to it. What a lend or a lookup returns is said by its own contract. Of addresses: that the library takes
+ * the address of the first of the bytes that the kernel lends. That the call returns this address is read in the source, since
+ * the loan has ended by then and no clause can name it. TESTED: that the returned address is that of these bytes and stays, and
+ * that nothing is left there from before the grant or move; where superblocks, blocks and objects lie; that only a boot
+ * allocates, and no more than the sizes of the macros; the functions in C, which are named in the first comment; loads and stores
+ * beside calls on other threads; the stack of each function in libpartmem.a and in the archives for kernels; this file against
+ * the library. NEITHER: the duties; hardware, page tables and devices; time and processor caches, and what they tell. */
 
 #ifdef __cplusplus
 }

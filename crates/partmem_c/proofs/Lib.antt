@@ -1,6 +1,8 @@
 mod FigureLemmas
+pub mod ReadLemmas
 mod FreeLemmas
 mod LendLemmas
+mod HolderLemmas
 mod RawBoxValues
 mod SlotSteps
 pub mod TextLemmas
@@ -9,3 +11,4 @@ pub mod ActionLemmas
 pub mod EventLemmas
 mod Witnesses
 mod WitnessesActions
+mod WitnessesCalls

@@ -1,4 +1,4 @@
--- For each law an instance of its premises: calls on machines of 2 and of 3 superblocks that nobody was granted.
+-- Calls on machines of 2 and of 3 superblocks that nobody was granted, and an instance of the law of threads.
 use Rattle.std.proofs.Common.{◌≡◌, [], ◌∷◌, Some, true, codes, refl, subst, arith}
 use base.Shift.{Keyless}
 use denote.RawPtr.{block_ptr}
@@ -18,9 +18,9 @@ use Rattle.words_core.specs.Words.{words_of}
 use Rattle.words_core.specs.Grammar.{event_of, reading_of_words, reading_of}
 use Rattle.world_core.specs.Limits.{cache_limit}
 use Rattle.world_core.specs.PrivateStep.{command_step}
-use Rattle.world_core.specs.World.{World, opening_world, answer, tenant_step, world_step, world_after}
-use Rattle.world_core.specs.Output.{events_of, lines_for}
-use Rattle.world_core.specs.Laws.{HaveSameOwnList, opening_history, private_lines}
+use Rattle.world_core.specs.World.{World, opening_world, answer, tenant_step, world_step}
+use Rattle.world_core.specs.Output.{events_of}
+use Rattle.world_core.specs.Laws.{HaveSameOwnList, opening_history}
 use Rattle.kernel_core.specs.Content.{KernelContent, opening_content}
 use Rattle.kernel_core.specs.Shows.{Shows}
 use Rattle.kernel_core.specs.Steps.{Steps}
@@ -28,7 +28,7 @@ use Rattle.kernel_core.proofs.Worlds.{steps_answered, one_world}
 use Rattle.kernel_core.proofs.Witnesses.{opening_shown}
 use Rattle.streams.specs.Lines.{IsOneLine}
 use Rattle.partmem_c.specs.Lines.{AnswersLine}
-use Rattle.partmem_c.specs.Laws.{Call, lines_of_calls, texts_of, Ran, StandsAfterCalls, OwnLinesOfCalls, SameLinesOfCalls, MayChangeThreads}
+use Rattle.partmem_c.specs.Laws.{Call, lines_of_calls, Ran, MayChangeThreads}
 use Rattle.partmem_c.specs.contracts.machine.Machine.{the_row}
 
 -- an event that changes nothing in the world that is shown is a step to the same kernel
@@ -38,10 +38,10 @@ stays k w event to body shown same =
     steps_answered k event to body (λ v there. subst (λ x. world_step cache_limit k.order event x ≡ answer to body x) (one_world k w v shown there) same)
 
 -- a tenant without superblock asks for a frame
-abbrev by_0 : Call
+abbrev pub by_0 : Call
 by_0 = record { line = codes "0 alloc 0"; text = codes "0> refused 1 NoFrames\n" }
 
-abbrev by_1 : Call
+abbrev pub by_1 : Call
 by_1 = record { line = codes "1 alloc 0"; text = codes "1> refused 1 NoFrames\n" }
 
 one_line_0 : IsOneLine by_0.line
@@ -52,25 +52,25 @@ one_line_1 = (refl, (refl, (refl, (refl, (refl, (refl, (refl, (refl, (refl, tt))
 
 -- the machine of 2 superblocks and 3 tenants
 
-abbrev small : KernelContent
+abbrev pub small : KernelContent
 small = opening_content 3 2 3
 
-small_shown : Shows small (opening_world 2 3)
+pub small_shown : Shows small (opening_world 2 3)
 small_shown = opening_shown 2 3 (omega arith) (omega arith)
 
 small_answers : AnswersLine small (reading_of by_0.line) small by_0.text
 unfolding reading_of words_of reading_of_words event_of opening_content opening_world world_step tenant_step answer command_step alloc_step by_need reaped choice taken_blocks empty_machine digits
 small_answers = (record { addressee = To.Tenant 0; body = Refused NoFrames }, stays small (opening_world 2 3) (Tenant 0 (Alloc 0)) (To.Tenant 0) (Refused NoFrames) small_shown refl, refl)
 
-small_ran : Ran small (by_0 ∷ []) small
+pub small_ran : Ran small (by_0 ∷ []) small
 small_ran = (small, one_line_0, small_answers, refl)
 
 -- the machine of 3 superblocks and 4 tenants
 
-abbrev great : KernelContent
+abbrev pub great : KernelContent
 great = opening_content 3 3 4
 
-great_shown : Shows great (opening_world 3 4)
+pub great_shown : Shows great (opening_world 3 4)
 great_shown = opening_shown 3 4 (omega arith) (omega arith)
 
 great_answers_0 : AnswersLine great (reading_of by_0.line) great by_0.text
@@ -81,27 +81,17 @@ great_answers_1 : AnswersLine great (reading_of by_1.line) great by_1.text
 unfolding reading_of words_of reading_of_words event_of opening_content opening_world world_step tenant_step answer command_step alloc_step by_need reaped choice taken_blocks empty_machine digits
 great_answers_1 = (record { addressee = To.Tenant 1; body = Refused NoFrames }, stays great (opening_world 3 4) (Tenant 1 (Alloc 0)) (To.Tenant 1) (Refused NoFrames) great_shown refl, refl)
 
-great_ran : Ran great (by_1 ∷ by_0 ∷ []) great
+pub great_ran : Ran great (by_1 ∷ by_0 ∷ []) great
 great_ran = (great, one_line_1, great_answers_1, (great, one_line_0, great_answers_0, refl))
 
 -- tenant 0's own lists are equal
-equal_lists : HaveSameOwnList cache_limit small.order 2 3 3 4 0 (events_of (lines_of_calls (by_0 ∷ []))) (events_of (lines_of_calls (by_1 ∷ by_0 ∷ [])))
+pub equal_lists : HaveSameOwnList cache_limit small.order 2 3 3 4 0 (events_of (lines_of_calls (by_0 ∷ []))) (events_of (lines_of_calls (by_1 ∷ by_0 ∷ [])))
 unfolding reading_of words_of reading_of_words event_of opening_content opening_history opening_world world_step tenant_step answer command_step
 equal_lists = record { tenant = omega arith; tenant' = omega arith; own = refl }
 
-StandsAfterCalls-met : StandsAfterCalls → Shows small (world_after cache_limit small.order (opening_world 2 3) (events_of (codes "0 alloc 0" ∷ [])))
-StandsAfterCalls-met law = law small small (by_0 ∷ []) small_ran (opening_world 2 3) small_shown
-
-OwnLinesOfCalls-met : OwnLinesOfCalls → codes "0> refused 1 NoFrames" ∷ [] ≡ private_lines cache_limit small.order 2 3 0 (codes "0 alloc 0\n")
-unfolding digits
-OwnLinesOfCalls-met law = law small small 2 3 0 (by_0 ∷ []) small_shown (omega arith) small_ran
-
-same_order : great.order ≡ small.order
+pub same_order : great.order ≡ small.order
 unfolding opening_content
 same_order = refl
-
-SameLinesOfCalls-met : SameLinesOfCalls → lines_for 0 (texts_of (by_0 ∷ [])) ≡ lines_for 0 (texts_of (by_1 ∷ by_0 ∷ []))
-SameLinesOfCalls-met law = law small small great great 2 3 3 4 0 (by_0 ∷ []) (by_1 ∷ by_0 ∷ []) small_shown great_shown same_order equal_lists small_ran great_ran
 
 -- a machine with a kernel in it
 abbrev booted : the_row.Denot

@@ -1,6 +1,7 @@
--- An instance of the law of offsets: a free at place 4097. And one of the law of sights: a frame granted by a line and taken by an event as numbers, 100 bytes stored in it, a blank line,
--- and the last of the bytes loaded, and read by a line and by a direct call.
-use Rattle.std.proofs.Common.{◌≡◌, List, [], ◌∷◌, codes, refl, arith}
+-- An instance of the law of offsets: a free at place 4097. And one of the law of sights, of two tenants: each is granted a superblock
+-- by a line, takes a frame in it, by an event as numbers or by a direct call, and stores 100 bytes there. There is a blank line, tenant 1
+-- stores once more, at the place where tenant 0 loads the last of its bytes, and reads it by a line and by a direct call.
+use Rattle.std.proofs.Common.{◌≡◌, ℕ, List, [], ◌∷◌, codes, refl, arith}
 use Rattle.std.specs.Prelude.{replicate}
 use Rattle.std.specs.Fmt.{digits}
 use Rattle.model_core.specs.Machine.{empty_machine}
@@ -16,7 +17,7 @@ use Rattle.hex.specs.Hex.{encode_with}
 use Rattle.kernel_core.specs.Actions.{Action, AllAct, StoresAt, LoadsAt, sights_of, own_actions, own_seen}
 use Rattle.kernel_core.proofs.Granting.{granted_reply}
 use Rattle.kernel_core.proofs.MadeKernels.{to_tenant, read_acts, opened, is_opened}
-use Rattle.kernel_core.proofs.WitnessesActions.{bytes, alone_1, alone_2, alone_3, alone_granted, alone_taken, alone_stored, alone_kernel, alone_loaded}
+use Rattle.kernel_core.proofs.WitnessesActions.{bytes, beside_1, beside_2, beside_3, beside_4, beside_5, beside_6, beside_7, granted_1, taken_1, stored_1, granted_0, taken_0, stored_0, kernel_6, stored_again, kernel_7, loaded_0}
 use Rattle.partmem_c.specs.declared.events.TheConstants.{ALLOC}
 use Rattle.partmem_c.specs.declared.kinds.TheConstants.{FRAME}
 use Rattle.partmem_c.specs.declared.status.TheConstants.{DONE}
@@ -28,11 +29,17 @@ OffsetsAreRefused-met : OffsetsAreRefused → (world_step cache_limit opened.ord
     ≡ to_tenant 0 (Say.Refused NotABlock)
 OffsetsAreRefused-met law = law opened (opening_world 2 2) 0 4097 is_opened.kernel is_opened.shows (omega arith) (omega arith)
 
-abbrev granting : Done
-granting = Line (codes "admin grant 0") (codes "admin> granted 0 slot 0 superblock 0\n")
+abbrev granting_1 : Done
+granting_1 = Line (codes "admin grant 1") (codes "admin> granted 1 slot 0 superblock 0\n")
 
-abbrev taking : Done
-taking = Event (record { kind = ALLOC; tenant = 0; first = 0; second = 0 }) [] (reply_numbers FRAME 0 0 0 0 0) (replicate 64 0) (replicate 64 0)
+abbrev taking_1 : Done
+taking_1 = Event (record { kind = ALLOC; tenant = 1; first = 0; second = 0 }) [] (reply_numbers FRAME 0 0 0 0 0) (replicate 64 0) (replicate 64 0)
+
+abbrev granting_0 : Done
+granting_0 = Line (codes "admin grant 0") (codes "admin> granted 0 slot 0 superblock 1\n")
+
+abbrev taking_0 : Done
+taking_0 = Call (On.Tenant 0 (Alloc 0)) (to_tenant 0 (Say.Frame 0)) DONE
 
 abbrev reading : Done
 reading = Line (codes "0 read 104 1") (codes "0> bytes 07\n")
@@ -41,37 +48,55 @@ abbrev calling : Done
 calling = Call (On.Tenant 0 (Read 104 1)) (to_tenant 0 (Say.Bytes (record { items = 7 ∷ [] }))) DONE
 
 abbrev all : List Done
-all = granting ∷ taking ∷ Direct (StoresAt 0 5 bytes) ∷ Line [] [] ∷ Direct (LoadsAt 0 104 7) ∷ reading ∷ calling ∷ []
+all = granting_1 ∷ taking_1 ∷ Direct (StoresAt 1 5 (replicate 100 9)) ∷ granting_0 ∷ taking_0 ∷ Direct (StoresAt 0 5 bytes) ∷ Line [] []
+    ∷ Direct (StoresAt 1 104 (9 ∷ [])) ∷ Direct (LoadsAt 0 104 7) ∷ reading ∷ calling ∷ []
 
-granted : Did opened granting alone_1
+granted_to_1 : Did opened granting_1 beside_1
 unfolding reading_of words_of reading_of_words event_of digits
-granted = ((granted_reply 0 0 0, alone_granted.0, refl), alone_granted.1)
+granted_to_1 = ((granted_reply 1 0 0, granted_1.0, refl), granted_1.1)
 
-taken : Did alone_1 taking alone_2
-taken = (
-  On.Tenant 0 (Alloc 0),
+taken_by_1 : Did beside_1 taking_1 beside_2
+taken_by_1 = (
+  On.Tenant 1 (Alloc 0),
   refl,
-  record { reply = to_tenant 0 (Say.Frame 0); steps = alone_taken.0; are = refl; over = refl },
-  alone_taken.1,
+  record { reply = to_tenant 1 (Say.Frame 0); steps = taken_1.0; are = refl; over = refl },
+  taken_1.1,
 )
 
-blank : Did alone_3 (Line [] []) alone_3
-unfolding reading_of words_of reading_of_words
-blank = ((refl, refl), alone_kernel)
+granted_to_0 : Did beside_3 granting_0 beside_4
+unfolding reading_of words_of reading_of_words event_of digits
+granted_to_0 = ((granted_reply 0 0 1, granted_0.0, refl), granted_0.1)
 
-read : Did alone_3 reading alone_3
+taken_by_0 : Did beside_4 taking_0 beside_5
+taken_by_0 = (taken_0, refl)
+
+blank : Did beside_6 (Line [] []) beside_6
+unfolding reading_of words_of reading_of_words
+blank = ((refl, refl), kernel_6)
+
+read : Did beside_7 reading beside_7
 unfolding reading_of words_of reading_of_words event_of digits encode_with
 read =
-    let did = read_acts alone_3 0 104 7 alone_kernel alone_loaded in
+    let did = read_acts beside_7 0 104 7 kernel_7 loaded_0 in
     ((to_tenant 0 (Say.Bytes (record { items = 7 ∷ [] })), did.0, refl), did.1)
 
-called : Did alone_3 calling alone_3
-called = (read_acts alone_3 0 104 7 alone_kernel alone_loaded, refl)
+called : Did beside_7 calling beside_7
+called = (read_acts beside_7 0 104 7 kernel_7 loaded_0, refl)
 
-done : AllDid opened all alone_3
-done =
-    (alone_1, granted, (alone_2, taken, (alone_3, alone_stored, (alone_3, blank, (alone_3, (alone_loaded, refl), (alone_3, read, (alone_3, called, refl)))))))
+after_stores : AllDid beside_6 (Line [] [] ∷ Direct (StoresAt 1 104 (9 ∷ [])) ∷ Direct (LoadsAt 0 104 7) ∷ reading ∷ calling ∷ []) beside_7
+after_stores = (beside_6, blank, (beside_7, stored_again, (beside_7, (loaded_0, refl), (beside_7, read, (beside_7, called, refl)))))
 
-OwnSightsOfCalls-met : OwnSightsOfCalls → (actions : List Action) × AreOf all actions × AllAct opened actions alone_3
-    × (sights_of 0 actions ≡ (own_seen cache_limit 3 (own_actions 0 actions) empty_machine).sights)
-OwnSightsOfCalls-met law = law opened alone_3 2 2 0 all is_opened (omega arith) done
+done : AllDid opened all beside_7
+done = (
+  beside_1,
+  granted_to_1,
+  (beside_2, taken_by_1, (beside_3, stored_1, (beside_4, granted_to_0, (beside_5, taken_by_0, (beside_6, stored_0, after_stores))))),
+)
+
+-- all that was done is actions, of which the tenant sees what its private machine gives
+abbrev SeesItsOwn : ℕ → Type 0
+SeesItsOwn t = (actions : List Action) × AreOf all actions × AllAct opened actions beside_7
+    × (sights_of t actions ≡ (own_seen cache_limit 3 (own_actions t actions) empty_machine).sights)
+
+OwnSightsOfCalls-met : OwnSightsOfCalls → SeesItsOwn 0 × SeesItsOwn 1
+OwnSightsOfCalls-met law = (law opened beside_7 2 2 0 all is_opened (omega arith) done, law opened beside_7 2 2 1 all is_opened (omega arith) done)

@@ -56,7 +56,7 @@ AreOf [] actions = actions ≡ []
 AreOf (done ∷ all) actions = (first rest : List Action) × IsOf done first × AreOf all rest × (actions ≡ first ++ rest)
 
 -- Whatever the others do: all that is done with a machine from boot on, by lines, events, calls, in place and in any order, are
--- actions of which a tenant sees what its private machine gives to its own list.
+-- actions from which a tenant sees what its private machine gives to its own list.
 abbrev pub OwnSightsOfCalls : Type 0
 OwnSightsOfCalls = (k k' : KernelContent) (superblocks tenants t : ℕ) (all : List Done) →
     IsBooted k superblocks tenants → t < tenants → AllDid k all k' →

@@ -1,5 +1,5 @@
 -- Direct calls: each is an event, and what it returns follows from the numbers of the reply.
-use Rattle.std.specs.Prelude.{◌≡◌, ◌<◌, ℕ, ◌+◌, ◌-◌, ◌*◌, ◌/◌, ◌%◌, ◌^◌, ◌==◌, nat_le, min, ◌&&◌, Bool, if◌then◌else◌, List, [], ◌++◌, length, take, drop, replicate, Option, Some, None, is_some}
+use Rattle.std.specs.Prelude.{◌≡◌, ◌<◌, ◌≤◌, ℕ, ◌+◌, ◌-◌, ◌*◌, ◌/◌, ◌%◌, ◌^◌, ◌==◌, nat_le, min, ◌&&◌, Bool, if◌then◌else◌, List, [], ◌++◌, length, take, drop, Option, Some, None, is_some}
 use Rattle.world_core.specs.Vocabulary.{Addressee, Body, Command, Event, Refusal, Reply, FRAME_BYTES, MOST_ORDER, MOST_BYTES, cache_limit, World, world_step}
 use Rattle.kernel_core.specs.Vocabulary.{KernelContent, Shows, Steps}
 use Rattle.kernel_core.specs.Stores.{IsKernel}
@@ -80,19 +80,21 @@ abbrev pub reaped_frames : Option ReplyNumbers → ℕ
 reaped_frames None = 0
 reaped_frames (Some numbers) = if numbers.kind == REAPED then numbers.first else 0
 
--- so many zeroes, with the bytes over the first of them, as far as there are places
-abbrev pub filled : ℕ → List ℕ → List ℕ
-filled len bytes = take (min (length bytes) len) bytes ++ drop (min (length bytes) len) (replicate len 0)
+-- the bytes over the first of these, as far as there are places
+abbrev pub read_over : List ℕ → List ℕ → List ℕ
+read_over bytes to = take (min (length bytes) (length to)) bytes ++ drop (min (length bytes) (length to)) to
 
--- the event was a step of the kernel, and these are the numbers of its reply, and its bytes over so many places
-pub record ReadsInto (old : KernelContent) (event : Event) (new : KernelContent) (numbers : ReplyNumbers) (len : ℕ) (to : List ℕ)
+-- The event was a step of the kernel, and these are the numbers of its reply. It has at most 64 bytes, which are over the first of
+-- those that were there.
+pub record ReadsOver (old : KernelContent) (event : Event) (new : KernelContent) (numbers : ReplyNumbers) (to to' : List ℕ)
     : Type 0 where
   pub reply : Reply
   pub steps : Steps old event new reply
   pub are : numbers ≡ numbers_of_body reply.body
-  pub fills : to ≡ filled len (answered_bytes reply.body)
+  pub few : length (answered_bytes reply.body) ≤ MOST_BYTES
+  pub over : to' ≡ read_over (answered_bytes reply.body) to
 
--- how many bytes a read of so many asks for
+-- the number of bytes that a read into a buffer of this length requests
 abbrev pub read_length : ℕ → ℕ
 read_length len = min len (2 ^ 32 - 1)
 

@@ -10,7 +10,7 @@ use Rattle.partmem_c.specs.declared.kinds.TheConstants as kind
 use Rattle.partmem_c.specs.declared.events.RequestNumbers.{RequestNumbers}
 use Rattle.partmem_c.specs.declared.telling.ReplyNumbers.{ReplyNumbers}
 
--- these bytes, where there are any and no more than so many
+-- these bytes, if there are any and no more than this number
 abbrev pub some_bytes : ℕ → List ℕ → Option (ArrayVec ℕ)
 some_bytes most bytes =
     if nat_le 1 (length bytes) && nat_le (length bytes) most then Some (record { items = bytes }) else None
@@ -84,7 +84,22 @@ numbers_of_body (Body.Fault fault) = reply_numbers kind.NOTHING 0 0 0 0 0
 -- the bytes that a reply tells
 abbrev pub answered_bytes : Body → List ℕ
 answered_bytes (Body.Bytes bytes) = bytes.items
-answered_bytes other = []
+answered_bytes (Body.Granted tenant slot superblock) = []
+answered_bytes (Body.TakenBack superblock) = []
+answered_bytes (Body.WasReset tenant superblocks) = []
+answered_bytes (Body.Moved tenant slot superblock) = []
+answered_bytes (Body.Owners owners) = []
+answered_bytes (Body.Frame frame) = []
+answered_bytes (Body.Freed order) = []
+answered_bytes (Body.Written count) = []
+answered_bytes (Body.Cache cache chunk order objects colours) = []
+answered_bytes (Body.Destroyed frames) = []
+answered_bytes (Body.Object place) = []
+answered_bytes Body.Given = []
+answered_bytes (Body.Reaped frames) = []
+answered_bytes (Body.Report report) = []
+answered_bytes (Body.Refused refusal) = []
+answered_bytes (Body.Fault fault) = []
 
 -- what a call answers that a machine is all there has to be for
 abbrev pub machine_status : Option KernelContent → ℕ
@@ -95,7 +110,7 @@ abbrev pub status_of_event : Option KernelContent → RequestNumbers → List �
 status_of_event held a bytes status =
     if is_some held then (if is_some (requested_event a bytes) then status else NOT_AN_EVENT) else NO_MACHINE
 
--- What such a call answers: the first of the errors that there is.
+-- The status of such a call: the first error that applies.
 abbrev pub event_status : Option KernelContent → RequestNumbers → List ℕ → List ℕ → ℕ
 event_status held a bytes buffer =
     if not (is_some held) then NO_MACHINE

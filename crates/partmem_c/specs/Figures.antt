@@ -60,7 +60,22 @@ figures_of_report report = record {
 
 abbrev pub figures_of_body : Body → Figures
 figures_of_body (Body.Report report) = figures_of_report report
-figures_of_body other = no_figures
+figures_of_body (Body.Granted tenant slot superblock) = no_figures
+figures_of_body (Body.TakenBack superblock) = no_figures
+figures_of_body (Body.WasReset tenant superblocks) = no_figures
+figures_of_body (Body.Moved tenant slot superblock) = no_figures
+figures_of_body (Body.Owners owners) = no_figures
+figures_of_body (Body.Frame frame) = no_figures
+figures_of_body (Body.Freed order) = no_figures
+figures_of_body (Body.Bytes bytes) = no_figures
+figures_of_body (Body.Written count) = no_figures
+figures_of_body (Body.Cache cache chunk order objects colours) = no_figures
+figures_of_body (Body.Destroyed frames) = no_figures
+figures_of_body (Body.Object place) = no_figures
+figures_of_body Body.Given = no_figures
+figures_of_body (Body.Reaped frames) = no_figures
+figures_of_body (Body.Refused refusal) = no_figures
+figures_of_body (Body.Fault fault) = no_figures
 
 -- the event was a step of the kernel, and these are the status and the figures of its reply
 pub record PutsFigures (k : KernelContent) (t status : ℕ) (figures : Figures) : Type 0 where

@@ -44,7 +44,11 @@ use_of FrameKind.Empty = SLAB
 -- the first frame and the order of what has a frame that is not taken: of the slot if it is not held, else of the frame alone
 abbrev pub untaken : FrameKind → ℕ → ℕ → ℕ × ℕ
 untaken FrameKind.NotHeld frame order = (frame / 2 ^ order * 2 ^ order, order)
-untaken other frame order = (frame, 0)
+untaken FrameKind.Free frame order = (frame, 0)
+untaken FrameKind.Page frame order = (frame, 0)
+untaken FrameKind.Full frame order = (frame, 0)
+untaken FrameKind.Partial frame order = (frame, 0)
+untaken FrameKind.Empty frame order = (frame, 0)
 
 -- These are the first frame and the order of the taken block that has a frame. If none has it, `untaken` says them.
 pub record AreAround (k : KernelContent) (t frame : ℕ) (kind : FrameKind) (around : ℕ × ℕ) : Type 0 where
@@ -64,7 +68,7 @@ pub record IsBlockAt (k : KernelContent) (t frame : ℕ) (found : Block) : Type 
   pub begins : found.place ≡ first * FRAME_BYTES
   pub counted : found.bytes ≡ FRAME_BYTES * 2 ^ order
 
--- what a tenant's place lies in, or that there is no such tenant
+-- the block that contains a tenant's place, or that there is no such tenant
 abbrev pub FindsBlock : KernelContent → ℕ → ℕ → Result Block Refusal → Type 0
 FindsBlock k t place (Ok found) = (t < k.tenants) × IsBlockAt k t (place / FRAME_BYTES) found
 FindsBlock k t place (Err refusal) = (k.tenants ≤ t) × (refusal ≡ Refusal.NoTenant)

@@ -22,7 +22,7 @@ pub record IsLentAt (place bytes : ℕ) (lent : Lent) : Type 0 where
 
 -- Lookups of bytes to lend: in each, the tenant's, or why nothing is lent.
 
--- so many bytes from a place on, inside one live page block or one live object
+-- this number of bytes from a place on, inside one live page block or one live object
 abbrev pub FindsRange : KernelContent → ℕ → ℕ → ℕ → Result Lent Refusal → Type 0
 FindsRange k t place len (Ok lent) = (t < k.tenants) × IsInReach k.space k.buddy k.slabs t place len × IsLentAt place len lent
 FindsRange k t place len (Err refusal) =
@@ -66,7 +66,7 @@ pub record TakeLends (old : KernelContent) (t cache : ℕ) (new : KernelContent)
   pub lent : IfOk outcome (λ lent. IsLentAt lent.place lent.bytes lent)
   pub object : IfOk outcome (IsObjectOf new t cache)
 
--- so many bytes at a place are lent, or nothing is
+-- this number of bytes at a place is lent, or nothing is
 abbrev pub IsLentIf : Bool → ℕ → ℕ → Lent → Type 0
 IsLentIf true place bytes lent = IsLentAt place bytes lent
 IsLentIf false place bytes lent = lent ≡ no_lent

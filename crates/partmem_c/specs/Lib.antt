@@ -9,3 +9,4 @@ pub mod Calls
 pub mod Finding
 pub mod Figures
 pub mod Lends
+pub mod Holders

@@ -12,7 +12,7 @@ use Rattle.partmem_c.specs.declared.status.TheConstants.{DONE, NO_MACHINE, NOT_A
 abbrev pub has_line_feed : List ℕ → Bool
 has_line_feed bytes = list_any (λ b. b == line_feed) bytes
 
--- What such a call answers: the first of the errors that there is.
+-- The status of such a call: the first error that applies.
 abbrev pub line_status : Option KernelContent → List ℕ → List ℕ → ℕ
 line_status held line buffer =
     if not (is_some held) then NO_MACHINE
@@ -29,7 +29,7 @@ AnswersLine old (Err fault) new text = (new ≡ old) × (text ≡ text_of (recor
 abbrev pub IsWide : List ℕ → Type 0
 IsWide buffer = most_reply_bytes ≤ length buffer
 
--- the text stands over the first bytes of the buffer, and is counted
+-- the text is at the front of the buffer, and is counted
 pub record IsTextWritten (text buffer buffer' : List ℕ) (written : ℕ) : Type 0 where
   pub counted : written ≡ length text
   pub over : buffer' ≡ text ++ drop (length text) buffer

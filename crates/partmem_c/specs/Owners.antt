@@ -1,10 +1,16 @@
--- The owner of a superblock as numbers.
-use Rattle.std.specs.Prelude.{ℕ, nat_lt, not, if◌then◌else◌, List, [], length, Option, Some, None, is_some}
+-- The size of superblocks, and the owner of one as numbers.
+use Rattle.std.specs.Prelude.{ℕ, ◌*◌, ◌^◌, nat_lt, not, if◌then◌else◌, List, [], length, Option, Some, None, is_some}
+use Rattle.model_core.specs.declared.limits.TheConstants.{FRAME_BYTES}
 use Rattle.model_core.specs.declared.owner.Owner as model
 use Rattle.space_core.specs.Content.{owner_at}
 use Rattle.kernel_core.specs.Content.{KernelContent}
 use Rattle.partmem_c.specs.declared.owners.Owner.{Owner}
 use Rattle.partmem_c.specs.declared.status.TheConstants.{DONE, NO_MACHINE, NO_SUPERBLOCK}
+
+-- the bytes of each superblock of the machine that is held
+abbrev pub size_of_superblock : Option KernelContent → ℕ
+size_of_superblock None = 0
+size_of_superblock (Some k) = FRAME_BYTES * 2 ^ k.order
 
 -- the owners of the superblocks of the machine that is held
 abbrev pub owners_held : Option KernelContent → List (Option model.Owner)

@@ -14,13 +14,13 @@ use std::alloc::Global;
 
 /// The sizes of a machine, as C passes them.
 #[repr(C)]
-#[derive(Clone, Copy)]
+#[derive(Clone, Copy, Debug)]
 pub struct MachineConfig {
-    /// A superblock has `2^order` frames: 3 to 8.
+    /// The order of a superblock, 3 to 8. It has `2^order` frames.
     pub order: u32,
-    /// How many superblocks the machine has: 1 to 256.
+    /// The number of superblocks of the machine, 1 to 256.
     pub superblocks: u32,
-    /// How many tenants share it: 1 to 64.
+    /// The number of tenants that share it, 1 to 64.
     pub tenants: u32,
 }
 
@@ -62,7 +62,7 @@ pub extern "C" fn partmem_boot_kernel(
     DONE
 }
 
-/// Ends the machine and frees all its memory: the place then holds none, and can be booted again. Returns `NO_MACHINE`.
+/// Ends the machine and drops it, so that its memory is freed. The place then holds none and can be booted again. Returns `NO_MACHINE`.
 #[unsafe(no_mangle)]
 pub extern "C" fn partmem_end_kernel(alloc: Global, machine: &mut Machine) -> u32
     ensures status { result ≡ machine_status machine.old.slot.held }

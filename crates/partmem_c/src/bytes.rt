@@ -1,23 +1,24 @@
 //! Reads and writes of at most 64 bytes as direct calls.
 
-ghost use Rattle.std.specs.Prelude.{◌≡◌, true, false, length};
+ghost use Rattle.std.specs.Prelude.{◌≡◌, ◌≢◌, true, false, length, drop};
 ghost use Rattle.words_core.specs.declared.event.Event.TheVariants.{Tenant};
 ghost use Rattle.words_core.specs.declared.event.Command.TheVariants.{Read, Write};
-ghost use Rattle.partmem_c.specs.Calls.{RunsCall, IsNoEvent, ReadsInto, bytes_in_reply, numbers_in_reply, call_status};
-ghost use Rattle.partmem_c.specs.Calls.{filled, read_length, is_writable};
+ghost use Rattle.partmem_c.specs.Calls.{RunsCall, IsNoEvent, ReadsOver, bytes_in_reply, numbers_in_reply, call_status};
+ghost use Rattle.partmem_c.specs.Calls.{read_over, read_length, is_writable};
 
 use crate::calls::{call_status, run_command};
 use crate::events::status_of_none;
 use crate::machine::Machine;
+use crate::status::DONE;
 use crate::telling::{ReplyNumbers, bytes_in_reply, numbers_of_answer};
 use kernel_core::Kernel;
 use model_core::limits::MOST_BYTES;
 use std::alloc::Global;
 use words_core::{Answer, Refusal, Request};
 
-/// Copies bytes of a live page block or a live object, from `place` on: 1 to 64, as many as `to` has.
+/// Copies bytes of a live page block or a live object, from `place` on, to all of `to`, which has 1 to 64 bytes.
 ///
-/// Returns `NO_MACHINE`, `NO_TENANT`, `BAD_LENGTH` or `OUT_OF_REACH`; then `to` is all zeroes.
+/// Returns `NO_MACHINE`, `NO_TENANT`, `BAD_LENGTH` or `OUT_OF_REACH`; then no byte of `to` is written, whatever its length.
 #[unsafe(no_mangle)]
 pub extern "C" fn partmem_read(
     alloc: Global,
@@ -26,11 +27,12 @@ pub extern "C" fn partmem_read(
     place: u32,
     to: &mut [u8],
 ) -> u32
-    ensures { RunsCall machine.old.slot.held (Tenant tenant (Read place (read_length (length to.old)))) machine.new.slot.held
-        (λ reply. (result ≡ call_status (numbers_in_reply reply)) × (to.new ≡ filled (length to.old) (bytes_in_reply reply))) }
+    ensures read { RunsCall machine.old.slot.held (Tenant tenant (Read place (read_length (length to.old)))) machine.new.slot.held
+        (λ reply. (result ≡ call_status (numbers_in_reply reply)) × (to.new ≡ read_over (bytes_in_reply reply) to.old)) }
+    ensures few { drop MOST_BYTES to.new ≡ drop MOST_BYTES to.old }
+    ensures not_done { result ≢ DONE → to.new ≡ to.old }
 {
     if !machine.is_booted() {
-        fill(&[], to);
         return call_status(None);
     }
     let len = length_of(to);
@@ -40,7 +42,7 @@ pub extern "C" fn partmem_read(
     call_status(Some(numbers))
 }
 
-/// How many bytes a read into `to` requests.
+/// Returns the number of bytes that a read into `to` requests.
 #[inline(always)]
 fn length_of(to: &[u8]) -> u32
     ensures { result ≡ read_length (length to.now) }
@@ -48,36 +50,30 @@ fn length_of(to: &[u8]) -> u32
     u32::try_from(to.len()).unwrap_or(u32::MAX)
 }
 
-/// Runs a read, fills `to` with what was read, and returns the numbers of the reply.
+/// Runs a read, copies the bytes to `to`, and returns the numbers of the reply.
 #[inline(always)]
 fn read(kernel: &mut Kernel, tenant: u32, place: u32, len: u32, to: &mut [u8]) -> ReplyNumbers
-    ensures { ReadsInto kernel.old (Tenant tenant (Read place len)) kernel.new result (length to.old) to.new }
+    ensures { ReadsOver kernel.old (Tenant tenant (Read place len)) kernel.new result to.old to.new }
 {
     match kernel.ask(tenant, Request::Read { place, len }) {
         Some((_, answer)) => {
-            fill(bytes_in_reply(answer), to);
+            put_over(bytes_in_reply(answer), to);
             numbers_of_answer(answer)
         }
-        None => {
-            fill(&[], to);
-            numbers_of_answer(Answer::Refused(Refusal::NoTenant))
-        }
+        None => numbers_of_answer(Answer::Refused(Refusal::NoTenant)),
     }
 }
 
-/// Fills `to` with zeroes, and puts bytes over the first of them, as far as there are places.
+/// Copies bytes to the front of `to`, as many as fit.
 #[inline(always)]
-fn fill(bytes: &[u8], to: &mut [u8])
-    ensures { to.new ≡ filled (length to.old) bytes.now }
+fn put_over(bytes: &[u8], to: &mut [u8])
+    ensures { to.new ≡ read_over bytes.now to.old }
 {
     let count = bytes.len().min(to.len());
-    if count < to.len() {
-        to.fill(0);
-    }
     to[..count].copy_from_slice(&bytes[..count]);
 }
 
-/// Copies bytes, 1 to 64, to a live page block or a live object, from `place` on.
+/// Copies 1 to 64 bytes to a live page block or a live object, from `place` on.
 ///
 /// Returns `NO_MACHINE`, `NOT_AN_EVENT` if there are 0 bytes or more than 64, `NO_TENANT` or `OUT_OF_REACH`.
 #[unsafe(no_mangle)]

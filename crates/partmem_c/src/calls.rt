@@ -1,4 +1,4 @@
-//! What the direct calls share: each runs the event of its command, and returns the status of the reply.
+//! The common part of the direct calls: run the event of the command, and return the status of the reply.
 
 ghost use Rattle.std.specs.Prelude.{◌≡◌, ◌≢◌, false};
 ghost use Rattle.words_core.specs.Requests.{command_of, IsAskable, asks_bytes};
@@ -15,7 +15,7 @@ use model_core::limits::{FRAME_BYTES, MOST_ORDER};
 use std::alloc::Global;
 use words_core::{AdminCommand, Request};
 
-/// Runs a command of a tenant that reads no bytes, and returns the numbers of its reply; None, if no machine is held.
+/// Runs a command of a tenant that reads no bytes, and returns the numbers of its reply, or `None` if there is no machine.
 #[inline(always)]
 pub(crate) fn run_command(
     alloc: Global,
@@ -37,7 +37,7 @@ pub(crate) fn run_command(
     Some(numbers)
 }
 
-/// Runs a command of the administrator but for `pool`, and returns the numbers of its reply; None, if no machine is held.
+/// Runs a command of the administrator other than `pool`, and returns the numbers of its reply, or `None` if there is no machine.
 pub(crate) fn run_admin_command(
     alloc: Global,
     machine: &mut Machine,
@@ -55,7 +55,7 @@ pub(crate) fn run_admin_command(
     Some(numbers)
 }
 
-/// The status of a call with this reply: that of the refusal, if it is one.
+/// Returns the status of a call with this reply: that of the refusal, if it is one.
 #[inline(always)]
 pub(crate) fn call_status(reply: Option<ReplyNumbers>) -> u32
     ensures { result ≡ call_status reply }
@@ -67,7 +67,7 @@ pub(crate) fn call_status(reply: Option<ReplyNumbers>) -> u32
     }
 }
 
-/// How many bytes a block of this order has, which is at most a superblock's.
+/// Returns the number of bytes of a block of this order, which is at most a superblock's.
 #[inline(always)]
 pub(crate) fn block_bytes(order: u32) -> u32
     ensures { result ≡ block_bytes order }

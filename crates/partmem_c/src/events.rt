@@ -1,4 +1,4 @@
-//! Events run one at a time, without words: as numbers.
+//! Runs events one at a time, given as numbers.
 
 ghost use Rattle.std.specs.Prelude.{◌≡◌, ◌≢◌, ◌<◌, ◌≤◌, ◌^◌, ℕ, true, false, List, length, Some, IfSome, is_some, if◌then◌else◌};
 ghost use Rattle.words_core.specs.Requests.{command_of, IsAskable, asks_bytes};
@@ -26,41 +26,41 @@ use words_core::{AdminCommand, Answer, Command, Event, Refusal, Request};
 
 /// The administrator grants the tenant a superblock.
 pub const GRANT: u32 = 1;
-/// The administrator takes the superblock under slot `first` of the tenant back.
+/// The administrator takes slot `first` of the tenant back.
 pub const TAKE_BACK: u32 = 2;
-/// The administrator takes all that the tenant has.
+/// The administrator takes everything that the tenant has.
 pub const RESET: u32 = 3;
-/// The administrator puts slot `first` of the tenant over another superblock.
+/// The administrator moves slot `first` of the tenant to another superblock.
 pub const MOVE: u32 = 4;
 /// The administrator requests the table of owners. The reply has the number of superblocks.
 pub const POOL: u32 = 5;
-/// The tenant asks for a page block of order `first`.
+/// The tenant requests a page block of order `first`.
 pub const ALLOC: u32 = 6;
-/// The tenant gives back the page block that begins at frame `first`.
+/// The tenant frees the page block that begins at frame `first`.
 pub const FREE: u32 = 7;
-/// The tenant reads `second` bytes, 1 to 64, from place `first` on. Another count is an event too, which is refused.
+/// The tenant reads `second` bytes, 1 to 64, from place `first` on. Another count is also an event, and is refused.
 pub const READ: u32 = 8;
-/// The tenant writes the bytes that are passed, 1 to 64, from place `first` on.
+/// The tenant writes the 1 to 64 bytes that are passed, from place `first` on.
 pub const WRITE: u32 = 9;
-/// The tenant makes a cache of objects of `first` bytes, aligned to `second`, constructed as the bytes that are passed, 1 to 16.
+/// The tenant makes a cache of objects of `first` bytes, aligned to `second`, constructed with the 1 to 16 bytes that are passed.
 pub const CACHE: u32 = 10;
 /// The tenant destroys cache `first`.
 pub const DESTROY: u32 = 11;
 /// The tenant takes an object of cache `first`.
 pub const TAKE: u32 = 12;
-/// The tenant gives the object of cache `first` at place `second` back.
+/// The tenant gives back the object of cache `first` at place `second`.
 pub const GIVE: u32 = 13;
-/// The tenant gives back the empty slabs of all its caches.
+/// The tenant frees the empty slabs of all its caches.
 pub const REAP: u32 = 14;
-/// The tenant asks for the figures of its memory.
+/// The tenant requests the figures of its memory.
 pub const REPORT: u32 = 15;
 
-/// An event as numbers: its kind, the tenant that requests it or is meant by it, and the numbers of the command, as the constants
-/// say.
+/// An event as numbers: its kind, the tenant that requests it or that it is about, and the numbers of the command, as the
+/// constants say.
 ///
 /// A number that the kind does not use is ignored.
 #[repr(C)]
-#[derive(Clone, Copy)]
+#[derive(Clone, Copy, Debug)]
 pub struct RequestNumbers {
     pub kind: u32,
     pub tenant: u32,
@@ -68,7 +68,7 @@ pub struct RequestNumbers {
     pub second: u32,
 }
 
-/// Whether the numbers and bytes say an event.
+/// Returns true if the numbers and bytes are an event.
 #[inline(always)]
 pub fn is_event(request: &RequestNumbers, bytes: &[u8]) -> bool
     ensures { result ≡ is_some (requested_event request.now bytes.now) }
@@ -80,7 +80,7 @@ pub fn is_event(request: &RequestNumbers, bytes: &[u8]) -> bool
     }
 }
 
-/// The event that the numbers and bytes say; None, where they say none.
+/// Returns the event of the numbers and bytes, or `None` if they are none.
 pub fn event_of(request: &RequestNumbers, bytes: &[u8]) -> Option<Event>
     ensures says { result ≡ requested_event request.now bytes.now }
     ensures pattern { IfSome result (λ event. HasPattern event) }
@@ -149,7 +149,7 @@ fn command_of(request: &RequestNumbers, bytes: &[u8]) -> Option<Command>
     }
 }
 
-/// These bytes, where there are any and they fit.
+/// Returns a copy of these bytes, if there are any and they fit.
 fn some_bytes<const N: usize>(bytes: &[u8]) -> Option<ArrayVec<u8, N>>
     requires { N < 2 ^ 32 }
     ensures { result ≡ some_bytes N bytes.now }
@@ -163,10 +163,11 @@ fn some_bytes<const N: usize>(bytes: &[u8]) -> Option<ArrayVec<u8, N>>
     Some(held)
 }
 
-/// Runs the event that the numbers say, with the bytes that it writes or constructs objects of, and returns its reply as numbers.
+/// Runs the event of the numbers and returns its reply as numbers. `bytes` are those of a write or the pattern of a new cache; no
+/// other event uses them.
 ///
-/// The bytes of a read are put over the first bytes of `buffer`, which needs `MOST_BYTES` bytes for any event. A refused event is
-/// done, and its reply says so. Only a write and a new cache use `bytes`.
+/// The bytes of a read are copied to the front of `buffer`, which needs `MOST_BYTES` bytes for any event. The status of a refused
+/// event is `DONE`, and its reply is the refusal.
 ///
 /// Returns `NO_MACHINE`, `NOT_AN_EVENT` or `BUFFER_TOO_SMALL`; then the reply and the buffer are as before.
 #[unsafe(no_mangle)]
@@ -194,10 +195,10 @@ pub extern "C" fn partmem_event(
     }
 }
 
-/// The kind, or `NOTHING`, which is no event's, if the buffer is too small.
+/// Returns the kind, or `NOTHING`, which is no event's, if the buffer is too small.
 ///
-/// So that one test tells the four kinds of a load, which look neither at the bytes nor at the buffer, from all else: what C
-/// passes for these is made into slices past that test.
+/// So one test separates the four frequent kinds, which use neither the bytes nor the buffer, from all others. The pointers of C
+/// are made into slices only after that test.
 #[inline(always)]
 fn kind_with_buffer(kind: u32, buffer: usize) -> u32
     ensures same { result ≢ NOTHING → result ≡ kind }
@@ -207,7 +208,7 @@ fn kind_with_buffer(kind: u32, buffer: usize) -> u32
     if buffer < MOST_BYTES { NOTHING } else { kind }
 }
 
-/// The status of a call whose buffer is too small, or whose kind is `NOTHING`.
+/// Returns the status of a call whose buffer is too small, or whose kind is `NOTHING`.
 #[cold]
 #[inline(never)]
 fn status_without_buffer(machine: &Machine, request: &RequestNumbers, bytes: &[u8]) -> u32
@@ -223,10 +224,10 @@ fn status_without_buffer(machine: &Machine, request: &RequestNumbers, bytes: &[u
     }
 }
 
-/// [`partmem_event`] of a kind that neither uses bytes nor returns some.
+/// [`partmem_event`] for a kind that neither uses nor returns bytes.
 ///
-/// Each kind has one of its own, out of line, so that it saves only the registers that it needs. It tests for itself that there
-/// is a machine: a call whose answer is not always the same can be the last thing that is done.
+/// Each kind has its own instance, out of line, which saves only the registers that it needs. The instance tests that there is a
+/// machine, so that its caller can end in a tail call.
 #[inline(never)]
 fn plain_event<const KIND: u32>(
     alloc: Global,
@@ -244,7 +245,7 @@ fn plain_event<const KIND: u32>(
     ask(alloc, machine, request.tenant, command, reply)
 }
 
-/// The command of such a kind, which the compiler knows from `kind`.
+/// Returns the command of such a kind. `kind` is a constant, so the compiler knows the command.
 #[inline(always)]
 fn plain_request(kind: u32, request: &RequestNumbers) -> Request<'static>
     requires kind { request.now.kind ≡ kind }
@@ -293,7 +294,7 @@ fn ask(
     DONE
 }
 
-/// [`other_event`] with no more of the buffer than it writes into, so that its length is none of what is handed on.
+/// [`other_event`] with only the part of the buffer that it writes into, so the buffer's length is not passed on.
 #[inline(always)]
 fn event_in_first(
     alloc: Global,
@@ -320,7 +321,7 @@ fn event_in_first(
     )
 }
 
-/// [`partmem_event`] of the kinds that look at the bytes or the buffer, and of the rare ones.
+/// [`partmem_event`] for the kinds that use the bytes or the buffer, and for the rare ones.
 #[inline(never)]
 fn other_event(
     alloc: Global,
@@ -429,7 +430,7 @@ fn cache_event(
     ask(alloc, machine, request.tenant, command, reply)
 }
 
-/// What a call answers whose numbers and bytes say no event.
+/// Returns the status of a call whose numbers and bytes are no event.
 pub(crate) fn status_of_none(machine: &Machine) -> u32
     ensures { result ≡ (if is_some machine.now.slot.held then NOT_AN_EVENT else NO_MACHINE) }
 {
@@ -440,7 +441,7 @@ pub(crate) fn status_of_none(machine: &Machine) -> u32
     }
 }
 
-/// [`partmem_event`] of any event.
+/// [`partmem_event`] for any event.
 #[cold]
 #[inline(never)]
 fn rare_event(
@@ -470,7 +471,7 @@ fn rare_event(
     DONE
 }
 
-/// Runs an event, puts the bytes that it tells over the first of `buffer`, and answers it in numbers.
+/// Runs an event, copies the bytes of its reply to the front of `buffer`, and returns the reply as numbers.
 fn step(kernel: &mut Kernel, event: &Event, buffer: &mut [u8]) -> ReplyNumbers
     requires pattern { HasPattern event.now }
     requires buffer { MOST_BYTES ≤ length buffer.old }
@@ -488,14 +489,14 @@ fn step(kernel: &mut Kernel, event: &Event, buffer: &mut [u8]) -> ReplyNumbers
     }
 }
 
-/// Counts the superblocks of the table of owners, which is written nowhere.
+/// Returns the number of superblocks as the reply for the table of owners, which is not written.
 fn pool(kernel: &Kernel) -> ReplyNumbers
     ensures { (buffer : List ℕ) → AnswersEvent kernel.now (Event.Admin AdminCommand.Pool) kernel.now result buffer buffer }
 {
     numbers_of_owners(kernel.owners())
 }
 
-/// Answers the report of a tenant.
+/// Returns the report of a tenant as numbers.
 #[inline(never)]
 fn report(kernel: &Kernel, tenant: u32) -> ReplyNumbers
     ensures { (buffer : List ℕ) → AnswersEvent kernel.now (Tenant tenant Report) kernel.now result buffer buffer }
@@ -506,7 +507,7 @@ fn report(kernel: &Kernel, tenant: u32) -> ReplyNumbers
     }
 }
 
-/// Runs a command that asks for no bytes, and answers it in numbers.
+/// Runs a command that reads no bytes, and returns the reply as numbers.
 #[inline(always)]
 pub(crate) fn run(kernel: &mut Kernel, tenant: u32, command: Request<'_>) -> ReplyNumbers
     requires askable { IsAskable command }
@@ -520,7 +521,7 @@ pub(crate) fn run(kernel: &mut Kernel, tenant: u32, command: Request<'_>) -> Rep
     }
 }
 
-/// Runs a command, puts the bytes that it returns over the first of `buffer`, and answers it in numbers.
+/// Runs a command, copies the bytes of its reply to the front of `buffer`, and returns the reply as numbers.
 #[inline(always)]
 fn run_over(
     kernel: &mut Kernel,

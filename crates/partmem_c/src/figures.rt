@@ -15,9 +15,9 @@ use model_core::report::{CacheRow, OrderRow};
 use std::alloc::Global;
 use words_core::{CACHES, ORDERS, Refusal, Report};
 
-/// The blocks of one order: how many are free, and how many are taken.
+/// The numbers of free and of taken blocks of one order.
 #[repr(C)]
-#[derive(Clone, Copy)]
+#[derive(Clone, Copy, Debug)]
 pub struct OrderFigures {
     pub free: u32,
     pub taken: u32,
@@ -25,7 +25,7 @@ pub struct OrderFigures {
 
 /// A cache: its number, its slabs of each kind, and its live objects.
 #[repr(C)]
-#[derive(Clone, Copy)]
+#[derive(Clone, Copy, Debug)]
 pub struct CacheFigures {
     pub cache: u32,
     pub full: u32,
@@ -36,28 +36,28 @@ pub struct CacheFigures {
 
 /// The figures of a tenant's memory. The rows behind those that `orders` and `caches` count are zeroes.
 #[repr(C)]
-#[derive(Clone, Copy)]
+#[derive(Clone, Copy, Debug)]
 pub struct Figures {
-    /// How many frames the tenant's slots have.
+    /// The number of frames in the tenant's slots.
     pub frames: u32,
-    /// How many of them lie in page blocks and slabs.
+    /// The number of these in page blocks and slabs.
     pub live: u32,
-    /// How many of them are free.
+    /// The number of these that are free.
     pub free: u32,
-    /// How many bytes a largest free block has; 0 if no frame is free.
+    /// The bytes of a largest free block, 0 if no frame is free.
     pub greatest: u32,
-    /// The share of the free frames that lie outside one largest free block, in thousandths.
+    /// The share of the free frames outside one largest free block, in thousandths.
     pub split: u32,
-    /// How many rows `order` has, from order 0 on.
+    /// The number of rows of `order`, from order 0 on.
     pub orders: u32,
-    /// How many rows `cache` has, by rising number.
+    /// The number of rows of `cache`, in ascending order of the caches' numbers.
     pub caches: u32,
     pub order: [OrderFigures; ORDERS],
     pub cache: [CacheFigures; CACHES],
 }
 
 impl Figures {
-    /// Figures that are all zeroes.
+    /// Returns figures that are all zeros.
     pub fn zeroes() -> Figures
         ensures { result ≡ no_figures }
     {
@@ -104,7 +104,7 @@ pub extern "C" fn partmem_report(
     status
 }
 
-/// Puts the figures of a tenant over figures that are all zeroes, which stay if there is no such tenant, and returns the status.
+/// Fills in the figures of a tenant, which were all zeros, and returns the status. If there is no such tenant they stay zeros.
 fn put_figures(kernel: &Kernel, tenant: u32, figures: &mut Figures) -> u32
     requires { figures.old ≡ no_figures }
     ensures { PutsFigures kernel.now tenant result figures.new }
@@ -116,7 +116,7 @@ fn put_figures(kernel: &Kernel, tenant: u32, figures: &mut Figures) -> u32
     DONE
 }
 
-/// Puts a report over figures that are all zeroes.
+/// Fills in the figures of a report, which were all zeros.
 fn put_report(report: &Report, figures: &mut Figures)
     requires { figures.old ≡ no_figures }
     ensures { figures.new ≡ figures_of_report report.now }

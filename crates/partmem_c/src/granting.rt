@@ -1,4 +1,4 @@
-//! The administrator's commands as direct calls: superblocks granted to tenants, moved, and taken back.
+//! The administrator's commands as direct calls: grants, moves, take-backs and resets.
 
 ghost use Rattle.std.specs.Prelude.{◌≡◌, ℕ};
 ghost use Rattle.words_core.specs.declared.event.Event.TheVariants.{Admin};
@@ -12,15 +12,15 @@ use crate::telling::ReplyNumbers;
 use std::alloc::Global;
 use words_core::AdminCommand;
 
-/// A slot of a tenant, and the superblock under it.
+/// A slot of a tenant and its superblock.
 #[repr(C)]
-#[derive(Clone, Copy)]
+#[derive(Clone, Copy, Debug)]
 pub struct HeldSlot {
     pub slot: u32,
     pub superblock: u32,
 }
 
-/// Grants the tenant the superblock of the lowest number that has no owner, under the lowest slot that it does not hold.
+/// Grants the tenant the superblock with the lowest number that has no owner, as the lowest slot that it does not hold.
 ///
 /// Returns `NO_MACHINE`, `NO_TENANT` or `POOL_EMPTY`.
 #[unsafe(no_mangle)]
@@ -38,7 +38,7 @@ pub extern "C" fn partmem_grant(
     call_status(reply)
 }
 
-/// Takes back the superblock under a slot of which no frame is taken, by a page block or a slab.
+/// Takes back a slot in which no frame is taken by a page block or a slab.
 ///
 /// Returns `NO_MACHINE`, `NO_TENANT`, `NO_SLOT` or `SLOT_BUSY`.
 #[unsafe(no_mangle)]
@@ -54,7 +54,7 @@ pub extern "C" fn partmem_take_back(
     call_status(run_admin_command(alloc, machine, AdminCommand::TakeBack { tenant, slot }))
 }
 
-/// Replaces the superblock under a slot by the one of the lowest number that has no owner, which gets all its bytes.
+/// Replaces the superblock in a slot by the one with the lowest number that has no owner. All bytes are copied.
 ///
 /// Returns `NO_MACHINE`, `NO_TENANT`, `NO_SLOT` or `POOL_EMPTY`.
 #[unsafe(no_mangle)]
@@ -73,7 +73,7 @@ pub extern "C" fn partmem_move(
     call_status(reply)
 }
 
-/// Takes all that the tenant has: its page blocks, caches and slots.
+/// Takes everything that the tenant has: its page blocks, caches and slots.
 ///
 /// Returns `NO_MACHINE` or `NO_TENANT`.
 #[unsafe(no_mangle)]
@@ -84,7 +84,7 @@ pub extern "C" fn partmem_reset(alloc: Global, machine: &mut Machine, tenant: u3
     call_status(run_admin_command(alloc, machine, AdminCommand::Reset { tenant }))
 }
 
-/// The slot and superblock that a reply of this kind has.
+/// Returns the slot and the superblock of a reply of this kind.
 fn returned_slot(kind: u32, reply: Option<ReplyNumbers>) -> HeldSlot
     ensures { result ≡ returned_slot kind reply }
 {

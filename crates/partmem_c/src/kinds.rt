@@ -1,37 +1,37 @@
-//! The kinds of answers.
+//! The kinds of replies, with the numbers that each has.
 
-/// No event is answered so.
+/// The kind of no reply.
 pub const NOTHING: u32 = 0;
-/// Refused, and nothing was changed: the number of the refusal.
+/// Refused, with nothing changed: the number of the refusal.
 pub const REFUSED: u32 = 1;
-/// The tenant, its slot, and the superblock under it.
+/// The tenant, its slot, and its superblock.
 pub const GRANTED: u32 = 2;
 /// The superblock.
 pub const TAKEN_BACK: u32 = 3;
-/// The tenant, and how many superblocks it had.
+/// The tenant, and the number of its superblocks.
 pub const WAS_RESET: u32 = 4;
-/// The tenant, its slot, and the superblock that is under it now.
+/// The tenant, its slot, and its new superblock.
 pub const MOVED: u32 = 5;
-/// How many superblocks there are.
+/// The number of superblocks.
 pub const OWNERS: u32 = 6;
 /// The first frame of the new page block.
 pub const FRAME: u32 = 7;
-/// The order of the page block that was given back.
+/// The order of the freed page block.
 pub const FREED: u32 = 8;
-/// How many bytes were read: they stand over the first bytes of the buffer.
+/// The number of bytes read. They are at the front of the buffer.
 pub const BYTES: u32 = 9;
-/// How many bytes were written.
+/// The number of bytes written.
 pub const WRITTEN: u32 = 10;
-/// The number of the new cache, its chunk, the order of its slabs, and how many objects and colours they have.
+/// The number of the new cache, its chunk in bytes, the order of its slabs, their number of objects, and the number of its colours.
 pub const MADE: u32 = 11;
-/// How many frames the slabs of the cache gave back.
+/// The number of frames of the cache's slabs, which were freed.
 pub const DESTROYED: u32 = 12;
 /// The place of the object.
 pub const OBJECT: u32 = 13;
 /// The object was given back.
 pub const GIVEN: u32 = 14;
-/// How many frames were given back.
+/// The number of frames freed.
 pub const REAPED: u32 = 15;
-/// Frames, live ones, free ones, the order of the greatest free block plus 1 (0: there is none), and the share of the free frames
-/// that lie outside it, in thousandths.
+/// The numbers of frames, taken frames and free frames, the order of the greatest free block plus 1 (0 if there is none), and the
+/// share of the free frames outside it, in thousandths.
 pub const FIGURES: u32 = 16;

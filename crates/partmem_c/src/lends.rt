@@ -1,7 +1,9 @@
-//! Bytes lent where they lie, by their addresses. A lend changes nothing, and is no event.
+//! Lends bytes in place, by their addresses. A lend changes nothing, and is no event.
 
 ghost use Rattle.std.specs.Prelude.{◌≡◌};
-ghost use Rattle.kernel_core.specs.Lending.{IsLive};
+ghost use Rattle.std.specs.Borrow.{sem};
+ghost use Rattle.std.specs.Ptr.{as_mut_ptr};
+ghost use Rattle.kernel_core.specs.Lending.{IsLive, IsLent, LendsSpan};
 ghost use Rattle.partmem_c.specs.Finding.{LooksUp};
 ghost use Rattle.partmem_c.specs.Lends.{no_lent, IsLentAt, FindsRange, FindsWholeBlock, FindsObject};
 
@@ -10,10 +12,10 @@ use crate::machine::Machine;
 use crate::status::NO_MACHINE;
 use kernel_core::{Kernel, Span};
 use std::alloc::Global;
-use std::ptr::{from_mut, null_mut};
+use std::ptr::null_mut;
 use words_core::Refusal;
 
-/// Bytes that are lent: the address and the place of the first, and how many there are. All is zero if nothing is lent.
+/// Lent bytes: the address and the place of the first, and their number. All zero if nothing is lent.
 #[repr(C)]
 #[derive(Clone, Copy)]
 pub struct Lent {
@@ -23,7 +25,7 @@ pub struct Lent {
 }
 
 impl Lent {
-    /// No bytes.
+    /// Returns the value for no bytes.
     #[inline(always)]
     pub fn none() -> Lent
         ensures { result ≡ no_lent }
@@ -43,15 +45,39 @@ pub(crate) fn lent_of(kernel: &mut Kernel, span: Span) -> Lent
     ensures lent { IsLentAt span.place span.bytes result }
     ensures kept { kernel.new ≡ kernel.old }
 {
-    let bytes = kernel.lend(span);
-    Lent {
-        at: from_mut(&mut bytes[0]),
-        place: span.place,
-        bytes: span.bytes,
-    }
+    let mut lent = Lent::none();
+    lend_at(kernel, span, &mut lent);
+    lent
 }
 
-/// Lends bytes that lie inside one live page block or one live object: one or more, from `place` on.
+/// Lends the bytes of a span as a slice, and stores the address of the slice in `lent`.
+#[inline(always)]
+fn lend_at<'a>(kernel: &'a mut Kernel, span: Span, lent: &mut Lent) -> &'a mut [u8]
+    requires { IsLive kernel.old span }
+    ensures* writes_back { sem 𝓛 (LendsSpan kernel.entry span result) }
+    ensures bytes { IsLent kernel.old span.tenant span.place span.bytes result.now }
+    ensures address { lent.new.at ≡ as_mut_ptr result }
+    ensures lent { IsLentAt span.place span.bytes lent.new }
+{
+    let bytes = kernel.lend(span);
+    *lent = Lent {
+        at: first_of(bytes),
+        place: span.place,
+        bytes: span.bytes,
+    };
+    bytes
+}
+
+/// Returns the address of a slice, that is, of its first byte.
+#[inline(always)]
+fn first_of(bytes: &mut [u8]) -> *mut u8
+    ensures address { result ≡ as_mut_ptr bytes.entry }
+    ensures kept { bytes.new ≡ bytes.old }
+{
+    bytes.as_mut_ptr()
+}
+
+/// Lends one or more bytes from `place` on, which have to be inside one live page block or one live object.
 ///
 /// Returns `NO_MACHINE`, `NO_TENANT` or `OUT_OF_REACH`.
 #[unsafe(no_mangle)]
@@ -85,7 +111,7 @@ fn lend(kernel: &mut Kernel, tenant: u32, place: u32, bytes: u32) -> Result<Lent
     Ok(lent_of(kernel, span))
 }
 
-/// Lends the whole live page block in which a place lies.
+/// Lends the whole live page block that contains a place.
 ///
 /// Returns `NO_MACHINE`, `NO_TENANT` or `OUT_OF_REACH`.
 #[unsafe(no_mangle)]

@@ -1,11 +1,12 @@
 //! The kernel as a static library for C: `partmem.h` beside this crate declares what it exports.
 //!
-//! A C program keeps each machine in a [`machine::Machine`] of its own, which it sets to zeroes. Each command has a function,
-//! which runs the event of the command ([`events`]) and returns a [`status`]: see [`granting`], [`pages`], [`objects`] and
-//! [`bytes`]. Bytes are lent where they lie by [`lends`]; [`finding`], [`figures`] and [`owners`] look things up.
+//! A C program keeps each machine in a [`machine::Machine`] of its own, which it sets to zeros. Each command has a function that
+//! runs its event ([`events`]) and returns a [`status`]: see [`granting`], [`pages`], [`objects`] and [`bytes`]. [`lends`] lends
+//! bytes in place; [`lookups`], [`holders`], [`figures`] and [`owners`] look things up.
 //!
-//! An export tests all that C can get wrong without breaking memory. After an error or a refusal nothing has changed, and the
-//! results are zeroes; only [`events::partmem_event`] leaves its reply as it was.
+//! An export tests everything that C can get wrong without breaking memory. After an error or a refusal nothing has changed, and
+//! the results are zeros; only a read leaves its bytes as they were, and [`events::partmem_event`] its reply. No number makes an
+//! export write more than its results.
 #![tactic(auto)]
 
 pub mod booting;
@@ -14,6 +15,7 @@ mod calls;
 pub mod events;
 pub mod figures;
 pub mod granting;
+pub mod holders;
 pub mod kinds;
 pub mod laws;
 pub mod lends;

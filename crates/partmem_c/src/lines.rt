@@ -1,4 +1,4 @@
-//! Lines of a trace, run one at a time.
+//! Runs lines of a trace one at a time.
 
 ghost use Rattle.std.specs.Prelude.{◌≡◌, ◌≢◌, ℕ, ◌+◌, ◌*◌, ◌<◌, ◌≤◌, ◌∷◌, ◌++◌, false, List, length, take, drop, Some, Ok};
 ghost use Rattle.std.specs.Prelude.{IfSome, MatchOption, if◌then◌else◌};
@@ -27,14 +27,14 @@ use words_core::{
     write_answer_to,
 };
 
-/// No line is answered by more bytes than these: the owners of all superblocks, with a line in front of them.
+/// An upper bound on the bytes of a reply to a line, which the table of owners decides.
 pub const MOST_TEXT_BYTES: usize = MOST_ROWS * MOST_REPLY_BYTES;
 
-/// Runs a line of a trace, and writes its reply lines over the first bytes of `buffer`; `written` is how many bytes, 0 if the
-/// call is not done.
+/// Runs a line of a trace, and writes its reply lines to the front of `buffer`. `written` is the number of their bytes, 0 if the
+/// status is not `DONE`.
 ///
-/// The line comes without its line feed. The reply to a faulty line is the line that says so. Any line needs a buffer of
-/// `MOST_TEXT_BYTES` bytes.
+/// The line comes without its line feed. The reply to a faulty line is the line that says so. A buffer of `MOST_TEXT_BYTES` bytes
+/// is large enough for any line.
 ///
 /// Returns `NO_MACHINE`, `NOT_A_LINE` or `BUFFER_TOO_SMALL`; then the buffer is as before.
 #[unsafe(no_mangle)]
@@ -68,7 +68,7 @@ pub extern "C" fn partmem_line(
     DONE
 }
 
-/// The status of a call whose buffer is too small.
+/// Returns the status of a call whose buffer is too small.
 #[cold]
 #[inline(never)]
 fn status_without_buffer(line: &[u8]) -> u32
@@ -81,13 +81,13 @@ fn status_without_buffer(line: &[u8]) -> u32
     }
 }
 
-/// Size of a buffer for a line that makes up a load with its line feed: a tenant, a word, a place, and bytes in hex.
+/// Size of a buffer for a frequent line with its line feed: a tenant, a word, a place, and bytes in hex.
 const MOST_SHORT_LINE: usize = 160;
 
-/// Runs a line on the kernel, writes what it is answered over the first bytes of `buffer`, and answers how many; None, and
-/// nothing is done, where it has a line feed.
+/// Runs a line on the kernel, writes the answer to the front of `buffer`, and returns the number of its bytes. Returns `None` and
+/// does nothing if the line has a line feed.
 ///
-/// A line that was read the short way as a whole has none, and is not searched for one.
+/// A line that was read as a quick request as a whole has none, and is not searched for one.
 #[inline(always)]
 fn run_line(kernel: &mut Kernel, line: &[u8], buffer: &mut [u8]) -> Option<usize>
     requires { IsWide buffer.old }
@@ -110,8 +110,8 @@ fn run_line(kernel: &mut Kernel, line: &[u8], buffer: &mut [u8]) -> Option<usize
     run_any(kernel, line, buffer)
 }
 
-/// [`run_line`] of a longer line that makes up a load, as a write; None, and nothing is done, where it isn't one, or where that
-/// is not sure. It is out of line, since it needs more stack than most lines of a load.
+/// [`run_line`] for a longer quick request, such as a write. Returns `None` and does nothing if it is none, or if that is not
+/// sure. Kept out of line, since it needs more stack than most quick requests.
 #[inline(never)]
 fn run_long(kernel: &mut Kernel, line: &[u8], buffer: &mut [u8]) -> Option<usize>
     requires { IsWide buffer.old }
@@ -131,7 +131,7 @@ fn run_long(kernel: &mut Kernel, line: &[u8], buffer: &mut [u8]) -> Option<usize
     Some(answer_apart(read.tenant, read.request, kernel, buffer))
 }
 
-/// [`run_line`] by way of the event that it reads as; out of line, since it clears the memory of an event.
+/// [`run_line`] for any line, by its event. Kept out of line, since it clears the memory of an event.
 #[cold]
 #[inline(never)]
 fn run_any(kernel: &mut Kernel, line: &[u8], buffer: &mut [u8]) -> Option<usize>
@@ -144,7 +144,7 @@ fn run_any(kernel: &mut Kernel, line: &[u8], buffer: &mut [u8]) -> Option<usize>
     Some(answer(read(line), kernel, buffer))
 }
 
-/// What a line reads as; out of line, so that its stack is free again before the line is answered.
+/// Reads a line. Kept out of line, so that its stack is free again before the line is answered.
 #[inline(never)]
 fn read(line: &[u8]) -> Result<Option<Event>, LineFault>
     ensures exact { result ≡ reading_of line.now }
@@ -153,7 +153,7 @@ fn read(line: &[u8]) -> Result<Option<Event>, LineFault>
     read_line(line)
 }
 
-/// Puts a line over the first bytes, and a line feed behind it.
+/// Copies a line to the front of some bytes, and a line feed behind it.
 #[inline(always)]
 fn put_ended(line: &[u8], out: &mut [u8])
     requires { length line.now < length out.old }
@@ -163,7 +163,7 @@ fn put_ended(line: &[u8], out: &mut [u8])
     put(b"\n", out, line.len());
 }
 
-/// The commands that make up a load, by number.
+/// The numbers of the frequent commands.
 const ALLOC: usize = 0;
 
 const FREE: usize = 1;
@@ -176,10 +176,10 @@ const READ: usize = 4;
 
 const WRITE: usize = 5;
 
-/// All others.
+/// The number of all other commands.
 const RARE: usize = 6;
 
-/// Runs a request, and writes what it is answered over the first bytes of `buffer`; answers how many they are.
+/// Runs a request, writes its answer to the front of `buffer`, and returns the number of its bytes.
 #[inline(always)]
 fn answer_request(
     tenant: u32,
@@ -215,9 +215,8 @@ fn answer_request(
     }
 }
 
-/// [`answer_request`] of one command, which `COMMAND` numbers. Each has a function of its own with one caller: of such a function
-/// the compiler makes a part of its caller, however long it is, and what the command may be answered is then known where that is
-/// written.
+/// [`answer_request`] for the command with the number `COMMAND`. Each command has its own instance with one caller. A function
+/// with one caller is always inlined, so the possible answers are known at the place that writes them.
 #[inline]
 fn answer_as<const COMMAND: usize>(
     tenant: u32,
@@ -236,7 +235,7 @@ fn answer_as<const COMMAND: usize>(
     }
 }
 
-/// [`answer_as`] of a command that no load is made of.
+/// [`answer_as`] for a rare command.
 #[inline(never)]
 fn answer_apart(tenant: u32, request: Request<'_>, kernel: &mut Kernel, buffer: &mut [u8]) -> usize
     requires askable { IsAskable request }
@@ -247,7 +246,8 @@ fn answer_apart(tenant: u32, request: Request<'_>, kernel: &mut Kernel, buffer: 
     answer_as::<RARE>(tenant, request, kernel, buffer)
 }
 
-/// Writes what a tenant is answered over the first bytes of `buffer`, and answers how many they are; so do the others.
+/// Writes an answer to a tenant to the front of `buffer` and returns the number of its bytes. The other functions here do the
+/// same.
 #[inline(always)]
 fn put_answer(tenant: u8, answer: Answer<'_>, buffer: &mut [u8]) -> usize
     requires few { HasFewBytes answer }
@@ -263,7 +263,7 @@ fn put_answer(tenant: u8, answer: Answer<'_>, buffer: &mut [u8]) -> usize
     len
 }
 
-/// [`put_answer`] of a longer text, or to anyone; out of line, so that only it pays for its buffer.
+/// [`put_answer`] for a longer text, or for any addressee. Kept out of line, so that only it pays for its buffer.
 #[inline(never)]
 fn put_long_answer(addressee: Addressee, answer: Answer<'_>, buffer: &mut [u8]) -> usize
     requires few { HasFewBytes answer }
@@ -287,7 +287,7 @@ fn put_no_tenant(buffer: &mut [u8]) -> usize
     put_long_answer(Addressee::Nobody, answer, buffer)
 }
 
-/// Runs a line that was read so, and writes what it is answered.
+/// Runs a line with this reading and writes its answer.
 #[cold]
 #[inline(never)]
 fn answer(
@@ -310,7 +310,7 @@ fn answer(
     }
 }
 
-/// By itself, since no other line pays for the memory of a report.
+/// Kept out of line, so that no other line pays for the memory of a report.
 #[cold]
 #[inline(never)]
 fn put_report(tenant: u32, kernel: &Kernel, buffer: &mut [u8]) -> usize
@@ -370,7 +370,7 @@ fn put_table(table: Table<'_>, buffer: &mut [u8]) -> usize
     written
 }
 
-/// Puts bytes into the buffer, from number `at` on.
+/// Copies bytes into the buffer, from index `at` on.
 #[inline(always)]
 pub(crate) fn put(bytes: &[u8], buffer: &mut [u8], at: usize)
     requires { at + length bytes.now ≤ length buffer.old }
@@ -379,8 +379,8 @@ pub(crate) fn put(bytes: &[u8], buffer: &mut [u8], at: usize)
     buffer[at..at + bytes.len()].copy_from_slice(bytes);
 }
 
-/// Puts bytes over the first of the buffer: from 8 to 32 of them by two copies of one size, which share what lies between, since
-/// a copy of a size that is not known is a call.
+/// Copies bytes to the front of the buffer. For 8 to 32 bytes it makes two overlapping copies of a fixed size, since a copy of
+/// variable size is a call.
 #[inline(always)]
 fn put_short(bytes: &[u8], buffer: &mut [u8])
     requires { length bytes.now ≤ length buffer.old }
@@ -393,7 +393,7 @@ fn put_short(bytes: &[u8], buffer: &mut [u8])
     }
 }
 
-/// Puts the first `N` bytes and the last `N` where they belong.
+/// Copies the first `N` bytes and the last `N` bytes.
 #[inline(always)]
 fn put_ends<const N: usize>(bytes: &[u8], buffer: &mut [u8])
     requires long { N ≤ length bytes.now }

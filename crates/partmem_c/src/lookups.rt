@@ -1,4 +1,4 @@
-//! What lies under a slot, and at a place.
+//! Looks up the superblock in a slot, and the block at a place.
 
 ghost use Rattle.std.specs.Prelude.{◌≡◌, ◌/◌, ◌^◌, ◌<◌, ◌≤◌};
 ghost use Rattle.model_core.specs.declared.limits.TheConstants.{FRAME_BYTES, MOST_ORDER};
@@ -18,14 +18,14 @@ use words_core::Refusal;
 pub const NO_SUCH_SLOT: u32 = 0;
 /// The frame of the place is free.
 pub const FREE_FRAME: u32 = 1;
-/// The place lies in a page block.
+/// The place is in a page block.
 pub const PAGE_BLOCK: u32 = 2;
-/// The place lies in a slab.
+/// The place is in a slab.
 pub const SLAB: u32 = 3;
 
-/// What a place lies in: how it is used, the place of its first byte, and how many bytes it has.
+/// The block that contains a place: its use, the place of its first byte, and its size in bytes.
 #[repr(C)]
-#[derive(Clone, Copy)]
+#[derive(Clone, Copy, Debug)]
 pub struct Block {
     pub usage: u32,
     pub place: u32,
@@ -43,7 +43,7 @@ const NO_BLOCK: Block = Block {
     bytes: 0,
 };
 
-/// Finds the superblock under a slot of a tenant.
+/// Finds the superblock in a slot of a tenant.
 ///
 /// Returns `NO_MACHINE`, `NO_TENANT` or `NO_SLOT`.
 #[unsafe(no_mangle)]
@@ -82,7 +82,7 @@ fn slot_at(kernel: &Kernel, tenant: u32, slot: u32) -> Result<HeldSlot, Refusal>
     })
 }
 
-/// Finds the page block, slab or free frame of a tenant in which a place lies, or the slot if the tenant does not hold it.
+/// Finds the page block, slab or free frame of a tenant that contains a place, or the slot if the tenant does not hold it.
 ///
 /// Returns `NO_MACHINE` or `NO_TENANT`.
 #[unsafe(no_mangle)]
@@ -113,7 +113,7 @@ fn block_at(kernel: &Kernel, tenant: u32, place: u32) -> Result<Block, Refusal>
     Ok(block_around(kernel, t, place / FRAME_BYTES))
 }
 
-/// What a frame of a tenant that there is lies in.
+/// Returns the block that contains a frame of an existing tenant.
 fn block_around(kernel: &Kernel, t: u8, frame: u32) -> Block
     requires tenant { t < kernel.now.tenants }
     requires frame { frame < 2 ^ 20 }
@@ -128,8 +128,8 @@ fn block_around(kernel: &Kernel, t: u8, frame: u32) -> Block
     }
 }
 
-/// The first frame and the order of the taken block that has a frame of this kind. If none has it, those of the frame alone, or
-/// of the slot that is not held.
+/// Returns the first frame and the order of the taken block that contains a frame of this kind. If none does, these are those of
+/// the frame alone, or of the slot if it is not held.
 fn frames_around(kernel: &Kernel, t: u8, frame: u32, kind: FrameKind) -> (u32, u32)
     requires { t < kernel.now.tenants }
     ensures around { AreAround kernel.now t frame kind result }
@@ -145,7 +145,7 @@ fn frames_around(kernel: &Kernel, t: u8, frame: u32, kind: FrameKind) -> (u32, u
     }
 }
 
-/// The first frame and the order of the slot of a frame if it is not held, or else of the frame alone.
+/// Returns the first frame and the order of the slot of a frame if the slot is not held, else of the frame alone.
 fn untaken(kind: FrameKind, frame: u32, order: u32) -> (u32, u32)
     requires { order ≤ MOST_ORDER }
     ensures value { result ≡ untaken kind frame order }
@@ -158,7 +158,7 @@ fn untaken(kind: FrameKind, frame: u32, order: u32) -> (u32, u32)
     }
 }
 
-/// How a frame of this kind is used.
+/// Returns the use of a frame of this kind.
 fn use_of(kind: FrameKind) -> u32
     ensures { result ≡ use_of kind }
 {
@@ -170,7 +170,7 @@ fn use_of(kind: FrameKind) -> u32
     }
 }
 
-/// Puts what was found over `to`, which stays if the lookup is refused, and returns the status.
+/// Stores the result of a lookup in `to` and returns the status. If the lookup is refused, `to` is unchanged.
 #[inline(always)]
 pub(crate) fn put<T: Drop>(outcome: Result<T, Refusal>, to: &mut T) -> u32
     ensures { Returns to.old outcome result to.new }

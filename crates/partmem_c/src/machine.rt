@@ -1,4 +1,4 @@
-//! A machine in the hands of C.
+//! The machine as C keeps it.
 
 ghost use Rattle.std.specs.Prelude.{◌≡◌, is_some, IsSome, Some, None};
 
@@ -8,7 +8,7 @@ use kernel_core::Kernel;
 use std::alloc::Global;
 use std::mem::replace;
 
-/// The place where C keeps a machine, of zeroes as long as there is none; a clause reads as `slot.held` which kernel it holds.
+/// The place where C keeps a machine. All zero while empty. Clauses call its kernel `slot.held`.
 #[repr(C)]
 pub struct Machine {
     is_booted: bool,
@@ -17,14 +17,14 @@ pub struct Machine {
 }
 
 impl Machine {
-    /// Whether it holds a machine.
+    /// Returns true if it holds a machine.
     pub fn is_booted(&self) -> bool
         ensures { result ≡ is_some self.now.slot.held }
     {
         self.is_booted
     }
 
-    /// Puts a kernel where there is none.
+    /// Stores a kernel in an empty place.
     pub fn put_in(&mut self, kernel: Box<Kernel>)
         requires { self.old.slot.held ≡ None }
         ensures { self.new.slot.held ≡ Some kernel.value }
@@ -34,7 +34,7 @@ impl Machine {
         vacant.discard();
     }
 
-    /// Takes the kernel out.
+    /// Takes the kernel out. The place is then empty.
     pub fn take_out(&mut self, alloc: Global) -> Box<Kernel>
         requires { IsSome self.old.slot.held }
         ensures held { self.old.slot.held ≡ Some result.value }

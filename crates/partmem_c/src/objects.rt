@@ -20,9 +20,10 @@ use model_core::limits::MOST_PATTERN;
 use std::alloc::Global;
 use words_core::{Refusal, Request};
 
-/// A new cache: its number, the bytes from one object to the next, the bytes of a slab, and the objects and colours of a slab.
+/// A new cache: its number, the bytes from one object to the next, the bytes of a slab, and the numbers of objects and colours of
+/// a slab.
 #[repr(C)]
-#[derive(Clone, Copy)]
+#[derive(Clone, Copy, Debug)]
 pub struct MadeCache {
     pub cache: u32,
     pub chunk: u32,
@@ -39,7 +40,8 @@ const NO_CACHE: MadeCache = MadeCache {
     colours: 0,
 };
 
-/// Makes a cache of objects of `size` bytes at multiples of `align`. The pattern, 1 to 16 bytes, fills each object of a new slab.
+/// Makes a cache of objects of `size` bytes at multiples of `align` bytes. The pattern of 1 to 16 bytes fills each object of a new
+/// slab.
 ///
 /// Returns `NO_MACHINE`, `NOT_AN_EVENT` if the pattern has 0 bytes or more than 16, `NO_TENANT`, `BAD_SIZE`, `BAD_ALIGN` or
 /// `NO_CACHE_SLOT`.
@@ -73,7 +75,7 @@ pub extern "C" fn partmem_make_cache(
     call_status(reply)
 }
 
-/// Destroys a cache without live objects, and gives back its slabs.
+/// Destroys a cache without live objects, and frees its slabs.
 ///
 /// Returns `NO_MACHINE`, `NO_TENANT`, `NO_CACHE` or `CACHE_IN_USE`.
 #[unsafe(no_mangle)]
@@ -139,7 +141,7 @@ pub extern "C" fn partmem_give(
     call_status(run_command(alloc, machine, tenant, Request::Give { cache, place }))
 }
 
-/// Gives back the empty slabs of all caches of the tenant, and returns how many frames they had.
+/// Frees the empty slabs of all caches of the tenant, and returns the number of their frames.
 ///
 /// Returns `NO_MACHINE` or `NO_TENANT`.
 #[unsafe(no_mangle)]
@@ -157,7 +159,7 @@ pub extern "C" fn partmem_reap(
     call_status(reply)
 }
 
-/// The cache that a reply tells.
+/// Returns the new cache of a reply.
 fn made_cache(reply: Option<ReplyNumbers>) -> MadeCache
     ensures { result ≡ made_cache reply }
 {
@@ -173,7 +175,7 @@ fn made_cache(reply: Option<ReplyNumbers>) -> MadeCache
     }
 }
 
-/// How many frames a reply says that were given back.
+/// Returns the number of freed frames of a reply.
 fn reaped_frames(reply: Option<ReplyNumbers>) -> u32
     ensures { result ≡ reaped_frames reply }
 {

@@ -1,17 +1,18 @@
-//! Who owns which superblock.
+//! Superblocks: their size and their owners.
 
-ghost use Rattle.std.specs.Prelude.{◌≡◌, ◌≢◌, IfSome, None};
+ghost use Rattle.std.specs.Prelude.{◌≡◌, ◌≢◌, IfSome, Some, None};
 ghost use Rattle.space_core.specs.Content.{owner_at};
-ghost use Rattle.partmem_c.specs.Owners.{owner_numbers, owner_status, owner_reported};
+ghost use Rattle.partmem_c.specs.Owners.{owner_numbers, owner_status, owner_reported, size_of_superblock};
 
+use crate::calls::block_bytes;
 use crate::machine::Machine;
 use crate::status::{DONE, NO_MACHINE, NO_SUPERBLOCK};
 use kernel_core::Kernel;
 use std::alloc::Global;
 
-/// The owner of a superblock: a slot of a tenant. All is 0 if the superblock has no owner, and `is_owned` is 1 if it has one.
+/// The owner of a superblock: a slot of a tenant. `is_owned` is 1 if the superblock has an owner; else all are 0.
 #[repr(C)]
-#[derive(Clone, Copy)]
+#[derive(Clone, Copy, Debug)]
 pub struct Owner {
     pub is_owned: u32,
     pub tenant: u32,
@@ -23,6 +24,28 @@ const NO_OWNER: Owner = Owner {
     tenant: 0,
     slot: 0,
 };
+
+/// Returns the number of bytes of each superblock, or 0 without a machine.
+#[unsafe(no_mangle)]
+pub extern "C" fn partmem_superblock_bytes(alloc: Global, machine: &mut Machine) -> u32
+    ensures bytes { result ≡ size_of_superblock machine.old.slot.held }
+    ensures kept { machine.new.slot.held ≡ machine.old.slot.held }
+{
+    if !machine.is_booted() {
+        return 0;
+    }
+    let kernel = machine.take_out(alloc);
+    let bytes = superblock_bytes(&kernel);
+    machine.put_in(kernel);
+    bytes
+}
+
+fn superblock_bytes(kernel: &Kernel) -> u32
+    ensures { result ≡ size_of_superblock (Some kernel.now) }
+{
+    kernel.parts_agree();
+    block_bytes(kernel.order())
+}
 
 /// Finds the owner of a superblock.
 ///

@@ -16,7 +16,7 @@ use model_core::limits::FRAME_BYTES;
 use std::alloc::Global;
 use words_core::{Refusal, Request};
 
-/// No machine has a frame of this number, or of a larger one.
+/// A number above those of all frames of any machine.
 const NO_FRAME: u32 = 1 << 20;
 
 /// Allocates a page block of `2^order` frames, and lends it.
@@ -63,7 +63,7 @@ pub extern "C" fn partmem_free(alloc: Global, machine: &mut Machine, tenant: u32
     call_status(run_command(alloc, machine, tenant, Request::Free { frame }))
 }
 
-/// The frame that begins at a place. If none does, it is a number above those of all frames.
+/// Returns the frame that begins at a place. If none does, it returns a number above those of all frames.
 #[inline(always)]
 fn frame_at_place(place: u32) -> u32
     ensures { result ≡ frame_at_place place }

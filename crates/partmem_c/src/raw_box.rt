@@ -1,6 +1,6 @@
-//! A box taken apart: its pointer and its allocator's handle, which together still own the value.
+//! A box as its pointer and its allocator's handle, which together own the value.
 //!
-//! A `#[repr(C)]` struct can hold the pointer, where it could not hold the box.
+//! A `#[repr(C)]` struct can hold the pointer, but not the box.
 
 ghost use Rattle.std.specs.Prelude.{◌≡◌};
 ghost use Rattle.std_alloc.specs.Box.Ownership.{box_owns};
@@ -8,10 +8,10 @@ ghost use Rattle.std_alloc.specs.Box.Ownership.{box_owns};
 use std::alloc::Allocator;
 use std::marker::Model;
 
-/// The pointer of a box with the handle that frees its block; a clause reads what lies there as `value`.
+/// The pointer of a box with the handle that frees its block. Clauses call the value there `value`.
 ///
-/// It is no `Drop`, so a whole one can't be let go of. Who takes it apart into its fields, or forgets the box that `into_box`
-/// makes again, loses the value and its block, and no contract says so.
+/// It is not `Drop`, so it cannot be dropped as a whole. A caller that takes it apart into its fields, or forgets the box that
+/// `into_box` makes, loses the value and its block; no contract excludes that.
 pub struct RawBox<T, A: Allocator> {
     pub at: *mut T,
     pub alloc: A,
@@ -23,7 +23,7 @@ impl<T, A: Allocator> Model for RawBox<T, A> {
 }
 
 impl<T: Drop, A: Allocator> RawBox<T, A> {
-    /// The box taken apart.
+    /// Takes a box apart.
     pub fn of(value: Box<T, A>) -> RawBox<T, A>
         ensures { result.value ≡ value.value }
     {
@@ -31,7 +31,7 @@ impl<T: Drop, A: Allocator> RawBox<T, A> {
         RawBox { at, alloc }
     }
 
-    /// The box put together again.
+    /// Returns the box.
     pub fn into_box(self) -> Box<T, A>
         ensures { result.value ≡ self.value }
     {

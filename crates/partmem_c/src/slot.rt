@@ -12,10 +12,10 @@ use std::alloc::Global;
 use std::marker::Model;
 use std::ptr::null_mut;
 
-/// The pointer of a boxed kernel, or null; a clause reads as `held` which kernel lies there.
+/// The pointer of a boxed kernel, or null. Clauses call the kernel there `held`.
 ///
-/// C may hold one, where it could hold no box. It is no `Drop`: outside of this file a machine leaves it by [`Slot::unpark`]
-/// alone. That its box is then dropped and not forgotten, where a machine ends, no clause says.
+/// C may hold one, but not a box. It is not `Drop`: outside of this file a machine leaves it only by [`Slot::unpark`]. That its
+/// box is then dropped and not forgotten, if a machine ends, is said by no clause.
 #[repr(C)]
 pub struct Slot {
     at: *mut u8,
@@ -29,14 +29,14 @@ impl Model for Slot {
 unsafe impl Send for Slot {}
 
 impl Slot {
-    /// A place without a machine.
+    /// Returns a place without a machine.
     pub fn vacant() -> Slot
         ensures { result.held ≡ None }
     {
         Slot { at: null_mut() }
     }
 
-    /// The place of this kernel.
+    /// Returns the place of this kernel.
     pub fn park(kernel: RawBox<Kernel, Global>) -> Slot
         ensures { result.held ≡ Some kernel.value }
     {
@@ -44,7 +44,7 @@ impl Slot {
         Slot { at: at as *mut u8 }
     }
 
-    /// The kernel whose place this is.
+    /// Returns the kernel of this place.
     pub fn unpark(self, alloc: Global) -> RawBox<Kernel, Global>
         requires { IsSome self.held }
         ensures { self.held ≡ Some result.value }

@@ -1,13 +1,13 @@
-//! The status that a function for C returns. The refusals have their numbers of the trace format, 1 to 15; errors of the caller
-//! follow from 32 on.
+//! The statuses that the functions for C return. Refusals have the numbers of the trace format, 1 to 15; errors of the caller
+//! have numbers from 32 on.
 
 /// The call was done.
 pub const DONE: u32 = 0;
 
-/// The place holds no machine: it was not booted, or it has ended.
+/// The place holds no machine: it was not booted, or the machine has ended.
 pub const NO_MACHINE: u32 = 32;
 
-/// The place holds a machine already, which stays.
+/// The place already holds a machine, which stays.
 pub const HAS_MACHINE: u32 = 33;
 
 /// A number of the configuration is out of its range.
@@ -16,10 +16,10 @@ pub const BAD_CONFIG: u32 = 34;
 /// An allocation was refused.
 pub const NO_MEMORY: u32 = 36;
 
-/// The machine has no superblock of that number.
+/// The machine has no superblock with that number.
 pub const NO_SUPERBLOCK: u32 = 37;
 
-/// There is a line feed among the bytes of a line.
+/// The bytes of a line contain a line feed.
 pub const NOT_A_LINE: u32 = 39;
 
 /// The kind is no event's, or the bytes are too few or too many for it.

@@ -1,4 +1,4 @@
-//! A reply as numbers and bytes.
+//! Converts a reply to numbers and bytes.
 
 ghost use Rattle.std.specs.Prelude.{◌≡◌, ◌≤◌, length};
 ghost use Rattle.words_core.specs.Requests.{body_of_answer, HasFewBytes};
@@ -13,9 +13,9 @@ use model_core::limits::{MOST_BYTES, MOST_SUPERBLOCKS};
 use model_core::owner::Owner;
 use words_core::{Answer, Report};
 
-/// What an event is answered, as numbers in the order that [`crate::kinds`] says of each kind; all others are 0.
+/// The reply to an event as numbers. [`crate::kinds`] says which numbers each kind has, in order; all others are 0.
 #[repr(C)]
-#[derive(Clone, Copy)]
+#[derive(Clone, Copy, Debug)]
 pub struct ReplyNumbers {
     pub kind: u32,
     pub first: u32,
@@ -25,7 +25,7 @@ pub struct ReplyNumbers {
     pub fifth: u32,
 }
 
-/// The table of owners as numbers.
+/// Returns the table of owners as numbers.
 pub fn numbers_of_owners(owners: &[Option<Owner>]) -> ReplyNumbers
     requires { length owners.now ≤ MOST_SUPERBLOCKS }
     ensures { result ≡ numbers_of_body (Body.Owners (record { items = owners.now })) }
@@ -33,7 +33,7 @@ pub fn numbers_of_owners(owners: &[Option<Owner>]) -> ReplyNumbers
     one(OWNERS, owners.len() as u32)
 }
 
-/// A report as numbers.
+/// Returns a report as numbers.
 pub fn numbers_of_report(report: &Report) -> ReplyNumbers
     ensures { result ≡ numbers_of_body (Body.Report report.now) }
 {
@@ -47,7 +47,7 @@ pub fn numbers_of_report(report: &Report) -> ReplyNumbers
     }
 }
 
-/// An answer as numbers.
+/// Returns an answer as numbers.
 #[inline(always)]
 pub fn numbers_of_answer(answer: Answer<'_>) -> ReplyNumbers
     requires { HasFewBytes answer }
@@ -136,7 +136,7 @@ fn top_number(top: Option<u8>) -> u32
     }
 }
 
-/// The bytes that an answer tells.
+/// Returns the bytes of an answer.
 #[inline(always)]
 pub fn bytes_in_reply(answer: Answer<'_>) -> &[u8]
     requires { HasFewBytes answer }

@@ -1,0 +1,313 @@
+/* The heap of a tenant, over direct calls. It knows the caches of its classes and its runs. What is live where, the library
+ * knows. */
+#include <stdbool.h>
+#include <string.h>
+
+#include "partmem_heap.h"
+
+enum {
+    STEP = PARTMEM_HEAP_STEP,
+    STEPS = PARTMEM_FRAME_BYTES / PARTMEM_HEAP_STEP,
+    MOST_CACHE_ALIGN = 256,
+    KEPT_BYTES = 64, /* a piece that has no more is not made smaller */
+    NO_ROW = PARTMEM_MOST_SUPERBLOCKS,
+    /* Entries of run[] that are no number of superblocks: of a slot inside a run; and while a run is looked for, of a slot that
+     * may be part of it, and of one that may not. */
+    IN_RUN = 0xffff,
+    FOUND = 0xfffe,
+    ASIDE = 0xfffd
+};
+
+/* Their slabs leave few bytes unused: docs/heap.md has how many. */
+static const uint16_t default_sizes[] = {16,  32,  48,  64,   80,   96,   128,  176,  224,  256,  336,  448,
+                                         576, 816, 1024, 1168, 1360, 1632, 2048, 2336, 2720, 3264, 3568, 4096};
+
+/* The order of the smallest page block that has this number of bytes, at most a superblock's. */
+static uint32_t order_for(size_t bytes)
+{
+    uint32_t order = 0;
+    while ((size_t)PARTMEM_FRAME_BYTES << order < bytes) order++;
+    return order;
+}
+
+/* ---- Initialisation ----------------------------------------------------------------------------------------------------- */
+
+/* The alignment of a class. Caches have up to 256. An object whose size is a power of two from 512 on begins at a multiple of
+ * its size, since the slabs of such a cache have no bytes left for colours. */
+static uint32_t alignment_of(uint32_t size)
+{
+    const uint32_t power = size & -size;
+    return power == size || power < MOST_CACHE_ALIGN ? power : MOST_CACHE_ALIGN;
+}
+
+static bool set_classes(partmem_heap *heap, const uint16_t *sizes, uint32_t count)
+{
+    uint32_t step = 0;
+    if (count > PARTMEM_HEAP_MOST_CLASSES) return false;
+    for (uint32_t class = 0; class < count; class++) {
+        const uint32_t size = sizes[class];
+        if (size == 0 || size % STEP || size / STEP < step || size / STEP > STEPS) return false;
+        heap->size[class] = (uint16_t)size;
+        heap->align[class] = (uint16_t)alignment_of(size);
+        while (step <= size / STEP) heap->class_of[step++] = (uint8_t)class;
+    }
+    while (step <= STEPS) heap->class_of[step++] = (uint8_t)count;
+    heap->classes = count;
+    return true;
+}
+
+/* Finds the slots of a tenant. Returns false unless they are 0, 1, 2 .. and lie in RAM one behind another. */
+static bool set_slots(partmem_heap *heap, partmem_tenant tenant)
+{
+    partmem_slot slot;
+    uint32_t first = 0;
+    for (uint32_t number = 0; number < PARTMEM_MOST_SUPERBLOCKS; number++) {
+        if (partmem_find_slot(tenant, number, &slot) != PARTMEM_DONE) continue;
+        if (number == 0) first = slot.superblock;
+        if (number != heap->slots || slot.superblock != first + number) return false;
+        heap->slots++;
+    }
+    heap->base = partmem_superblock_address(tenant.machine, first);
+    return heap->slots > 0;
+}
+
+static partmem_status set_up(partmem_heap *heap, partmem_tenant tenant, const partmem_heap_config *config)
+{
+    partmem_slot slot;
+    partmem_status status = partmem_find_slot(tenant, 0, &slot);
+    if (status != PARTMEM_DONE && status != PARTMEM_NO_SLOT) return status;
+    const bool has_sizes = config && config->count > 0;
+    const uint32_t count = has_sizes ? config->count : sizeof default_sizes / sizeof *default_sizes;
+    if (!set_classes(heap, has_sizes ? config->sizes : default_sizes, count)) return PARTMEM_BAD_CONFIG;
+    heap->order = order_for(partmem_superblock_bytes(tenant.machine));
+    if (config && config->has_runs && !set_slots(heap, tenant)) return PARTMEM_BAD_MEMORY;
+    heap->tenant = tenant;
+    return PARTMEM_DONE;
+}
+
+partmem_status partmem_heap_init(partmem_heap *heap, partmem_tenant tenant, const partmem_heap_config *config)
+{
+    memset(heap, 0, sizeof *heap);
+    partmem_status status = set_up(heap, tenant, config);
+    if (status != PARTMEM_DONE) memset(heap, 0, sizeof *heap);
+    return status;
+}
+
+/* ---- Objects ------------------------------------------------------------------------------------------------------------ */
+
+/* The class of a request, or heap->classes if it is none's. */
+static uint32_t class_for(const partmem_heap *heap, size_t bytes)
+{
+    return bytes <= PARTMEM_FRAME_BYTES ? heap->class_of[(bytes + STEP - 1) / STEP] : heap->classes;
+}
+
+static bool is_of_class(const partmem_heap *heap, uint32_t class, const partmem_lent *object)
+{
+    return object->bytes == heap->size[class] && (object->place & (heap->align[class] - 1u)) == 0;
+}
+
+static partmem_status make_cache(partmem_heap *heap, uint32_t class)
+{
+    partmem_cache made;
+    const uint32_t align = heap->align[class] < MOST_CACHE_ALIGN ? heap->align[class] : MOST_CACHE_ALIGN;
+    partmem_status status = partmem_make_cache(heap->tenant, heap->size[class], align, "", 1, &made);
+    if (status != PARTMEM_DONE) return status;
+    heap->cache_of[class] = (uint8_t)(made.cache + 1);
+    heap->class_in[made.cache] = (uint8_t)(class + 1);
+    return PARTMEM_DONE;
+}
+
+/* Takes an object of a class. If a direct call destroyed its cache, the number may be that of another cache by now: an object
+ * that is not the class's is given back, and the class gets a new cache. */
+static partmem_status take(partmem_heap *heap, uint32_t class, partmem_lent *object)
+{
+    if (heap->cache_of[class]) {
+        const uint32_t cache = heap->cache_of[class] - 1u;
+        partmem_status status = partmem_take(heap->tenant, cache, object);
+        if (status == PARTMEM_DONE) {
+            if (is_of_class(heap, class, object)) return status;
+            (void)!partmem_give(heap->tenant, cache, object->place);
+        } else if (status != PARTMEM_NO_CACHE) {
+            return status;
+        }
+        heap->cache_of[class] = 0;
+    }
+    partmem_status status = make_cache(heap, class);
+    return status == PARTMEM_DONE ? partmem_take(heap->tenant, heap->cache_of[class] - 1u, object) : status;
+}
+
+/* ---- Page blocks and runs ----------------------------------------------------------------------------------------------- */
+
+static uint32_t superblock_bytes(const partmem_heap *heap)
+{
+    return PARTMEM_FRAME_BYTES << heap->order;
+}
+
+static uint32_t slot_of(const partmem_heap *heap, uint32_t place)
+{
+    return place / PARTMEM_FRAME_BYTES >> heap->order;
+}
+
+static uint32_t superblocks_for(const partmem_heap *heap, size_t bytes)
+{
+    return (uint32_t)((bytes + superblock_bytes(heap) - 1) / superblock_bytes(heap));
+}
+
+/* Allocates superblocks until `count` lie in a row. Returns the first slot of the row, or NO_ROW if they run out before. All
+ * that it allocated is marked as FOUND or ASIDE. */
+static uint32_t find_row(partmem_heap *heap, uint32_t count)
+{
+    partmem_lent block;
+    while (partmem_alloc(heap->tenant, heap->order, &block) == PARTMEM_DONE) {
+        uint32_t first = slot_of(heap, block.place), end = first + 1;
+        const bool is_in_sequence = first < heap->slots && block.at == heap->base + block.place;
+        heap->run[first] = is_in_sequence ? FOUND : ASIDE;
+        if (!is_in_sequence) continue;
+        while (first > 0 && heap->run[first - 1] == FOUND) first--;
+        while (end < PARTMEM_MOST_SUPERBLOCKS && heap->run[end] == FOUND) end++;
+        if (end - first >= count) return first;
+    }
+    return NO_ROW;
+}
+
+static void *take_run(partmem_heap *heap, uint32_t count)
+{
+    const uint32_t first = find_row(heap, count);
+    for (uint32_t slot = 0; slot < PARTMEM_MOST_SUPERBLOCKS; slot++) {
+        if (heap->run[slot] != FOUND && heap->run[slot] != ASIDE) continue;
+        if (slot >= first && slot - first < count) {
+            heap->run[slot] = slot == first ? (uint16_t)count : IN_RUN;
+        } else {
+            heap->run[slot] = 0;
+            (void)!partmem_free(heap->tenant, slot * superblock_bytes(heap));
+        }
+    }
+    return first == NO_ROW ? NULL : heap->base + (size_t)first * superblock_bytes(heap);
+}
+
+static void *take_pages(partmem_heap *heap, size_t bytes)
+{
+    partmem_lent block;
+    if (!heap->tenant.machine) return NULL;
+    if (bytes <= superblock_bytes(heap)) {
+        (void)!partmem_alloc(heap->tenant, order_for(bytes), &block);
+        return block.at;
+    }
+    return bytes <= (size_t)heap->slots * superblock_bytes(heap) ? take_run(heap, superblocks_for(heap, bytes)) : NULL;
+}
+
+/* ---- Pieces ------------------------------------------------------------------------------------------------------------- */
+
+/* Allocates an object, or pages: these begin at a multiple of 4096. */
+static void *allocate(partmem_heap *heap, size_t align, size_t bytes)
+{
+    partmem_lent object;
+    partmem_status status = PARTMEM_NO_CACHE_SLOT;
+    for (uint32_t class = class_for(heap, bytes); class < heap->classes && status == PARTMEM_NO_CACHE_SLOT; class++)
+        if (heap->align[class] >= align) status = take(heap, class, &object);
+    return status == PARTMEM_DONE ? object.at : take_pages(heap, bytes);
+}
+
+/* How many bytes a request is given if there are enough frames. */
+static size_t bytes_for(const partmem_heap *heap, size_t bytes)
+{
+    const uint32_t class = class_for(heap, bytes);
+    if (class < heap->classes) return heap->size[class];
+    if (bytes <= superblock_bytes(heap)) return (size_t)PARTMEM_FRAME_BYTES << order_for(bytes);
+    return (size_t)superblocks_for(heap, bytes) * superblock_bytes(heap);
+}
+
+static partmem_status find_place(const partmem_heap *heap, const void *at, uint32_t *place)
+{
+    return heap->tenant.machine ? partmem_find_place(heap->tenant, at, place) : PARTMEM_NO_MACHINE;
+}
+
+static bool is_own(const partmem_heap *heap, const partmem_object *object)
+{
+    const uint32_t class = heap->class_in[object->cache];
+    return class && heap->size[class - 1] == object->bytes;
+}
+
+/* Finds the piece that begins at an address. A run is a page block here, of all its bytes. */
+static partmem_status find_piece(const partmem_heap *heap, const void *at, partmem_object *piece)
+{
+    uint32_t place;
+    partmem_status status = find_place(heap, at, &place);
+    if (status != PARTMEM_DONE) return status;
+    const uint32_t superblocks = heap->run[slot_of(heap, place)];
+    if (superblocks) {
+        if (superblocks == IN_RUN || place % superblock_bytes(heap)) return PARTMEM_NOT_A_BLOCK;
+        *piece = (partmem_object){PARTMEM_OF_NO_CACHE, place, superblocks * superblock_bytes(heap)};
+        return PARTMEM_DONE;
+    }
+    status = partmem_find_object(heap->tenant, place, piece);
+    if (status != PARTMEM_DONE) return status;
+    if (piece->cache == PARTMEM_OF_NO_CACHE) return piece->place == place ? PARTMEM_DONE : PARTMEM_NOT_A_BLOCK;
+    return piece->place == place && is_own(heap, piece) ? PARTMEM_DONE : PARTMEM_NOT_AN_OBJECT;
+}
+
+static partmem_status release(partmem_heap *heap, const partmem_object *piece)
+{
+    if (piece->cache != PARTMEM_OF_NO_CACHE) return partmem_give(heap->tenant, piece->cache, piece->place);
+    const uint32_t slot = slot_of(heap, piece->place), superblocks = heap->run[slot];
+    partmem_status status = partmem_free(heap->tenant, piece->place);
+    if (status != PARTMEM_DONE) return status;
+    for (uint32_t i = 0; i < superblocks; i++) {
+        heap->run[slot + i] = 0;
+        if (i > 0) (void)!partmem_free(heap->tenant, piece->place + i * superblock_bytes(heap));
+    }
+    return PARTMEM_DONE;
+}
+
+void *partmem_heap_malloc(partmem_heap *heap, size_t bytes)
+{
+    return allocate(heap, STEP, bytes);
+}
+
+void *partmem_heap_calloc(partmem_heap *heap, size_t count, size_t bytes)
+{
+    size_t all;
+    if (__builtin_mul_overflow(count, bytes, &all)) return NULL;
+    void *at = allocate(heap, STEP, all);
+    return at ? memset(at, 0, all) : NULL;
+}
+
+void *partmem_heap_aligned_alloc(partmem_heap *heap, size_t align, size_t bytes)
+{
+    const bool is_power_of_2 = align && !(align & (align - 1));
+    return is_power_of_2 && align <= PARTMEM_FRAME_BYTES ? allocate(heap, align, bytes) : NULL;
+}
+
+void *partmem_heap_realloc(partmem_heap *heap, void *old, size_t bytes)
+{
+    partmem_object piece;
+    if (!old) return allocate(heap, STEP, bytes);
+    if (find_piece(heap, old, &piece) != PARTMEM_DONE) return NULL;
+    const bool is_enough = bytes <= piece.bytes;
+    if (is_enough && (piece.bytes <= KEPT_BYTES || bytes_for(heap, bytes) > piece.bytes / 2)) return old;
+    void *at = allocate(heap, STEP, bytes);
+    if (!at) return is_enough ? old : NULL;
+    memcpy(at, old, is_enough ? bytes : piece.bytes);
+    (void)!release(heap, &piece);
+    return at;
+}
+
+partmem_status partmem_heap_free(partmem_heap *heap, void *at)
+{
+    partmem_object piece;
+    if (!at) return PARTMEM_DONE;
+    partmem_status status = find_piece(heap, at, &piece);
+    return status == PARTMEM_DONE ? release(heap, &piece) : status;
+}
+
+size_t partmem_heap_usable_size(const partmem_heap *heap, const void *at)
+{
+    partmem_object piece;
+    return find_piece(heap, at, &piece) == PARTMEM_DONE ? piece.bytes : 0;
+}
+
+uint32_t partmem_heap_place(const partmem_heap *heap, const void *at)
+{
+    uint32_t place;
+    return find_place(heap, at, &place) == PARTMEM_DONE ? place : PARTMEM_NO_PLACE;
+}

@@ -1,0 +1,36 @@
+/* The memory functions of libpartmem_watched.a. AddressSanitizer checks what those of the C library are passed, and the library
+ * has to reach bytes that are poison for the program. The linker has its calls lead here: --wrap in tools/building.py. */
+#include <stddef.h>
+
+/* Called in partmem_watched.h, so that no program with the sanitizer is linked with another archive. */
+void partmem_link_with_libpartmem_watched(void);
+void partmem_link_with_libpartmem_watched(void) {}
+
+#define INSIDE __attribute__((visibility("hidden")))
+
+INSIDE void *__wrap_memset(void *to, int byte, size_t bytes);
+INSIDE void *__wrap_memcpy(void *to, const void *from, size_t bytes);
+INSIDE void *__wrap_memmove(void *to, const void *from, size_t bytes);
+
+void *__wrap_memset(void *to, int byte, size_t bytes)
+{
+    void *at = to;
+    __asm__ volatile("rep stosb" : "+D"(at), "+c"(bytes) : "a"(byte) : "memory");
+    return to;
+}
+
+void *__wrap_memcpy(void *to, const void *from, size_t bytes)
+{
+    void *at = to;
+    __asm__ volatile("rep movsb" : "+D"(at), "+S"(from), "+c"(bytes) : : "memory");
+    return to;
+}
+
+void *__wrap_memmove(void *to, const void *from, size_t bytes)
+{
+    volatile unsigned char *at = to; /* or a compiler makes a call of memmove of the loop */
+    const unsigned char *source = from;
+    if ((size_t)at - (size_t)source >= bytes) return __wrap_memcpy(to, from, bytes);
+    while (bytes-- > 0) at[bytes] = source[bytes];
+    return to;
+}
