@@ -3,6 +3,8 @@
 #![tactic(auto)]
 
 #[cfg(test)]
+mod built_traces;
+#[cfg(test)]
 mod command_lines;
 #[cfg(test)]
 mod failing_at_each_call;

@@ -10,7 +10,7 @@ use streams::{TEXT_BYTES, Text};
 const BUFFER_BYTES: usize = 8192;
 
 /// Gives a slice in pieces of at most `piece` bytes, at least one, and fails after so many good pulls.
-#[derive(Drop)]
+#[derive(Debug, Drop)]
 pub struct PieceFeed<'a> {
     rest: &'a [u8],
     piece: usize,
@@ -77,7 +77,7 @@ impl<'a> Feed for PieceFeed<'a> {
 }
 
 /// Takes at most `piece` bytes a push, at least one, into a fixed array, and fails after so many good pushes.
-#[derive(Drop)]
+#[derive(Debug, Drop)]
 pub struct PieceDrain {
     bytes: [u8; BUFFER_BYTES],
     len: usize,

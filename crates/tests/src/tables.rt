@@ -33,13 +33,14 @@ pub const WIDEST: Config = Config {
 };
 
 /// A trace, and what it writes.
+#[derive(Debug)]
 pub struct Row {
     pub trace: &'static [u8],
     pub output: &'static [u8],
 }
 
 /// Rows that run on machines of one size.
-#[derive(Clone, Copy)]
+#[derive(Clone, Copy, Debug)]
 pub struct Table {
     pub name: &'static str,
     pub config: Config,
