@@ -3,7 +3,7 @@
 use std::io::{self, Write};
 
 /// A number that hangs on all numbers that were added, in their order, and on all bytes, in theirs, and not on how the bytes were cut.
-#[derive(Drop)]
+#[derive(Debug, Drop)]
 pub struct Digest {
     sum: u64,
     /// The last bytes, up to seven, the first of them lowest, and how many they are.

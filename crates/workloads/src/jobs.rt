@@ -45,7 +45,7 @@ pub enum Job {
 }
 
 /// A job on a load: so many traces, each of so many lines.
-#[derive(Clone, Copy)]
+#[derive(Clone, Copy, Debug)]
 pub struct Work {
     pub job: Job,
     pub load: Load,

@@ -27,7 +27,7 @@ pub enum Kind {
 }
 
 /// What the tenants of a machine ask for.
-#[derive(Clone, Copy)]
+#[derive(Clone, Copy, Debug)]
 pub struct Load {
     pub config: Config,
     /// How many superblocks are granted at the start, to the tenants in turn.

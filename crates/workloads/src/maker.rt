@@ -28,7 +28,7 @@ const ODD_LINES: [&[u8]; 8] = [
 static PATTERN: [u8; 16] = *b"\xa5\x5a\x01\xfe\xa5\x5a\x02\xfd\xa5\x5a\x03\xfc\xa5\x5a\x04\xfb";
 
 /// What a tenant holds, as it was told.
-#[derive(Drop)]
+#[derive(Debug, Drop)]
 struct Tenant {
     /// The first frames of its blocks.
     blocks: Vec<u32>,
@@ -39,7 +39,7 @@ struct Tenant {
     slots: u32,
 }
 
-#[derive(Clone, Copy)]
+#[derive(Clone, Copy, Debug)]
 struct Object {
     cache: u32,
     place: u32,
@@ -57,7 +57,7 @@ enum Told {
 }
 
 /// Makes a trace of a load.
-#[derive(Drop)]
+#[derive(Debug, Drop)]
 pub struct Maker {
     load: Load,
     kernel: Kernel,

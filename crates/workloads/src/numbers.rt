@@ -3,7 +3,7 @@
 ghost use Rattle.std.specs.Prelude.{◌<◌};
 
 /// The upper bits of a xorshift generator (Marsaglia, Journal of Statistical Software 8, 2003).
-#[derive(Drop)]
+#[derive(Debug, Drop)]
 pub struct Numbers(u64);
 
 impl Numbers {

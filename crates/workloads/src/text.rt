@@ -11,7 +11,7 @@ const ROOM: usize = 192;
 static HEX: [u8; 16] = *b"0123456789abcdef";
 
 /// A line that is being written.
-#[derive(Drop)]
+#[derive(Debug, Drop)]
 pub struct Line {
     bytes: [u8; ROOM],
     len: usize,
