@@ -1,21 +1,53 @@
 # What one can do here; `make` lists it.
-.PHONY: list try prove test test-quick install release bench soak
+SHELL := bash
 PREFIX ?= out/installed
+LIBDIR ?= lib
+PROGRAMS := partmem framemap partcheck
+# The tests, by what they need. Scripts name tools that are missing (tests/tools has them all), and skip what needs them.
+#   nothing that was built; refused-growths and pasted-first build without proofs:
+FROM_SOURCES := structure documents diagrams pages witnesses helps refused-growths pasted-first
+#   the programs that `rt ci` left:
+OVER_PROGRAMS := hostile-bytes refused-memory instructions yours plain-machine pictures browser machines command-lines partcheck examples
+#   the library for C, and some the programs too:
+OVER_LIBRARY := same-path kernel-archives objtool in-place heap watched cpp use-from-c pasted kernel linux rust costs stack install
+CHECKS := $(addprefix check-,$(FROM_SOURCES) $(OVER_PROGRAMS) $(OVER_LIBRARY))
+.PHONY: list try unproved prove test check tools proved library install uninstall release bench soak $(CHECKS)
 
-list: ; @sed -n "s/^\([a-z-]*\): ## /make \1\t/p" Makefile | expand -t 18
+list: ; @sed -n "s/^\([a-z-]*\):[^#]*## /make \1\t/p" Makefile | expand -t 18
 try: ## runs partmem on an example, without proofs (2 minutes)
 	cd crates/partmem && rt try -- --order 3 --superblocks 2 --tenants 2 < ../../examples/tenants.trace
-prove: ## proves and builds all programs and the library for C
-	./prove partmem framemap partcheck library
-test: ## proves everything from nothing, and runs all tests
-	tests/run
-test-quick: ## what can be checked without proofs
-	tests/quick
-install: ## proves, builds and installs under PREFIX (out/installed)
-	./install $(PREFIX)
+unproved: ## builds the programs and the library for C without proofs (2 minutes)
+	tools/unproved $(PROGRAMS) library
+prove: ## proves all crates and builds the programs, without tests
+	@rt all check --jobs 4 >&2
+	@for name in $(PROGRAMS); do \
+	    (cd crates/$$name && rt run -- --version) >&2 && crates/$$name/out/$$name --version || exit 1; \
+	done
+test: ## proves everything, tries the wrong bodies, and runs all tests
+	tests/verdict
+	$(MAKE) -j4 --output-sync=target check
+check: tools $(CHECKS) ## runs all tests over what `rt ci` has proved
+library: proved ## builds the library for C from what `rt ci` has proved
+	tools/library
+install: ## installs what is proved under PREFIX (out/installed), archives in LIBDIR (lib), all below DESTDIR if it is set
+	DESTDIR='$(DESTDIR)' ./install --libdir '$(LIBDIR)' '$(PREFIX)'
+uninstall: ## removes what `make install` puts there with the same variables
+	DESTDIR='$(DESTDIR)' ./install --uninstall --libdir '$(LIBDIR)' '$(PREFIX)'
 release: ## makes a release of what the gate has passed
 	./release
 bench: ## measures the proved program
 	bench/run
 soak: ## random pairs of worlds, for ten minutes
 	tests/soak/run
+
+tools: ; @tests/missing-tools
+proved: ; @tests/verdict --still
+$(addprefix check-,$(OVER_PROGRAMS)): proved
+$(addprefix check-,$(OVER_LIBRARY)): library
+# Scripts run `make` as a user does: not as a part of this one, which would print the folders that it enters.
+AS_A_USER := env -u MAKEFLAGS -u MFLAGS -u MAKELEVEL
+check-pasted-first: ; $(AS_A_USER) tests/pasted --first
+IN_FOLDERS := $(addprefix check-,in-place heap watched cpp)
+$(IN_FOLDERS): check-%: ; $(AS_A_USER) tests/$*/run
+$(filter-out check-pasted-first $(IN_FOLDERS),$(CHECKS)): check-%:
+	$(AS_A_USER) tests/$*

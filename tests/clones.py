@@ -1,35 +1,35 @@
-"""Fresh clones of the repository as it lies here, for tests that paste the pages or run scripts over other builds."""
+"""Fresh clones of the repository as it lies here, for tests that paste the pages."""
 import os
 import shutil
 import subprocess
 
 TOP = os.path.dirname(os.path.dirname(os.path.abspath(__file__)))
 PROGRAMS = ["partmem", "framemap", "partcheck"]
-BUILT = [*(f"crates/{name}/out/{name}" for name in PROGRAMS), *(f"crates/partmem_c/out/libpartmem_c.{kind}" for kind in ("a", "ll"))]
-# Stands in for `rt` over programs and a library that are there: what would be proved once more is taken as it is.
+ARCHIVES = [f"out/lib/libpartmem{kind}.a" for kind in ("", "_kernel", "_linux", "_watched")]
+BUILT = [*(f"crates/{name}/out/{name}" for name in PROGRAMS), *ARCHIVES]
+# Stands in for the command `rt` over programs that are there: what would be proved once more is taken as it is.
 RT = r"""#!/bin/sh
-real=REAL
 case $1 in
     run) shift; [ "${1-}" != --jobs ] || shift 2; [ "${1-}" != -- ] || shift; exec "out/$(basename "$PWD")" "$@" ;;
-    lib) ;;
-    *) exec "$real" "$@" ;;
+    lib | all) ;;
+    *) exec REAL "$@" ;;
 esac
 """
-# Stands in for ./prove in the same way; a build without proofs is then the proved one.
-PROVE = r"""#!/bin/sh
-cd "$(dirname "$0")"
-unproved=
-[ "${1-}" != --unproved ] || { unproved=yes; shift; mkdir -p out; }
-for name in "${@:-partmem}"; do
-    if [ "$name" = library ]; then
-        [ -z "$unproved" ] || python3 tests/toolchain.py whole crates/partmem_c/out/libpartmem_c.a out/libpartmem-unproved.a
-    elif [ -n "$unproved" ]; then
-        cp "crates/$name/out/$name" "out/$name-unproved"
-    else
-        "crates/$name/out/$name" --version
-    fi
+# Stands in for tools/unproved: a build without proofs is then the proved one.
+UNPROVED = r"""#!/bin/sh
+cd "$(dirname "$0")/.." && mkdir -p out
+for name in "$@"; do
+    case $name in
+        library)
+            cp out/lib/libpartmem.a out/libpartmem-unproved.a
+            cp out/lib/libpartmem_watched.a out/libpartmem_watched-unproved.a ;;
+        linux) cp out/lib/libpartmem_linux.a out/libpartmem_linux-unproved.a ;;
+        *) cp "crates/$name/out/$name" "out/$name-unproved" ;;
+    esac
 done
 """
+# Stands in for tools/library, whose archives are there.
+LIBRARY = "#!/bin/sh\n"
 
 
 def changed_files(folder):
@@ -65,9 +65,10 @@ def write_script(path, text):
 
 
 def with_stand_ins(work, folder):
-    """Has `./prove` and `rt` take what is built in the folder as it is. Returns the environment for that."""
-    write_script(os.path.join(folder, "prove"), PROVE)
-    subprocess.run(["git", "-C", folder, "add", "prove"], check=True)
+    """Has `rt`, tools/unproved and tools/library take what is built in the folder as it is. Returns the environment for that."""
+    write_script(os.path.join(folder, "tools/unproved"), UNPROVED)
+    write_script(os.path.join(folder, "tools/library"), LIBRARY)
+    subprocess.run(["git", "-C", folder, "add", "tools"], check=True)
     os.mkdir(os.path.join(work, "bin"))
     write_script(os.path.join(work, "bin/rt"), RT.replace("REAL", shutil.which("rt") or "rt"))
     return {**os.environ, "PATH": os.path.join(work, "bin") + ":" + os.environ["PATH"]}
