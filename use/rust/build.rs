@@ -1,13 +1,16 @@
-//! Finds libpartmem.a, or the unproved library if that is not there: in the folder PARTMEM_DIR or its lib, or where pkg-config
-//! finds it.
-use std::path::PathBuf;
+//! Finds libpartmem.a, or the unproved library if that is nowhere, or with the feature `kernel` libpartmem_kernel.a: in the folder
+//! PARTMEM_DIR or its lib; without that where pkg-config finds it, or in out/ of the repository that this crate is in.
+use std::path::{Path, PathBuf};
 use std::process::{exit, Command};
 use std::{env, fs};
 
-const NAMES: [&str; 2] = ["partmem", "partmem-unproved"];
+const UNPROVED: &str = "partmem-unproved";
+const HOW: &str =
+    "build it in the repository by `make unproved`, which proves nothing and takes two minutes, or by `make test`";
+const HOW_FOR_KERNELS: &str = "build it in the repository by `make test`";
 
-fn fail(why: &str) -> ! {
-    eprintln!("partmem: {why}: set PARTMEM_DIR to the absolute path of a folder with libpartmem.a, or of its prefix");
+fn fail(why: &str, how: &str) -> ! {
+    eprintln!("partmem: {why}: {how}; or set PARTMEM_DIR to the absolute path of a folder with it, or of its prefix");
     exit(1)
 }
 
@@ -17,21 +20,34 @@ fn find<'a>(folders: &[PathBuf], name: &'a str) -> Option<(PathBuf, &'a str)> {
     Some((found.clone(), name))
 }
 
-fn ask_pkg_config() -> PathBuf {
-    match Command::new("pkg-config").args(["--variable=libdir", "partmem"]).output() {
-        Ok(output) if output.status.success() => String::from_utf8_lossy(&output.stdout).trim_end().into(),
-        Ok(_) => fail("pkg-config finds no partmem"),
-        Err(error) => fail(&format!("cannot run pkg-config: {error}")),
+fn ask_pkg_config() -> Option<PathBuf> {
+    let output = Command::new("pkg-config").args(["--variable=libdir", "partmem"]).output().ok()?;
+    output.status.success().then(|| String::from_utf8_lossy(&output.stdout).trim_end().into())
+}
+
+/// Where the library may be, the likeliest first.
+fn folders() -> Vec<PathBuf> {
+    if let Some(named) = env::var_os("PARTMEM_DIR").map(PathBuf::from) {
+        return vec![named.join("lib"), named];
     }
+    let built = Path::new(&env::var_os("CARGO_MANIFEST_DIR").unwrap_or_default()).join("../../out");
+    ask_pkg_config().into_iter().chain([built.join("lib"), built]).collect()
 }
 
 fn main() {
     println!("cargo:rerun-if-env-changed=PARTMEM_DIR\ncargo:rerun-if-env-changed=PKG_CONFIG_PATH");
-    let named = env::var_os("PARTMEM_DIR").map_or_else(ask_pkg_config, PathBuf::from);
-    let folders = [named.join("lib"), named.clone()];
-    let found = NAMES.iter().find_map(|name| find(&folders, name));
-    let (folder, name) = found.unwrap_or_else(|| fail(&format!("no libpartmem.a in {}", named.display())));
-    let folder = fs::canonicalize(folder).unwrap_or_else(|error| fail(&error.to_string()));
-    println!("cargo:rerun-if-changed={}", folder.join(format!("lib{name}.a")).display());
+    let folders = folders();
+    let shown: Vec<_> = folders.iter().map(|folder| folder.display().to_string()).collect();
+    let is_for_kernels = env::var_os("CARGO_FEATURE_KERNEL").is_some();
+    let names = if is_for_kernels { ["partmem_kernel"].as_slice() } else { &["partmem", UNPROVED] };
+    let how = if is_for_kernels { HOW_FOR_KERNELS } else { HOW };
+    let found = names.iter().find_map(|name| find(&folders, name));
+    let (folder, name) = found.unwrap_or_else(|| fail(&format!("no lib{}.a in {}", names[0], shown.join(" or ")), how));
+    let folder = fs::canonicalize(folder).unwrap_or_else(|error| fail(&error.to_string(), how));
+    let library = folder.join(format!("lib{name}.a"));
+    if name == UNPROVED {
+        println!("cargo:warning={} is linked, of which nothing is proved: there is no libpartmem.a", library.display());
+    }
+    println!("cargo:rerun-if-changed={}", library.display());
     println!("cargo:rustc-link-search=native={}\ncargo:rustc-link-lib=static={name}", folder.display());
 }

@@ -1,8 +1,9 @@
 //! Why a call did nothing.
 use crate::sys;
-use std::{error, ffi::CStr, fmt};
+use core::{fmt, slice, str};
 
-/// A refusal of a request, by its name in traces. Except `PoolEmpty` it follows from what the tenant itself did and was granted.
+/// A refusal of a request, by its name in traces. Except `PoolEmpty` it follows from what the tenant itself did, its grants,
+/// take-backs and resets, and the machine's order and number of tenants.
 #[derive(Clone, Copy, Debug, PartialEq, Eq, Hash)]
 #[rustfmt::skip]
 pub enum Refusal {
@@ -23,12 +24,15 @@ const REFUSALS: [Refusal; 15] = [
 #[non_exhaustive]
 pub enum Error {
     Refused(Refusal),
-    /// A number of the [`Config`](crate::Config) is out of range.
+    /// A number of the [`Config`](crate::Config) is out of range, or the sizes of a heap's classes are.
     BadConfig,
+    /// The [`Memory`](crate::Memory) of a machine is too small or not aligned; or a heap with runs has no slots in a row.
+    BadMemory,
+    /// An allocation failed. Of a heap: its tenant has too few frames, or the request is too large.
     NoMemory,
     /// The pattern of a cache has not 1 to 16 bytes.
     BadPattern,
-    /// The handle is of another machine, its tenant was reset, or its cache was destroyed.
+    /// The handle is of another machine or tenant, its tenant was reset, or its cache was destroyed.
     Stale,
     /// A status that this crate does not expect.
     Other(u32),
@@ -40,9 +44,21 @@ pub(crate) fn done(status: u32) -> Result<(), Error> {
         0 => return Ok(()),
         1..=15 => REFUSALS[status as usize - 1].into(),
         34 => Error::BadConfig,
+        35 => Error::BadMemory,
         36 => Error::NoMemory,
         other => Error::Other(other),
     })
+}
+
+/// Returns the library's text of a status.
+fn text_of(status: u32) -> &'static str {
+    // SAFETY: any number is allowed. The text ends in a zero and is never freed or changed.
+    let bytes = unsafe {
+        let text = sys::partmem_strerror(status);
+        let length = (0..).take_while(|&at| *text.add(at) != 0).count();
+        slice::from_raw_parts(text, length)
+    };
+    str::from_utf8(bytes).unwrap_or("a status without a text")
 }
 
 impl From<Refusal> for Error {
@@ -53,30 +69,34 @@ impl From<Refusal> for Error {
 
 impl fmt::Display for Error {
     fn fmt(&self, to: &mut fmt::Formatter<'_>) -> fmt::Result {
-        let status = match self {
-            Error::Refused(refusal) => *refusal as u32,
-            Error::BadConfig => 34,
-            Error::NoMemory => 36,
-            Error::BadPattern => return to.write_str("BadPattern: the pattern has not 1 to 16 bytes"),
-            Error::Stale => {
-                return to.write_str("Stale: of another machine, or from before a reset, or of a destroyed cache")
-            }
-            Error::Other(status) => *status,
-        };
-        // SAFETY: any number is allowed, and the text ends in a zero and is never freed.
-        to.write_str(&unsafe { CStr::from_ptr(sys::partmem_strerror(status)) }.to_string_lossy())
+        to.write_str(match self {
+            Error::Refused(refusal) => text_of(*refusal as u32),
+            Error::BadConfig => text_of(34),
+            Error::BadMemory => text_of(35),
+            Error::NoMemory => text_of(36),
+            Error::BadPattern => "BadPattern: the pattern has not 1 to 16 bytes",
+            Error::Stale => "Stale: of another machine or tenant, or from before a reset, or of a destroyed cache",
+            Error::Other(status) => text_of(*status),
+        })
     }
 }
 
-impl error::Error for Error {}
+#[cfg(feature = "std")]
+impl std::error::Error for Error {}
 
-#[test]
-fn each_status_has_the_name_that_the_library_gives_to_it() {
-    for (name, status) in REFUSALS.iter().map(|it| format!("{it:?}: ")).zip(1..) {
-        assert!(done(status).unwrap_err().to_string().starts_with(&name), "{name}");
-    }
-    for (error, status) in [(Error::BadConfig, 34), (Error::NoMemory, 36)] {
-        assert_eq!(done(status), Err(error));
-        assert!(error.to_string().starts_with(&format!("{error:?}: ")), "{error}");
+#[cfg(test)]
+mod tests {
+    use super::*;
+    use std::{format, string::ToString};
+
+    #[test]
+    fn each_status_has_the_name_that_the_library_gives_to_it() {
+        for (name, status) in REFUSALS.iter().map(|it| format!("{it:?}: ")).zip(1..) {
+            assert!(done(status).unwrap_err().to_string().starts_with(&name), "{name}");
+        }
+        for (error, status) in [(Error::BadConfig, 34), (Error::BadMemory, 35), (Error::NoMemory, 36)] {
+            assert_eq!(done(status), Err(error));
+            assert!(error.to_string().starts_with(&format!("{error:?}: ")), "{error}");
+        }
     }
 }

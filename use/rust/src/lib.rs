@@ -1,10 +1,30 @@
-//! Page blocks and objects in partitions of memory: the library partmem, without `unsafe` for its user.
+//! Page blocks, objects and heaps in partitions of memory: the library partmem, without `unsafe` for its user.
 //!
 //! A [`Machine`] has RAM in superblocks, which are granted to tenants. Whatever the others do, a tenant gets the same results and
-//! finds the same bytes as if it were alone. The header `partmem.h` describes the calls, and what is proved of them. Left out are
-//! events, lines, `read`, `write`, the `find` functions and memory of your own. `PARTMEM_DIR` (an absolute path of the
-//! installation or of its `lib`) or pkg-config names the folder of `libpartmem.a`. Numbers are stored in lent bytes by
-//! `to_le_bytes` and the like.
+//! finds the same bytes as if it were alone with the same grants, take-backs and resets. The header `partmem.h` describes the
+//! calls, and what is proved of them. Left out are events, lines, `read`, `write` and the `find` functions. `PARTMEM_DIR` (an
+//! absolute path of the installation or of its `lib`) or pkg-config names the folder of `libpartmem.a`; without either it is what
+//! the repository's `make test` has built, or else, with a warning, `make unproved`.
+//!
+//! | You want | Use |
+//! |---|---|
+//! | bytes, and links between them that stay through moves | [`Machine::alloc`], [`Machine::take`]: handles, below |
+//! | values of a type, with `Deref` and `Drop` | [`Client::cache_of`] for many of one type, [`Heap::boxed`] for any |
+//! | to reset or move one tenant while others use what they have | [`Machine::split`] |
+//! | `Vec`, `String`, `BTreeMap` in a tenant's memory | [`Global`] for a whole program; [`Heap`] with the feature `allocator_api` |
+//! | memory that is a static, or that a kernel has found | [`Machine::boot_in`], [`StaticMemory`], [`Memory`] |
+//!
+//! # Features
+//!
+//! - `std`, a default one: [`Machine::boot`], `std::error::Error`, `std::sync::Mutex` as a [`Lock`]. Without it the crate uses
+//!   `core` alone, and its user provides `memcpy`, `memmove` and `memset`, as the crate `compiler_builtins` does.
+//! - `allocator_api`: `&Heap` is an `Allocator`. That needs a nightly compiler. The crate `allocator-api2` is not used, since this
+//!   crate depends on no other.
+//! - `kernel`: the library is `libpartmem_kernel.a`, which has no red zone and no vector registers.
+//!
+//! # Bytes
+//!
+//! Numbers are stored in lent bytes by `to_le_bytes` and the like.
 //!
 //! ```
 //! use partmem::{Config, Machine, Refusal, Tenant};
@@ -33,14 +53,15 @@
 //! - `free` and `give` consume their handle, so nobody has its bytes. Others may be lent.
 //! - `move_slot`, `reset` and the drop of the machine need that nothing is lent. Handles stay through a move, and are lent again.
 //!   A lend compares two numbers. It calls the library after a move, until a `lend_mut` has found the new address.
-//! - Handles can lie beside the machine in one struct. A guard that keeps the machine borrowed cannot, so there is none.
+//! - Handles can lie beside the machine in one struct. Typed values and what a heap allocates borrow their [`Client`], and cannot.
 //! - A handle that is dropped leaves its bytes allocated until a reset. After a reset and on another machine it is
 //!   [`Error::Stale`].
 //! - Links between objects are numbers of places in lent bytes. [`Machine::lend_at`] follows them. It needs `&mut Machine`, since
 //!   a handle of the same bytes may be lent.
 //! - A machine is `Send` and not `Sync`, since calls are one at a time: threads share a `Mutex<Machine>`. Then a lend borrows the
 //!   lock's guard. Without a mutex, lent bytes may be used on other threads of a scope while this one makes calls.
-//! - A move or a reset of one client requires that nobody's bytes are lent, which is stricter than the library.
+//! - A move or a reset of one client requires that nobody's bytes are lent, which is stricter than the library. After a
+//!   [`Machine::split`] it requires only that this client's are not.
 //!
 //! # What the compiler refuses
 //!
@@ -85,6 +106,32 @@
 //! fn share<T: Sync>(_: T) {}
 //! fn f(machine: partmem::Machine) { share(machine); }
 //! ```
+//! ```compile_fail,E0502
+//! # fn f(administrator: partmem::Administrator, mut client: partmem::Client) -> Result<(), partmem::Error> {
+//! let cache = client.cache_of()?;
+//! let value = cache.take(1)?;
+//! administrator.reset(&mut client)?; // or a move; and so with a heap
+//! assert_eq!(*value, 1);
+//! # Ok(()) }
+//! ```
+//! ```compile_fail,E0505
+//! # fn f(client: partmem::Client) -> Result<(), partmem::Error> {
+//! let heap = client.heap()?;
+//! let value = heap.boxed(1)?;
+//! drop(heap);
+//! assert_eq!(*value, 1);
+//! # Ok(()) }
+//! ```
+//! ```compile_fail,E0499
+//! # fn f(mut machine: partmem::Machine) -> Result<(), partmem::Error> {
+//! let (one, same) = (machine.client(partmem::Tenant(1))?, machine.client(partmem::Tenant(1))?);
+//! one.alloc(0)?;
+//! # Ok(()) }
+//! ```
+//! ```compile_fail,E0277
+//! fn send<T: Send>(_: T) {}
+//! fn f(heap: partmem::Heap<'static>) { send(heap); }
+//! ```
 //!
 //! # What types cannot keep
 //!
@@ -92,20 +139,36 @@
 //! numbers. These are left to you:
 //!
 //! - *Flows.* Do not store what was loaded for one tenant for another, or show it to it. Do not store an address, such as the
-//!   `as_ptr` of a lend, in lent bytes, or show it to a tenant.
-//! - *Users.* Whoever has the machine acts for any tenant, and `lend_at` reaches every live object. No tenant's user gets them.
-//! - *After the end.* The memory goes back to `malloc` with the tenants' bytes in it. Overwrite secrets before.
+//!   `as_ptr` of a lend, in lent bytes, or show it to a tenant. Values with references, and collections, are full of addresses:
+//!   such a tenant may learn of others what `partmem_heap.h` says.
+//! - *Users.* Whoever has the machine acts for any tenant, and `lend_at` reaches every live object. No tenant's user gets them. A
+//!   [`Client`] acts for its tenant alone.
+//! - *After the end.* The memory goes back to the allocator with the tenants' bytes in it. Overwrite secrets before.
 //! - *Booting.* The crate boots one machine at a time. C code in the same program must not boot another beside it.
 //! - *Other code.* No call from a signal handler, nor from the forked child of a process with threads. The compiler sees no page
 //!   tables and no devices: unmap and stop them before a free, reset, move or end.
-#![deny(missing_debug_implementations, unsafe_op_in_unsafe_fn)]
+#![no_std]
+#![cfg_attr(feature = "allocator_api", feature(allocator_api))]
+#![deny(missing_debug_implementations, unsafe_op_in_unsafe_fn, clippy::undocumented_unsafe_blocks)]
+
+#[cfg(any(feature = "std", test))]
+extern crate std;
 
 mod error;
+mod global;
+mod heap;
 mod machine;
+mod memory;
 mod sys;
+mod tenants;
+pub mod typed;
 
 pub use error::{Error, Refusal};
+pub use global::{Global, LazyHeap, Lock, Open, SpinLock};
+pub use heap::{Boxed, Heap, OwnedHeap};
 pub use machine::{Block, Cache, Handle, Machine, Object, OfCache, PageBlock};
+pub use memory::{Memory, StaticMemory};
+pub use tenants::{Administrator, Client, Clients};
 
 /// The number of a tenant, from 0.
 #[derive(Clone, Copy, Debug, PartialEq, Eq, PartialOrd, Ord, Hash)]

@@ -1,13 +1,13 @@
 //! The machine and the handles of its blocks and objects. What is unsafe about lent bytes is all here.
-use crate::{error::done, sys, Config, Error, Figures, Place, Slot, Tenant};
-use std::ptr::{self, NonNull};
-use std::sync::atomic::{AtomicU64, Ordering};
-use std::sync::{Mutex, PoisonError};
-use std::{fmt, slice};
+use crate::memory::{alone, Memory, Region};
+use crate::{error::done, sys, Administrator, Client, Clients, Config, Error, Figures, Place, Slot, Tenant};
+use core::cell::Cell;
+use core::ptr::{self, NonNull};
+use core::sync::atomic::{AtomicU64, Ordering};
+use core::{fmt, slice};
 
 const MOST_PATTERN: usize = 16;
-/// Boots are one at a time in a program.
-static BOOTING: Mutex<()> = Mutex::new(());
+const MOST_TENANTS: usize = 64;
 static STAMPS: AtomicU64 = AtomicU64::new(0);
 
 /// Returns a number that no other tenant has or had, of any machine.
@@ -16,7 +16,7 @@ fn new_stamp() -> u64 {
 }
 
 /// Returns the result that a call writes.
-fn result<T: Default>(call: impl FnOnce(&mut T) -> u32) -> Result<T, Error> {
+pub(crate) fn result<T: Default>(call: impl FnOnce(&mut T) -> u32) -> Result<T, Error> {
     let mut value = T::default();
     done(call(&mut value)).map(|()| value)
 }
@@ -29,7 +29,7 @@ pub struct Handle<Kind> {
     /// How many moves the machine had made when `at` was the address.
     moves: u64,
     at: *mut u8,
-    tenant: Tenant,
+    pub(crate) tenant: Tenant,
     place: Place,
     bytes: u32,
     kind: Kind,
@@ -72,85 +72,172 @@ impl<Kind> fmt::Debug for Handle<Kind> {
 #[derive(Debug)]
 pub struct Cache {
     stamp: u64,
-    tenant: Tenant,
-    number: u32,
+    pub(crate) tenant: Tenant,
+    pub(crate) number: u32,
 }
 
-/// A machine. Dropping it ends it, and frees its memory.
+/// A machine. Dropping it ends it, and frees the memory that [`Machine::boot`] has allocated.
 pub struct Machine {
-    /// From a box. Booted, except in a boot that fails.
+    /// In the tables, behind the library's. Booted.
     raw: NonNull<sys::Machine>,
+    config: Config,
+    /// What [`Machine::boot`] has allocated.
+    #[cfg(feature = "std")]
+    owned: Option<Region>,
     /// Of each tenant. A reset takes a new one, so that older handles are refused.
-    stamps: Vec<u64>,
+    stamps: [Cell<u64>; MOST_TENANTS],
     /// The moves so far: addresses in handles of the same number are right.
-    moves: u64,
+    moves: Cell<u64>,
 }
 
-// SAFETY: calls may come from any thread, one at a time. They need a reference, and a machine is not `Sync`.
+// SAFETY: calls may come from any thread, one at a time. They need a reference, and a machine is not `Sync`. Its memory is reached
+// through it alone.
 unsafe impl Send for Machine {}
 
-/// For each `unsafe` below: the machine is booted, a tenant is a pointer to it, no other call of it runs, and a result goes to a
-/// local variable, which lies in no machine's memory. What else has to hold is said at the call.
 impl Machine {
-    /// Boots a machine in which no superblock has an owner. Fails with `BadConfig`, `NoMemory`.
+    /// Boots a machine in which no superblock has an owner, in memory of the global allocator. Fails with `BadConfig`, `NoMemory`.
     ///
     /// # Panics
     /// If the library has another version than 2.
+    #[cfg(feature = "std")]
     pub fn boot(config: Config) -> Result<Machine, Error> {
-        assert_eq!(unsafe { sys::partmem_version() } / 10_000, 2, "the version of the library partmem");
-        let raw = Box::leak(Box::new(sys::Machine([ptr::null_mut(); 3])));
-        let mut machine = Machine { raw: NonNull::from(raw), stamps: Vec::new(), moves: 0 };
-        let booting = BOOTING.lock().unwrap_or_else(PoisonError::into_inner);
-        // SAFETY: it is all zeroes, and the box stays where it is.
-        done(unsafe { sys::partmem_boot(machine.raw.as_ptr(), &config) })?;
-        drop(booting);
-        machine.stamps = (0..config.tenants).map(|_| new_stamp()).collect();
+        config.check()?;
+        let region = Region::allocate(config)?;
+        let mut machine = Machine::boot_at(config, region).map_err(|error| {
+            // SAFETY: it was allocated above. A boot that fails leaves nothing that uses it.
+            unsafe { region.free(config) };
+            error
+        })?;
+        machine.owned = Some(region);
         Ok(machine)
     }
 
-    fn of(&self, tenant: Tenant) -> sys::Tenant {
+    /// Boots a machine in which no superblock has an owner, in memory of the caller's. Fails with `BadConfig`, `BadMemory`.
+    ///
+    /// # Panics
+    /// If the library has another version than 2.
+    pub fn boot_in(config: Config, memory: Memory) -> Result<Machine, Error> {
+        config.check()?;
+        Machine::boot_at(config, memory.region(config)?)
+    }
+
+    /// Boots a machine in a region that is large enough and aligned, and that nobody else uses.
+    fn boot_at(config: Config, region: Region) -> Result<Machine, Error> {
+        // SAFETY: it only returns a number.
+        assert_eq!(unsafe { sys::partmem_version() } / 10_000, 2, "the version of the library partmem");
+        let memory = sys::Memory { ram: region.ram.as_ptr(), tables: region.tables.as_ptr() };
+        // SAFETY: the tables have space for the machine behind the library's part, whose end is a multiple of 16. All zeroes is
+        // no machine.
+        let raw = unsafe {
+            let raw = region.tables.as_ptr().add(config.machine_offset()).cast::<sys::Machine>();
+            raw.write(sys::Machine([ptr::null_mut(); 3]));
+            NonNull::new_unchecked(raw)
+        };
+        // SAFETY: the machine stays where it is until the region is free again. RAM and tables have the sizes of this config.
+        done(alone(|| unsafe { sys::partmem_boot_in(raw.as_ptr(), &config, &memory) }))?;
+        let stamps = [(); MOST_TENANTS].map(|()| Cell::new(new_stamp()));
+        Ok(Machine {
+            raw,
+            config,
+            #[cfg(feature = "std")]
+            owned: None,
+            stamps,
+            moves: Cell::new(0),
+        })
+    }
+
+    /// Returns the tenant as the library knows it.
+    pub(crate) fn of(&self, tenant: Tenant) -> sys::Tenant {
         sys::Tenant(self.raw.as_ptr(), tenant.0)
     }
 
     /// Returns the tenant, or refuses what is of another machine or from before a reset.
     fn check(&self, tenant: Tenant, stamp: u64) -> Result<sys::Tenant, Error> {
-        let same = self.stamps.get(tenant.0 as usize) == Some(&stamp);
+        let same = self.stamps.get(tenant.0 as usize).map(Cell::get) == Some(stamp);
         same.then_some(self.of(tenant)).ok_or(Error::Stale)
     }
 
     /// Grants the first superblock without an owner, under the first slot that the tenant does not hold. It reads as zero.
     pub fn grant(&self, tenant: Tenant) -> Result<Slot, Error> {
+        // SAFETY: the machine is booted, no other call of it runs, and the result goes to a local variable.
         result(|slot| unsafe { sys::partmem_grant(self.of(tenant), slot) })
     }
 
     /// Takes back a slot whose frames are all free, so nothing in it is lent.
     pub fn take_back(&self, tenant: Tenant, slot: u32) -> Result<(), Error> {
+        // SAFETY: the machine is booted, and no other call of it runs. Nothing is lent in a slot whose frames are all free.
         done(unsafe { sys::partmem_take_back(self.of(tenant), slot) })
     }
 
     /// Replaces the superblock of a slot by the first one without an owner, and copies all its bytes. Handles stay.
     pub fn move_slot(&mut self, tenant: Tenant, slot: u32) -> Result<Slot, Error> {
-        self.moves += 1;
         // SAFETY: nothing is lent, since lends borrow the machine.
+        unsafe { self.move_shared(tenant, slot) }
+    }
+
+    /// # Safety
+    /// Nothing of the tenant is lent.
+    pub(crate) unsafe fn move_shared(&self, tenant: Tenant, slot: u32) -> Result<Slot, Error> {
+        self.moves.set(self.moves.get() + 1);
+        // SAFETY: as said above. The machine is booted, no other call of it runs, and the result goes to a local variable.
         result(|moved| unsafe { sys::partmem_move(self.of(tenant), slot, moved) })
     }
 
     /// Takes back all that the tenant has. Its handles are stale afterwards.
     pub fn reset(&mut self, tenant: Tenant) -> Result<(), Error> {
         // SAFETY: nothing is lent, since lends borrow the machine.
+        unsafe { self.reset_shared(tenant) }
+    }
+
+    /// # Safety
+    /// Nothing of the tenant is lent.
+    pub(crate) unsafe fn reset_shared(&self, tenant: Tenant) -> Result<(), Error> {
+        // SAFETY: as said above. The machine is booted, and no other call of it runs.
         done(unsafe { sys::partmem_reset(self.of(tenant)) })?;
-        self.stamps[tenant.0 as usize] = new_stamp();
+        self.stamps[tenant.0 as usize].set(new_stamp());
         Ok(())
+    }
+
+    /// Divides the machine into its administrator and its tenants: then one of these can be reset or moved while others use what
+    /// they have.
+    ///
+    /// ```
+    /// # use partmem::{Config, Machine, Tenant};
+    /// # fn main() -> Result<(), partmem::Error> {
+    /// # let mut machine = Machine::boot(Config { order: 3, superblocks: 2, tenants: 2 })?;
+    /// let (administrator, mut clients) = machine.split();
+    /// let (mut ada, bob) = (clients.next().unwrap(), clients.next().unwrap());
+    /// administrator.grant(ada.number())?;
+    /// administrator.grant(bob.number())?;
+    /// let mut kept = bob.alloc(0)?;
+    /// let bytes = bob.lend_mut(&mut kept)?;
+    /// administrator.reset(&mut ada)?;
+    /// bytes[0] = 1;
+    /// # Ok(()) }
+    /// ```
+    pub fn split(&mut self) -> (Administrator<'_>, Clients<'_>) {
+        (Administrator::new(self), Clients::new(self, None))
+    }
+
+    /// Returns one tenant of the machine. Fails with `NoTenant`.
+    pub fn client(&mut self, tenant: Tenant) -> Result<Client<'_>, Error> {
+        self.split().1.nth(tenant.0 as usize).ok_or_else(|| crate::Refusal::NoTenant.into())
+    }
+
+    /// Returns how many tenants it has.
+    pub(crate) fn tenants(&self) -> u32 {
+        self.config.tenants
     }
 
     fn hold<Kind>(&self, tenant: Tenant, lent: sys::Lent, kind: Kind) -> Handle<Kind> {
         let sys::Lent { at, place, bytes } = lent;
-        Handle { stamp: self.stamps[tenant.0 as usize], moves: self.moves, at, tenant, place, bytes, kind }
+        Handle { stamp: self.stamps[tenant.0 as usize].get(), moves: self.moves.get(), at, tenant, place, bytes, kind }
     }
 
     /// Allocates 2^order frames. A frame has what the tenant left there in a page block since the grant. If it was in none since
     /// then, or in a slab after that, it has zeroes.
     pub fn alloc(&self, tenant: Tenant, order: u32) -> Result<Block, Error> {
+        // SAFETY: the machine is booted, no other call of it runs, and the result goes to a local variable.
         let lent = result(|lent| unsafe { sys::partmem_alloc(self.of(tenant), order, lent) })?;
         Ok(self.hold(tenant, lent, PageBlock(())))
     }
@@ -158,7 +245,7 @@ impl Machine {
     /// Frees a page block. A block of another machine is refused, and stays allocated there.
     pub fn free(&self, block: Block) -> Result<(), Error> {
         let tenant = self.check(block.tenant, block.stamp)?;
-        // SAFETY: the block is not lent, since lends borrow its handle.
+        // SAFETY: the machine is booted, and no other call of it runs. The block is not lent, since lends borrow its handle.
         done(unsafe { sys::partmem_free(tenant, block.place) })
     }
 
@@ -171,15 +258,16 @@ impl Machine {
         // A copy, since the pattern may lie in lent bytes.
         let (mut copy, of, bytes) = ([0; MOST_PATTERN], self.of(tenant), pattern.len());
         copy[..bytes].copy_from_slice(pattern);
-        // SAFETY: the copy has that many bytes.
+        // SAFETY: the machine is booted, no other call of it runs, and the result goes to a local variable. The copy has that many bytes.
         let made: sys::Cache =
             result(|made| unsafe { sys::partmem_make_cache(of, size, align, copy.as_ptr(), bytes, made) })?;
-        Ok(Cache { stamp: self.stamps[tenant.0 as usize], tenant, number: made.cache })
+        Ok(Cache { stamp: self.stamps[tenant.0 as usize].get(), tenant, number: made.cache })
     }
 
     /// Destroys a cache without live objects, and frees its slabs. The cache is stale afterwards.
     pub fn destroy_cache(&self, cache: &mut Cache) -> Result<(), Error> {
         let tenant = self.check(cache.tenant, cache.stamp)?;
+        // SAFETY: the machine is booted, and no other call of it runs. Nothing of a cache without live objects is lent.
         done(unsafe { sys::partmem_destroy_cache(tenant, cache.number) })?;
         cache.stamp = new_stamp();
         Ok(())
@@ -188,6 +276,7 @@ impl Machine {
     /// Takes an object of a cache. Its bytes are the pattern's if it is new, else what was in it when it was given back.
     pub fn take(&self, cache: &Cache) -> Result<Object, Error> {
         let tenant = self.check(cache.tenant, cache.stamp)?;
+        // SAFETY: the machine is booted, no other call of it runs, and the result goes to a local variable.
         let lent = result(|lent| unsafe { sys::partmem_take(tenant, cache.number, lent) })?;
         Ok(self.hold(cache.tenant, lent, OfCache(cache.number)))
     }
@@ -195,27 +284,30 @@ impl Machine {
     /// Gives back an object. An object of another machine is refused, and stays taken there.
     pub fn give(&self, object: Object) -> Result<(), Error> {
         let tenant = self.check(object.tenant, object.stamp)?;
-        // SAFETY: the object is not lent, since lends borrow its handle.
+        // SAFETY: the machine is booted, and no other call of it runs. The object is not lent, since lends borrow its handle.
         done(unsafe { sys::partmem_give(tenant, object.kind.0, object.place) })
     }
 
     /// Frees the empty slabs of all caches, as an `alloc` or a `take` does on demand. Returns how many frames they had.
     pub fn reap(&self, tenant: Tenant) -> Result<u32, Error> {
+        // SAFETY: the machine is booted, no other call of it runs, and the result goes to a local variable.
         result(|frames| unsafe { sys::partmem_reap(self.of(tenant), frames) })
     }
 
     /// Reports the figures of a tenant.
     pub fn report(&self, tenant: Tenant) -> Result<Figures, Error> {
+        // SAFETY: the machine is booted, no other call of it runs, and the result goes to a local variable.
         result(|figures| unsafe { sys::partmem_report(self.of(tenant), figures) })
     }
 
     fn address(&self, tenant: sys::Tenant, place: Place, bytes: u32) -> Result<*mut u8, Error> {
+        // SAFETY: the machine is booted, no other call of it runs, and the result goes to a local variable.
         result(|lent: &mut sys::Lent| unsafe { sys::partmem_lend(tenant, place, bytes, lent) }).map(|lent| lent.at)
     }
 
     fn address_of<Kind>(&self, handle: &Handle<Kind>) -> Result<*mut u8, Error> {
         let tenant = self.check(handle.tenant, handle.stamp)?;
-        if handle.moves == self.moves {
+        if handle.moves == self.moves.get() {
             Ok(handle.at)
         } else {
             self.address(tenant, handle.place, handle.bytes)
@@ -233,32 +325,42 @@ impl Machine {
     /// Lends the bytes of a block or an object, to use them.
     pub fn lend_mut<'a, Kind>(&'a self, handle: &'a mut Handle<Kind>) -> Result<&'a mut [u8], Error> {
         handle.at = self.address_of(handle)?;
-        handle.moves = self.moves;
+        handle.moves = self.moves.get();
         // SAFETY: as in `lend`. Nobody else has these bytes: no other handle does, and `lend_at` takes the machine unborrowed.
         Ok(unsafe { slice::from_raw_parts_mut(handle.at, handle.bytes as usize) })
     }
 
     /// Lends 1 or more bytes inside one live page block or one live object, whoever has its handle.
     pub fn lend_at(&mut self, tenant: Tenant, place: Place, bytes: u32) -> Result<&mut [u8], Error> {
+        // SAFETY: nothing is lent, since lends borrow the machine.
+        unsafe { self.lend_shared(tenant, place, bytes) }
+    }
+
+    /// # Safety
+    /// Nothing of the tenant is lent, nor will be while the result lives.
+    #[allow(clippy::mut_from_ref)]
+    pub(crate) unsafe fn lend_shared(&self, tenant: Tenant, place: Place, bytes: u32) -> Result<&mut [u8], Error> {
         let at = self.address(self.of(tenant), place, bytes)?;
-        // SAFETY: as in `lend`. Nothing else is lent, since lends borrow the machine.
+        // SAFETY: the bytes live while the machine is borrowed, and nobody else has them. A typed value that was leaked may have
+        // padding, to which Rust gives no values. But the call above is code outside of Rust: to the compiler it has written all.
         Ok(unsafe { slice::from_raw_parts_mut(at, bytes as usize) })
     }
 }
 
 impl Drop for Machine {
     fn drop(&mut self) {
-        // SAFETY: nothing is lent, since lends borrow the machine. After a boot that failed the end does nothing. `boot` leaked
-        // the box.
-        unsafe {
-            sys::partmem_end(self.raw.as_ptr());
-            drop(Box::from_raw(self.raw.as_ptr()));
+        // SAFETY: nothing is lent, since lends borrow the machine.
+        unsafe { sys::partmem_end(self.raw.as_ptr()) };
+        #[cfg(feature = "std")]
+        if let Some(region) = self.owned {
+            // SAFETY: `boot` has allocated it with this config, and the machine has ended.
+            unsafe { region.free(self.config) };
         }
     }
 }
 
 impl fmt::Debug for Machine {
     fn fmt(&self, to: &mut fmt::Formatter<'_>) -> fmt::Result {
-        to.debug_struct("Machine").field("tenants", &self.stamps.len()).finish_non_exhaustive()
+        to.debug_struct("Machine").field("config", &self.config).finish_non_exhaustive()
     }
 }

@@ -1,7 +1,7 @@
-//! The declarations of partmem.h that this crate uses.
+//! The declarations of partmem.h and partmem_heap.h that this crate uses.
 use crate::{Config, Figures, Place, Slot};
-use std::mem::size_of;
-use std::os::raw::{c_char, c_void};
+use core::ffi::c_void;
+use core::mem::{size_of, MaybeUninit};
 
 /// All zeroes while there is no machine.
 #[repr(C)]
@@ -10,6 +10,12 @@ pub struct Machine(pub [*mut c_void; 3]);
 #[repr(C)]
 #[derive(Clone, Copy)]
 pub struct Tenant(pub *mut Machine, pub u32);
+
+#[repr(C)]
+pub struct Memory {
+    pub ram: *mut u8,
+    pub tables: *mut u8,
+}
 
 #[repr(C)]
 pub struct Lent {
@@ -25,22 +31,55 @@ pub struct Cache {
     pub form: [u32; 4],
 }
 
-// As tests/layout.c demands of the header.
+#[repr(C)]
+pub struct HeapConfig {
+    pub sizes: *const u16,
+    pub count: u32,
+    pub has_runs: u32,
+}
+
+/// Only the library writes to it. Between calls it may be moved.
+#[repr(C)]
+pub struct Heap {
+    tenant: Tenant,
+    base: *mut u8,
+    numbers: [u32; 3],
+    sizes: [u16; MOST_CLASSES],
+    aligns: [u16; MOST_CLASSES],
+    /// The cache of a class and 1, or 0 without one.
+    pub cache_of: [u8; MOST_CLASSES],
+    class_in: [u8; 32],
+    class_of: [u8; 257],
+    run: [u16; 256],
+}
+
+pub const MOST_CLASSES: usize = 24;
+
+// As tests/layout.c demands of the headers.
 const _: () = assert!(size_of::<Machine>() == 24 && size_of::<Tenant>() == 16 && size_of::<Lent>() == 16);
 const _: () = assert!(size_of::<Config>() == 12 && size_of::<Slot>() == 8 && size_of::<Cache>() == 20);
+const _: () = assert!(size_of::<Memory>() == 16 && size_of::<HeapConfig>() == 16 && size_of::<Heap>() == 960);
 const _: () = assert!(size_of::<Figures>() == 740);
+
+impl Heap {
+    /// Returns a heap of which all is 0, as after a refused initialisation.
+    pub fn none() -> Heap {
+        // SAFETY: it has numbers and pointers alone, which may all be 0.
+        unsafe { MaybeUninit::zeroed().assume_init() }
+    }
+}
 
 impl Default for Lent {
     fn default() -> Lent {
-        Lent { at: std::ptr::null_mut(), place: Place::NOWHERE, bytes: 0 }
+        Lent { at: core::ptr::null_mut(), place: Place::NOWHERE, bytes: 0 }
     }
 }
 
 #[rustfmt::skip]
 extern "C" {
-    pub fn partmem_strerror(status: u32) -> *const c_char;
+    pub fn partmem_strerror(status: u32) -> *const u8;
     pub fn partmem_version() -> u32;
-    pub fn partmem_boot(machine: *mut Machine, config: *const Config) -> u32;
+    pub fn partmem_boot_in(machine: *mut Machine, config: *const Config, memory: *const Memory) -> u32;
     pub fn partmem_end(machine: *mut Machine) -> u32;
     pub fn partmem_grant(tenant: Tenant, granted: *mut Slot) -> u32;
     pub fn partmem_take_back(tenant: Tenant, slot: u32) -> u32;
@@ -56,4 +95,9 @@ extern "C" {
     pub fn partmem_reap(tenant: Tenant, frames: *mut u32) -> u32;
     pub fn partmem_lend(tenant: Tenant, place: Place, bytes: u32, lent: *mut Lent) -> u32;
     pub fn partmem_report(tenant: Tenant, figures: *mut Figures) -> u32;
+    pub fn partmem_heap_init(heap: *mut Heap, tenant: Tenant, config: *const HeapConfig) -> u32;
+    pub fn partmem_heap_aligned_alloc(heap: *mut Heap, align: usize, bytes: usize) -> *mut u8;
+    pub fn partmem_heap_realloc(heap: *mut Heap, old: *mut u8, bytes: usize) -> *mut u8;
+    pub fn partmem_heap_free(heap: *mut Heap, at: *mut u8) -> u32;
+    pub fn partmem_heap_place(heap: *const Heap, at: *const u8) -> u32;
 }

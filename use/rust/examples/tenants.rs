@@ -1,0 +1,61 @@
+//! Two tenants with a heap each. The first allocates until nothing is left, and is reset; the second does not notice.
+use partmem::{Boxed, Client, Config, Error, Heap, Machine};
+
+/// A list in a heap: its values hold addresses of each other.
+struct Node<'h> {
+    number: u64,
+    next: Option<Boxed<'h, Node<'h>>>,
+}
+
+/// Pushes numbers to a list until the heap has no memory, or `most` of them. Returns the list and its length.
+fn push<'h>(heap: &'h Heap<'h>, most: u64) -> (Option<Boxed<'h, Node<'h>>>, u64) {
+    let mut list = None;
+    for number in 0..most {
+        let next = &mut list;
+        match heap.boxed_with(|| Node { number, next: next.take() }) {
+            Ok(node) => list = Some(node),
+            Err(_) => return (list, number),
+        }
+    }
+    (list, most)
+}
+
+/// Drops a list from its beginning on, without recursion.
+fn clear<'h>(mut list: Option<Boxed<'h, Node<'h>>>) -> u64 {
+    let mut sum = 0;
+    while let Some(node) = list {
+        let Node { number, next } = Boxed::into_inner(node);
+        sum += number;
+        list = next;
+    }
+    sum
+}
+
+/// Fills a client's heap, and leaks all of it.
+fn exhaust(client: &Client<'_>) -> Result<u64, Error> {
+    let heap = client.heap()?;
+    let (list, length) = push(&heap, u64::MAX);
+    std::mem::forget(list);
+    Ok(length)
+}
+
+fn main() -> Result<(), Error> {
+    let mut machine = Machine::boot(Config { order: 4, superblocks: 8, tenants: 2 })?;
+    let (administrator, mut clients) = machine.split();
+    let (mut first, second) = (clients.next().unwrap(), clients.next().unwrap());
+    for _ in 0..4 {
+        administrator.grant(first.number())?;
+        administrator.grant(second.number())?;
+    }
+    let heap = second.heap()?;
+    let (kept, length) = push(&heap, 1000);
+    for _ in 0..2 {
+        println!("the first tenant has memory for {} nodes", exhaust(&first)?);
+        administrator.reset(&mut first)?;
+        for _ in 0..4 {
+            administrator.grant(first.number())?;
+        }
+    }
+    println!("the second still has its {length}, with the sum {}", clear(kept));
+    Ok(())
+}

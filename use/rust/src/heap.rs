@@ -1,0 +1,287 @@
+//! The heap of a tenant, for values and collections.
+use crate::{error::done, sys, Client, Error, Place};
+use core::alloc::Layout;
+use core::cell::UnsafeCell;
+use core::mem::ManuallyDrop;
+use core::ops::{Deref, DerefMut};
+use core::ptr::{self, NonNull};
+use core::{fmt, mem};
+
+/// All pieces begin at multiples of it.
+const STEP: usize = 16;
+
+/// The functions of partmem_heap.h for one heap, whose machine is booted. Calls are one at a time.
+pub(crate) struct RawHeap(UnsafeCell<sys::Heap>);
+
+impl RawHeap {
+    /// Without sizes it has the default classes.
+    pub(crate) fn new(tenant: sys::Tenant, sizes: &[u16], has_runs: bool) -> Result<RawHeap, Error> {
+        // A copy, since the sizes may lie in lent bytes.
+        let mut copy = [0; sys::MOST_CLASSES];
+        copy.get_mut(..sizes.len()).ok_or(Error::BadConfig)?.copy_from_slice(sizes);
+        let config = sys::HeapConfig { sizes: copy.as_ptr(), count: sizes.len() as u32, has_runs: has_runs.into() };
+        let mut raw = sys::Heap::none();
+        // SAFETY: heap and config are local variables, and the sizes are as many as the config says.
+        done(unsafe { sys::partmem_heap_init(&mut raw, tenant, &config) })?;
+        Ok(RawHeap(UnsafeCell::new(raw)))
+    }
+
+    /// Allocates at least one byte. Returns null if there is no memory, or if the alignment is above 4096.
+    pub(crate) fn allocate(&self, layout: Layout) -> *mut u8 {
+        // SAFETY: the heap was initialised, and its machine is booted.
+        unsafe { sys::partmem_heap_aligned_alloc(self.0.get(), layout.align().max(STEP), layout.size()) }
+    }
+
+    /// # Safety
+    /// The piece is of this heap, and not used again.
+    pub(crate) unsafe fn free(&self, at: *mut u8) {
+        // SAFETY: as said above. Of another address the heap frees nothing.
+        let status = unsafe { sys::partmem_heap_free(self.0.get(), at) };
+        debug_assert_eq!(status, 0, "no piece of the heap begins there");
+    }
+
+    /// Gives a piece another size. Returns null if there is no memory; then nothing has changed.
+    ///
+    /// # Safety
+    /// The piece is of this heap, with the layout `old`. If it moves, the old one is not used again.
+    pub(crate) unsafe fn resize(&self, at: *mut u8, old: Layout, new: Layout) -> *mut u8 {
+        if new.align().max(old.align()) <= STEP {
+            // SAFETY: as said above.
+            return unsafe { sys::partmem_heap_realloc(self.0.get(), at, new.size()) };
+        }
+        let to = self.allocate(new);
+        if !to.is_null() {
+            // SAFETY: both pieces have as many bytes, and a new piece is apart from all others.
+            unsafe {
+                ptr::copy_nonoverlapping(at, to, old.size().min(new.size()));
+                self.free(at);
+            }
+        }
+        to
+    }
+
+    /// Destroys its caches, but for those that have a live object, which was leaked.
+    fn close(&mut self, tenant: sys::Tenant) {
+        for cache in self.0.get_mut().cache_of.iter().filter(|cache| **cache > 0) {
+            // SAFETY: the machine is booted, and no other call of it runs. Nothing of a cache without live objects is used.
+            let _ = unsafe { sys::partmem_destroy_cache(tenant, u32::from(*cache) - 1) };
+        }
+    }
+
+    fn place(&self, at: *const u8) -> Place {
+        // SAFETY: any address is allowed.
+        Place(unsafe { sys::partmem_heap_place(self.0.get(), at) })
+    }
+}
+
+/// The heap of a tenant. With the feature `allocator_api`, which needs a nightly compiler, `&Heap` is an `Allocator`:
+/// `Vec::new_in(&heap)`. On any compiler [`Heap::boxed`], [`Heap::copied`] and [`Heap::text`] put values, slices and texts in it.
+///
+/// It borrows the [`Client`], and what it allocates borrows the heap: so they are gone before a reset or a move of this tenant.
+/// Dropping it destroys its caches.
+/// The tenant's values may hold addresses of each other. `partmem_heap.h` says what is lost if a program computes from the numbers
+/// in them.
+///
+/// # Runs
+/// With them a request larger than a superblock gets superblocks that lie in a row. The tenant's slots have to be 0, 1, 2 ..,
+/// and to lie in RAM one behind another, as grants at the start make them.
+pub struct Heap<'c> {
+    raw: RawHeap,
+    /// A second one, whose user has the first one no longer, or only to borrow it. It is not shown.
+    client: Client<'c>,
+}
+
+/// A [`Heap`] that has its client and does not borrow it, for a list of guests. It derefs to the heap.
+#[derive(Debug)]
+pub struct OwnedHeap<'a> {
+    heap: Heap<'a>,
+    client: Client<'a>,
+}
+
+impl<'a> OwnedHeap<'a> {
+    pub(crate) fn new(client: Client<'a>, sizes: &[u16], has_runs: bool) -> Result<OwnedHeap<'a>, Error> {
+        Ok(OwnedHeap { heap: Heap::new(client.again(), sizes, has_runs)?, client })
+    }
+
+    /// Returns the client, to make other calls.
+    pub fn client(&self) -> &Client<'a> {
+        &self.client
+    }
+
+    /// Drops the heap, and returns the client.
+    pub fn into_client(self) -> Client<'a> {
+        self.client
+    }
+}
+
+impl<'a> Deref for OwnedHeap<'a> {
+    type Target = Heap<'a>;
+
+    fn deref(&self) -> &Heap<'a> {
+        &self.heap
+    }
+}
+
+impl Drop for Heap<'_> {
+    fn drop(&mut self) {
+        self.raw.close(self.client.machine().of(self.client.number()));
+    }
+}
+
+/// A value in a [`Heap`]: it derefs to the value. Dropping it drops the value and frees its memory.
+pub struct Boxed<'h, T: ?Sized> {
+    /// The value, alive.
+    at: NonNull<T>,
+    heap: &'h Heap<'h>,
+}
+
+/// A piece of a heap. Dropping it frees it.
+struct Piece<'h> {
+    at: *mut u8,
+    heap: &'h Heap<'h>,
+}
+
+impl Drop for Piece<'_> {
+    fn drop(&mut self) {
+        // SAFETY: it is a piece of this heap, whose value is gone or was not written.
+        unsafe { self.heap.raw.free(self.at) }
+    }
+}
+
+impl<'c> Heap<'c> {
+    pub(crate) fn new(client: Client<'c>, sizes: &[u16], has_runs: bool) -> Result<Heap<'c>, Error> {
+        let raw = RawHeap::new(client.machine().of(client.number()), sizes, has_runs)?;
+        Ok(Heap { raw, client })
+    }
+
+    /// Puts a value into the heap. If there is no memory, the value is dropped. Fails with `NoMemory`.
+    pub fn boxed<T>(&self, value: T) -> Result<Boxed<'_, T>, Error> {
+        self.boxed_with(|| value)
+    }
+
+    /// Puts a value into the heap, which is made only if there is memory. Fails with `NoMemory`.
+    pub fn boxed_with<T>(&self, make: impl FnOnce() -> T) -> Result<Boxed<'_, T>, Error> {
+        let at = NonNull::new(self.raw.allocate(Layout::new::<T>()).cast::<T>()).ok_or(Error::NoMemory)?;
+        let piece = Piece { at: at.as_ptr().cast(), heap: self };
+        let value = make();
+        // SAFETY: the piece has the size and the alignment of `T`, and is this call's alone.
+        unsafe { at.as_ptr().write(value) };
+        mem::forget(piece);
+        Ok(Boxed { at, heap: self })
+    }
+
+    /// Copies values into the heap. Fails with `NoMemory`.
+    pub fn copied<T: Copy>(&self, values: &[T]) -> Result<Boxed<'_, [T]>, Error> {
+        let at = NonNull::new(self.raw.allocate(Layout::for_value(values))).ok_or(Error::NoMemory)?.cast::<T>();
+        // SAFETY: the piece has the size and the alignment of the values, and is apart from them, since it is new.
+        let at = unsafe {
+            ptr::copy_nonoverlapping(values.as_ptr(), at.as_ptr(), values.len());
+            NonNull::new_unchecked(ptr::slice_from_raw_parts_mut(at.as_ptr(), values.len()))
+        };
+        Ok(Boxed { at, heap: self })
+    }
+
+    /// Copies a text into the heap. Fails with `NoMemory`.
+    pub fn text(&self, text: &str) -> Result<Boxed<'_, str>, Error> {
+        let bytes = ManuallyDrop::new(self.copied(text.as_bytes())?);
+        // SAFETY: the address is not null, and the bytes are those of a text.
+        let at = unsafe { NonNull::new_unchecked(bytes.at.as_ptr() as *mut str) };
+        Ok(Boxed { at, heap: self })
+    }
+}
+
+impl<T: ?Sized> Boxed<'_, T> {
+    /// Returns the place of its first byte, which may be stored and shown in the place of an address.
+    pub fn place(this: &Self) -> Place {
+        this.heap.raw.place(this.at.as_ptr().cast())
+    }
+}
+
+impl<T> Boxed<'_, T> {
+    /// Takes the value out, and frees its memory.
+    pub fn into_inner(this: Self) -> T {
+        let this = ManuallyDrop::new(this);
+        let piece = Piece { at: this.at.as_ptr().cast(), heap: this.heap };
+        // SAFETY: the value is alive, and is not used in its place again.
+        unsafe { piece.at.cast::<T>().read() }
+    }
+}
+
+impl<T: ?Sized> Drop for Boxed<'_, T> {
+    fn drop(&mut self) {
+        // Frees the memory behind the value's end, also if that panics.
+        let _piece = Piece { at: self.at.as_ptr().cast(), heap: self.heap };
+        // SAFETY: the value is alive, and this is its only owner.
+        unsafe { ptr::drop_in_place(self.at.as_ptr()) };
+    }
+}
+
+impl<T: ?Sized> Deref for Boxed<'_, T> {
+    type Target = T;
+
+    fn deref(&self) -> &T {
+        // SAFETY: the value is alive and stays there while the heap is borrowed. Nobody else reaches it.
+        unsafe { self.at.as_ref() }
+    }
+}
+
+impl<T: ?Sized> DerefMut for Boxed<'_, T> {
+    fn deref_mut(&mut self) -> &mut T {
+        // SAFETY: as in `deref`.
+        unsafe { self.at.as_mut() }
+    }
+}
+
+#[cfg(feature = "allocator_api")]
+mod allocator {
+    use super::{Heap, Layout, NonNull};
+    use core::alloc::{AllocError, Allocator};
+    use core::ptr;
+
+    /// The memory of a layout, at an address that may be null.
+    fn memory(at: *mut u8, layout: Layout) -> Result<NonNull<[u8]>, AllocError> {
+        NonNull::new(ptr::slice_from_raw_parts_mut(at, layout.size())).ok_or(AllocError)
+    }
+
+    // SAFETY: a piece has the size and the alignment of its layout, is apart from all others, and stays until it is freed: no
+    // reset and no move comes while the heap is borrowed. Copies of the reference are the same heap.
+    unsafe impl Allocator for &Heap<'_> {
+        fn allocate(&self, layout: Layout) -> Result<NonNull<[u8]>, AllocError> {
+            memory(self.raw.allocate(layout), layout)
+        }
+
+        unsafe fn deallocate(&self, at: NonNull<u8>, _: Layout) {
+            // SAFETY: the caller has it from this heap, and does not use it again.
+            unsafe { self.raw.free(at.as_ptr()) }
+        }
+
+        unsafe fn grow(&self, at: NonNull<u8>, old: Layout, new: Layout) -> Result<NonNull<[u8]>, AllocError> {
+            // SAFETY: the caller has it from this heap with the old layout. If this succeeds, it does not use the old one again.
+            memory(unsafe { self.raw.resize(at.as_ptr(), old, new) }, new)
+        }
+
+        unsafe fn shrink(&self, at: NonNull<u8>, old: Layout, new: Layout) -> Result<NonNull<[u8]>, AllocError> {
+            // SAFETY: as in `grow`.
+            memory(unsafe { self.raw.resize(at.as_ptr(), old, new) }, new)
+        }
+    }
+}
+
+impl fmt::Debug for Heap<'_> {
+    fn fmt(&self, to: &mut fmt::Formatter<'_>) -> fmt::Result {
+        to.debug_struct("Heap").finish_non_exhaustive()
+    }
+}
+
+/// The value's, without the address, which is shown to nobody.
+impl<T: fmt::Debug + ?Sized> fmt::Debug for Boxed<'_, T> {
+    fn fmt(&self, to: &mut fmt::Formatter<'_>) -> fmt::Result {
+        (**self).fmt(to)
+    }
+}
+
+impl<T: fmt::Display + ?Sized> fmt::Display for Boxed<'_, T> {
+    fn fmt(&self, to: &mut fmt::Formatter<'_>) -> fmt::Result {
+        (**self).fmt(to)
+    }
+}

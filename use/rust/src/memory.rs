@@ -1,0 +1,186 @@
+//! The memory of a machine: its sizes, and statics that have it.
+use crate::{sys, Config, Error};
+use core::cell::UnsafeCell;
+use core::mem::{size_of, MaybeUninit};
+use core::ptr::NonNull;
+use core::sync::atomic::{AtomicBool, Ordering};
+use core::{fmt, hint};
+
+const FRAME_BYTES: usize = 4096;
+const TABLE_ALIGN: usize = 16;
+
+/// Returns the least power of 2 from 4 on that is not less than a number.
+const fn power_of_2(number: usize) -> usize {
+    if number <= 4 {
+        4
+    } else {
+        number.next_power_of_two()
+    }
+}
+
+impl Config {
+    pub(crate) fn check(&self) -> Result<(), Error> {
+        let fits =
+            (3..=8).contains(&self.order) && (1..=256).contains(&self.superblocks) && (1..=64).contains(&self.tenants);
+        fits.then_some(()).ok_or(Error::BadConfig)
+    }
+
+    /// Returns how many bytes of RAM a machine has.
+    pub const fn ram_bytes(self) -> usize {
+        self.superblocks as usize * (FRAME_BYTES << self.order)
+    }
+
+    /// Returns how many bytes the library's tables have: `PARTMEM_TABLE_BYTES` of the header.
+    const fn library_bytes(self) -> usize {
+        let (superblocks, tenants) = (self.superblocks as usize, self.tenants as usize);
+        let of_all = power_of_2(superblocks) << self.order.saturating_sub(5);
+        let groups = if of_all > 64 { of_all } else { 64 };
+        (FRAME_BYTES << self.order)
+            + 256
+            + 112 * power_of_2(superblocks)
+            + 288 * power_of_2(tenants)
+            + superblocks * (32 + (225 << self.order) / 8)
+            + tenants * (4216 + 8 * superblocks + 12 * groups)
+    }
+
+    /// Returns where the `partmem_machine` lies in the tables, behind the library's.
+    pub(crate) const fn machine_offset(self) -> usize {
+        (self.library_bytes() + TABLE_ALIGN - 1) / TABLE_ALIGN * TABLE_ALIGN
+    }
+
+    /// Returns how many bytes of tables a machine has. That is what the header says, and up to 40 bytes of this crate.
+    pub const fn table_bytes(self) -> usize {
+        self.machine_offset() + size_of::<sys::Machine>()
+    }
+}
+
+/// The memory of a machine. Its bytes may have any values, or none.
+pub struct Memory {
+    /// At least [`Config::ram_bytes`], at a multiple of 4096.
+    pub ram: &'static mut [MaybeUninit<u8>],
+    /// At least [`Config::table_bytes`], at a multiple of 16.
+    pub tables: &'static mut [MaybeUninit<u8>],
+}
+
+/// Where the memory of a machine lies.
+#[derive(Clone, Copy)]
+pub(crate) struct Region {
+    pub ram: NonNull<u8>,
+    pub tables: NonNull<u8>,
+}
+
+impl Memory {
+    /// Returns the memory of two slices of bytes.
+    pub fn of_bytes(ram: &'static mut [u8], tables: &'static mut [u8]) -> Memory {
+        // SAFETY: nobody reads these bytes as numbers again, since the slices are borrowed for ever.
+        let without_values = |bytes: &'static mut [u8]| unsafe { &mut *(bytes as *mut [u8] as *mut [MaybeUninit<u8>]) };
+        Memory { ram: without_values(ram), tables: without_values(tables) }
+    }
+
+    /// Returns where it lies, if it is large enough and aligned.
+    pub(crate) fn region(self, config: Config) -> Result<Region, Error> {
+        let is_large = self.ram.len() >= config.ram_bytes() && self.tables.len() >= config.table_bytes();
+        let region = Region { ram: NonNull::from(self.ram).cast(), tables: NonNull::from(self.tables).cast() };
+        let is_aligned = |at: NonNull<u8>, align| at.as_ptr() as usize % align == 0;
+        let fits = is_large && is_aligned(region.ram, FRAME_BYTES) && is_aligned(region.tables, TABLE_ALIGN);
+        fits.then_some(region).ok_or(Error::BadMemory)
+    }
+}
+
+impl fmt::Debug for Memory {
+    fn fmt(&self, to: &mut fmt::Formatter<'_>) -> fmt::Result {
+        write!(to, "Memory({} bytes of RAM, {} of tables)", self.ram.len(), self.tables.len())
+    }
+}
+
+/// Memory of a new machine from the global allocator, and its return.
+#[cfg(feature = "std")]
+impl Region {
+    fn layouts(config: Config) -> [std::alloc::Layout; 2] {
+        let layout = |bytes, align| std::alloc::Layout::from_size_align(bytes, align).expect("a size of a machine");
+        [layout(config.ram_bytes(), FRAME_BYTES), layout(config.table_bytes(), TABLE_ALIGN)]
+    }
+
+    pub(crate) fn allocate(config: Config) -> Result<Region, Error> {
+        let [of_ram, of_tables] = Region::layouts(config);
+        // SAFETY: neither layout is empty.
+        let parts = [of_ram, of_tables].map(|layout| NonNull::new(unsafe { std::alloc::alloc(layout) }));
+        match parts {
+            [Some(ram), Some(tables)] => Ok(Region { ram, tables }),
+            [ram, tables] => {
+                for (part, layout) in [(ram, of_ram), (tables, of_tables)] {
+                    // SAFETY: it was allocated above with this layout, and nobody has it.
+                    part.into_iter().for_each(|at| unsafe { std::alloc::dealloc(at.as_ptr(), layout) });
+                }
+                Err(Error::NoMemory)
+            }
+        }
+    }
+
+    /// # Safety
+    /// It is from `allocate` with the same config, and not used again.
+    pub(crate) unsafe fn free(self, config: Config) {
+        for (part, layout) in [self.ram, self.tables].into_iter().zip(Region::layouts(config)) {
+            // SAFETY: as said above.
+            unsafe { std::alloc::dealloc(part.as_ptr(), layout) }
+        }
+    }
+}
+
+#[repr(C, align(4096))]
+struct OnPages<T>(UnsafeCell<T>);
+
+#[repr(C, align(16))]
+struct OnPieces<T>(UnsafeCell<T>);
+
+/// Memory of one machine in a static: `RAM` bytes of RAM and `TABLES` bytes of tables.
+pub struct StaticMemory<const RAM: usize, const TABLES: usize> {
+    is_taken: AtomicBool,
+    ram: OnPages<MaybeUninit<[u8; RAM]>>,
+    tables: OnPieces<MaybeUninit<[u8; TABLES]>>,
+}
+
+// SAFETY: `take` gives the bytes to one caller, and nothing else reads or writes them.
+unsafe impl<const RAM: usize, const TABLES: usize> Sync for StaticMemory<RAM, TABLES> {}
+
+impl<const RAM: usize, const TABLES: usize> StaticMemory<RAM, TABLES> {
+    /// Returns memory that nobody has taken, as a value of a static.
+    #[allow(clippy::new_without_default)]
+    pub const fn new() -> Self {
+        StaticMemory {
+            is_taken: AtomicBool::new(false),
+            ram: OnPages(UnsafeCell::new(MaybeUninit::uninit())),
+            tables: OnPieces(UnsafeCell::new(MaybeUninit::uninit())),
+        }
+    }
+
+    /// Returns the memory, the first time that it is called.
+    pub fn take(&'static self) -> Option<Memory> {
+        if self.is_taken.swap(true, Ordering::Relaxed) {
+            return None;
+        }
+        let (ram, tables) =
+            (self.ram.0.get().cast::<[MaybeUninit<u8>; RAM]>(), self.tables.0.get().cast::<[MaybeUninit<u8>; TABLES]>());
+        // SAFETY: nobody else gets a reference to the bytes, since this is the first call. They may have no values.
+        Some(unsafe { Memory { ram: &mut *ram, tables: &mut *tables } })
+    }
+}
+
+impl<const RAM: usize, const TABLES: usize> fmt::Debug for StaticMemory<RAM, TABLES> {
+    fn fmt(&self, to: &mut fmt::Formatter<'_>) -> fmt::Result {
+        write!(to, "StaticMemory({RAM} bytes of RAM, {TABLES} of tables)")
+    }
+}
+
+/// Boots are one at a time in a program.
+static IS_BOOTING: AtomicBool = AtomicBool::new(false);
+
+/// Runs a boot while no other one runs.
+pub(crate) fn alone(boot: impl FnOnce() -> u32) -> u32 {
+    while IS_BOOTING.swap(true, Ordering::Acquire) {
+        hint::spin_loop();
+    }
+    let status = boot();
+    IS_BOOTING.store(false, Ordering::Release);
+    status
+}

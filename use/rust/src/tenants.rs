@@ -1,0 +1,207 @@
+//! The parts of a machine: its administrator, and its tenants apart from each other.
+use crate::{typed, Block, Cache, Error, Figures, Handle, Heap, Machine, Object, OwnedHeap, Place, Slot, Tenant};
+use core::{fmt, ptr};
+
+/// The administrator of a machine that is divided by [`Machine::split`]: it grants superblocks and takes them back.
+#[derive(Clone, Copy)]
+pub struct Administrator<'a>(&'a Machine);
+
+/// A tenant of a machine that is divided by [`Machine::split`], the only handle of it. Whoever has it acts for this tenant alone.
+///
+/// Its calls are those of [`Machine`] for one tenant. What is lent borrows the client, and a handle of another tenant is
+/// [`Error::Stale`] here.
+pub struct Client<'a> {
+    machine: &'a Machine,
+    tenant: Tenant,
+}
+
+/// The tenants of a machine, each once, in the order of their numbers.
+pub struct Clients<'a> {
+    machine: &'a Machine,
+    next: u32,
+    left_out: Option<Tenant>,
+}
+
+impl<'a> Administrator<'a> {
+    /// The machine is divided: only its parts reach it.
+    pub(crate) fn new(machine: &'a Machine) -> Administrator<'a> {
+        Administrator(machine)
+    }
+}
+
+impl Administrator<'_> {
+    /// Grants the first superblock without an owner, under the first slot that the tenant does not hold. It reads as zero.
+    pub fn grant(&self, tenant: Tenant) -> Result<Slot, Error> {
+        self.0.grant(tenant)
+    }
+
+    /// Takes back a slot whose frames are all free, so nothing in it is lent.
+    pub fn take_back(&self, tenant: Tenant, slot: u32) -> Result<(), Error> {
+        self.0.take_back(tenant, slot)
+    }
+
+    /// Reports the figures of a tenant.
+    pub fn report(&self, tenant: Tenant) -> Result<Figures, Error> {
+        self.0.report(tenant)
+    }
+
+    /// Replaces the superblock of a slot by the first one without an owner, and copies all its bytes. Handles stay.
+    pub fn move_slot(&self, client: &mut Client<'_>, slot: u32) -> Result<Slot, Error> {
+        self.check(client)?;
+        // SAFETY: nothing of this tenant is lent, since lends borrow its only client.
+        unsafe { self.0.move_shared(client.tenant, slot) }
+    }
+
+    /// Takes back all that the tenant has. Its handles are stale afterwards.
+    pub fn reset(&self, client: &mut Client<'_>) -> Result<(), Error> {
+        self.check(client)?;
+        // SAFETY: nothing of this tenant is lent, since lends borrow its only client.
+        unsafe { self.0.reset_shared(client.tenant) }
+    }
+
+    fn check(&self, client: &Client<'_>) -> Result<(), Error> {
+        ptr::eq(self.0, client.machine).then_some(()).ok_or(Error::Stale)
+    }
+}
+
+impl<'a> Clients<'a> {
+    /// The machine is divided: only its parts reach it. One tenant may be left out, as the caller's own.
+    pub(crate) fn new(machine: &'a Machine, left_out: Option<Tenant>) -> Clients<'a> {
+        Clients { machine, next: 0, left_out }
+    }
+}
+
+impl<'a> Iterator for Clients<'a> {
+    type Item = Client<'a>;
+
+    fn next(&mut self) -> Option<Client<'a>> {
+        let skipped = u32::from(self.left_out == Some(Tenant(self.next)));
+        let tenant = Tenant(self.next + skipped);
+        if tenant.0 >= self.machine.tenants() {
+            return None;
+        }
+        self.next = tenant.0 + 1;
+        Some(Client { machine: self.machine, tenant })
+    }
+}
+
+impl<'a> Client<'a> {
+    /// Returns the tenant's number.
+    pub fn number(&self) -> Tenant {
+        self.tenant
+    }
+
+    pub(crate) fn machine(&self) -> &'a Machine {
+        self.machine
+    }
+
+    fn check(&self, tenant: Tenant) -> Result<(), Error> {
+        (tenant == self.tenant).then_some(()).ok_or(Error::Stale)
+    }
+
+    /// Returns a cache of values of a type, in the tenant's memory.
+    pub fn cache_of<T>(&self) -> Result<typed::Cache<'_, T>, Error> {
+        typed::Cache::new(self)
+    }
+
+    /// Returns a heap of the tenant, with the default classes.
+    pub fn heap(&self) -> Result<Heap<'_>, Error> {
+        self.heap_with(&[], false)
+    }
+
+    /// Returns a heap of the tenant with classes of these sizes, or with the default ones if there are none, and with or without
+    /// [runs](Heap#runs). Fails with `BadConfig`, and with runs `BadMemory`.
+    pub fn heap_with(&self, sizes: &[u16], has_runs: bool) -> Result<Heap<'_>, Error> {
+        Heap::new(self.again(), sizes, has_runs)
+    }
+
+    /// Returns a heap as [`Client::heap_with`], which has this client and does not borrow it.
+    pub fn into_heap(self, sizes: &[u16], has_runs: bool) -> Result<OwnedHeap<'a>, Error> {
+        OwnedHeap::new(self, sizes, has_runs)
+    }
+
+    /// A second client of the tenant. Only a heap has it, whose user has no other one, or only borrows it.
+    pub(crate) fn again(&self) -> Client<'a> {
+        Client { ..*self }
+    }
+
+    /// As [`Machine::alloc`].
+    pub fn alloc(&self, order: u32) -> Result<Block, Error> {
+        self.machine.alloc(self.tenant, order)
+    }
+
+    /// As [`Machine::free`].
+    pub fn free(&self, block: Block) -> Result<(), Error> {
+        self.check(block.tenant)?;
+        self.machine.free(block)
+    }
+
+    /// As [`Machine::make_cache`].
+    pub fn make_cache(&self, size: u32, align: u32, pattern: &[u8]) -> Result<Cache, Error> {
+        self.machine.make_cache(self.tenant, size, align, pattern)
+    }
+
+    /// As [`Machine::destroy_cache`].
+    pub fn destroy_cache(&self, cache: &mut Cache) -> Result<(), Error> {
+        self.check(cache.tenant)?;
+        self.machine.destroy_cache(cache)
+    }
+
+    /// As [`Machine::take`].
+    pub fn take(&self, cache: &Cache) -> Result<Object, Error> {
+        self.check(cache.tenant)?;
+        self.machine.take(cache)
+    }
+
+    /// As [`Machine::give`].
+    pub fn give(&self, object: Object) -> Result<(), Error> {
+        self.check(object.tenant)?;
+        self.machine.give(object)
+    }
+
+    /// As [`Machine::reap`].
+    pub fn reap(&self) -> Result<u32, Error> {
+        self.machine.reap(self.tenant)
+    }
+
+    /// As [`Machine::report`].
+    pub fn report(&self) -> Result<Figures, Error> {
+        self.machine.report(self.tenant)
+    }
+
+    /// As [`Machine::lend`].
+    pub fn lend<'b, Kind>(&'b self, handle: &'b Handle<Kind>) -> Result<&'b [u8], Error> {
+        self.check(handle.tenant)?;
+        self.machine.lend(handle)
+    }
+
+    /// As [`Machine::lend_mut`].
+    pub fn lend_mut<'b, Kind>(&'b self, handle: &'b mut Handle<Kind>) -> Result<&'b mut [u8], Error> {
+        self.check(handle.tenant)?;
+        self.machine.lend_mut(handle)
+    }
+
+    /// As [`Machine::lend_at`].
+    pub fn lend_at(&mut self, place: Place, bytes: u32) -> Result<&mut [u8], Error> {
+        // SAFETY: nothing of this tenant is lent, since lends borrow its only client, and the result borrows it unshared.
+        unsafe { self.machine.lend_shared(self.tenant, place, bytes) }
+    }
+}
+
+impl fmt::Debug for Administrator<'_> {
+    fn fmt(&self, to: &mut fmt::Formatter<'_>) -> fmt::Result {
+        write!(to, "Administrator({:?})", self.0)
+    }
+}
+
+impl fmt::Debug for Client<'_> {
+    fn fmt(&self, to: &mut fmt::Formatter<'_>) -> fmt::Result {
+        write!(to, "Client({})", self.tenant.0)
+    }
+}
+
+impl fmt::Debug for Clients<'_> {
+    fn fmt(&self, to: &mut fmt::Formatter<'_>) -> fmt::Result {
+        write!(to, "Clients(from {} on)", self.next)
+    }
+}
