@@ -14,6 +14,8 @@ FIELDS = {"usage": "use"}
 # A partmem_tenant goes where a machine and a number go.
 TENANT = [("machine", "partmem_machine *"), ("tenant", "uint32_t")]
 IN_C = ["partmem_" + name for name in "strerror version boot boot_in end superblock_address find_place".split()]
+# Exports that return a number and no status.
+NUMBERS = ["partmem_superblock_bytes"]
 ENUM = re.compile(r"(?:typedef )?enum (?:\w+ )?\{([^{}]*)\}(?: (\w+))?;")
 STRUCT = re.compile(r"typedef struct (\w+) \{([^{}]*)\} (\w+);")
 FUNCTION = re.compile(r"(?:PARTMEM_CHECKED )?(partmem_status|uint32_t|void \*|const char \*) ?(\w+)\(([^()]*)\);")
@@ -76,7 +78,7 @@ def exports_of_header(functions):
     for result, name, parameters in functions:
         if name in IN_C:
             continue
-        if result != "partmem_status":
+        if result != ("uint32_t" if name in NUMBERS else "partmem_status"):
             fail(f"{name} returns {result}")
         flat = []
         for parameter, kind in map(declared, parameters.split(",")):
@@ -159,8 +161,8 @@ def snake(name):
 def numbers_of_source():
     """The numbers of the source: statuses, kinds and uses, and what bounds them."""
     for path, text in sources.items():
-        for name, number in re.findall(r"pub const (\w+): u32 = (\d+);", text):
-            yield name, int(number)
+        for name, number in re.findall(r"pub const (\w+): u32 = (\d+|u32::MAX);", text):
+            yield name, 2 ** 32 - 1 if number == "u32::MAX" else int(number)
     refusals = re.search(r"pub enum Refusal \{(.*?)\n\}", read("crates/words_core/src/reply.rt", r"//[^\n]*"), re.S)[1]
     for number, name in enumerate(re.findall(r"(\w+)(?: = 1)?,", refusals), 1):
         yield snake(name), number

@@ -2,7 +2,7 @@
 _partmem() {
     local options='--order --superblocks --tenants --only --own --tally --help --version'
     case ${1##*/} in
-        framemap) options='--order --superblocks --tenants --only --columns --help --version' ;;
+        framemap) options='--order --superblocks --tenants --only --columns --figures --help --version' ;;
         partcheck) options='--order --superblocks --tenants --help --version' ;;
     esac
     COMPREPLY=()

@@ -12,3 +12,4 @@ end
 complete -c partmem -l own -x -d 'The own list of this tenant, in place of replies'
 complete -c partmem -l tally -d 'Tell on standard error what was done, refused and faulty'
 complete -c framemap -l columns -x -d 'Columns of the picture at most, 1 to 4096'
+complete -c framemap -l figures -d 'A table of the figures, in place of the picture'
