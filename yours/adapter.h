@@ -13,6 +13,10 @@
 #include <stdbool.h>
 #include <stdint.h>
 
+#ifdef __cplusplus
+extern "C" {
+#endif
+
 enum { FRAME_BYTES = 4096, MOST_BYTES = 64, MOST_PATTERN = 16, MOST_CACHES = 32, MOST_ORDER = 8 };
 
 enum reply {
@@ -101,5 +105,9 @@ struct caches {
 
 /* Your caches, or NULL where there are none: their commands then end the program, so test it with --pages. */
 const struct caches *caches(void);
+
+#ifdef __cplusplus
+}
+#endif
 
 #endif

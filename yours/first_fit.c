@@ -21,11 +21,15 @@ static unsigned frames, count;
 /* by tenant and order the frame that was freed last */
 static uint32_t (*last)[MOST_ORDER + 1];
 
-static void give_up(struct superblock *of) {
+static void vacate(struct superblock *of) {
     of->tenant = NOBODY;
     of->slot = 0;
     memset(of->taken, 0, sizeof of->taken);
     memset(of->order, NO_BLOCK, sizeof of->order);
+}
+
+static void give_up(struct superblock *of) {
+    vacate(of);
     memset(of->bytes, 0, (size_t)frames * FRAME_BYTES);
 }
 
@@ -34,7 +38,7 @@ bool boot(unsigned order, unsigned superblocks, unsigned tenants) {
     all = calloc(superblocks, sizeof *all);
     last = calloc(tenants, sizeof *last);
     while (all != NULL && count < superblocks)
-        give_up(&all[count++]);
+        vacate(&all[count++]);
     return all != NULL && last != NULL;
 }
 

@@ -1,0 +1,42 @@
+"""Processes that are below this one: they end with it, those too that left its group or its session."""
+import contextlib
+import ctypes
+import os
+import signal
+
+SET_PARENT_DEATH_SIGNAL, SET_CHILD_SUBREAPER = 1, 36
+
+
+def adopt():
+    """Makes this process the parent of those below it whose own parent ends. It cannot be done on systems other than Linux."""
+    control(SET_CHILD_SUBREAPER, 1)
+
+
+def end_with_parent():
+    """Lets SIGTERM come to this process when its parent ends."""
+    control(SET_PARENT_DEATH_SIGNAL, signal.SIGTERM)
+
+
+def control(what, value):
+    with contextlib.suppress(OSError, AttributeError):
+        ctypes.CDLL(None).prctl(what, value, 0, 0, 0)
+
+
+def children():
+    """The processes whose parent is this one."""
+    try:
+        with open(f'/proc/self/task/{os.getpid()}/children') as file:
+            return [int(word) for word in file.read().split()]
+    except OSError:
+        return []
+
+
+def kill_all():
+    """Kills and waits for all processes below this one; what they leave behind comes to this one, and is killed too."""
+    while left := children():
+        for number in left:
+            with contextlib.suppress(ProcessLookupError, PermissionError):
+                os.kill(number, signal.SIGKILL)
+        for number in left:
+            with contextlib.suppress(ChildProcessError):
+                os.waitpid(number, 0)

@@ -1,0 +1,62 @@
+"""Which lines of a run belong together: one that gives a name, and those that need it."""
+import collections
+import contextlib
+
+from .runs import Places, names_in, tenant_of
+from .words import FRAME_BYTES, number_in, order_in, told_in
+
+
+class Givers:
+    """The lines that gave a tenant its slots, caches, blocks and objects."""
+
+    def __init__(self, order):
+        self.order = order
+        self.slots, self.caches, self.sizes, self.places = {}, {}, {}, Places()
+
+    def needs(self, at, words, told):
+        """The lines that line `at` needs; it is noted what it gives."""
+        kind, needed = told[0] if told else '', []
+        if len(words) > 1 and kind != 'fault':
+            with contextlib.suppress(IndexError, ValueError):
+                needed = self.named(words)
+                needed.append(self.slot_of_new(at, words, told, kind))
+        if words[:2] == ['admin', 'reset'] and kind == 'reset':
+            self.__init__(self.order)
+        return {line for line in needed if line is not None}
+
+    def named(self, words):
+        """The lines that gave what these words name."""
+        numbers = [(kind, number_in(words[at])) for at, kind in names_in(words)]
+        return [self.slots.get(number) if kind == 'slot' else self.caches.get(number) if kind == 'cache' else
+                self.giver(number * FRAME_BYTES if kind == 'frame' else number) for kind, number in numbers]
+
+    def giver(self, place):
+        """The line that gave what has a place, or else the slot in which it is."""
+        begin = self.places.around(place)
+        return self.slots.get(place // FRAME_BYTES >> self.order) if begin is None else self.places.known[begin][1]
+
+    def slot_of_new(self, at, words, told, kind):
+        """Notes what a line gives; returns the line that gave the slot in which that is."""
+        if kind == 'granted':
+            self.slots[number_in(told[3])] = at
+        elif kind == 'cache':
+            self.caches[number_in(told[1])], self.sizes[number_in(told[1])] = at, number_in(words[2])
+        elif kind in ('frame', 'object'):
+            begin = number_in(told[1]) * (FRAME_BYTES if kind == 'frame' else 1)
+            size = FRAME_BYTES << order_in(words[2]) if kind == 'frame' else self.sizes.get(number_in(words[2]), 1)
+            self.places.add(begin, size, at)
+            return self.slots.get(begin // FRAME_BYTES >> self.order)
+        return None
+
+
+def families_of(run):
+    """For each line the lines that cannot be without it: itself, and those that need what it gives, or what these give."""
+    tenants = collections.defaultdict(lambda: Givers(run.sizes.order))
+    families, needed = [], []
+    for at, (line, replies) in enumerate(run.exchanges):
+        direct = tenants[tenant_of(line)].needs(at, line.split(), told_in(replies))
+        needed.append(direct.union(*(needed[one] for one in direct)))
+        families.append({at})
+        for one in needed[at]:
+            families[one].add(at)
+    return families

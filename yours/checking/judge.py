@@ -1,0 +1,112 @@
+"""The tests of a run: partcheck judges its replies, and those of a tenant are compared with another run of its own list."""
+import os
+import re
+import subprocess
+import tempfile
+from typing import NamedTuple, Optional, Union
+
+from .runs import Run, replayed
+from .talk import Failure
+from .words import ending, visible, words_of
+
+# The exits of partcheck.
+ALLOWED, NOT_ALLOWED = 0, 4
+# What partcheck prints: the number of the line, the line and the reply, the promise and its words. A reply, which is then quoted,
+# may look like the end of a finding too: the last promise is the broken one.
+PROMISE = re.compile(r'line (\d+), .*: (Form|Refusals|Room|Busy|Blocks|Objects|Layout|Gives|Owners|Bytes|Report|Still): ', re.S)
+
+
+class Unusable(Exception):
+    """partcheck or partmem cannot be used."""
+
+
+class Breach(NamedTuple):
+    """A broken promise: one of docs/promises.md, or Exact. It has the line that shows it, if that is known, and Alone the tenant
+    whose replies differ."""
+    kind: str
+    words: str
+    tenant: Optional[int] = None
+    line: Optional[int] = None
+
+
+class Case(NamedTuple):
+    """A run, and what it shows."""
+    run: Run
+    finding: Union[Breach, Failure]
+
+
+def line_of_reply(run, tenant, number):
+    """The line to which a tenant got the reply line of this number, or the last one."""
+    begin, told = f'{tenant}> ', 0
+    for at, (_, replies) in enumerate(run.exchanges, 1):
+        told += sum(reply.startswith(begin) for reply in replies)
+        if told >= number:
+            return at
+    return len(run.exchanges)
+
+
+class Judge:
+    """A run in which the program fails breaks no promise."""
+
+    def __init__(self, options, programs):
+        self.programs, self.exact = programs, options.exact
+        self.partmem, self.partcheck = options.partmem, options.partcheck
+
+    def judged(self, run):
+        """What a run shows alone."""
+        finding = run.failure or self.broken_promise(run) or (self.compared_with_partmem(run) if self.exact else None)
+        return finding and Case(run, finding)
+
+    def run_tool(self, program, statuses, sizes, *files, **given):
+        """A run of partcheck or partmem, which has to end with one of these statuses."""
+        try:
+            ran = subprocess.run([program, *words_of(sizes), *files], capture_output=True, **given)
+        except OSError as error:
+            raise Unusable(f'cannot run {program}: {error.strerror}') from None
+        if ran.returncode not in statuses:
+            said = visible(ran.stderr.decode('utf-8', 'replace').strip())
+            raise Unusable(f'{program} ended {ending(ran.returncode)}' + (said and f': {said}'))
+        return ran
+
+    def broken_promise(self, run):
+        """What partcheck finds in the replies, if a promise is broken."""
+        with tempfile.TemporaryDirectory(prefix='partmem-check-') as work:
+            files = [os.path.join(work, name) for name in ('trace', 'replies')]
+            for file, text in zip(files, (run.trace(), run.text())):
+                with open(file, 'wb') as opened:
+                    opened.write(text.encode('latin-1'))
+            ran = self.run_tool(self.partcheck, (ALLOWED, NOT_ALLOWED), run.sizes, *files)
+        if ran.returncode == ALLOWED:
+            return None
+        said = ran.stdout.decode('utf-8', 'replace').strip()
+        found = PROMISE.match(said)
+        if found is None:
+            raise Unusable(f'{self.partcheck} prints no finding: {visible(said)}')
+        return Breach(found[2], said, line=int(found[1]))
+
+    def compared_with_partmem(self, run):
+        ran = self.run_tool(self.partmem, (0,), run.sizes, input=run.trace().encode('latin-1'))
+        told = ran.stdout.decode('latin-1')
+        lines = enumerate(zip((told + '\n').split('\n'), (run.text() + '\n').split('\n')), 1)
+        first = next(((at, *map(visible, pair)) for at, pair in lines if pair[0] != pair[1]), None)
+        return first and Breach('Exact', "reply line {}: partmem says '{}', the program '{}'".format(*first))
+
+    def alone(self, run, tenant):
+        """What it shows that the tenant gets other replies if nobody else does anything; or that the program fails then."""
+        other = replayed(self.programs, run.sizes, [(line, []) for line in run.own_list(tenant)])
+        return Case(other, other.failure) if other.failure else self.compared(run, other, tenant, 'alone')
+
+    def compared(self, run, other, tenant, where):
+        pairs = zip(run.told(tenant) + ['nothing'], other.told(tenant) + ['nothing'])
+        for at, (one, two) in enumerate(pairs, 1):
+            if one != two:
+                words = f"reply line {at} is '{visible(one)}' here, and '{visible(two)}' where its own list is run {where}"
+                return Case(run, Breach('Alone', words, tenant, line_of_reply(run, tenant, at)))
+        return None
+
+    def shows(self, sizes, exchanges, finding, order=None):
+        """A run of these lines, which had their replies on a machine of this order, that shows the same, if it does."""
+        run = replayed(self.programs, sizes, exchanges, order)
+        is_alone = isinstance(finding, Breach) and finding.tenant is not None and not run.failure
+        case = self.alone(run, finding.tenant) if is_alone else self.judged(run)
+        return case if case and case.finding.kind == finding.kind else None

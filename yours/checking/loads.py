@@ -1,0 +1,129 @@
+"""Makes a load by talking to the program, and tests it."""
+import collections
+from typing import NamedTuple, Optional
+
+from .judge import Case, Judge
+from .maker import OF_CACHES, Maker, Phase
+from .plans import ALL, Planner
+from .runs import Run, is_own
+from .talk import Programs
+from .words import Sizes
+
+# Everything is full if one of so many lines is refused because there are no frames, or no superblocks.
+FULL = 3
+# Own lines, with noise between them, that are sent at once, and lines of noise before each of them, at most.
+OWN_AT_ONCE, MOST_NOISE = 16, 3
+
+
+class Reached(NamedTuple):
+    """What runs reached."""
+    lines: int = 0
+    refused: collections.Counter = collections.Counter()
+    most: collections.Counter = collections.Counter()           # what one tenant had at a time
+    orders: frozenset = frozenset()
+    tenants: int = 0
+    widest: Sizes = Sizes(0, 0, 0)
+
+    def and_also(self, other):
+        return Reached(self.lines + other.lines, self.refused + other.refused, self.most | other.most, self.orders | other.orders,
+                       max(self.tenants, other.tenants),
+                       max(self.widest, other.widest, key=lambda sizes: (sizes.superblocks << sizes.order, sizes.tenants)))
+
+
+def reached_by(run):
+    sizes = run.sizes
+    return Reached(len(run.exchanges), run.world.refused, run.world.most, frozenset([sizes.order]), sizes.tenants, sizes)
+
+
+class Load(NamedTuple):
+    """A load that was run: its number or the name of its trace, and what its runs reached and show."""
+    name: object
+    reached: Reached
+    case: Optional[Case]
+
+
+def load(options, number):
+    """Makes and tests a load."""
+    fixed = Sizes(options.order, options.superblocks, options.tenants)
+    planner = Planner(options.seed, number, fixed, not set(OF_CACHES) <= set(options.without))
+    plan, judge = planner.plan(options.long), Judge(options, Programs(options.command))
+    maker, run = Maker(planner.rng, options.without), Run(judge.programs, plan.sizes)
+    for phase in plan.phases:
+        say_phase(run, maker, phase, plan.at_once)
+    case = judge.judged(run.end())
+    reached = reached_by(run)
+    if case:
+        return Load(number, reached, case)
+    tenant = planner.rng.choice(run.speakers() or [0])
+    case = judge.alone(run, tenant)
+    if case:
+        return Load(number, reached, case)
+    noisy = between_noise(judge.programs, run, tenant, maker)
+    reached = reached.and_also(reached_by(noisy))
+    case = judge.judged(noisy)
+    if not case:
+        case = judge.compared(noisy, run, tenant, 'between other noise')
+        case = case and (judge.alone(noisy, tenant) or case)
+    return Load(number, reached, case)
+
+
+def say_phase(run, maker, phase, at_once):
+    """Says the lines of a phase; returns when they were said, at its goal, or when everything is full or empty."""
+    left, world = phase.lines, run.world
+    phase = phase._replace(slot=world.tenants[phase.tenants[0]].slot_of_rank(phase.rank))
+    while left > 0 and not run.failure and maker.commands(phase):
+        count = min(left, at_once, most_lines(world, phase))
+        if count == 0:
+            return
+        before = refused_for_want(world)
+        run.say(maker.lines(world, phase, count))
+        left -= count
+        if phase.until == 'full' and FULL * (refused_for_want(world) - before) > count:
+            return
+
+
+def most_lines(world, phase):
+    """How many lines of a phase may be said at once, so that it ends where it says: at its goal, or when nothing is held."""
+    tenants, most = [world.tenants[tenant] for tenant in phase.tenants], phase.lines
+    if phase.until == 'empty' and not any(tenant.held() for tenant in tenants):
+        return 0
+    if phase.goal:
+        most = phase.goal.away(tenants[0], world.sizes.order, phase.slot)
+        # a line of frames has a whole block of them
+        most >>= max(phase.orders) if phase.goal.noun == 'frames' else 0
+    return most
+
+
+def refused_for_want(world):
+    return world.refused['NoFrames'] + world.refused['PoolEmpty']
+
+
+def most_held(lines):
+    """The most slots that these own lines have at a time."""
+    held = most = 0
+    for words in map(str.split, lines):
+        step = words[1] if words[0] == 'admin' else ''
+        held = held + (step == 'grant') - (step == 'takeback') if step != 'reset' else 0
+        most = max(most, held)
+    return most
+
+
+def between_noise(programs, before, tenant, maker):
+    """A run of a tenant's own list of the run before, between lines of the others. These leave it the superblocks that it will be
+    granted. Its own slots are moved too."""
+    sizes, lines = before.sizes, before.own_list(tenant)
+    others = [number for number in range(sizes.tenants) if number != tenant]
+    noise = Phase(0, ALL, others, [0, 0, 0, 1, 1, 2, sizes.order])
+    run, left = Run(programs, sizes), sizes.superblocks - most_held(lines)
+    for at in range(0, len(lines), OWN_AT_ONCE):
+        held, said = sum(len(run.world.tenants[other].slots) for other in others), []
+        for line in lines[at:at + OWN_AT_ONCE]:
+            for _ in range(maker.rng.randrange(MOST_NOISE + 1) if others else 0):
+                other = maker.line(run.world, noise)
+                is_grant = other.startswith('admin grant')
+                if not is_own(tenant, other, ['']) and (not is_grant or held < left):
+                    said.append(other)
+                    held += is_grant
+            said.append(line)
+        run.say(said)
+    return run.end()

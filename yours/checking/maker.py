@@ -1,0 +1,235 @@
+"""Makes lines that mostly do something, and else have a number at an edge."""
+import functools
+from typing import NamedTuple, Optional
+
+from .words import FRAME_BYTES, MOST_BYTES, MOST_NUMBER
+from .world import Cache
+
+OF_TENANT = ('alloc', 'free', 'read', 'write', 'cache', 'destroy', 'take', 'give', 'reap', 'report')
+OF_CACHES = OF_TENANT[4:]
+OF_ADMIN = ('grant', 'takeback', 'move', 'reset', 'pool')
+
+FAULTY = ['frob', '0', '0 alloc', '0 alloc x', '0 alloc 4294967296', '7x alloc 0', '0 write 0 abc', '0 frob 1', 'admin',
+          'admin frob', 'admin grant', '# remark', '', ' \t', '0 alloc ' + '0' * 11, '0 read 0 ' + '9' * 300,
+          '\t 0  alloc \t 0\r', '0 alloc 0 0', 'admin grant 0 0', 'admin takeback 0 x', '0 write 0 ' + 'a5' * 65]
+POWERS = [1 << k for k in (3, 5, 8, 12, 16, 20, 24, 31)]
+EDGES = sorted({0, 1, MOST_NUMBER, MOST_NUMBER - 1} | {power + more for power in POWERS for more in (-1, 0, 1)})
+WRONG_ORDERS = [9, 12, 16, 20, 31, 32, 33, 63, 64, 255, 256, 257, 264, 1 << 16, 1 << 31, MOST_NUMBER]
+LENGTHS, WRONG_LENGTHS = [1, 1, 2, 4, 8, 16, 32, 63, 64, 64], [0, 0, 65, 66, 128, 255, 256, 257, 1 << 16, 1 << 31, MOST_NUMBER]
+OBJECTS = [1, 7, 8, 8, 9, 15, 16, 17, 24, 31, 32, 33, 63, 64, 65, 100, 127, 128, 129, 200, 255, 256, 257, 500, 511, 512, 513,
+           1000, 1023, 1024, 1025, 2000, 2047, 2048, 2049, 4095, 4096]
+WRONG_OBJECTS = [0, 4097, 8192, 1 << 16, (1 << 16) + 8, 1 << 31, MOST_NUMBER]
+ALIGNMENTS = [8, 8, 8, 8, 16, 32, 64, 128, 256]
+WRONG_ALIGNMENTS = [0, 1, 4, 7, 9, 12, 24, 255, 257, 512, 4096, (1 << 16) + 8, MOST_NUMBER]
+# How many caches a tenant may have.
+MOST_CACHES = 32
+
+
+class Goal(NamedTuple):
+    """Exactly so many frames, blocks, objects or slots of a tenant; or so many more objects than this number of slabs has."""
+    noun: str
+    count: int = 0
+    slabs: int = 0
+
+    def away(self, tenant, order, slot):
+        """How many of them a tenant lacks, or has beyond the goal."""
+        return abs(self.count + self.slabs * tenant.of_a_slab() - tenant.count(self.noun, order, slot))
+
+
+class Phase(NamedTuple):
+    """Some lines of one kind: which commands, in which proportion, of which tenants. They may end before."""
+    lines: int
+    weights: str
+    tenants: list
+    orders: list
+    sizes: list = OBJECTS
+    alignments: list = ALIGNMENTS
+    until: str = ''                                             # `full`, `empty`, or all lines
+    goal: Optional[Goal] = None                                 # it ends here too; of one tenant
+    is_plain: bool = False                                      # no number is wrong on purpose
+    rank: Optional[int] = None                                  # the one slot that is used: 0 is the lowest, -1 the highest
+    slot: Optional[int] = None                                  # its number
+
+
+@functools.cache
+def commands_of(weights, without):
+    """The commands of a text as `alloc 5 free 4`, each as often as it says."""
+    words = weights.split()
+    return [name for name, count in zip(words[::2], words[1::2]) if name not in without for _ in range(int(count))]
+
+
+class Maker:
+    def __init__(self, rng, without):
+        self.rng, self.without = rng, tuple(without)
+
+    def commands(self, phase):
+        """The commands of a phase that are not left out; there may be none."""
+        return commands_of(phase.weights, self.without)
+
+    def lines(self, world, phase, count):
+        return [self.line(world, phase) for _ in range(count)]
+
+    def line(self, world, phase):
+        tenant = self.one(phase.tenants)
+        command = self.one(self.commands(phase))
+        if command in OF_TENANT and not world.tenants[tenant].slots and self.rng.random() < 0.6:
+            tenant, command = self.for_a_slot(world, tenant)
+        if command == 'fault':
+            return self.one(FAULTY)
+        if command in OF_ADMIN:
+            return self.admin(world, phase, tenant, command)
+        actor = tenant if self.is_right(phase, 0.995) else self.no_tenant(world)
+        return ' '.join(map(str, [actor, *self.command(world, phase, world.tenants[tenant], command)]))
+
+    def for_a_slot(self, world, tenant):
+        """A tenant and a command that gives this tenant a slot, or takes one from another if all are owned."""
+        owners = [number for number, other in enumerate(world.tenants) if other.slots]
+        if sum(len(world.tenants[number].slots) for number in owners) < world.sizes.superblocks:
+            return tenant, 'grant'
+        return self.one(owners or [tenant]), self.one(['reset', 'takeback', 'takeback', 'grant'])
+
+    def one(self, items):
+        return items[int(self.rng.random() * len(items))]
+
+    def is_right(self, phase, chance):
+        """Whether a number is to be a right one, by chance or by the phase."""
+        return phase.is_plain or self.rng.random() < chance
+
+    def admin(self, world, phase, tenant, command):
+        if command == 'pool' and self.rng.random() * world.sizes.superblocks < 16:
+            return 'admin pool'
+        slot = self.slot(world, phase, world.tenants[tenant].slots) if command in ('takeback', 'move') else ''
+        actor = tenant if self.is_right(phase, 0.97) else self.no_tenant(world)
+        return f'admin {"grant" if command == "pool" else command} {actor} {slot}'.rstrip()
+
+    def no_tenant(self, world):
+        count = world.sizes.tenants
+        return max(count, self.one([count, count, count + 1, 64, 255, 256, 257, 1 << 16, 1 << 31, MOST_NUMBER]))
+
+    def slot(self, world, phase, slots):
+        if slots and self.is_right(phase, 0.92):
+            return slots.draw(self.rng) if phase.slot is None else phase.slot
+        return self.near(slots.draw(self.rng) if slots else 0, 1, [1 << 20 - world.sizes.order, 1 << 32 - world.sizes.order])
+
+    def near(self, number, span, spans=()):
+        """A number that is none of these: beside one of them, so far from it that it wraps, or at an edge."""
+        spans = [1, span, 1 << 8, 1 << 16, *spans]
+        wrong = number + self.one([1, 1, -1]) * self.one(spans) if self.rng.random() < 0.7 else self.one(EDGES)
+        return min(max(wrong, 0), MOST_NUMBER)
+
+    def command(self, world, phase, tenant, command):
+        """The words of a command."""
+        if command == 'free' and not tenant.pages and self.rng.random() < 0.8:
+            command = 'alloc'
+        if command == 'give' and not tenant.objects and self.rng.random() < 0.8:
+            command = 'take'
+        if command in ('take', 'destroy') and not tenant.caches and self.rng.random() < 0.8:
+            command = 'cache'
+        if command in self.without:
+            command = self.one([name for name in OF_TENANT if name not in self.without] or ['report'])
+        if command == 'alloc':
+            return command, self.order(world, phase)
+        if command == 'free':
+            return command, self.page(world, phase, tenant)
+        if command == 'read':
+            place, length = self.range(world, tenant)
+            return command, place, length if self.rng.random() < 0.95 else self.one(WRONG_LENGTHS)
+        if command == 'write':
+            place, length = self.range(world, tenant)
+            return command, place, self.rng.randbytes(length).hex()
+        if command == 'give':
+            return command, *self.object(world, phase, tenant)
+        if command in ('take', 'destroy'):
+            return command, self.cache(phase, tenant)
+        return (command, *self.layout(phase)) if command == 'cache' else (command,)
+
+    def order(self, world, phase):
+        chance = 0 if phase.is_plain else self.rng.random()
+        if chance < 0.96:
+            return self.one(phase.orders)
+        return self.one([world.sizes.order, world.sizes.order + 1]) if chance < 0.98 else self.one(WRONG_ORDERS)
+
+    def drawn_in(self, bag, phase, places):
+        """One of these numbers, in the slot of the phase if it has one there; a slot has so many of these places."""
+        inside = [key for key in bag.keys if key // places == phase.slot] if phase.slot is not None else []
+        return self.one(inside) if inside else bag.draw(self.rng)
+
+    def page(self, world, phase, tenant):
+        """The first frame of a block, seldom another number. It is not drawn again before the reply is there."""
+        if tenant.pages and self.is_right(phase, 0.93):
+            first = self.drawn_in(tenant.pages, phase, 1 << world.sizes.order)
+            tenant.pages.drop(first)
+            return first
+        if tenant.freed and self.rng.random() < 0.3:
+            return self.one(tenant.freed)
+        first = tenant.pages.draw(self.rng) if tenant.pages else 0
+        return self.near(first, 1 << tenant.pages.get(first, 0), [1 << world.sizes.order, 1 << 20])
+
+    def cache(self, phase, tenant):
+        if phase.is_plain and tenant.last_cache in tenant.caches:
+            return tenant.last_cache
+        if tenant.caches and self.is_right(phase, 0.95):
+            return tenant.caches.draw(self.rng)
+        return self.near(tenant.caches.draw(self.rng) if tenant.caches else 0, MOST_CACHES)
+
+    def object(self, world, phase, tenant):
+        if tenant.objects and self.is_right(phase, 0.92):
+            place = self.drawn_in(tenant.objects, phase, FRAME_BYTES << world.sizes.order)
+            cache = tenant.objects.get(place)
+            tenant.objects.drop(place)
+            return cache, place
+        if tenant.given and self.rng.random() < 0.3:
+            return self.one(tenant.given)
+        place = tenant.objects.draw(self.rng) if tenant.objects else 0
+        cache = tenant.objects.get(place, 0)
+        return self.one([(cache, self.near(place, 16, [FRAME_BYTES])), (self.cache(phase, tenant), place)])
+
+    def layout(self, phase):
+        rng = self.rng
+        size = self.one(phase.sizes) if self.is_right(phase, 0.85) else rng.randrange(1, 4097)
+        size = size if self.is_right(phase, 0.95) else self.one(WRONG_OBJECTS)
+        alignment = self.one(phase.alignments) if self.is_right(phase, 0.95) else self.one(WRONG_ALIGNMENTS)
+        return size, alignment, rng.randbytes(self.one([1, 1, 2, 3, 7, 16])).hex()
+
+    def range(self, world, tenant):
+        """A place, and how many bytes from it on: mostly in something that is there, at its edges."""
+        chance = self.rng.random()
+        if chance < 0.15 and tenant.written:
+            return self.one(tenant.written)
+        length = self.one(LENGTHS)
+        if chance < 0.25 and world.offsets and tenant.slots:
+            # what somebody left at the same place of a superblock
+            place = tenant.slots.draw(self.rng) * (FRAME_BYTES << world.sizes.order) + self.one(world.offsets)
+        elif chance < 0.28 or not tenant.pages and not tenant.objects:
+            place = self.one([0, MOST_NUMBER, MOST_NUMBER - length + 1, MOST_NUMBER - length + 2, self.one(EDGES)])
+        else:
+            begin, size = self.block(tenant)
+            length = min(length, size) if self.rng.random() < 0.9 else length
+            place = begin + self.at(size, length)
+        return min(max(place, 0), MOST_NUMBER), length
+
+    def block(self, tenant):
+        """The first place of a block or an object, and its bytes."""
+        if tenant.pages and (not tenant.objects or self.rng.random() < 0.5):
+            frame = tenant.pages.draw(self.rng)
+            return FRAME_BYTES * frame, FRAME_BYTES << tenant.pages.get(frame)
+        place = tenant.objects.draw(self.rng)
+        return place, tenant.caches.get(tenant.objects.get(place), Cache()).size
+
+    def at(self, size, length):
+        """Where a range begins, counted from the first place of a block."""
+        rng = self.rng
+        chance, last = rng.random(), max(size - length, 0)
+        if chance < 0.2:
+            return 0
+        if chance < 0.42:
+            return last                                         # ends at the end
+        if chance < 0.52:
+            return last + 1                                     # ends one past it
+        if chance < 0.62:
+            # begins at the end, or begins or ends one before the block, or is partly in the next or partly in the one before
+            return self.one([size, -1, -length, size - rng.randint(1, length), -rng.randint(1, length)])
+        if chance < 0.8:
+            # across two frames of a block, or at the end or the begin of one
+            return FRAME_BYTES * rng.randrange(size // FRAME_BYTES + 1) - self.one([0, length // 2, length])
+        return rng.randrange(last + 1)

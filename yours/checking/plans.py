@@ -1,0 +1,230 @@
+"""What a load is: a machine, and phases of lines. Small machines most often, and the widest in some."""
+import random
+from typing import NamedTuple
+
+from .maker import ALIGNMENTS, MOST_CACHES, OBJECTS, Goal, Phase
+from .words import MOST_ORDER, Sizes
+
+MOST_SUPERBLOCKS, MOST_TENANTS = 256, 64
+# Lines of which the replies are not waited for one by one.
+AT_ONCE = 64
+
+ALL = 'alloc 20 free 16 read 12 write 12 take 24 give 16 cache 6 destroy 3 reap 3 report 3 ' \
+      'grant 6 takeback 4 move 3 reset 1 pool 1 fault 2'
+FILL = 'alloc 12 take 12 cache 1 write 4 read 2 free 1 give 1 grant 2'
+FILL_PAGES, FILL_OBJECTS = 'alloc 30 write 2 read 1', 'take 30 cache 1 write 2 read 1'
+DRAIN = 'free 12 give 12 read 1 takeback 1 report 1'
+CHURN = 'alloc 10 free 10 take 10 give 10 read 3 write 3 reap 1 report 1 move 1'
+EDGES = 'read 12 write 8 alloc 4 free 3 take 3 give 3 destroy 1 takeback 1 move 1'
+PROBE = 'takeback 6 alloc 6 take 3 read 4 write 2 move 2 report 2 grant 2 pool 1 reap 1 destroy 1'
+MOVES = 'move 1 read 4'
+GRANTS, RETURNS = 'grant 1', 'takeback 6 reset 1 grant 2 report 1 pool 1 move 1'
+CACHES = 'cache 12 destroy 1 take 3'
+# What is refused, or changes nothing: for counts that are at an edge.
+HOLD = 'takeback 4 destroy 4 report 2 read 2 write 1 pool 1 reap 1'
+# What is refused between reports, which have to be the same then.
+QUIET = 'report 4 alloc 3 takeback 1 read 1'
+TAKE, GIVE, ALLOC, FREE = 'take 1', 'give 1', 'alloc 1', 'free 1'
+# Counts around one that a byte has no more, and slots around those that a word of 32, 64 or 128 bits has no more.
+EDGES_OF_COUNTS = 255, 256, 257
+# Orders and superblocks of machines that one tenant fills.
+ALONE = [(8, 1), (8, 16), (8, MOST_SUPERBLOCKS), (8, MOST_SUPERBLOCKS), (7, MOST_SUPERBLOCKS), (6, 3)]
+RANKS = 0, 1, 31, 32, 62, 63, 64, 65, 127, 128, 254, 255, -1
+
+
+class Plan(NamedTuple):
+    sizes: Sizes
+    phases: list
+    at_once: int = AT_ONCE
+
+
+def granting(sizes, tenants):
+    """Some of the lines name a tenant that does not exist."""
+    return Phase(sizes.superblocks * 9 // 8 + 40, GRANTS, tenants, [0], until='full')
+
+
+def granting_all_but_one(sizes, tenants):
+    """So a slot can be moved; if there is one superblock alone, it is granted."""
+    return granting(sizes, tenants)._replace(goal=Goal('slots', max(sizes.superblocks - 1, 1)))
+
+
+class Planner:
+    """Draws plans. Numbers of `fixed` that are not None are those of each machine."""
+
+    def __init__(self, seed, number, fixed, with_caches):
+        self.seed, self.number, self.fixed, self.with_caches = seed, number, fixed, with_caches
+        self.rng = random.Random(f'{seed} {number}')
+
+    def machine(self, orders, superblocks, tenants):
+        drawn = [self.rng.choice(choices) for choices in (orders, superblocks, tenants)]
+        return Sizes(*(drawn if fixed is None else fixed for fixed, drawn in zip(self.fixed, drawn)))
+
+    def in_turn(self, choices, each):
+        """One of the choices, by turns in the loads of a kind, which comes once in so many loads; each seed begins elsewhere."""
+        shuffled = random.Random(f'{self.seed}').sample(choices, len(choices))
+        return shuffled[self.number // each % len(choices)]
+
+    def orders(self, sizes):
+        """Which orders are drawn: mostly small ones, or all, or one alone."""
+        every = list(range(sizes.order + 1))
+        return self.rng.choice([[0, 0, 0, 1, 1, 2, 3, sizes.order], [0, 0, 1, 2], every, [self.rng.choice(every)]])
+
+    def small(self):
+        sizes = self.machine([3, 3, 3, 4, 5], [1, 2, 3, 4, 6, 8], [1, 2, 2, 3, 4])
+        lines, everyone = self.rng.choice([40, 120, 240]), list(range(sizes.tenants))
+        orders = [0, 0, 0, 1, 1, 2, 3, sizes.order]
+        phases = [Phase(lines, ALL, everyone, orders)]
+        if self.rng.random() < 0.3:
+            phases = [Phase(lines // 2, ALL, everyone, orders), Phase(lines // 2, EDGES, everyone, orders)]
+        return Plan(sizes, phases, self.rng.choice([1, 1, 4, 8]))
+
+    def medium(self):
+        sizes = self.machine(range(3, MOST_ORDER + 1), [2, 4, 8, 16, 32, 64], [1, 2, 3, 5, 8, 16])
+        everyone = list(range(sizes.tenants))
+        return Plan(sizes, [Phase(200, ALL, everyone, self.orders(sizes)), *self.phases(sizes, everyone, 800)])
+
+    def life(self, lines=5000):
+        """One process lives long."""
+        sizes = self.machine([3, 3, 4, 5, 6], [2, 3, 4, 6, 12], [1, 2, 3, 4])
+        return Plan(sizes, self.phases(sizes, list(range(sizes.tenants)), lines))
+
+    def phases(self, sizes, everyone, lines):
+        phases = []
+        while lines > 0:
+            some = everyone if self.rng.random() < 0.6 else [self.rng.choice(everyone)]
+            orders, count = self.orders(sizes), self.rng.choice([100, 200, 400])
+            phases += self.rng.choice([
+                [Phase(count, ALL, some, orders)], [Phase(2 * count, CHURN, some, orders)],
+                [Phase(count // 4, EDGES, some, orders)], [Phase(12, QUIET, some, [sizes.order])],
+                [Phase(count, FILL, some, orders, until='full'), Phase(40, PROBE, some, list(range(sizes.order + 1)))],
+                [Phase(count, DRAIN, some, orders, until='empty'), Phase(20, FILL_PAGES, some, [sizes.order], until='full'),
+                 Phase(20, RETURNS, some, orders)]])
+            lines -= phases[-1].lines
+        return phases
+
+    def alone(self):
+        """One tenant holds everything: counts of frames, blocks and superblocks cross 2^8, and of frames 2^16."""
+        order, superblocks = self.in_turn(ALONE, 6)
+        sizes = self.machine([order], [superblocks], [1, 2, 3])
+        least = max(sizes.order - (10 - (sizes.superblocks - 1).bit_length()), 0)
+        order = self.rng.choice([least, sizes.order])
+        owner = [self.rng.randrange(sizes.tenants)]
+        noun = self.rng.choice(['frames', 'frames', 'blocks'])
+        return Plan(sizes, self.whole(sizes, owner, order, FILL_PAGES, self.around(EDGES_OF_COUNTS, noun, owner, order)))
+
+    def whole(self, sizes, owner, order, fill, edges):
+        """Phases of a tenant that gets all superblocks, goes through edges, fills them, and gives all back."""
+        blocks, every = sizes.superblocks << sizes.order - order, list(range(sizes.order + 1))
+        most = 2 * blocks + 40
+        reset = [Phase(1, 'reset 1', owner, every, is_plain=True), granting(sizes, owner)]
+        fill_up = [Phase(2 * sizes.superblocks + 10, ALLOC, owner, [sizes.order], until='full'), Phase(40, PROBE, owner, every)]
+        return [granting(sizes, owner), *reset, *edges, Phase(most, fill, owner, [order], until='full'),
+                Phase(20, HOLD, owner, every), Phase(60, PROBE, owner, every), Phase(100, CHURN, owner, every),
+                Phase(60, EDGES, owner, every), Phase(most, DRAIN, owner, every, until='empty'), *fill_up,
+                *([*reset, *fill_up] if self.rng.random() < 0.5 else []),
+                Phase(2 * sizes.superblocks + 20, DRAIN, owner, every, until='empty'), Phase(60, RETURNS, owner, every)]
+
+    def around(self, counts, noun, owner, order=0):
+        """Exactly these counts, one after the other and back to the first; at each, what is refused or changes nothing."""
+        up, down = (TAKE, GIVE) if noun == 'objects' else (ALLOC, FREE)
+        # blocks as large as they may be, then frames one by one
+        orders = sorted({order, 0}, reverse=True) if noun == 'frames' else [order]
+        phases = []
+        for at, count in enumerate([*counts, *counts[-2::-1]]):
+            goal = count if isinstance(count, Goal) else Goal(noun, count)
+            does = up if at < len(counts) else down
+            phases += [Phase(2 * MOST_SUPERBLOCKS, does, owner, [each], until='full', goal=goal, is_plain=True)
+                       for each in orders]
+            phases.append(Phase(15, HOLD, owner, [order]))
+        return phases
+
+    def wide(self):
+        sizes = self.machine([8, 8, 7], [MOST_SUPERBLOCKS], [MOST_TENANTS])
+        everyone = list(range(sizes.tenants))
+        return Plan(sizes, [granting(sizes, everyone), Phase(600, ALL, everyone, self.orders(sizes)),
+                            Phase(300, FILL, everyone, [sizes.order], until='full'),
+                            Phase(300, PROBE, everyone, [0, sizes.order]),
+                            Phase(300, DRAIN, everyone, [0], until='empty'), Phase(100, RETURNS, everyone, [0])])
+
+    def objects(self):
+        """Counts of objects cross 2^8; all caches that there can be."""
+        sizes = self.machine([3, 4, 6, 8], [1, 2, 4, 8], [1, 2])
+        owner = [self.rng.randrange(sizes.tenants)]
+        few = [self.rng.choice([1, 8, 16, 24, 64, self.rng.choice(OBJECTS)])]
+        return self.of_caches(sizes, owner, [self.cache(owner, few)] * 4, self.around(EDGES_OF_COUNTS, 'objects', owner))
+
+    def one_cache(self):
+        """Objects of one slab, or slabs of one cache if each has four objects, cross 2^8."""
+        size = self.in_turn([8, 16, 4096, 4096], 12)
+        sizes = self.machine(*([8], [8]) if size == 4096 else ([3, 4, 6, 8], [2, 4, 8]), [1, 2])
+        owner = [self.rng.randrange(sizes.tenants)]
+        counts = [Goal('objects', 0, slabs) for slabs in EDGES_OF_COUNTS] if size == 4096 else EDGES_OF_COUNTS
+        edges = self.around(counts, 'objects', owner)
+        return self.of_caches(sizes, owner, [self.cache(owner, [size], [8])], edges)
+
+    def cache(self, owner, sizes, alignments=ALIGNMENTS):
+        return Phase(1, 'cache 1', owner, [0], sizes, alignments, is_plain=True)
+
+    def of_caches(self, sizes, owner, caches, edges):
+        every = list(range(sizes.order + 1))
+        return Plan(sizes, [granting_all_but_one(sizes, owner), *caches, *edges,
+                            Phase(1200, FILL_OBJECTS, owner, every, until='full'), Phase(60, MOVES, owner, every),
+                            Phase(60, PROBE, owner, every),
+                            Phase(200, CHURN, owner, every), Phase(12, QUIET, owner, [sizes.order]),
+                            Phase(2 * MOST_CACHES, CACHES, owner, every), Phase(1200, DRAIN, owner, every, until='empty'),
+                            Phase(40, PROBE, owner, every), Phase(100, ALL, owner, every), Phase(40, RETURNS, owner, every)])
+
+    def slabs(self):
+        """Slabs are filled exactly, and to one object less and more."""
+        sizes = self.machine([3, 3, 4, 5, 6, 8], [1, 2, 3, 4, 8], [1, 2])
+        owner, every = [self.rng.randrange(sizes.tenants)], list(range(sizes.order + 1))
+        phases = [granting_all_but_one(sizes, owner)]
+        for size in self.rng.sample(OBJECTS, 3):
+            full = self.rng.choice([1, 2, 3, 4])
+            counts = [Goal('objects', more, slabs) for slabs in (1, full) for more in (-1, 0, 1)]
+            phases += [self.cache(owner, [size]), *self.around(counts, 'objects', owner),
+                       Phase(20, EDGES, owner, every), Phase(12, QUIET, owner, [sizes.order]),
+                       Phase(800, GIVE, owner, every, goal=Goal('objects'), is_plain=True), Phase(8, PROBE, owner, every),
+                       Phase(4, 'destroy 1', owner, every)]
+        return Plan(sizes, phases)
+
+    def slots(self):
+        """All slots are full but one low and one high, which blocks or slabs fill and leave again."""
+        sizes = self.machine([3, 3, 3, 4, 5], [64, 65, 66, 66, 96, 129, 255, MOST_SUPERBLOCKS], [1, 1, 2, 64])
+        owner, every = [self.rng.randrange(sizes.tenants)], list(range(sizes.order + 1))
+        fill = Phase(2 * sizes.superblocks, ALLOC, owner, [sizes.order], until='full', is_plain=True)
+        phases = [granting(sizes, owner)]
+        ranks = [rank for rank in RANKS if rank < sizes.superblocks]
+        for _ in range(4):
+            low, high = self.rng.choice(ranks[:-1]), self.rng.choice(ranks[len(ranks) // 2:])
+            size = self.rng.choice([4096, 4096, 2048, 1000, 512])
+            phases += [fill, *(Phase(1, FREE, owner, every, is_plain=True, rank=rank) for rank in (low, high))]
+            if self.with_caches and self.rng.random() < 0.7:
+                phases += [self.cache(owner, [size]),
+                           Phase(1200, TAKE, owner, every, until='full', is_plain=True)]
+            else:
+                phases.append(Phase(600, ALLOC, owner, every[:-1], until='full', is_plain=True))
+            for rank in self.rng.sample([low, high], 2):
+                phases += [Phase(1200, GIVE, owner, every, goal=Goal('objects'), is_plain=True, rank=rank),
+                           Phase(600, FREE, owner, every, goal=Goal('blocks'), is_plain=True, rank=rank),
+                           Phase(self.rng.choice([0, 0, 6]), PROBE, owner, every, rank=rank),
+                           Phase(2, ALLOC, owner, [sizes.order], is_plain=True)]
+        return Plan(sizes, phases)
+
+    def longest(self):
+        """100,000 lines, and 2^16 objects or blocks."""
+        sizes = self.machine([MOST_ORDER], [MOST_SUPERBLOCKS], [1, 2, 3])
+        owner = [self.rng.randrange(sizes.tenants)]
+        if self.with_caches and self.rng.random() < 0.5:
+            fill = [self.cache(owner, [8], [8]), Phase(72000, FILL_OBJECTS, owner, [0], [8], 'full')]
+            return Plan(sizes, self.whole(sizes, owner, sizes.order, TAKE, fill))
+        return Plan(sizes, self.whole(sizes, owner, 0, FILL_PAGES, []))
+
+    def plan(self, is_long):
+        if is_long:
+            return [self.longest, lambda: self.life(100000)][self.number % 2]()
+        kinds = [self.small, self.alone, self.slabs, self.life, self.small, self.slots,
+                 self.small, self.alone, self.objects, self.medium, self.one_cache, self.wide]
+        if not self.with_caches:
+            kinds = [self.small if kind in (self.slabs, self.objects, self.one_cache) else kind for kind in kinds]
+        return kinds[self.number % len(kinds)]()

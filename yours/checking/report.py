@@ -1,0 +1,130 @@
+"""What is printed: of a load that shows something, and of all loads that show nothing."""
+import contextlib
+import re
+import time
+
+from .judge import Breach
+from .maker import OF_CACHES
+from .plans import MOST_SUPERBLOCKS, MOST_TENANTS
+from .talk import Failure
+from .words import MOST_ORDER, counted, in_seconds, visible, words_of
+
+# Lines of standard error that are shown: the last, those that say what happened, and the first frames of a stack behind them.
+MOST_LAST_LINES, MOST_TELLING, MOST_FRAMES = 5, 4, 3
+TELLING = re.compile(r'ERROR:|runtime error:|[Aa]ssertion|panicked at')
+FRAME = re.compile(r'\s*#\d+ |\s+\d+: ')
+# The refusals that commands of tenants may get, and those of the administrator's.
+REFUSALS = {'alloc': ['NoFrames', 'BadOrder'], 'free': ['NotABlock'], 'read': ['OutOfReach', 'BadLength'],
+            'write': ['OutOfReach'], 'cache': ['BadSize', 'BadAlign', 'NoCacheSlot'], 'take': ['NoCache', 'NoFrames'],
+            'destroy': ['NoCache', 'CacheInUse'], 'give': ['NoCache', 'NotAnObject']}
+OF_ADMIN = ['NoTenant', 'PoolEmpty', 'NoSlot', 'SlotBusy']
+
+
+class Progress:
+    """A line on standard error that is written over in place, if that is a terminal."""
+
+    def __init__(self, stream):
+        self.stream = stream if stream is not None and stream.isatty() else None
+        self.width, self.again = 0, 0.0
+
+    def show(self, words):
+        if self.stream and time.monotonic() >= self.again:
+            self.again = time.monotonic() + 0.1
+            self.write(words.ljust(self.width))
+            self.width = len(words)
+
+    def clear(self):
+        if self.width:
+            self.write(' ' * self.width + '\r')
+
+    def write(self, words):
+        with contextlib.suppress(OSError):
+            self.stream.write(f'\r{words}')
+            self.stream.flush()
+
+
+def advice(options, case):
+    """What may help, in sentences."""
+    line, replies = case.run.exchanges[-1] if case.run.exchanges else ('', [])
+    of_caches = line.split()[1:2] and line.split()[1] in OF_CACHES and not options.pages
+    is_refused = isinstance(case.finding, Failure) and case.finding.kind.startswith('with status')
+    if of_caches and (is_refused or case.finding.kind == 'Form'):
+        yield 'If your allocator has no caches, test it with --pages.'
+    if case.finding.kind == 'Form' and replies and replies[-1].endswith('\r'):
+        yield 'The reply ends in CR LF: a line of a reply ends in LF alone.'
+
+
+def last_words(errors):
+    """The lines of standard error that say what happened, and the last ones."""
+    lines, shown = errors.splitlines(), set()
+    for at in [at for at, line in enumerate(lines) if TELLING.search(line)][:MOST_TELLING]:
+        behind = (frame for frame in range(at + 1, min(at + 20, len(lines))) if FRAME.match(lines[frame]))
+        shown |= {at, *(frame for frame, _ in zip(behind, range(MOST_FRAMES)))}
+    shown |= set(range(max(0, len(lines) - MOST_LAST_LINES), len(lines)))
+    before = -1
+    for at in sorted(shown):
+        if at > before + 1:
+            yield '..'
+        yield visible(lines[at])
+        before = at
+
+
+def said_of(finding, whole):
+    """What is found, as text; of a failure also how the whole load failed, if it was waited for longer."""
+    if isinstance(finding, Breach):
+        return [f'{finding.kind}: ' + (f'tenant {finding.tenant}: ' if finding.tenant is not None else '') + shown(finding.words)]
+    again = f'; in the whole load {whole.words}' if finding.kind in ('hangs', 'stays') and finding != whole else ''
+    errors = list(last_words(finding.errors))
+    return [f'Failed: {finding.words}{again}', *(['Its last words on standard error:'] if errors else []),
+            *(f'    {line}' for line in errors)]
+
+
+def shown(words):
+    """What partcheck prints, as one line of ASCII, with what it left out of a long reply."""
+    return ''.join(letter if ' ' <= letter <= '~' else '..' if letter == '\u2026' else visible(letter) for letter in words)
+
+
+def report_of(name, case, whole=None):
+    """What is printed of a load, or of a trace of this name, that shows something; and of the finding in the whole load."""
+    count, is_failure = len(case.run.exchanges), isinstance(case.finding, Failure)
+    name = f'load {name}' if isinstance(name, int) else f'trace {visible(name)}'
+    lines = [f'{name} {"makes the program fail" if is_failure else "breaks a promise"}; {counted(count, "line")} '
+             f'{"shows" if count == 1 else "show"} it, of {" ".join(words_of(case.run.sizes))}:', '']
+    for line, replies in case.run.exchanges:
+        lines += [visible(line), *(f'    {visible(reply)}' for reply in replies)]
+    return [*lines, '', *said_of(case.finding, whole or case.finding)]
+
+
+def ends_of(options, case, stopped, command):
+    """What may help, and how the load is run again."""
+    yield from advice(options, case)
+    if stopped is not None:
+        yield f'Fewer lines may show it: shortening was stopped after {in_seconds(stopped)}; see --shorten.'
+    yield f'Run it again: {command}'
+
+
+def not_reached(options, reached):
+    """What the loads could have reached, and did not."""
+    commands = [command for command in REFUSALS if command not in options.without]
+    refusals = [name for command in commands for name in REFUSALS[command]] + OF_ADMIN
+    yield from (name for name in dict.fromkeys(refusals) if not reached.refused[name])
+    if options.order is None:
+        yield from (f'order {order}' for order in range(3, MOST_ORDER + 1) if order not in reached.orders)
+    if options.superblocks is None and reached.widest.superblocks < MOST_SUPERBLOCKS:
+        yield f'{MOST_SUPERBLOCKS} superblocks'
+    if options.tenants is None and reached.tenants < MOST_TENANTS:
+        yield f'{MOST_TENANTS} tenants'
+
+
+def kept(options, count, noun, reached):
+    """What is printed if nothing is found."""
+    done = f'kept: {counted(count, noun)}, {counted(reached.lines, "line")}'
+    if noun != 'load':
+        return done
+    orders, most = sorted(reached.orders), reached.most
+    refused = ', '.join(f'{name} {times}' for name, times in sorted(reached.refused.items(), key=lambda item: -item[1]))
+    held = ', '.join(counted(most[noun], noun[:-1]) for noun in ('slots', 'frames', 'blocks', 'objects') if most[noun])
+    missing = ', '.join(not_reached(options, reached))
+    return (f'{done}; orders {orders[0]} to {orders[-1]}, up to {counted(reached.tenants, "tenant")}, '
+            f'the widest machine {" ".join(words_of(reached.widest))}; '
+            f'one tenant had up to {held or "nothing"}; refused: {refused or "nothing"}; not reached: {missing or "nothing"}')

@@ -1,0 +1,137 @@
+"""Other lines that may show the same as those of a run: fewer that fill as much, smaller blocks, and tenants from 0 on.
+
+A change has the numbers of lines, with what comes in the place of each; None if nothing does."""
+import collections
+
+from .families import families_of
+from .runs import POWERS, Places, name_in, names_in, tenant_of
+from .words import FRAME_BYTES, MOST_ORDER, is_number, told_in
+
+# Sizes of objects that are tried in the place of smaller ones, and how many of the last objects are then kept.
+LARGER, LAST_KEPT = (4096, 2048, 1024, 512, 128, 32), (1, 2, 3, 4, 5, 6, 8, 9, 12, 16, 32)
+# Objects of a cache for which there is no need of larger ones.
+FEW_OBJECTS = 3
+# The commands that are given each kind of name.
+COMMANDS = {'frame': 'alloc', 'object': 'take', 'cache': 'cache'}
+
+
+def given(run, kind):
+    """The lines of tenants to which this kind of name was given: their numbers, words, and the words of the reply."""
+    for at, (line, replies) in enumerate(run.exchanges):
+        words, told = line.split(), told_in(replies)
+        if gives(kind, words, told):
+            yield at, words, told
+
+
+def gives(kind, words, told):
+    """Whether a command was answered as it has to be, by a name of this kind."""
+    is_command = len(words) > 2 and words[1] == COMMANDS[kind] and is_number(words[2])
+    is_answered = len(told) > 1 and told[0] == kind and is_number(told[1])
+    return is_command and is_answered and (kind != 'frame' or int(words[2]) <= MOST_ORDER)
+
+
+def slabs_as_blocks(run):
+    """Changes that allocate a block in the place of the objects of a slab, if no line names one of them."""
+    families, slabs, named = families_of(run), collections.defaultdict(list), set()
+    orders = {(words[0], told[1]): int(told[5]) for _, words, told in given(run, 'cache') if is_number(''.join(told[5:6]))}
+    for at, words, told in given(run, 'object'):
+        order = orders.get((words[0], words[2]), 0)
+        slab = words[0], order, int(told[1]) // FRAME_BYTES >> order << order
+        slabs[slab].append(at)
+        if len(families[at]) > 1:
+            named.add(slab)
+    for slab, lines in slabs.items():
+        if slab not in named:
+            yield {**dict.fromkeys(lines), lines[0]: block(*slab)}
+
+
+def joined_blocks(run):
+    """Changes that allocate a block in the place of two halves of it, if no line names one of them."""
+    families, halves = families_of(run), {}
+    for at, words, told in given(run, 'frame'):
+        tenant, order, frame = words[0], int(words[2]), int(told[1])
+        if len(families[at]) > 1 or order >= run.sizes.order:
+            continue
+        first = halves.pop((tenant, order, frame ^ 1 << order), None)
+        if first is None:
+            halves[tenant, order, frame] = at
+        else:
+            yield {first: block(tenant, order + 1, frame & ~(1 << order)), at: None}
+
+
+def block(tenant, order, frame):
+    """The exchange that allocates it."""
+    return f'{tenant} alloc {order}', [f'{tenant}> frame {frame}']
+
+
+def larger_objects(run):
+    """Changes that make the objects of a cache larger, and keep the last of them alone."""
+    families = families_of(run)
+    takes = {at for at, *_ in given(run, 'object')}
+    for at, words, _ in given(run, 'cache'):
+        objects = sorted(families[at] & takes)
+        for size in LARGER if len(objects) > FEW_OBJECTS else ():
+            for kept in LAST_KEPT:
+                if int(words[2]) < size and kept < len(objects):
+                    gone = set().union(*(families[take] for take in objects[:-kept]))
+                    line = ' '.join([*words[:2], str(size), *words[3:]])
+                    yield {**dict.fromkeys(gone), at: (line, run.exchanges[at][1])}
+
+
+def wrong_numbers(run):
+    """Changes of the last line that name a lower number, which is a power of two from the least name."""
+    at, words = len(run.exchanges) - 1, run.exchanges[-1][0].split()
+    for word, kind in names_in(words) if len(words) > 1 else ():
+        names = set(names_of(run, tenant_of(' '.join(words)), kind))
+        for power in POWERS if names and int(words[word]) not in names else ():
+            if min(names) + power < int(words[word]):
+                lower = [*words[:word], str(min(names) + power), *words[word + 1:]]
+                yield {at: (' '.join(lower), run.exchanges[at][1])}
+
+
+def names_of(run, tenant, kind):
+    """The names of a kind that replies gave a tenant; for places those of objects and blocks."""
+    for line, replies in run.exchanges:
+        told = told_in(replies)
+        named, at = name_in(told)
+        if tenant_of(line) == tenant and is_number(''.join(told[at:at + 1])):
+            if named == kind or kind == 'place' and named == 'object':
+                yield int(told[at])
+            elif kind == 'place' and named == 'frame':
+                yield int(told[at]) * FRAME_BYTES
+
+
+def with_smaller_blocks(run, by):
+    """The lines with each block smaller by so many orders. What is read or written at the end of a block is so still."""
+    blocks, lines = collections.defaultdict(Places), []
+    for line, replies in run.exchanges:
+        words, told = line.split(), told_in(replies)
+        if gives('frame', words, told):
+            size, less_order = FRAME_BYTES << int(words[2]), max(int(words[2]) - by, 0)
+            blocks[words[0]].add(FRAME_BYTES * int(told[1]), size, size - (FRAME_BYTES << less_order))
+            line = f'{words[0]} alloc {less_order}'
+        elif words[1:2] in (['read'], ['write']) and len(words) > 3 and is_number(words[2]):
+            line = ' '.join([*words[:2], str(in_smaller_block(blocks[words[0]], int(words[2]))), *words[3:]])
+        lines.append((line, replies))
+    return lines
+
+
+def in_smaller_block(places, place):
+    """Where a place is in a block that has lost its middle."""
+    begin = places.around(place)
+    size, less = places.known[begin] if begin is not None else (0, 0)
+    return place - less if less and 2 * (place - begin) >= size else place
+
+
+def with_first_tenants(run):
+    """The lines with other tenants, and what each is called then: those that are there, from 0 on."""
+    there = sorted({int(word) for line, _ in run.exchanges if is_number(word := tenant_of(line))})
+    names = {str(old): str(new) for new, old in enumerate(old for old in there if old < run.sizes.tenants)}
+    lines = []
+    for line, replies in run.exchanges:
+        words = line.split()
+        if tenant_of(line) in names:
+            words[2 if words[0] == 'admin' else 0] = names[tenant_of(line)]
+            line = ' '.join(words)
+        lines.append((line, replies))
+    return lines, names

@@ -1,0 +1,242 @@
+"""Runs of the program: lines with their replies, and the same lines once more."""
+import bisect
+import collections
+import contextlib
+
+from .talk import ProgramFailed
+from .words import FRAME_BYTES, MOST_BYTES, MOST_NUMBER, is_number, number_in, order_in, told_in
+from .world import World
+
+# Lines that are sent at once if none of them waits for a reply.
+MOST_AT_ONCE = 256
+# How far a wrong number is from a name: what it may be cut by, or the next of some size.
+POWERS = [1 << power for power in range(32)]
+DISTANCES = [0, *reversed(POWERS), *(-power for power in POWERS)]
+
+
+class Run:
+    """A trace in the making: its lines with their replies."""
+
+    def __init__(self, programs, sizes):
+        self.talk, self.world = programs.start(sizes), World(sizes)
+        self.sizes, self.exchanges, self.failure, self.rest = sizes, [], None, ''
+        self.slowest = 0.0
+
+    def say(self, lines):
+        """Sends lines at once, and takes the reply to each."""
+        if self.failure or not lines:
+            return
+        self.talk.send(lines)
+        for line in lines:
+            try:
+                replies = self.talk.reply(self.world.owed(line))
+            except ProgramFailed as failed:
+                self.failure = failed.args[0]
+                replies = [part for part in self.talk.rest() if part]
+            self.exchanges.append((line, replies))
+            self.world.note(line, replies)
+            if self.failure:
+                return
+
+    def end(self):
+        if not self.failure:
+            try:
+                self.rest = self.talk.end()
+            except ProgramFailed as failed:
+                self.failure = failed.args[0]
+        # What is left of the talk cannot be sent to another process.
+        self.slowest, self.talk = self.talk.slowest, None
+        return self
+
+    def trace(self):
+        return ''.join(f'{line}\n' for line, _ in self.exchanges)
+
+    def text(self):
+        return ''.join(f'{reply}\n' for _, replies in self.exchanges for reply in replies) + self.rest
+
+    def told(self, tenant):
+        begin = f'{tenant}> '
+        return [reply for _, replies in self.exchanges for reply in replies if reply.startswith(begin)]
+
+    def own_list(self, tenant):
+        """The tenant's commands, its resets, and what was granted to it and taken back."""
+        return [line for line, replies in self.exchanges if is_own(tenant, line, replies)]
+
+    def speakers(self):
+        """The tenants that have an own list."""
+        numbers = collections.Counter(tenant_of(line) for line, _ in self.exchanges)
+        return [tenant for tenant in range(self.sizes.tenants) if numbers[str(tenant)]]
+
+
+def is_own(tenant, line, replies):
+    """Whether a line is in a tenant's own list."""
+    words = line.split()
+    if words[:1] == ['admin'] and len(words) > 2 and is_number(words[2]) and int(words[2]) == tenant:
+        return words[1] in ('grant', 'takeback', 'reset') and has_done(replies)
+    return bool(words) and is_number(words[0]) and int(words[0]) == tenant
+
+
+def has_done(replies):
+    """Whether a line was neither refused nor faulty, nor a remark."""
+    return bool(replies) and not replies[0].startswith('!') and ' refused ' not in replies[0]
+
+
+def tenant_of(line):
+    """The word that names a line's tenant."""
+    words = line.split()
+    return ''.join(words[2:3] if words[:1] == ['admin'] else words[:1])
+
+
+class Places:
+    """Places of one run, of blocks and objects that were handed out, with what they are called in another."""
+
+    def __init__(self):
+        self.begins, self.known = [], {}                        # in rising order; sizes, and first places now
+
+    def add(self, begin, size, now):
+        """What shares a place with it was handed out before, and is forgotten."""
+        at = bisect.bisect_left(self.begins, begin + size)
+        while at and self.begins[at - 1] + self.known[self.begins[at - 1]][0] > begin:
+            at -= 1
+            del self.known[self.begins.pop(at)]
+        self.begins.insert(at, begin)
+        self.known[begin] = size, now
+
+    def around(self, place):
+        """The first place of what has a place, or has it just before or behind it; none if nothing has."""
+        at = bisect.bisect_right(self.begins, place) - 1
+        before = self.begins[at] if at >= 0 else None
+        if before is not None and place <= before + self.known[before][0]:
+            return before
+        behind = self.begins[at + 1] if at + 1 < len(self.begins) else None
+        return behind if behind is not None and behind - place <= MOST_BYTES else None
+
+    def now(self, place):
+        """What a place is called now."""
+        begin = self.around(place)
+        now = place if begin is None else self.known[begin][1] + place - begin
+        return now if now >= 0 else place
+
+
+class Renamed:
+    """What a tenant's frames, objects, caches and slots of one run are called in another, of fewer lines and maybe another order.
+    """
+
+    def __init__(self, before, now):
+        self.before, self.now = FRAME_BYTES << before, FRAME_BYTES << now
+        self.names = {'frame': {}, 'object': {}, 'cache': {}, 'slot': {}}
+        self.places, self.sizes = Places(), {}                  # sizes of objects by cache
+        self.awaited = set()                                    # names of which the reply is not yet known, and their kinds
+
+    def awaits(self, old):
+        """A line of which the reply was `old` is sent and not answered."""
+        kind, at = name_in(old)
+        if kind and len(old) > at:
+            self.awaited |= {kind, (kind, old[at])}
+
+    def needs(self, words):
+        """Whether a line with these words has a name that an awaited reply gives."""
+        return bool(self.awaited) and any(self.is_awaited(kind, words[at]) for at, kind in names_in(words))
+
+    def is_awaited(self, kind, word):
+        """Whether an awaited reply may say what a word is called now."""
+        if kind in self.names and int(word) in self.names[kind] or not self.awaited:
+            return (kind, word) in self.awaited
+        return bool(self.awaited & ({'frame', 'object', 'slot'} if kind in ('frame', 'place') else {kind}))
+
+    def note(self, words, old, new):
+        """The reply to these words was `old`, and is `new`."""
+        kind, at = name_in(old)
+        if kind and new[:1] == old[:1]:
+            with contextlib.suppress(IndexError, ValueError):
+                self.rename(words, kind, number_in(old[at]), number_in(new[at]))
+
+    def rename(self, words, kind, before, now):
+        if kind == 'frame':
+            self.places.add(FRAME_BYTES * before, FRAME_BYTES << order_in(words[2]), FRAME_BYTES * now)
+        elif kind == 'cache':
+            self.sizes[before] = number_in(words[2])
+        elif kind == 'object':
+            self.places.add(before, self.sizes.get(number_in(words[2]), 1), now)
+        self.names[kind][before] = now
+
+    def line(self, words):
+        named = list(words)
+        for at, kind in names_in(words):
+            named[at] = str(self.place(int(words[at])) if kind == 'place' else self.number(kind, words[at]))
+        return ' '.join(named)
+
+    def number(self, kind, word):
+        """What a number is called now: a name, or as far from a name as it was."""
+        names, number = self.names[kind], int(word)
+        if kind == 'frame' and number not in names:
+            return self.place(number * FRAME_BYTES, FRAME_BYTES) // FRAME_BYTES
+        for distance in DISTANCES:
+            now = names.get(number - distance, -MOST_NUMBER) + distance
+            if 0 <= now <= MOST_NUMBER:
+                return word if now == number else now
+        return word
+
+    def place(self, place, unit=1):
+        """The same of a place: in something, or beside it, or as many units from there as it was."""
+        for distance in (unit * distance for distance in DISTANCES if distance >= 0):
+            now = self.known_place(place - distance) if distance <= place else None
+            if now is not None:
+                return now + distance
+        return place
+
+    def known_place(self, place):
+        """The same of a place that is in a block, an object or a slot."""
+        slot, offset = divmod(place, self.before)
+        if self.places.around(place) is not None:
+            return self.places.now(place)
+        if slot in self.names['slot']:
+            # as far from the end, if the slot is too small now
+            inside = offset if offset < self.now else max(offset - self.before + self.now, 0)
+            return self.names['slot'][slot] * self.now + inside
+        return None
+
+
+def name_in(told):
+    """Which kind of name a reply gives, and which of its words it is."""
+    kind = told[0] if told else ''
+    return (kind, 1) if kind in ('frame', 'object', 'cache') else ('slot', 3) if kind == 'granted' else ('', 0)
+
+
+NAMES = {'free': ['frame'], 'read': ['place'], 'write': ['place'], 'destroy': ['cache'], 'take': ['cache'],
+         'give': ['cache', 'object'], 'takeback': ['', 'slot'], 'move': ['', 'slot']}
+
+
+def names_in(words):
+    """The words of a line that are names which replies give, with their kinds."""
+    return [(at, kind) for at, kind in enumerate(NAMES.get(words[1], []), 2) if kind and at < len(words) and is_number(words[at])]
+
+
+def replayed(programs, sizes, exchanges, order=None):
+    """A run of these lines, each with the reply that it had on a machine of this order: what they name by a reply is named by the
+    new one. Lines that need no reply which is not there yet are sent at once."""
+    before = sizes.order if order is None else order
+    run, renamed, sent = Run(programs, sizes), collections.defaultdict(lambda: Renamed(before, sizes.order)), []
+
+    def answered():
+        count = len(run.exchanges)
+        run.say([line for line, *_ in sent])
+        for (_, words, told, names), (_, replies) in zip(sent, run.exchanges[count:]):
+            if names:
+                names.awaited.clear()
+                names.note(words, told, told_in(replies))
+        sent.clear()
+
+    for line, replies in exchanges:
+        words, told = line.split(), told_in(replies)
+        is_plain = not told or told[0] == 'fault' or len(words) < 3
+        names = None if is_plain else renamed[words[2] if words[0] == 'admin' else words[0]]
+        if len(sent) >= MOST_AT_ONCE or names and names.needs(words):
+            answered()
+        if names:
+            names.awaits(told)
+        sent.append((names.line(words) if names else line, words, told, names))
+        if run.failure:
+            break
+    answered()
+    return run.end()

@@ -1,0 +1,215 @@
+"""A run of the program under test, as a conversation over its standard input and output."""
+import collections
+import contextlib
+import os
+import select
+import signal
+import subprocess
+import sys
+import time
+from typing import NamedTuple
+
+from . import children
+from .words import ending, in_seconds, words_of
+
+# Seconds that a reply may take, and the end of a run, if the machine is not busy.
+SECONDS = 5
+# Seconds for which standard error of a program that was killed is read.
+SECONDS_OF_ERRORS = 0.2
+# Bytes that a run may print and that answer no line, and in which the replies to lines that are sent at once fit easily.
+MOST_UNASKED, MOST_WAITING = 1 << 16, 1 << 20
+# Bytes of standard error that are kept: the first, with the words of a sanitizer or of a panic, and the last.
+FIRST_ERRORS, LAST_ERRORS = 1 << 14, 1 << 12
+
+# A new session takes longer: Linux gives it a share of the processors of its own.
+GROUP_OF_ITS_OWN = {'process_group': 0} if sys.version_info >= (3, 11) else {'start_new_session': True}
+
+
+class Failure(NamedTuple):
+    """How the program failed: what a shorter load has to show too, the whole in words, and what it wrote to standard error."""
+    kind: str
+    words: str
+    errors: str
+
+
+class ProgramFailed(Exception):
+    """The program failed in a run; it has a Failure."""
+
+
+class CannotRun(Exception):
+    """The program cannot be started."""
+
+
+def on_this_machine(seconds):
+    """Seconds that are waited: so many times more as there are processes that want to run for each processor."""
+    return round(seconds * max(1, os.getloadavg()[0] / (os.cpu_count() or 1)), 1)
+
+
+class Programs(NamedTuple):
+    """Starts runs of the program."""
+    command: list
+    seconds: float = SECONDS
+
+    def start(self, sizes):
+        try:
+            return Talk(self.command + words_of(sizes), on_this_machine(self.seconds))
+        except OSError as error:
+            raise CannotRun(f'{self.command[0]}: {error.strerror}') from None
+
+
+class Talk:
+    """It is in a process group of its own. In the end all is killed that it started. One process has one at a time."""
+
+    def __init__(self, command, seconds):
+        self.process = subprocess.Popen(command, stdin=subprocess.PIPE, stdout=subprocess.PIPE, stderr=subprocess.PIPE,
+                                        bufsize=0, **GROUP_OF_ITS_OWN)
+        self.seconds, self.answered, self.slowest = seconds, 0, 0.0
+        self.unsent, self.is_input_closed = b'', False
+        self.ready, self.held, self.held_bytes = collections.deque(), '', 0
+        self.first_errors, self.last_errors = b'', b''
+        self.input, self.output = self.process.stdin.fileno(), self.process.stdout.fileno()
+        self.open = {self.output, self.process.stderr.fileno()}
+        self.poll = select.poll()
+        for number in self.open:
+            self.poll.register(number, select.POLLIN)
+        os.set_blocking(self.input, False)
+
+    def send(self, lines):
+        """Sends lines at once."""
+        is_waiting = bool(self.unsent)
+        self.unsent += ''.join(f'{line}\n' for line in lines).encode('latin-1')
+        if not is_waiting:
+            self.write()
+
+    def write(self):
+        """Writes what the pipe takes. What is left is written while replies are waited for."""
+        is_waiting = len(self.unsent)
+        try:
+            self.unsent = self.unsent[os.write(self.input, self.unsent):]
+        except BlockingIOError:
+            pass
+        except BrokenPipeError:
+            self.unsent, self.is_input_closed = b'', True
+        if self.unsent:
+            self.poll.register(self.input, select.POLLOUT)
+        elif is_waiting:
+            with contextlib.suppress(KeyError):
+                self.poll.unregister(self.input)
+
+    def reply(self, owed):
+        """Returns the reply to the next line, which has so many lines."""
+        if len(self.ready) < owed:
+            start = time.monotonic()
+            while len(self.ready) < owed:
+                if self.output not in self.open or not self.hear(start + self.seconds):
+                    raise self.unanswered()
+                if self.held_bytes > MOST_WAITING:
+                    raise self.babble()
+            self.slowest = max(self.slowest, time.monotonic() - start)
+        self.answered += 1
+        return self.taken(owed)
+
+    def taken(self, count):
+        lines = [self.ready.popleft() for _ in range(count)]
+        self.held_bytes -= sum(map(len, lines)) + count
+        return lines
+
+    def rest(self):
+        """Returns what was printed and is not yet taken, as lines; the last may have no end."""
+        return self.taken(len(self.ready)) + ([self.held] if self.held else [])
+
+    def end(self):
+        """Returns what the program still prints at the end of its input, where it has to exit with status 0."""
+        if self.unsent:
+            raise self.failed('deaf', f'it answers without reading: line {self.answered} does not fit into the pipe any more')
+        self.process.stdin.close()
+        is_over = self.exits(time.monotonic() + self.seconds)
+        if self.held_bytes > MOST_UNASKED:
+            raise self.babble()
+        if not is_over:
+            raise self.failed('stays', f'it did not exit within {in_seconds(self.seconds)} of the end of its input')
+        self.finish()
+        if self.process.returncode:
+            how = ending(self.process.returncode)
+            raise self.failed(how, f'it ended {how} at the end of its input')
+        return ''.join(f'{line}\n' for line in self.taken(len(self.ready))) + self.held
+
+    def hear(self, deadline):
+        """Reads what comes next on either output, and writes what is not sent; false if nothing does until the deadline."""
+        left = deadline - time.monotonic()
+        is_heard = False
+        for number, _ in self.poll.poll(1000 * left if left > 0 else 0):
+            is_heard = is_heard or left > 0 or number == self.output
+            if number == self.input:
+                self.write()
+                continue
+            piece = os.read(number, 1 << 16)
+            if not piece:
+                self.poll.unregister(number)
+                self.open.remove(number)
+            elif number == self.output:
+                self.hold(piece)
+            else:
+                self.hold_error(piece)
+        return is_heard
+
+    def hold(self, piece):
+        self.held_bytes += len(piece)
+        *lines, self.held = (self.held + piece.decode('latin-1')).split('\n')
+        self.ready.extend(lines)
+
+    def hold_error(self, piece):
+        space = FIRST_ERRORS - len(self.first_errors)
+        self.first_errors += piece[:space]
+        self.last_errors = (self.last_errors + piece[space:])[-LAST_ERRORS:]
+
+    def exits(self, deadline):
+        """Whether the program exits until the deadline. It is not waited for if it prints too much."""
+        while self.open and self.held_bytes <= MOST_UNASKED and self.hear(deadline):
+            pass
+        if self.held_bytes > MOST_UNASKED:
+            return False
+        delay = 0.0005
+        while not os.waitid(os.P_PID, self.process.pid, os.WEXITED | os.WNOHANG | os.WNOWAIT):
+            if time.monotonic() + delay > deadline:
+                return False
+            time.sleep(delay)
+            delay = min(2 * delay, 0.02)
+        return True
+
+    def unanswered(self):
+        """The failure of a program that answers no more: it is silent, or its output is closed, or its input."""
+        line, is_silent = self.answered + 1, self.output in self.open
+        if self.exits(time.monotonic() + (0 if is_silent else self.seconds)):
+            self.finish()
+            how = ending(self.process.returncode)
+            return self.failed(how, f'it ended {how} before it answered line {line}')
+        if self.held_bytes > MOST_UNASKED:
+            return self.babble()
+        within = f'within {in_seconds(self.seconds)}'
+        if self.is_input_closed or not is_silent:
+            closed = 'output' if not is_silent else 'input'
+            return self.failed('closed', f'it closed its {closed} before line {line}, and did not exit {within}')
+        advice = '' if self.answered else '; if it has answered, it has to flush its output after each line'
+        return self.failed('hangs', f'it did not answer line {line} {within}{advice}')
+
+    def babble(self):
+        return self.failed('babbles', f'it printed more than {MOST_UNASKED} bytes that answer no line')
+
+    def failed(self, kind, words):
+        """Ends the run."""
+        self.finish()
+        return ProgramFailed(Failure(kind, words, (self.first_errors + self.last_errors).decode('latin-1')))
+
+    def finish(self):
+        """Kills what still runs, and reads what is left on standard error."""
+        if self.process.returncode is None:
+            with contextlib.suppress(ProcessLookupError):
+                os.killpg(self.process.pid, signal.SIGKILL)
+            self.process.wait()
+            children.kill_all()
+            deadline = time.monotonic() + SECONDS_OF_ERRORS
+            while self.open and time.monotonic() < deadline and self.hear(deadline):
+                pass
+            for pipe in (self.process.stdin, self.process.stdout, self.process.stderr):
+                pipe.close()

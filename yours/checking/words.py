@@ -1,0 +1,71 @@
+"""Words that several parts share: the sizes of a machine, numbers of a reply, and text that is shown."""
+import signal
+from typing import NamedTuple
+
+FRAME_SHIFT, LEAST_ORDER, MOST_ORDER, MOST_BYTES = 12, 3, 8, 64
+FRAME_BYTES = 1 << FRAME_SHIFT
+MOST_NUMBER = (1 << 32) - 1
+# Characters that are shown of a line.
+MOST_SHOWN = 200
+
+
+class Sizes(NamedTuple):
+    order: int
+    superblocks: int
+    tenants: int
+
+
+def words_of(sizes):
+    return [word for name, size in zip(sizes._fields, sizes) for word in (f'--{name}', str(size))]
+
+
+def counted(count, noun):
+    return f'{count:g} {noun}' if count == 1 else f'{count} {noun}s'
+
+
+def in_seconds(seconds):
+    return counted(round(seconds, 1) if seconds % 1 else int(seconds), 'second')
+
+
+def visible(text):
+    """Returns the text without control characters, and cut if it is long."""
+    shown = ''.join(letter if ' ' <= letter <= '~' else escaped(letter) for letter in text[:MOST_SHOWN])
+    return shown + (f' .. ({len(text)} bytes)' if len(text) > MOST_SHOWN else '')
+
+
+def escaped(letter):
+    return f'\\x{ord(letter):02x}' if ord(letter) < 256 else f'\\u{ord(letter):04x}'
+
+
+def is_number(word):
+    return word.isascii() and word.isdigit() and len(word) <= 10
+
+
+def number_in(word):
+    """The number that a word is. A program may answer anything: another word is a ValueError."""
+    if not is_number(word):
+        raise ValueError
+    return int(word)
+
+
+def order_in(word):
+    if number_in(word) > MOST_ORDER:
+        raise ValueError
+    return int(word)
+
+
+def told_in(replies):
+    """The words of the first reply, without the tenant that it goes to; none if there is no reply, or no tenant."""
+    return replies[0].partition('> ')[2].split() if replies and not replies[0].startswith('!') else []
+
+
+def name_of_signal(number):
+    return signal.Signals(number).name if number in set(signal.Signals) else f'signal {number}'
+
+
+def ending(status):
+    """Returns how a process ended: `by SIGSEGV`, `with status 3`."""
+    if status < 0:
+        return f'by {name_of_signal(-status)}'
+    # A shell exits so if the program that it runs ends by a signal.
+    return f'with status {status}' + (f', 128 + {name_of_signal(status - 128)}' if status > 128 else '')

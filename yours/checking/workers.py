@@ -1,0 +1,95 @@
+"""Processes that do the work, each one task at a time. What they start ends with them, and they with this process."""
+import multiprocessing
+import multiprocessing.connection
+import os
+import signal
+import traceback
+
+from . import children
+
+# Tasks for each worker that are begun before the first of all has ended.
+AHEAD = 16
+
+
+class Broken(Exception):
+    """A worker ended, or something failed in it that should not."""
+
+
+class Workers:
+    """Left as a context, it ends all that is below this process."""
+
+    def __init__(self, work, count, note=str):
+        self.work, self.count, self.note, self.pipes = work, count, note, []
+
+    def __enter__(self):
+        children.adopt()
+        for _ in range(self.count):
+            here, there = multiprocessing.Pipe()
+            if os.fork() == 0:
+                self.serve(there)
+            there.close()
+            self.pipes.append(here)
+        return self
+
+    def __exit__(self, *_):
+        children.kill_all()
+        for pipe in self.pipes:
+            pipe.close()
+
+    def serve(self, pipe):
+        """What a worker does, until it is ended. The signals of a terminal come to all; the first process ends the others."""
+        def end(*_):
+            children.kill_all()
+            os._exit(0)
+
+        # Not ignored: the program under test would ignore them too.
+        for number in signal.SIGINT, signal.SIGHUP:
+            if signal.getsignal(number) != signal.SIG_IGN:
+                signal.signal(number, lambda *_: None)
+        signal.signal(signal.SIGTERM, end)
+        children.adopt()
+        children.end_with_parent()
+        try:
+            while True:
+                pipe.send(('done', self.result(pipe.recv(), lambda words: pipe.send(('note', words)))))
+        finally:
+            end()
+
+    def result(self, task, note):
+        try:
+            return self.work(task, note)
+        except Exception as error:
+            if type(error).__module__.startswith(__package__ + '.'):
+                return error
+            where = traceback.extract_tb(error.__traceback__)[-1]
+            return Broken(f'{type(error).__name__}: {error} ({os.path.basename(where.filename)}:{where.lineno})')
+
+    def in_turn(self, tasks):
+        """The results of the tasks, in their order."""
+        tasks, idle, working, done = enumerate(tasks), list(self.pipes), {}, {}
+        begun = given = 0
+        while True:
+            while idle and begun < given + AHEAD * self.count and (task := next(tasks, None)):
+                pipe = idle.pop()
+                pipe.send(task[1])
+                working[pipe], begun = task[0], begun + 1
+            if not working:
+                return
+            for pipe in multiprocessing.connection.wait(list(working)):
+                kind, result = self.message(pipe)
+                if kind == 'note':
+                    self.note(result)
+                else:
+                    done[working.pop(pipe)] = result
+                    idle.append(pipe)
+            while given in done:
+                if isinstance(done[given], Exception):
+                    raise done[given]
+                yield done.pop(given)
+                given += 1
+
+    def message(self, pipe):
+        try:
+            return pipe.recv()
+        except (EOFError, OSError):
+            raise Broken('a process of its own ended; is there enough memory?') from None
