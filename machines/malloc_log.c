@@ -4,21 +4,30 @@
        cc -O2 -shared -fPIC -o malloc_log.so machines/malloc_log.c
        MALLOC_LOG=sort.log LD_PRELOAD=$PWD/malloc_log.so sort FILE
 
+   machines/malloc_log does both.
+
    Each process, and each program that it becomes by exec, has its own log: sort.log.PID, then sort.log.PID-2 and so on. The name
    is malloc.log if MALLOC_LOG is not set. A relative name is made absolute in the first process, for its children too. If the name
    is empty, nothing is logged.
 
-   The lines are "SECONDS malloc POINTER BYTES" and "SECONDS free POINTER"; a realloc is a free and a malloc. They are written
-   through a shared mapping of the file, so none is lost however the process ends. The file ends in zeroes.
+   The first line is "# program NAME", with the name by which the program was called. The others are
+   "SECONDS malloc POINTER BYTES" and "SECONDS free POINTER"; a realloc is a free and a malloc. They are written through a shared
+   mapping of the file, so none is lost however the process ends. The file ends in zeroes.
+
+   If MALLOC_LOG_CALLERS is set and not empty, a malloc also has " FILE+OFFSET", where its call returns to, in hex digits. The
+   line "# file FILE is PATH" is before the first of a file. That needs glibc 2.35.
 
    If a log cannot be written, the library says so on standard error, and the program runs on without a log. */
 #define _GNU_SOURCE
+#include <dlfcn.h>
 #include <errno.h>
 #include <fcntl.h>
 #include <inttypes.h>
+#include <link.h>
 #include <malloc.h>
 #include <pthread.h>
 #include <signal.h>
+#include <stdbool.h>
 #include <stdio.h>
 #include <stdlib.h>
 #include <string.h>
@@ -34,13 +43,21 @@ void *__libc_memalign(size_t alignment, size_t bytes);
 void __libc_free(void *old);
 
 #define VARIABLE "MALLOC_LOG"
-enum { WINDOW_BYTES = 1 << 16, PAGE_BYTES = 1 << 12, PATH_BYTES = 4096 };
+enum { WINDOW_BYTES = 1 << 16, PAGE_BYTES = 1 << 12, PATH_BYTES = 4096, NAME_BYTES = 200, MOST_FILES = 1000 };
 
 /* A handler of fork that another library has registered may ask for memory while this is held, so it may be taken again. */
 static pthread_mutex_t lock = PTHREAD_RECURSIVE_MUTEX_INITIALIZER_NP;
 static char entry[sizeof VARIABLE "=" + PATH_BYTES] = VARIABLE "="; /* what the environment of children has */
 static char *const name = entry + sizeof VARIABLE;                  /* absolute; nothing is logged while it is empty */
 static char path[PATH_BYTES + 32];
+static char head[NAME_BYTES + 32]; /* the first line of each log */
+static bool has_callers;
+static char own_file[PATH_BYTES]; /* the path of the program's file */
+static struct {
+    uintptr_t load;
+    uint64_t name; /* a hash of it */
+} files[MOST_FILES]; /* the loaded files that this log has named */
+static int file_count;
 static char *window;       /* the part of the log that is written now, or NULL before the first line */
 static off_t window_start; /* its offset in the file */
 static size_t window_used;
@@ -121,52 +138,112 @@ static void give_up(const char *what, int error)
     name[0] = 0;
 }
 
-/* Goes to the next window, or gives up. */
+/* Goes to the next window, or gives up. A log begins with its head. */
 static void begin_window(void)
 {
+    bool is_first = !window;
     sigset_t held, before;
     hold_signals(&held, &before);
     int error = next_window();
     drop_signals(&held, &before);
-    if (error)
+    if (error) {
         give_up(path, error);
+    } else if (is_first) {
+        window_used = strlen(head);
+        memcpy(window, head, window_used);
+    }
 }
 
-static void add_line(const char *what, const void *at, const size_t *bytes)
+/* Appends a line to the log, unless nothing is logged any more. It is shorter than a window. */
+static void put(const char *line, size_t length)
+{
+    if (name[0] && (!window || window_used + length > WINDOW_BYTES))
+        begin_window();
+    if (name[0]) {
+        memcpy(window + window_used, line, length);
+        window_used += length;
+    }
+}
+
+/* Ends a line of text, in which control characters become question marks; returns its length. */
+static size_t end_line(char *line)
+{
+    size_t length = strlen(line);
+    for (size_t at = 0; at < length; at++)
+        if ((unsigned char)line[at] < ' ' || line[at] == 127)
+            line[at] = '?';
+    line[length] = '\n';
+    line[length + 1] = 0;
+    return length + 1;
+}
+
+/* Returns the number of a loaded file, or -1 if there are too many. A file that is new has a line first. */
+static int file_of(uintptr_t load, const char *loaded)
+{
+    static char line[PATH_BYTES + 32];
+    uint64_t sum = 14695981039346656037u; /* Fowler, Noll and Vo's hash */
+    for (const char *at = loaded; *at; at++)
+        sum = (sum ^ (unsigned char)*at) * 1099511628211u;
+    for (int file = 0; file < file_count; file++)
+        if (files[file].load == load && files[file].name == sum)
+            return file;
+    if (file_count == MOST_FILES)
+        return -1;
+    files[file_count].load = load;
+    files[file_count].name = sum;
+    snprintf(line, sizeof line, "# file %d is %.*s", file_count, PATH_BYTES, loaded[0] ? loaded : own_file);
+    put(line, end_line(line));
+    return file_count++;
+}
+
+/* Writes the file and the offset of a caller, and returns how long that is: 0 if they are not wanted, or nobody knows them.
+   This takes no lock of the loader: another thread may hold one and wait for ours. */
+static int write_caller(char *to, size_t size, void *caller)
+{
+#if __GLIBC_PREREQ(2, 35)
+    struct dl_find_object found;
+    if (has_callers && !_dl_find_object(caller, &found)) {
+        const struct link_map *loaded = found.dlfo_link_map;
+        int file = file_of(loaded->l_addr, loaded->l_name);
+        return file < 0 ? 0 : snprintf(to, size, " %d+%" PRIxPTR, file, (uintptr_t)caller - loaded->l_addr);
+    }
+#endif
+    (void)to, (void)size, (void)caller;
+    return 0;
+}
+
+static void add_line(const char *what, const void *at, const size_t *bytes, void *caller)
 {
     if (!name[0])
         return;
     int error = errno;
-    char line[128];
+    char line[160];
     struct timespec now;
     pthread_mutex_lock(&lock);
     clock_gettime(CLOCK_MONOTONIC, &now);
     int length = snprintf(line, sizeof line, "%lld.%09ld %s %" PRIxPTR, (long long)now.tv_sec, now.tv_nsec, what, (uintptr_t)at);
-    if (bytes)
+    if (bytes) {
         length += snprintf(line + length, sizeof line - (size_t)length, " %zu", *bytes);
-    line[length++] = '\n';
-    if (name[0] && (!window || window_used + (size_t)length > WINDOW_BYTES))
-        begin_window();
-    if (name[0]) {
-        memcpy(window + window_used, line, (size_t)length);
-        window_used += (size_t)length;
+        length += write_caller(line + length, sizeof line - (size_t)length, caller);
     }
+    line[length++] = '\n';
+    put(line, (size_t)length);
     pthread_mutex_unlock(&lock);
     errno = error;
 }
 
 /* A malloc is logged behind the call and a free before it, so that no other thread can log the same bytes between. */
-static void *log_malloc(void *at, size_t bytes)
+static void *log_malloc(void *at, size_t bytes, void *caller)
 {
     if (at)
-        add_line("malloc", at, &bytes);
+        add_line("malloc", at, &bytes, caller);
     return at;
 }
 
 static void log_free(void *old)
 {
     if (old)
-        add_line("free", old, NULL);
+        add_line("free", old, NULL, NULL);
 }
 
 static void before_fork(void) { pthread_mutex_lock(&lock); }
@@ -179,6 +256,7 @@ static void after_fork_in_child(void)
     window = NULL;
     window_start = 0;
     window_used = 0;
+    file_count = 0;
     lock = (pthread_mutex_t)PTHREAD_RECURSIVE_MUTEX_INITIALIZER_NP;
 }
 
@@ -221,12 +299,25 @@ static void put_entry(void)
     environ = more;
 }
 
+/* Makes the first line of a log, and what names the callers in it. */
+static void make_head(void)
+{
+    const char *called = program_invocation_short_name, *wanted = getenv("MALLOC_LOG_CALLERS");
+    snprintf(head, sizeof head, "# program %.*s", NAME_BYTES, called && called[0] ? called : "without a name");
+    end_line(head);
+    has_callers = wanted && wanted[0];
+    ssize_t length = has_callers ? readlink("/proc/self/exe", own_file, sizeof own_file - 1) : 0;
+    if (length <= 0)
+        strcpy(own_file, "unknown");
+}
+
 /* The name is written last, since nothing is logged before main is near. */
 __attribute__((constructor)) static void begin(void)
 {
     pthread_atfork(before_fork, after_fork_in_parent, after_fork_in_child);
     const char *found = getenv(VARIABLE), *given = found ? found : "malloc.log";
     int error = given[0] ? make_path(given) : 0;
+    make_head();
     put_entry();
     if (error)
         give_up(given, error);
@@ -234,8 +325,27 @@ __attribute__((constructor)) static void begin(void)
         strcpy(name, path);
 }
 
-void *malloc(size_t bytes) { return log_malloc(__libc_malloc(bytes), bytes); }
-void *calloc(size_t count, size_t bytes) { return log_malloc(__libc_calloc(count, bytes), count * bytes); }
+/* Where the call of a function of this library returns to. */
+#define CALLER __builtin_return_address(0)
+
+static void *resize(void *old, size_t bytes, void *caller)
+{
+    log_free(old);
+    void *at = __libc_realloc(old, bytes);
+    if (!at && old && bytes)
+        log_malloc(old, malloc_usable_size(old), caller); /* refused: the old one stays */
+    return log_malloc(at, bytes, caller);
+}
+
+/* Aligned memory is logged as a whole multiple of its alignment. */
+static void *align(size_t alignment, size_t bytes, void *caller)
+{
+    void *at = __libc_memalign(alignment, bytes);
+    return log_malloc(at, alignment ? (bytes + alignment - 1) / alignment * alignment : bytes, caller);
+}
+
+void *malloc(size_t bytes) { return log_malloc(__libc_malloc(bytes), bytes, CALLER); }
+void *calloc(size_t count, size_t bytes) { return log_malloc(__libc_calloc(count, bytes), count * bytes, CALLER); }
 
 void free(void *old)
 {
@@ -243,14 +353,7 @@ void free(void *old)
     __libc_free(old);
 }
 
-void *realloc(void *old, size_t bytes)
-{
-    log_free(old);
-    void *at = __libc_realloc(old, bytes);
-    if (!at && old && bytes)
-        log_malloc(old, malloc_usable_size(old)); /* refused: the old one stays */
-    return log_malloc(at, bytes);
-}
+void *realloc(void *old, size_t bytes) { return resize(old, bytes, CALLER); }
 
 void *reallocarray(void *old, size_t count, size_t bytes)
 {
@@ -258,25 +361,19 @@ void *reallocarray(void *old, size_t count, size_t bytes)
         errno = ENOMEM;
         return NULL;
     }
-    return realloc(old, count * bytes);
+    return resize(old, count * bytes, CALLER);
 }
 
-/* Aligned memory is logged as a whole multiple of its alignment. */
-void *memalign(size_t alignment, size_t bytes)
-{
-    void *at = __libc_memalign(alignment, bytes);
-    return log_malloc(at, alignment ? (bytes + alignment - 1) / alignment * alignment : bytes);
-}
-
-void *aligned_alloc(size_t alignment, size_t bytes) { return memalign(alignment, bytes); }
-void *valloc(size_t bytes) { return memalign(PAGE_BYTES, bytes); }
+void *memalign(size_t alignment, size_t bytes) { return align(alignment, bytes, CALLER); }
+void *aligned_alloc(size_t alignment, size_t bytes) { return align(alignment, bytes, CALLER); }
+void *valloc(size_t bytes) { return align(PAGE_BYTES, bytes, CALLER); }
 
 int posix_memalign(void **at, size_t alignment, size_t bytes)
 {
     if (alignment % sizeof(void *) || !alignment || alignment & (alignment - 1))
         return EINVAL;
     int error = errno;
-    void *got = memalign(alignment, bytes);
+    void *got = align(alignment, bytes, CALLER);
     errno = error;
     if (!got)
         return ENOMEM;

@@ -9,18 +9,28 @@ import os
 import stat
 import subprocess
 import sys
+import typing
 import zlib
 
-FRAME = 4096
+import built
+import summary
+from summary import FRAME, MOST_SUPERBLOCKS, visible
+
 GREATEST_OBJECT = 4096
 CACHES = 32
-ORDERS, MOST_SUPERBLOCKS, MOST_TENANTS = range(3, 9), 256, 64
+ORDERS, MOST_TENANTS = range(3, 9), 64
+MOST_CHARACTERS = 1 << 17   # of a line; malloc_log.c leaves up to half of that behind the last one
+MOST_BYTES, BYTES_BEGUN = 255, 100  # of a line of a trace; of a name that is cut, before the cut
+SECOND, MOST_TIMES = 10**9, 100     # in nanoseconds; remarks of the time in a trace
 AGAIN = 'given again without a free between: given back first'
-PROGRAM = os.path.join(os.path.dirname(os.path.abspath(__file__)), '../crates/partmem/out/partmem')
+
+
+def own_name():
+    return os.path.basename(sys.argv[0])
 
 
 def fail(text, status=1):
-    print(f'{os.path.basename(sys.argv[0])}: {text}', file=sys.stderr)
+    print(f'{own_name()}: {visible(text)}', file=sys.stderr)
     sys.exit(status)
 
 
@@ -29,57 +39,165 @@ def arguments(description):
     given.add_argument('--order', type=int, default=8, metavar='S', help='a superblock has 2^S frames, S 3 to 8 (8)')
     given.add_argument('--superblocks', type=int, default=256, metavar='N', help='superblocks there are, 1 to 256 (256)')
     given.add_argument('--together', action='store_true', help='let all logs begin at the same time')
-    given.add_argument('--partmem', default=PROGRAM, metavar='PROGRAM', help='what answers (the built partmem)')
+    given.add_argument('--partmem', metavar='PROGRAM', help='what answers (the proved partmem, or else the unproved one)')
+    given.add_argument('--largest', type=int, metavar='N', help='take the N largest logs, 1 to 64; a LOG may be a folder')
     given.add_argument('logs', nargs='+', metavar='LOG', help='1 to 64 files, each a tenant, gzipped if the name ends in .gz')
-    given = given.parse_args()
+    return checked(given.parse_args())
+
+
+def checked(given):
+    """The arguments, if a machine can have them, with the files of folders."""
     if given.order not in ORDERS:
         fail(f'--order {given.order}: the order of a superblock is {ORDERS[0]} to {ORDERS[-1]}', 2)
     if not 1 <= given.superblocks <= MOST_SUPERBLOCKS:
         fail(f'--superblocks {given.superblocks}: a machine has 1 to {MOST_SUPERBLOCKS} superblocks', 2)
+    if given.largest is not None:
+        if not 1 <= given.largest <= MOST_TENANTS:
+            fail(f'--largest {given.largest}: a machine has 1 to {MOST_TENANTS} tenants', 2)
+        given.logs = largest(given.logs, given.largest)
     if len(given.logs) > MOST_TENANTS:
-        fail(f'{len(given.logs)} logs: each is a tenant, and a machine has at most {MOST_TENANTS}. Convert fewer of them', 2)
+        fail(f'{len(given.logs)} logs: each is a tenant, and a machine has at most {MOST_TENANTS}. Convert fewer of them, '
+             'or the largest by --largest N', 2)
+    given.partmem = given.partmem or built.program(own_name(), 'partmem') or fail(f'there is no partmem: {built.HOW}')
     return given
 
 
-def plural(noun, count):
-    return noun if count == 1 else noun + 's'
+def size_of_text(path):
+    """The bytes of a file without the zeroes at its end."""
+    status = os.stat(path)
+    if not stat.S_ISREG(status.st_mode):
+        return 0
+    with open(path, 'rb') as file:
+        file.seek(max(status.st_size - MOST_CHARACTERS, 0))
+        return file.tell() + len(file.read(MOST_CHARACTERS).rstrip(b'\0'))
+
+
+def files_of(path):
+    """The path with its size; of a folder those of the files in it."""
+    try:
+        found = [entry.path for entry in os.scandir(path) if entry.is_file()] if os.path.isdir(path) else [path]
+        return [(it, size_of_text(it)) for it in found]
+    except OSError as problem:
+        fail(f'cannot read {path}: {reason(problem)}')
+
+
+def largest(paths, most):
+    """The largest logs, at most this number."""
+    files = {it: size for path in paths for it, size in files_of(path)}
+    if not files:
+        fail(f'{" ".join(paths)} has no file')
+    return sorted(files, key=lambda it: (-files[it], it))[:most]
 
 
 def reason(problem):
     return getattr(problem, 'strerror', None) or str(problem)
 
 
+def lines_in(file, path):
+    """Yields the lines of a file with their numbers. A longer one than any log has is refused, before it fills the memory."""
+    for at, line in enumerate(iter(lambda: file.readline(MOST_CHARACTERS + 1), ''), 1):
+        if len(line) > MOST_CHARACTERS:
+            fail(f'{path} line {at}: it has more than {MOST_CHARACTERS} characters')
+        yield at, line
+
+
 def lines_of(path):
-    """Yields the lines of a log with their numbers. Bytes that are not UTF-8 are replaced: only names that are not used have any."""
+    """Yields the lines of a log with their numbers. Bytes that are not UTF-8 are replaced: only names that are not used have
+    any."""
     try:
-        if not stat.S_ISREG(os.stat(path).st_mode):
-            fail(f'cannot read {path}: it is read twice, so it has to be a regular file')
+        mode = os.stat(path).st_mode
+        if not stat.S_ISREG(mode):
+            more = ', or --largest N takes the largest N in it' if stat.S_ISDIR(mode) else ''
+            fail(f'cannot read {path}: it is read twice, so it has to be a regular file{more}')
         with (gzip.open if path.endswith('.gz') else open)(path, 'rt', encoding='utf-8', errors='replace') as file:
-            yield from enumerate(file, 1)
+            yield from lines_in(file, path)
     except (OSError, EOFError, zlib.error) as problem:
         fail(f'cannot read {path}: {reason(problem)}')
 
 
-def write(line):
-    """Writes a line of the trace."""
+def write(line, what='the trace'):
+    """Writes a line of the trace, or of what it is."""
     try:
         print(line)
     except OSError as problem:
-        cannot_write(problem)
+        cannot_write(problem, what)
 
 
-def flush():
-    """Writes what is buffered of the trace."""
+def flush(what='the trace'):
+    """Writes what is buffered of it."""
     try:
         sys.stdout.flush()
     except OSError as problem:
-        cannot_write(problem)
+        cannot_write(problem, what)
 
 
-def cannot_write(problem):
+def cannot_write(problem, what):
     """Ends, without another attempt to write what is buffered."""
     os.dup2(os.open(os.devnull, os.O_WRONLY), sys.stdout.fileno())
-    fail(f'cannot write the trace: {reason(problem)}')
+    fail(f'cannot write {what}: {reason(problem)}')
+
+
+def remark(number, name):
+    """The line that names a tenant. Of a name that is too long the middle is left out."""
+    begin, shown = f'# tenant {number} is ', visible(name).encode()
+    most = MOST_BYTES - len(begin)
+    if len(shown) > most:
+        shown = shown[:BYTES_BEGUN] + b'..' + shown[BYTES_BEGUN + 2 - most:]
+    return begin + shown.decode(errors='ignore')
+
+
+def interval_of(time):
+    """The least of 1, 2 and 5 nanoseconds, 10, 20 and so on of which at most MOST_TIMES are in this time."""
+    unit = 1
+    while True:
+        for interval in unit, 2 * unit, 5 * unit:
+            if time <= MOST_TIMES * interval:
+                return interval
+        unit *= 10
+
+
+def seconds(time):
+    """A time in seconds, with as many decimals as it needs."""
+    return f'{time // SECOND}.{time % SECOND:09}'.rstrip('0').rstrip('.')
+
+
+class Clock:
+    """Writes into the trace how much time has passed since the first event, as often as an interval has."""
+
+    def __init__(self, longest):
+        self.interval, self.start, self.next = interval_of(longest), None, float('-inf')
+        write(f'# times every {seconds(self.interval)} seconds')
+
+    def tell(self, time):
+        time = round(time * SECOND)
+        if time >= self.next:
+            self.start = time if self.start is None else self.start
+            passed = (time - self.start) // self.interval * self.interval
+            self.next = self.start + passed + self.interval
+            write(f'# time {seconds(passed)}')
+
+
+class Survey:
+    """What one reading of a log shows: how often it asks for each size, the time of its first event, and the greatest."""
+
+    def __init__(self, events, size_of):
+        self.counts, first, most = collections.Counter(), None, 0
+        for event in events:
+            time, size = event[0], size_of(event)
+            if first is None:
+                first = most = time
+            if time > most:
+                most = time
+            if size:
+                self.counts[size] += 1
+        self.first, self.most = first, most
+
+
+def longest(surveys, together):
+    """How much time passes in all of these logs, in nanoseconds."""
+    if together:
+        return round(max(it.most - it.first for it in surveys) * SECOND)
+    return round((max(it.most for it in surveys) - min(it.first for it in surveys)) * SECOND)
 
 
 def merged(counts, most):
@@ -129,7 +247,7 @@ class Machine:
         if not words and any(other.take_back(1) for other in self.tenants if other is not tenant):
             words = self.ask(line)
         if words:
-            tenant.used[int(words[3])] = 0
+            tenant.slots[int(words[3])] = 0
         return bool(words)
 
     def end(self):
@@ -141,15 +259,25 @@ class Machine:
             fail(f'partmem ended with status {self.program.returncode}')
 
 
+class Part(typing.NamedTuple):
+    """A block or an object of a thing: the line that gives it back and the one that asked for it, the first frame of its block
+    or of its slab, and of an object the bytes that were asked for."""
+    back: str
+    asked: str
+    frame: int
+    size: typing.Optional[int]
+
+
 class Tenant:
     """What one log asks for. `counts` says of each size up to GREATEST_OBJECT how often it is asked for."""
 
     def __init__(self, machine, counts):
         self.machine, self.number = machine, len(machine.tenants)
         machine.tenants.append(self)
-        self.used = {}      # how many blocks and objects lie in each slot that is held
-        self.things = {}    # by name: for each block or object of a thing, the line that gives it back, its slot, and what asked
-        self.told = collections.Counter()
+        self.slots = {}     # how many blocks and objects lie in each slot that is held
+        self.things = {}    # by name: the parts of each thing
+        self.told, self.used = collections.Counter(), summary.Used()
+        self.sizes = collections.Counter()      # how often was asked for so many bytes, by summary.bits
         self.live, self.most = collections.Counter(), collections.Counter()     # what each line asked for, now and at a time
         self.blocks = {}    # of each line, the order of the block that it takes, and how many things that has
         stands_for = merged(counts, CACHES)
@@ -166,23 +294,37 @@ class Tenant:
             words = self.machine.ask(line)
         return words and int(words[1])
 
-    def keep(self, parts, asked, back, frame):
-        slot = frame >> self.machine.order
-        self.used[slot] += 1
-        self.live[asked] += 1
-        self.most[asked] = max(self.most[asked], self.live[asked])
-        parts.append((f'{self.number} {back}', slot, asked))
+    def keep(self, parts, part):
+        self.slots[part.frame >> self.machine.order] += 1
+        self.live[part.asked] += 1
+        frames = 2**self.blocks[part.asked][0]
+        if part.size is None:
+            self.used.add_block(frames)
+        else:
+            self.used.add_object(part.frame, frames, part.size)
+        parts.append(part)
 
-    def take(self, name, size):
-        """An object. One that no cache can have is a page block."""
+    def note(self, parts):
+        """Notes what there is, now that a request was met by these parts."""
+        for part in parts:
+            if self.live[part.asked] > self.most[part.asked]:
+                self.most[part.asked] = self.live[part.asked]
+        if parts:
+            self.used.note(len(self.slots), 2**self.blocks[parts[0].asked][0])
+
+    def take(self, name, size, asked):
+        """An object of this size for so many bytes that were asked for. One that no cache can have is a page block."""
         if size > GREATEST_OBJECT:
             return self.alloc(name, -(-size // FRAME))
         self.give(name, AGAIN)
         parts, cache = self.things.setdefault(name, []), self.cache_of[size]
-        asked = f'{self.number} take {cache}'
-        place = self.request(asked)
+        line = f'{self.number} take {cache}'
+        place = self.request(line)
         if place is not None:
-            self.keep(parts, asked, f'give {cache} {place}', place // FRAME)
+            order = self.blocks[line][0]
+            slab = place // FRAME >> order << order
+            self.keep(parts, Part(f'{self.number} give {cache} {place}', line, slab, asked))
+            self.note(parts)
         self.told['objects taken' if parts else 'objects refused for want of frames'] += 1
 
     def alloc(self, name, frames):
@@ -191,15 +333,16 @@ class Tenant:
         parts = self.things.setdefault(name, [])
         while frames > 0:
             order = min((frames - 1).bit_length(), self.machine.order)
-            asked = f'{self.number} alloc {order}'
-            frame = self.request(asked)
+            line = f'{self.number} alloc {order}'
+            frame = self.request(line)
             if frame is None:
                 self.give(name)
                 self.things[name] = []
                 break
-            self.blocks[asked] = order, 1
-            self.keep(parts, asked, f'free {frame}', frame)
+            self.blocks[line] = order, 1
+            self.keep(parts, Part(f'{self.number} free {frame}', line, frame, None))
             frames -= 2**order
+        self.note(self.things[name])
         self.told['page blocks allocated' if self.things[name] else 'page blocks refused for want of frames'] += 1
 
     def give(self, name, what=None):
@@ -208,58 +351,62 @@ class Tenant:
             return False
         if what:
             self.told[what] += 1
-        for line, slot, asked in self.things.pop(name):
-            self.machine.ask(line)
-            self.live[asked] -= 1
-            self.used[slot] -= 1
-            if self.used[slot] == 0:
-                self.take_back(2)
+        for part in self.things.pop(name):
+            self.machine.ask(part.back)
+            self.drop(part)
         return True
+
+    def drop(self, part):
+        frames, slot = 2**self.blocks[part.asked][0], part.frame >> self.machine.order
+        if part.size is None:
+            self.used.drop_block(frames)
+        else:
+            self.used.drop_object(part.frame, frames, part.size)
+        self.live[part.asked] -= 1
+        self.slots[slot] -= 1
+        if self.slots[slot] == 0:
+            self.take_back(2)
 
     def take_back(self, least):
         """If at least so many slots are not used, the last of them is taken back, with empty slabs or without. One is left to a
         tenant as long as nobody is short, or it would be granted and taken back at every turn."""
-        spare = [slot for slot, things in self.used.items() if things == 0]
+        spare = [slot for slot, things in self.slots.items() if things == 0]
         if len(spare) < least:
             return False
         line = f'admin takeback {self.number} {max(spare)}'
         if not self.machine.ask(line):
             self.machine.ask(f'{self.number} reap')
             self.machine.ask(line)
-        del self.used[max(spare)]
+        del self.slots[max(spare)]
         return True
 
-    def tell(self):
-        """Prints what was done and left out, and then what follows by docs/capacity.md from the most blocks and objects that there
-        were at a time: a cache never has more slabs than these objects fill."""
-        for what, count in sorted((+self.told).items()):
-            print(f'{count:10} {what}', file=sys.stderr)
-        blocks = [(order, -(-self.most[asked] // things)) for asked, (order, things) in self.blocks.items() if self.most[asked]]
-        frames = sum(count * 2**order for order, count in blocks)
-        print(f'{frames:10} {plural("frame", frames)} for the most blocks and objects at a time', file=sys.stderr)
-        for order in sorted({order for order, _ in blocks}):
-            needed = (frames - 2**order) // 2**(self.machine.order - order) + 1
-            enough = f'{needed:10} {plural("superblock", needed)}, with which no block of order {order} is refused'
-            print(enough if needed <= MOST_SUPERBLOCKS else self.too_few(order), file=sys.stderr)
+    def count_size(self, asked):
+        self.sizes[summary.bits(asked)] += 1
 
-        if any('refused' in what for what in self.told):
-            more = 'more --superblocks, ' if self.machine.superblocks < MOST_SUPERBLOCKS else ''
-            print(f'{"":10} these numbers leave out what was refused: try {more}{self.larger()}fewer logs or a shorter log', file=sys.stderr)
+    def tell_more(self):
+        """Prints what else is known of the load, in the summary."""
 
-    def too_few(self, order):
-        """What to say if no machine has as many superblocks as are needed."""
-        return f'{"":10} no machine has so many superblocks that no block of order {order} is refused: try {self.larger()}a shorter log'
-
-    def larger(self):
-        return 'a larger --order, ' if self.machine.order < ORDERS[-1] else ''
+    def most_blocks(self):
+        """The most blocks of each order at a time: a cache never has more slabs than its most objects fill."""
+        return [(order, -(-self.most[line] // things)) for line, (order, things) in self.blocks.items() if self.most[line]]
 
 
-def convert(given, read, size_of, kind):
+def larger(given):
+    """Which machines are larger than that of the arguments."""
+    more = 'more --superblocks, ' if given.superblocks < MOST_SUPERBLOCKS else ''
+    return more + ('a larger --order, ' if given.order < ORDERS[-1] else '')
+
+
+def convert(given, read, size_of, kind, name_of=str):
     """Reads each log twice: first what sizes it asks for, and whether it is sound, and then all of them, merged by time. Each is
-    a tenant of that kind, which applies its events."""
-    counts = [collections.Counter(filter(None, map(size_of, read(path)))) for path in given.logs]
+    a tenant of that kind, which applies its events. Trace and summary name it by `name_of`."""
+    sys.stdout.reconfigure(encoding='utf-8')
+    surveys, names = [Survey(read(path), size_of) for path in given.logs], [name_of(path) for path in given.logs]
     machine = Machine(given)
-    tenants = [kind(machine, some) for some in counts]
+    for number, name in enumerate(names):
+        write(remark(number, name))
+    clock = Clock(longest(surveys, given.together))
+    tenants = [kind(machine, it.counts) for it in surveys]
 
     def events_of(tenant, path):
         first = None
@@ -267,9 +414,10 @@ def convert(given, read, size_of, kind):
             first = time if first is None else first
             yield time - first if given.together else time, tenant, event
 
-    for _, tenant, event in heapq.merge(*map(events_of, tenants, given.logs), key=lambda it: it[0]):
+    for time, tenant, event in heapq.merge(*map(events_of, tenants, given.logs), key=lambda it: it[0]):
+        clock.tell(time)
         tenant.apply(*event)
     machine.end()
-    for tenant, path in zip(tenants, given.logs):
-        print(f'tenant {tenant.number} is {path}', file=sys.stderr)
-        tenant.tell()
+    for tenant, name in zip(tenants, names):
+        print(f'tenant {tenant.number} is {visible(name)}', file=sys.stderr)
+        summary.tell(tenant, larger(given))

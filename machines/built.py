@@ -1,0 +1,31 @@
+"""Finds what is built, for scripts that use it: what is proved, or else what tools/unproved has left."""
+import os
+import sys
+
+TOP = os.path.dirname(os.path.dirname(os.path.abspath(__file__)))
+HOW = 'build it by `make unproved`, which proves nothing and takes two minutes, or by `make test`'
+
+
+def found(user, proved, unproved):
+    """The path of the first of these files at the top of the repository or of a release, or None. If only the unproved one is
+    there, its user says so on standard error."""
+    for file in [*proved, unproved]:
+        path = os.path.join(TOP, file)
+        if os.path.isfile(path):
+            if file == unproved:
+                print(f'{user}: {file} is used, of which nothing is proved: there is no {proved[0]}', file=sys.stderr)
+            return path
+    return None
+
+
+def program(user, name):
+    return found(user, [f'crates/{name}/out/{name}', f'bin/{name}'], f'out/{name}-unproved')
+
+
+def library(user):
+    return found(user, ['out/lib/libpartmem.a', 'lib/libpartmem.a'], 'out/libpartmem-unproved.a')
+
+
+def library_for_linux(user):
+    names = [f'{folder}/libpartmem_linux.a' for folder in ('out/lib', 'lib')]
+    return found(user, names, 'out/libpartmem_linux-unproved.a')

@@ -1,0 +1,191 @@
+"""Adds to the picture that framemap has drawn what its trace and its figures say: names, bytes, time, and titles under the
+pointer. What is drawn where stays as framemap decides."""
+import html
+import re
+
+import drawn
+import scales
+from scales import WIDTH
+
+LEFT, RIGHT, MARGIN = 72, 36, 16        # what is at the left of the columns and at their right, and what is added to both
+NAME_LINE = 18                          # how much higher each band is, for a line with its name
+BELOW, FREE_BELOW = 18, 40              # how much lower than the foot of a band the numbers of its lines are, and its end
+MARKS_BELOW, MARK_HEIGHT = 4, 9         # how much lower than the rows the marks of refusals are, and how high
+INDENT = 12                             # of the figures of a band, away from the word above its axis
+BYTES_RIGHT = 22                        # where the numbers of bytes end
+MOST_NAME = 64                          # characters of a name
+MOST_TITLES, LEAST_WIDTH, LEAST_HEIGHT = 1500, 3, 3     # rectangles with a title, and how many pixels they have at least
+KINDS = {'page': 'page blocks', 'full': 'full slabs', 'partial': 'partial slabs', 'empty': 'empty slabs', 'free': 'free',
+         'none': 'not held'}
+SHARES = {'one': 'up to a quarter', 'two': 'up to half', 'three': 'up to three quarters', '': 'more than three quarters'}
+
+
+def escaped(text):
+    return html.escape(text, quote=False)
+
+
+def text(words, y, x, kind=None):
+    kind = f' class="{kind}"' if kind else ''
+    return f'<text{kind} x="{x}" y="{y}">{words}</text>'
+
+
+class Labels:
+    """What is added to a picture."""
+
+    def __init__(self, table, remarks, width, by_time=False, has_titles=False):
+        self.lines, self.figures = drawn.read_table(table)
+        self.names, self.axis = remarks.names, scales.Axis(self.lines, width, remarks.clock if by_time else None)
+        self.unit = scales.Unit(max((max(own.held, default=0) for own in self.figures.values()), default=0))
+        self.has_titles = has_titles
+
+    def name_of(self, tenant):
+        return self.names.get(tenant, f'Tenant {tenant}')
+
+    def short(self, tenant):
+        name = self.name_of(tenant)
+        return name if len(name) <= MOST_NAME else name[:MOST_NAME] + '…'
+
+
+class Band:
+    """The band of one tenant."""
+
+    def __init__(self, found, labels):
+        self.found, self.labels, self.tenant = found, labels, int(found['tenant'])
+        self.figures = labels.figures[self.tenant]
+        self.y, self.top, self.height = int(found['y']), int(found['top']), int(found['height'])
+        self.row_height, self.per_row = int(found['row']), int(found['per_row'] or 1)
+        self.foot = int(found['below']) - BELOW
+        self.paths = [(it['kind'], it['shade'] or '', [tuple(map(int, its)) for its in drawn.RECTANGLE.findall(it['path'])])
+                      for it in drawn.PATH.finditer(found['cells'])]
+
+    def area(self, rectangle):
+        """How many pixels a rectangle has, if it can be pointed to, or else 0."""
+        column, _, columns, rows = rectangle
+        width = self.labels.axis.edges[column + columns] - self.labels.axis.edges[column]
+        height = rows * self.row_height
+        return width * height if width >= LEAST_WIDTH and height >= LEAST_HEIGHT else 0
+
+    def title(self, kind, shade, rectangle):
+        """What a rectangle shows: its frames, its lines, and what they are."""
+        column, row, columns, rows = rectangle
+        first, end, lines = row * self.per_row, (row + rows) * self.per_row, self.labels.lines
+        frames = f'frames {first} to {end - 1}' if end > first + 1 else f'frame {first}'
+        if row + rows == self.height // self.row_height and self.per_row > 1:
+            frames = f'frames {first} and above'    # the last row may have fewer frames
+        what = KINDS[kind]
+        if kind != 'none' and self.per_row > 1:
+            what = f'{SHARES[shade]} of each {self.per_row} frames taken, most in {what}'
+        begin = lines[column - 1] + 1 if column else 1
+        return f'{self.labels.name_of(self.tenant)}: {frames}, lines {begin} to {lines[column + columns - 1]}: {what}'
+
+    def draw_rectangle(self, rectangle):
+        column, row, columns, rows = rectangle
+        x = self.labels.axis.place(column)
+        width = self.labels.axis.place(column + columns) - x
+        return f'M{x} {row}h{width}v{rows}h-{width}z' if width else ''
+
+    def draw_cells(self, titled):
+        """The paths of the cells; rectangles among `titled` have their own, with a title."""
+        for kind, shade, rectangles in self.paths:
+            classes = f'{kind} {shade}'.rstrip()
+            plain_ones = ''.join(self.draw_rectangle(it) for it in rectangles if (self.tenant, it) not in titled)
+            yield f'<path class="{classes}" d="{plain_ones}"/>'
+            for it in rectangles:
+                if (self.tenant, it) in titled:
+                    title = escaped(self.title(kind, shade, it))
+                    yield f'<path class="{classes}" d="{self.draw_rectangle(it)}"><title>{title}</title></path>'
+
+    def draw_layers(self, order):
+        """The layers of the free frames."""
+        axis = self.labels.axis
+        for it in drawn.LAYER.finditer(self.found['layers']):
+            path = re.sub(r'H(\d+)', lambda turn: f'H{axis.place(int(turn[1]))}', it['path'])
+            title = f'{self.labels.name_of(self.tenant)}: frames in free blocks of order {order - int(it["depth"])}'
+            title = f'<title>{escaped(title)}</title>' if self.labels.has_titles else ''
+            scale = axis.scale(f'{WIDTH / max(len(self.labels.lines), 1):.8f}')
+            yield (f'<path class="{it["classes"]}" transform="translate({LEFT} {it["foot"]}) scale({scale} -{it["scale"]})" '
+                   f'd="{path}">{title}</path>')
+
+    def draw_refused(self):
+        """The marks of refusals: by time where the column begins to be shown, and else where framemap has drawn them."""
+        axis = self.labels.axis
+        if not axis.by_time:
+            return self.found['refused'].rstrip()
+        marks = ''.join(f'M{LEFT + axis.edges[column]:.2f} {self.top + self.height + MARKS_BELOW}v{MARK_HEIGHT}'
+                        for column in self.figures.refusing())
+        return f'<path class="refused" d="{marks}"/>'
+
+    def draw_window(self, titled, order):
+        """What moves if the lines that are shown change."""
+        height = self.foot - self.top
+        yield (f'<svg class="window" x="{LEFT}" y="{self.top}" width="{WIDTH}" height="{height}" '
+               f'viewBox="{LEFT} {self.top} {WIDTH} {height}" preserveAspectRatio="none">')
+        title = f'<title>{escaped(self.labels.name_of(self.tenant))}: free frames</title>'
+        yield self.found['ground'].replace('/>', f'>{title}</rect>') if self.labels.has_titles else self.found['ground']
+        scale = self.labels.axis.scale(self.found['scale'])
+        yield f'<g class="cells" transform="translate({LEFT} {self.top + self.height}) scale({scale} -{self.row_height})">'
+        yield from self.draw_cells(titled)
+        yield '</g>'
+        yield self.draw_refused()
+        yield from self.draw_layers(order)
+        yield '</svg>'
+
+    def draw_axes(self):
+        """The axes beside the rows, with bytes beside the frames."""
+        unit, bytes_at = self.labels.unit, f'class="right" x="{BYTES_RIGHT}" y='
+        axes = re.sub(r'<text class="right" x="66" y=("\d+")>frame</text>', rf'\g<0><text {bytes_at}\1>{unit.name}</text>',
+                      self.found['axes'])
+        return re.sub(r'<text class="right" x="63" y=("\d+")>(\d+)</text>',
+                      lambda it: f'{it[0]}<text {bytes_at}{it[1]}>{unit.of(int(it[2]))}</text>', axes).rstrip()
+
+    def draw_ticks(self):
+        if not self.labels.axis.by_time:
+            yield self.found['ticks'].rstrip()
+            return
+        for at, number in self.labels.axis.ticks():
+            x = f'{LEFT + at:.2f}'
+            yield f'<path class="axis" d="M{x} {self.foot}v5"/>{text(number, self.foot + BELOW, x, "middle")}'
+        yield text('seconds', self.foot + BELOW, LEFT - 9, 'right')
+
+    def draw(self, titled, order, moved):
+        """The band, so much lower."""
+        labels, unit = self.labels, self.labels.unit
+        name, full = (escaped(it) for it in (labels.short(self.tenant), labels.name_of(self.tenant)))
+        yield (f'<g class="band" data-tenant="{self.tenant}" data-top="{self.y - 2 * NAME_LINE}" '
+               f'data-bottom="{self.foot + FREE_BELOW}" data-row="{self.row_height}" data-frames="{self.per_row}" '
+               f'transform="translate(0 {moved})">')
+        yield text(f'{name}<title>tenant {self.tenant}: {full}</title>', self.y - NAME_LINE, LEFT, 'tenant')
+        yield (self.found['note'] or '').replace(f' y="{self.y}"', f' y="{self.y - NAME_LINE}"').rstrip()
+        at_most, at_end = unit.share(*self.figures.at_most()), unit.share(*self.figures.at_end())
+        yield text(f'{self.found["figures"]} · {at_most} at most, {at_end} at the end', self.y, LEFT + INDENT)
+        yield from self.draw_window(titled, order)
+        yield self.draw_axes()
+        yield self.found['word'].rstrip()
+        most = int(re.search(r'(\d+)$', self.found['free'])[1])
+        yield f'<text x="{LEFT}" {self.found["free"]} ({unit.of(most)} {unit.name})</text>'
+        yield self.found['frame'].rstrip()
+        yield '<g class="ticks">'
+        yield from self.draw_ticks()
+        yield '</g></g>'
+
+
+def titled_in(bands):
+    """The largest rectangles of all bands, which have titles."""
+    found = [(band.area(it), band.tenant, it) for band in bands for _, _, rectangles in band.paths for it in rectangles]
+    largest = sorted((it for it in found if it[0]), reverse=True)[:MOST_TITLES]
+    return {(tenant, it) for _, tenant, it in largest}
+
+
+def add(head, found, labels):
+    """The picture of this head and these bands, with its labels."""
+    bands, order = [Band(it, labels) for it in found], int(head['frames']).bit_length() - 1
+    height = int(head['height']) + NAME_LINE * len(bands)
+    titled = titled_in(bands) if labels.has_titles else set()
+    wide = LEFT + WIDTH + RIGHT + 2 * MARGIN
+    style = head['style'] + '.refused{vector-effect:non-scaling-stroke}'
+    lines = [f'<svg xmlns="http://www.w3.org/2000/svg" class="picture" viewBox="{-MARGIN} 0 {wide} {height}" width="{wide}" '
+             f'height="{height}">', f'<style>{style}</style>',
+             f'<rect x="{-MARGIN}" width="{wide}" height="{height}" fill="#fff"/>', head['words'].rstrip()]
+    for at, band in enumerate(bands, 1):
+        lines += band.draw(titled, order, NAME_LINE * at)
+    return '\n'.join(it for it in [*lines, '</svg>'] if it) + '\n'

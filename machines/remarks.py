@@ -1,0 +1,72 @@
+"""What the comments of a trace say to those who draw it: the sizes of the machine, the names of tenants, and the time."""
+import bisect
+import re
+
+import tenants
+
+SIZES = re.compile(r'# partmem --order (\d{1,2}) --superblocks (\d{1,3}) --tenants (\d{1,2})')
+NAME = re.compile(r'# tenant (\d{1,2}) is (.+)')
+TIME = re.compile(r'# time (\d{1,12}(?:\.\d{1,9})?)')
+INTERVAL = re.compile(r'# times every (\d{1,12}(?:\.\d{1,9})?) seconds')
+
+
+class Clock:
+    """When the lines of a trace were run. A remark gives the time of the lines behind it, or up to an interval less."""
+
+    def __init__(self):
+        self.lines, self.times, self.interval = [], [], None    # the lines that have a remark, and its seconds
+
+    def add(self, line, time):
+        """Adds the remark of a line. Whether it is no earlier than the one before."""
+        self.lines.append(line)
+        self.times.append(time)
+        return len(self.times) == 1 or time >= self.times[-2]
+
+    def read(self, line):
+        """The last remark at this line or before it; the first one before that."""
+        return self.times[max(bisect.bisect_right(self.lines, line) - 1, 0)]
+
+    def place(self, line, last):
+        """About when the line was run: the lines behind a remark are spread evenly over its interval, or up to the next remark if
+        that comes before. The trace ends with line `last`."""
+        at = bisect.bisect_right(self.lines, line) - 1
+        if at < 0:
+            return self.times[0]
+        is_last = at + 1 == len(self.lines)
+        begin, end = self.lines[at], last if is_last else self.lines[at + 1]
+        ends = [*self.times[at + 1:at + 2], *([] if self.interval is None else [self.times[at] + self.interval])]
+        passed = min(ends, default=self.times[at]) - self.times[at]
+        return self.times[at] + passed * (line - begin) / max(end - begin, 1)
+
+
+class Remarks:
+    """The sizes, the names by tenant and the clock that a trace has."""
+
+    def __init__(self, path):
+        self.sizes, self.names, self.clock = None, {}, Clock()
+        for at, line in enumerate(lines_of(path), 1):
+            if line.startswith(b'# ') and len(line.rstrip(b'\r\n')) <= tenants.MOST_BYTES:
+                self.read(path, at, line.decode(errors='replace').rstrip('\r\n'))
+
+    def read(self, path, at, line):
+        if at == 1 and (found := SIZES.fullmatch(line)):
+            self.sizes = tuple(map(int, found.groups()))
+        elif found := NAME.fullmatch(line):
+            self.names.setdefault(int(found[1]), printable(found[2]))
+        elif found := INTERVAL.fullmatch(line):
+            self.clock.interval = float(found[1])
+        elif (found := TIME.fullmatch(line)) and not self.clock.add(at, float(found[1])):
+            tenants.fail(f'{path} line {at}: the time is earlier than the one before')
+
+
+def printable(text):
+    """The text with a question mark for each character that cannot be shown."""
+    return ''.join(it if it.isprintable() else '?' for it in text)
+
+
+def lines_of(path):
+    try:
+        with open(path, 'rb') as file:
+            yield from file
+    except OSError as problem:
+        tenants.fail(f'cannot read {path}: {tenants.reason(problem)}')

@@ -1,0 +1,69 @@
+"""The numbers beside a picture: bytes, and the lines or the times of its columns."""
+import tenants
+from summary import FRAME
+
+WIDTH = 1200        # how wide all columns are together
+MOST_TICKS = 10     # numbers on an axis
+PARTS = 100         # of a pixel, to which places on an axis of time are rounded
+
+
+def plain(number):
+    """A number without zeroes at its end."""
+    return f'{number:.3f}'.rstrip('0').rstrip('.')
+
+
+class Unit:
+    """In which bytes are shown: MiB, or KiB if no tenant has 2 MiB."""
+
+    def __init__(self, frames):
+        self.name, self.bytes = ('MiB', 1 << 20) if frames * FRAME >= 2 << 20 else ('KiB', 1 << 10)
+
+    def of(self, frames):
+        return plain(frames * FRAME / self.bytes)
+
+    def share(self, frames, whole):
+        """So many frames of these, in bytes, to a tenth."""
+        return f'{plain(round(frames * FRAME / self.bytes, 1))} of {plain(round(whole * FRAME / self.bytes, 1))} {self.name}'
+
+
+def step_of(whole):
+    """The least of 1, 2 and 5 times a power of ten of which at most MOST_TICKS are in this number."""
+    power = -9
+    while True:
+        for step in (1, 2, 5):
+            if whole <= MOST_TICKS * step * 10.0**power:
+                return step * 10.0**power
+        power += 1
+
+
+class Axis:
+    """Where columns lie, as `edges` from 0 to WIDTH, and what the numbers below them are."""
+
+    def __init__(self, lines, width, clock=None):
+        count, self.by_time = len(lines), clock is not None
+        if self.by_time:
+            begin, end = clock.times[0], clock.place(lines[-1], lines[-1]) if lines else 0
+            if not end > begin:
+                tenants.fail('no time passes in the trace: draw it by lines')
+            # A moment shows the column whose line is nearest: what is run after a pause is not shown in it.
+            places = [clock.place((line + after) / 2, lines[-1]) for line, after in zip(lines, lines[1:])]
+            self.edges = [0, *((place - begin) / (end - begin) * WIDTH for place in places), WIDTH]
+            self.name, self.begin, self.end = 'seconds', begin, end
+        else:
+            self.edges = [at * WIDTH / count for at in range(count + 1)] if count else [0]
+            self.name, self.begin, self.end = 'line', 0, width * count
+
+    def place(self, column):
+        """Where a column begins, in units of the paths."""
+        return round(self.edges[column] * PARTS) if self.by_time else column
+
+    def scale(self, plain_scale):
+        return f'{1 / PARTS}' if self.by_time else plain_scale
+
+    def ticks(self):
+        """The numbers of the axis, each with how far to the right it is."""
+        step = step_of(self.end - self.begin)
+        at = -(-self.begin // step)
+        while at * step <= self.end:
+            yield (at * step - self.begin) / (self.end - self.begin) * WIDTH, f'{at * step:.9f}'.rstrip('0').rstrip('.')
+            at += 1

@@ -1,0 +1,122 @@
+"""The summary that from-kmem and from-malloc print of each tenant on standard error: first what it used, then what it asked for,
+and last what docs/capacity.md says of any load with as many blocks and objects."""
+import collections
+import sys
+
+FRAME, MOST_SUPERBLOCKS = 4096, 256
+LEAST_BITS, MOST_COLUMNS = 4, 40    # of the first row of sizes, up to 16 bytes; of a bar
+
+
+def plural(noun, count):
+    return noun if count == 1 else noun + 's'
+
+
+def visible(text):
+    """The text on one line, without control characters: these and backslashes are escaped."""
+    return ''.join(it if it.isprintable() and it != '\\' else it.encode('unicode_escape').decode() for it in text)
+
+
+def row(number, text):
+    print(f'{number:>10} {visible(text)}', file=sys.stderr)
+
+
+def heading(text):
+    print(f'{text}:', file=sys.stderr)
+
+
+class Used:
+    """What a tenant has, and the most at a time. A slab without live objects does not count: it is freed on demand."""
+
+    def __init__(self):
+        self.slots = self.largest = 0                   # the most slots, and the frames of the largest block
+        self.frames = self.in_slabs = self.asked = 0    # frames taken now, those of slabs, and bytes asked for of live objects
+        self.most = 0, 0, 0                             # these three when most frames were taken, and then most bytes asked for
+        self.objects = collections.Counter()            # the live objects of each slab, by its first frame
+
+    def note(self, slots, frames):
+        """A request was met, by blocks of up to so many frames. One that is refused has its blocks for a moment only."""
+        if slots > self.slots:
+            self.slots = slots
+        if frames > self.largest:
+            self.largest = frames
+        most, in_slabs, asked = self.most
+        if self.frames > most or self.frames == most and self.asked > asked:
+            self.most = self.frames, self.in_slabs, self.asked
+
+    def add_block(self, frames):
+        self.frames += frames
+
+    def drop_block(self, frames):
+        self.frames -= frames
+
+    def add_object(self, slab, frames, asked):
+        """An object of this size, in the slab of this number of frames that begins at frame `slab`."""
+        self.objects[slab] += 1
+        self.asked += asked
+        if self.objects[slab] == 1:
+            self.in_slabs += frames
+            self.add_block(frames)
+
+    def drop_object(self, slab, frames, asked):
+        self.objects[slab] -= 1
+        self.asked -= asked
+        if self.objects[slab] == 0:
+            del self.objects[slab]
+            self.in_slabs -= frames
+            self.drop_block(frames)
+
+
+def tell_used(used, refused, order):
+    """What was used. The bytes of slabs in which none lies that was asked for are lost."""
+    frames, in_slabs, asked = used.most
+    heading('used')
+    row(used.slots, f'{plural("slot", used.slots)} of {2**order} frames at most')
+    row(frames, f'{plural("frame", frames)} at most, {in_slabs} of them in slabs')
+    row(used.largest, f'{plural("frame", used.largest)} in the largest block')
+    row(refused, f'{plural("request", refused)} refused for want of frames')
+    if in_slabs:
+        lost = 100 - 100 * asked / (in_slabs * FRAME)
+        row(round(lost), '% of the bytes of these slabs lost to padding, free objects and sizes that were rounded up')
+
+
+def bits(size):
+    """Of the powers of two that are no less than a size, the exponent of the least one; sizes up to 16 are counted as that."""
+    return max((size - 1).bit_length(), LEAST_BITS)
+
+
+def tell_sizes(sizes):
+    """A histogram of the sizes asked for: of each power of two how many are not above it, and above half of it."""
+    if not sizes:
+        return
+    heading('sizes asked for, in bytes')
+    names = {size: f'of {2**(size - 1) + 1 if size > LEAST_BITS else 0} to {2**size}' for size in sorted(sizes)}
+    width, most = max(map(len, names.values())), max(sizes.values())
+    for size, name in names.items():
+        row(sizes[size], f'{name:<{width}} ' + '#' * max(round(MOST_COLUMNS * sizes[size] / most), 1))
+
+
+def tell_needs(blocks, order):
+    """How many superblocks are enough, by docs/capacity.md, for any load with so many blocks of each order at a time."""
+    frames = sum(count * 2**block for block, count in blocks)
+    heading('for a load of which nothing is known but the most blocks and objects that it has at a time')
+    row(frames, f'{plural("frame", frames)} {"holds" if frames == 1 else "hold"} them')
+    for block in sorted({block for block, _ in blocks}):
+        needed = (frames - 2**block) // 2**(order - block) + 1
+        if needed <= MOST_SUPERBLOCKS:
+            row(needed, f'{"superblock is" if needed == 1 else "superblocks are"} enough for blocks of order {block}')
+        else:
+            row('', f'blocks of order {block}: in the worst case more superblocks than a machine has')
+
+
+def tell(tenant, larger):
+    """Prints the summary of a tenant; `larger` names the larger machines that there are."""
+    refused = sum(count for what, count in tenant.told.items() if 'refused' in what)
+    tell_used(tenant.used, refused, tenant.machine.order)
+    heading('asked for')
+    for what, count in sorted((+tenant.told).items()):
+        row(count, what)
+    tell_sizes(tenant.sizes)
+    tenant.tell_more()
+    tell_needs(tenant.most_blocks(), tenant.machine.order)
+    if refused:
+        row('', f'these numbers leave out what was refused: try {larger}fewer logs or a shorter log')
