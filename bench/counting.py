@@ -4,7 +4,8 @@ import re
 import subprocess
 
 COMMANDS = 'alloc free take give read write cache destroy reap report grant take_back move reset'.split()
-LENDS = 'lend lend_object lend_block'.split()
+# Direct calls that are no events.
+CALLS = 'lend lend_object lend_block find_object'.split()
 ROUNDS = 100
 # The C library has a memcpy and a memset for each kind of processor. With these settings it takes the same ones on all.
 TUNABLES = "glibc.cpu.hwcaps=-ERMS,-FSRM,-AVX,-AVX2,-AVX512F,-AVX512VL,-AVX_Fast_Unaligned_Load"

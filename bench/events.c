@@ -3,9 +3,9 @@
  *     events event|call COMMAND ROUNDS
  *
  * COMMAND is alloc, free, take, give, read, write, cache, destroy, reap, report, grant, take_back, move or reset; or, of calls
- * alone, lend, lend_object or lend_block. Only its events or direct calls go through `measured`, so that callgrind counts these
- * alone; what undoes them does not. The machine has 32 superblocks of order 6 and 8 tenants. Tenant 0 has half of the
- * superblocks, a page block in each, which was written, and two caches with live objects. A reset is of tenant 1, who has a
+ * alone, lend, lend_object, lend_block or find_object. Only its events or direct calls go through `measured`, so that callgrind
+ * counts these alone; what undoes them does not. The machine has 32 superblocks of order 6 and 8 tenants. Tenant 0 has half of
+ * the superblocks, a page block in each, which was written, and two caches with live objects. A reset is of tenant 1, who has a
  * superblock with a page block and a slab.
  *
  *     events new ORDER           the first write into each superblock, whose memory was never touched
@@ -22,7 +22,7 @@
 
 #include "partmem.h"
 
-enum { LEND = 100, LEND_OBJECT, LEND_BLOCK }; /* direct calls that are no events */
+enum { LEND = 100, LEND_OBJECT, LEND_BLOCK, FIND_OBJECT }; /* direct calls that are no events */
 enum { SUPERBLOCKS = 32, TENANTS = 8, SLOTS = SUPERBLOCKS / 2, SMALL = 96, LARGE = 2048, FRAME_BYTES = 4096 };
 
 static partmem_machine machine;
@@ -59,6 +59,7 @@ static uint32_t call(uint32_t kind, uint32_t first, uint32_t second) {
     partmem_lent lent = {0};
     partmem_slot slot;
     partmem_cache cache;
+    partmem_object found;
     partmem_figures figures;
     uint32_t frames;
     switch (kind) {
@@ -79,6 +80,7 @@ static uint32_t call(uint32_t kind, uint32_t first, uint32_t second) {
     case LEND: done(partmem_lend(me, first, second, &lent)); break;
     case LEND_OBJECT: done(partmem_lend_object(me, first, second, &lent)); break;
     case LEND_BLOCK: done(partmem_lend_block(me, first, &lent)); break;
+    case FIND_OBJECT: done(partmem_find_object(me, first, &found)); break;
     }
     return 0;
 }
@@ -162,6 +164,10 @@ static void run_round(const char *command, uint32_t frame) {
         event(PARTMEM_GIVE, 0, place);
     } else if (is_direct && !strcmp(command, "lend_block")) {
         measured(LEND_BLOCK, FRAME_BYTES * frame, 0);
+    } else if (is_direct && !strcmp(command, "find_object")) {
+        uint32_t place = event(PARTMEM_TAKE, 0, 0);
+        measured(FIND_OBJECT, place + SMALL - 1, 0);
+        event(PARTMEM_GIVE, 0, place);
     } else {
         fail("there is no such command");
     }

@@ -160,6 +160,7 @@ static partmem_status others(void)
     partmem_cache made;
     partmem_owner owner;
     partmem_block block;
+    partmem_object found;
     uint32_t place;
     bool has_failed = partmem_grant(me, &slot) || partmem_take_back(me, slot.slot) ||
                       partmem_make_cache(me, LARGE, 8, "", 1, &made) || partmem_take(me, 0, &other) ||
@@ -167,6 +168,7 @@ static partmem_status others(void)
                       partmem_lend(me, lent.place, sizeof bytes, &other) || partmem_lend_block(me, lent.place, &other) ||
                       partmem_read(me, lent.place, bytes, sizeof bytes) || partmem_write(me, lent.place, bytes, sizeof bytes) ||
                       partmem_find_place(me, lent.at, &place) || partmem_find_block(me, lent.place, &block) ||
+                      partmem_find_object(me, lent.place, &found) || !partmem_superblock_bytes(&machine) ||
                       partmem_find_slot(me, 0, &slot) || partmem_find_superblock(&machine, 0, &owner) ||
                       partmem_free(me, lent.place) || partmem_alloc(me, 0, &other);
     return has_failed ? PARTMEM_NO_MACHINE : PARTMEM_DONE;
