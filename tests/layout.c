@@ -1,6 +1,6 @@
-/* The layout of the structs of partmem.h on x86-64, and the types of their fields and of the functions: where one is another,
- * this does not compile. Fields lie in the order of the header, each at the next multiple of its size. */
-#include "partmem.h"
+/* The layout of the structs of partmem.h and partmem_heap.h on x86-64, and the types of their fields and of the functions: where
+ * one is another, this does not compile. Fields lie in the order of the header, each at the next multiple of its size. */
+#include "partmem_heap.h"
 
 #define IS(expression, type) _Static_assert(_Generic((expression), type: 1, default: 0), #expression " is no " #type)
 #define FIELD(name, field, type, at)                                                                                            \
@@ -55,6 +55,11 @@ FIELD(partmem_block, use, partmem_use, 0);
 FIELD(partmem_block, place, uint32_t, 4);
 FIELD(partmem_block, bytes, uint32_t, 8);
 
+STRUCT(partmem_object, 12, 4);
+FIELD(partmem_object, cache, uint32_t, 0);
+FIELD(partmem_object, place, uint32_t, 4);
+FIELD(partmem_object, bytes, uint32_t, 8);
+
 STRUCT(partmem_order_row, 8, 4);
 FIELD(partmem_order_row, free, uint32_t, 0);
 FIELD(partmem_order_row, taken, uint32_t, 4);
@@ -77,6 +82,24 @@ FIELD(partmem_figures, caches, uint32_t, 24);
 ARRAY(partmem_figures, order, partmem_order_row, 9, 28);
 ARRAY(partmem_figures, cache, partmem_cache_row, 32, 100);
 
+STRUCT(partmem_heap_config, 16, 8);
+FIELD(partmem_heap_config, sizes, const uint16_t *, 0);
+FIELD(partmem_heap_config, count, uint32_t, 8);
+FIELD(partmem_heap_config, has_runs, uint32_t, 12);
+
+STRUCT(partmem_heap, 960, 8);
+FIELD(partmem_heap, tenant, partmem_tenant, 0);
+FIELD(partmem_heap, base, unsigned char *, 16);
+FIELD(partmem_heap, slots, uint32_t, 24);
+FIELD(partmem_heap, order, uint32_t, 28);
+FIELD(partmem_heap, classes, uint32_t, 32);
+ARRAY(partmem_heap, size, uint16_t, 24, 36);
+ARRAY(partmem_heap, align, uint16_t, 24, 84);
+ARRAY(partmem_heap, cache_of, uint8_t, 24, 132);
+ARRAY(partmem_heap, class_in, uint8_t, 32, 156);
+ARRAY(partmem_heap, class_of, uint8_t, 257, 188);
+ARRAY(partmem_heap, run, uint16_t, 256, 446);
+
 STRUCT(partmem_request, 16, 4);
 FIELD(partmem_request, kind, uint32_t, 0);
 FIELD(partmem_request, tenant, uint32_t, 4);
@@ -92,14 +115,25 @@ FIELD(partmem_reply, fourth, uint32_t, 16);
 FIELD(partmem_reply, fifth, uint32_t, 20);
 IS(&partmem_boot, partmem_status (*)(partmem_machine *, const partmem_config *));
 IS(&partmem_boot_in, partmem_status (*)(partmem_machine *, const partmem_config *, const partmem_memory *));
+IS(&partmem_superblock_bytes, uint32_t (*)(partmem_machine *));
 IS(&partmem_superblock_address, void *(*)(const partmem_machine *, uint32_t));
 IS(&partmem_find_place, partmem_status (*)(partmem_tenant, const void *, uint32_t *));
+IS(&partmem_find_object, partmem_status (*)(partmem_tenant, uint32_t, partmem_object *));
 IS(&partmem_move, partmem_status (*)(partmem_tenant, uint32_t, partmem_slot *));
 IS(&partmem_make_cache, partmem_status (*)(partmem_tenant, uint32_t, uint32_t, const void *, size_t, partmem_cache *));
 IS(&partmem_lend, partmem_status (*)(partmem_tenant, uint32_t, uint32_t, partmem_lent *));
 IS(&partmem_event,
    partmem_status (*)(partmem_machine *, const partmem_request *, const void *, size_t, partmem_reply *, void *, size_t));
 IS(&partmem_line, partmem_status (*)(partmem_machine *, const char *, size_t, char *, size_t, size_t *));
+
+IS(&partmem_heap_init, partmem_status (*)(partmem_heap *, partmem_tenant, const partmem_heap_config *));
+IS(&partmem_heap_malloc, void *(*)(partmem_heap *, size_t));
+IS(&partmem_heap_calloc, void *(*)(partmem_heap *, size_t, size_t));
+IS(&partmem_heap_aligned_alloc, void *(*)(partmem_heap *, size_t, size_t));
+IS(&partmem_heap_realloc, void *(*)(partmem_heap *, void *, size_t));
+IS(&partmem_heap_free, partmem_status (*)(partmem_heap *, void *));
+IS(&partmem_heap_usable_size, size_t (*)(const partmem_heap *, const void *));
+IS(&partmem_heap_place, uint32_t (*)(const partmem_heap *, const void *));
 
 /* sizes are constants of type size_t */
 IS(PARTMEM_RAM_BYTES(8u, 256u), size_t);

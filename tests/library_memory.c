@@ -168,18 +168,20 @@ partmem_status __wrap_partmem_end(partmem_machine *machine)
 }
 
 /* All other functions. One of them calls another. */
-#define OTHER(name, parameters, arguments)               \
-    partmem_status __real_##name parameters;             \
-    partmem_status __wrap_##name parameters              \
-    {                                                    \
-        const enum place before = place;                 \
-        place = IN_OTHER;                                \
-        partmem_status status = __real_##name arguments; \
-        place = before;                                  \
-        others++;                                        \
-        return status;                                   \
+#define OTHER(name, parameters, arguments) RETURNING(partmem_status, name, parameters, arguments)
+#define RETURNING(type, name, parameters, arguments) \
+    type __real_##name parameters;                   \
+    type __wrap_##name parameters                    \
+    {                                                \
+        const enum place before = place;             \
+        place = IN_OTHER;                            \
+        type returned = __real_##name arguments;     \
+        place = before;                              \
+        others++;                                    \
+        return returned;                             \
     }
 
+RETURNING(uint32_t, partmem_superblock_bytes, (partmem_machine *machine), (machine))
 OTHER(partmem_grant, (partmem_tenant tenant, partmem_slot *granted), (tenant, granted))
 OTHER(partmem_take_back, (partmem_tenant tenant, uint32_t slot), (tenant, slot))
 OTHER(partmem_move, (partmem_tenant tenant, uint32_t slot, partmem_slot *moved), (tenant, slot, moved))
@@ -205,6 +207,7 @@ OTHER(partmem_lend_block, (partmem_tenant tenant, uint32_t from, partmem_lent *b
 OTHER(partmem_read, (partmem_tenant tenant, uint32_t from, void *to, size_t bytes), (tenant, from, to, bytes))
 OTHER(partmem_write, (partmem_tenant tenant, uint32_t to, const void *from, size_t bytes), (tenant, to, from, bytes))
 OTHER(partmem_find_block, (partmem_tenant tenant, uint32_t from, partmem_block *found), (tenant, from, found))
+OTHER(partmem_find_object, (partmem_tenant tenant, uint32_t from, partmem_object *found), (tenant, from, found))
 OTHER(partmem_find_place, (partmem_tenant tenant, const void *at, uint32_t *found), (tenant, at, found))
 OTHER(partmem_report, (partmem_tenant tenant, partmem_figures *figures), (tenant, figures))
 OTHER(partmem_event,

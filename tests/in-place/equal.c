@@ -88,8 +88,11 @@ static void loaded(const partmem_lent *lent)
 static void load(void)
 {
     partmem_lent lent;
+    partmem_object around;
     uint32_t bytes = 1 + any(PARTMEM_MOST_BYTES);
-    partmem_status status = partmem_lend(me, place, bytes, &lent);
+    partmem_status found = partmem_find_object(me, place, &around), status = partmem_lend(me, place, bytes, &lent);
+    bool is_inside = found == PARTMEM_DONE && bytes <= around.bytes - (place - around.place);
+    MUST(status == (found == PARTMEM_DONE && !is_inside ? PARTMEM_OUT_OF_REACH : found));
     if (status == PARTMEM_DONE) {
         loaded(&lent);
     } else {
@@ -223,8 +226,12 @@ static void take(void)
 
 static void give(void)
 {
+    partmem_object found;
     line("%u give %u %u", t, cache, place);
-    reply(false, partmem_give(me, cache, place), "given");
+    bool is_there = partmem_find_object(me, place, &found) == PARTMEM_DONE && found.cache == cache && found.place == place;
+    partmem_status status = partmem_give(me, cache, place);
+    MUST(is_there == (status == PARTMEM_DONE));
+    reply(false, status, "given");
 }
 
 static void reap(void)

@@ -59,6 +59,15 @@ static bool is_lent_as_block(partmem_tenant me, const struct range *range)
            found.place == lent.place && found.bytes == lent.bytes && !partmem_object_at(me, 0, lent.place);
 }
 
+/* The object or page block is found from a byte of it. */
+static bool is_found(partmem_tenant me, const struct range *range, uint32_t place)
+{
+    partmem_object found;
+    return partmem_find_object(me, place, &found) == PARTMEM_DONE &&
+           found.cache == (range->is_object ? range->cache : PARTMEM_OF_NO_CACHE) && found.place == range->lent.place &&
+           found.bytes == range->lent.bytes;
+}
+
 static void check(uint32_t t, const struct range *range)
 {
     partmem_tenant me = tenant_of(t);
@@ -71,6 +80,8 @@ static void check(uint32_t t, const struct range *range)
     MUST(partmem_find_place(me, (uint8_t *)lent->at + from, &place) == PARTMEM_DONE && place == lent->place + from);
     MUST(partmem_find_place(tenant_of((t + 1) % TENANTS), lent->at, &place) == PARTMEM_NOT_HELD && place == 0);
     MUST(range->is_object ? is_lent_as_object(me, range) : is_lent_as_block(me, range));
+    MUST(is_found(me, range, lent->place) && is_found(me, range, lent->place + from));
+    MUST(is_found(me, range, lent->place + lent->bytes - 1));
     MUST(is_filled(range, 61));
     lent_again++;
 }
@@ -115,6 +126,7 @@ static void give(uint32_t t, struct range *range)
 {
     if (!range->is_live) return;
     partmem_tenant me = tenant_of(t);
+    partmem_object found;
     uint32_t place = range->lent.place;
     if (range->is_object) {
         MUST(partmem_free(me, place) == PARTMEM_NOT_A_BLOCK);
@@ -123,7 +135,7 @@ static void give(uint32_t t, struct range *range)
         MUST(partmem_give(me, 0, place) == PARTMEM_NOT_AN_OBJECT && partmem_free(me, place + 8) == PARTMEM_NOT_A_BLOCK);
         MUST(counted(partmem_free(me, place)) == PARTMEM_DONE);
     }
-    MUST(!partmem_at(me, place, 1));
+    MUST(!partmem_at(me, place, 1) && partmem_find_object(me, place, &found) == PARTMEM_OUT_OF_REACH && !found.bytes);
     range->is_live = false;
 }
 

@@ -1,5 +1,5 @@
-/* What a caller can get wrong without breaking memory: each returns its status, the first that applies, and zeroes as results.
- * Then what is right at the edges, and the functions that are written in C. */
+/* What a caller can get wrong without breaking memory: each returns its status, the first that applies, and zeroes as results; a
+ * read leaves its buffer unchanged. Then what is right at the edges, lengths that no memory has, and the functions in C. */
 #include "trial.h"
 
 static partmem_machine machine, none;
@@ -10,19 +10,29 @@ static partmem_owner owner;
 static partmem_lent lent;
 static partmem_cache cache;
 static partmem_block block;
+static partmem_object found;
 static partmem_figures figures;
 static uint32_t frames;
+static struct {
+    uint8_t front[64], inside[64], back[8192];
+} fenced; /* a buffer, with bytes around it that no call may write */
 
-static bool are_zeroes(const void *result, size_t size)
+enum { UNTOUCHED = 0xa5 };
+
+static bool are_all(const void *result, uint8_t byte, size_t size)
 {
     const uint8_t *at = result;
-    while (size > 0 && *at == 0) at++, size--;
+    while (size > 0 && *at == byte) at++, size--;
     return size == 0;
 }
 
-/* A call returns a status, and leaves zeroes as its result. */
-#define ZEROED(call, status, result) \
-    (memset(&(result), 0xa5, sizeof(result)), (call) == (status) && are_zeroes(&(result), sizeof(result)))
+/* A call returns a status, and leaves so many bytes of this value as its result. */
+#define LEAVES(call, status, result, byte) \
+    (memset(&(result), UNTOUCHED, sizeof(result)), (call) == (status) && are_all(&(result), byte, sizeof(result)))
+
+/* A call returns a status, and leaves zeroes as its result, or what was there. */
+#define ZEROED(call, status, result) LEAVES(call, status, result, 0)
+#define KEPT(call, status, result) LEAVES(call, status, result, UNTOUCHED)
 
 /* Every function with a tenant tests for a machine, and then for the tenant, before all else. */
 static void check_tenant(partmem_tenant tenant, partmem_status status)
@@ -37,8 +47,9 @@ static void check_tenant(partmem_tenant tenant, partmem_status status)
     MUST(ZEROED(partmem_lend(tenant, 0, 0, &lent), status, lent) && ZEROED(partmem_lend_block(tenant, 1, &lent), status, lent));
     MUST(ZEROED(partmem_lend_object(tenant, 99, 1, &lent), status, lent));
     MUST(!partmem_at(tenant, 0, 1) && !partmem_object_at(tenant, 0, 0));
-    MUST(ZEROED(partmem_read(tenant, 0, bytes, sizeof bytes), status, bytes) && partmem_write(tenant, 0, bytes, 1) == status);
+    MUST(KEPT(partmem_read(tenant, 0, bytes, sizeof bytes), status, bytes) && partmem_write(tenant, 0, bytes, 1) == status);
     MUST(ZEROED(partmem_find_block(tenant, 0, &block), status, block));
+    MUST(ZEROED(partmem_find_object(tenant, 0, &found), status, found));
     MUST(ZEROED(partmem_find_place(tenant, bytes, &frames), status, frames));
 }
 
@@ -54,8 +65,52 @@ static void check_lengths(void)
     MUST(ZEROED(partmem_make_cache(first, 0, 3, bytes, 16, &cache), PARTMEM_BAD_SIZE, cache));
     MUST(ZEROED(partmem_make_cache(first, 4097, 8, bytes, 16, &cache), PARTMEM_BAD_SIZE, cache));
     MUST(ZEROED(partmem_make_cache(first, 4096, 4, bytes, 16, &cache), PARTMEM_BAD_ALIGN, cache));
-    MUST(ZEROED(partmem_read(first, 0, bytes, sizeof bytes), PARTMEM_BAD_LENGTH, bytes));
-    MUST(partmem_read(first, 0, bytes, 0) == PARTMEM_BAD_LENGTH && partmem_read(first, 0, bytes, 64) == PARTMEM_OUT_OF_REACH);
+    MUST(KEPT(partmem_read(first, 0, bytes, sizeof bytes), PARTMEM_BAD_LENGTH, bytes));
+    MUST(KEPT(partmem_read(first, 0, bytes, 0), PARTMEM_BAD_LENGTH, bytes));
+    MUST(KEPT(partmem_read(first, 0, bytes, 64), PARTMEM_OUT_OF_REACH, bytes));
+}
+
+static bool is_kept_around(size_t written)
+{
+    return are_all(fenced.front, UNTOUCHED, sizeof fenced.front) &&
+           are_all(fenced.inside + written, UNTOUCHED, sizeof fenced.inside + sizeof fenced.back - written);
+}
+
+/* An event that reads, with a buffer that is said to have `buffer_len` bytes, returns this kind, and writes what it read. */
+static bool reads(uint32_t place, uint32_t count, size_t buffer_len, uint32_t kind)
+{
+    const partmem_request request = {PARTMEM_READ, first.number, place, count};
+    partmem_reply reply;
+    memset(&fenced, UNTOUCHED, sizeof fenced);
+    partmem_status status = partmem_event(&machine, &request, "", 0, &reply, fenced.inside, buffer_len);
+    return status == PARTMEM_DONE && reply.kind == kind && is_kept_around(kind == PARTMEM_BYTES ? count : 0);
+}
+
+/* Lengths that the memory behind a pointer does not have: no call writes more than its declaration says. The block is of zeroes. */
+static void check_wild_lengths(uint32_t place)
+{
+    static const size_t wild[] = {65, 4096, 1 << 20, INT32_MAX, UINT32_MAX, 1 + (size_t)UINT32_MAX, 9 + (size_t)UINT32_MAX,
+                                  SIZE_MAX / 2, SIZE_MAX - 7, SIZE_MAX};
+    static char text[PARTMEM_MOST_TEXT_BYTES + sizeof fenced];
+    size_t written;
+    for (size_t i = 0; i < LEN(wild); i++) {
+        MUST(KEPT(partmem_read(first, place, fenced.inside, wild[i]), PARTMEM_BAD_LENGTH, fenced));
+        MUST(KEPT(partmem_read(nobody, place, fenced.inside, wild[i]), PARTMEM_NO_TENANT, fenced));
+        MUST(KEPT(partmem_read(nowhere, place, fenced.inside, wild[i]), PARTMEM_NO_MACHINE, fenced));
+        MUST(partmem_write(first, place, fenced.inside, wild[i]) == PARTMEM_NOT_AN_EVENT);
+        MUST(ZEROED(partmem_make_cache(first, 8, 8, fenced.inside, wild[i], &cache), PARTMEM_NOT_AN_EVENT, cache));
+        MUST(reads(place, 64, wild[i], PARTMEM_BYTES) && reads(place, 1, wild[i], PARTMEM_BYTES));
+        MUST(reads(place, 65, wild[i], PARTMEM_REFUSED) && reads(place, UINT32_MAX, wild[i], PARTMEM_REFUSED));
+        const size_t text_len = wild[i] < sizeof text ? sizeof text : wild[i];
+        memset(text, UNTOUCHED, sizeof text);
+        MUST(partmem_line(&machine, "admin pool", 10, text, text_len, &written) == PARTMEM_DONE);
+        MUST(written <= PARTMEM_MOST_TEXT_BYTES && are_all(text + written, UNTOUCHED, sizeof text - written));
+    }
+    for (size_t count = 1; count <= sizeof fenced.inside; count++) {
+        memset(&fenced, UNTOUCHED, sizeof fenced);
+        MUST(partmem_read(first, place, fenced.inside, count) == PARTMEM_DONE && is_kept_around(count));
+        MUST(are_all(fenced.inside, 0, count));
+    }
 }
 
 static void check_machines(void)
@@ -69,6 +124,36 @@ static void check_machines(void)
     MUST(ZEROED(partmem_find_superblock(&machine, 4, &owner), PARTMEM_NO_SUPERBLOCK, owner));
     MUST(ZEROED(partmem_find_superblock(&machine, 3, &owner), PARTMEM_DONE, owner));
     MUST(!partmem_superblock_address(&none, 0) && !partmem_superblock_address(&machine, 4));
+    MUST(partmem_superblock_bytes(&none) == 0 && partmem_superblock_bytes(&machine) == 32768);
+}
+
+/* The live object or page block of each byte around objects of 72 bytes, one beside another at multiples of 32, and of a page block
+ * of two frames. Of three objects the middle one is given back. */
+static void check_objects(uint32_t pages)
+{
+    partmem_lent lives[3];
+    MUST(partmem_make_cache(first, 72, 32, "", 1, &cache) == PARTMEM_DONE && cache.cache == 1 && cache.chunk == 96);
+    for (uint32_t i = 0; i < LEN(lives); i++) MUST(partmem_take(first, 1, &lives[i]) == PARTMEM_DONE);
+    MUST(lives[1].place == lives[0].place + 96 && lives[2].place == lives[1].place + 96);
+    MUST(partmem_give(first, 1, lives[1].place) == PARTMEM_DONE);
+    for (uint32_t at = lives[0].place; at < lives[2].place + 96; at++) {
+        uint32_t begin = at - (at - lives[0].place) % 96;
+        if (at - begin < 72 && begin != lives[1].place) {
+            MUST(partmem_find_object(first, at, &found) == PARTMEM_DONE && found.cache == 1);
+            MUST(found.place == begin && found.bytes == 72);
+        } else {
+            MUST(ZEROED(partmem_find_object(first, at, &found), PARTMEM_OUT_OF_REACH, found));
+        }
+    }
+    for (uint32_t at = pages; at < pages + 8192; at++) {
+        MUST(partmem_find_object(first, at, &found) == PARTMEM_DONE && found.cache == PARTMEM_OF_NO_CACHE);
+        MUST(found.place == pages && found.bytes == 8192);
+    }
+    MUST(ZEROED(partmem_find_object(second, pages, &found), PARTMEM_OUT_OF_REACH, found));
+    MUST(ZEROED(partmem_find_object(first, 2 * 32768, &found), PARTMEM_OUT_OF_REACH, found));
+    MUST(ZEROED(partmem_find_object(first, UINT32_MAX, &found), PARTMEM_OUT_OF_REACH, found));
+    MUST(partmem_give(first, 1, lives[0].place) == PARTMEM_DONE && partmem_give(first, 1, lives[2].place) == PARTMEM_DONE);
+    MUST(partmem_destroy_cache(first, 1) == PARTMEM_DONE);
 }
 
 /* Refusals of a tenant that has two slots, a cache with a live object, and a page block of two frames. */
@@ -80,6 +165,7 @@ static void check_refusals(void)
     MUST(partmem_make_cache(first, 4096, 8, "", 1, &cache) == PARTMEM_DONE && cache.slab_bytes >= 4096);
     MUST(partmem_take(first, cache.cache, &object) == PARTMEM_DONE && object.bytes == 4096);
     MUST(partmem_alloc(first, 1, &pages) == PARTMEM_DONE && pages.bytes == 8192 && !((const uint8_t *)pages.at)[8191]);
+    check_wild_lengths(pages.place);
     MUST(ZEROED(partmem_alloc(first, 4, &lent), PARTMEM_BAD_ORDER, lent));
     MUST(ZEROED(partmem_alloc(second, 0, &lent), PARTMEM_NO_FRAMES, lent));
     MUST(partmem_free(first, pages.place + 1) == PARTMEM_NOT_A_BLOCK && partmem_free(second, pages.place) == PARTMEM_NOT_A_BLOCK);
@@ -104,6 +190,7 @@ static void check_refusals(void)
     MUST(partmem_find_block(first, object.place + 5, &block) == PARTMEM_DONE && block.use == PARTMEM_SLAB);
     MUST(partmem_find_block(first, pages.place + 8191, &block) == PARTMEM_DONE && block.use == PARTMEM_PAGE_BLOCK);
     MUST(block.place == pages.place && block.bytes == 8192);
+    check_objects(pages.place);
     MUST(partmem_grant(second, &slot) == PARTMEM_DONE && partmem_grant(second, &slot) == PARTMEM_DONE && slot.superblock == 3);
     MUST(ZEROED(partmem_grant(second, &slot), PARTMEM_POOL_EMPTY, slot));
     MUST(ZEROED(partmem_move(first, 0, &slot), PARTMEM_POOL_EMPTY, slot));

@@ -1,8 +1,9 @@
-/* A page block and an object used in place, in memory of the program's, in what C89 and C++98 have in common. */
-#include "partmem.h"
+/* A page block, an object and a piece of a heap used in place, in memory of the program's, in what C89 and C++98 have in common. */
+#include "partmem_heap.h"
 
 static unsigned char ram[PARTMEM_RAM_BYTES(3, 2)] __attribute__((aligned(4096)));
 static unsigned char tables[PARTMEM_TABLE_BYTES(3, 2, 2)] __attribute__((aligned(16)));
+static partmem_heap heap;
 
 int main(void)
 {
@@ -26,6 +27,9 @@ int main(void)
     at[0] = 'c';
     if (partmem_at(tenant, object.place, 24) != at || partmem_object_at(tenant, cache.cache, object.place) != at) return 5;
     if (partmem_give(tenant, cache.cache, object.place) || partmem_free(tenant, block.place)) return 6;
+    if (partmem_heap_init(&heap, tenant, 0)) return 8;
+    at = (unsigned char *)partmem_heap_calloc(&heap, 10, 10);
+    if (!at || at[99] || partmem_heap_usable_size(&heap, at) != 128 || partmem_heap_free(&heap, at)) return 9;
     if (partmem_end(&machine) || partmem_boot(&machine, &config)) return 7;
     return partmem_end(&machine) != PARTMEM_DONE;
 }

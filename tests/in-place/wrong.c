@@ -17,7 +17,9 @@ enum {
     TOUCHES_ANOTHER,   /* an alloc changes the bytes of tenant 0's first block, and puts them back */
     BEGINS_OFF_PAGE,   /* superblocks begin 16 bytes after pages */
     CLEARS_RAM,        /* boot clears the RAM */
-    FINDS_ANOTHER      /* find_place finds places in the superblocks of others */
+    FINDS_ANOTHER,     /* find_place finds places in the superblocks of others */
+    FINDS_BESIDE,      /* find_object finds the object beside */
+    CLEARS_REFUSED     /* a read that is refused clears all bytes that its caller says, up to a page */
 };
 
 static uint32_t superblock_bytes;
@@ -53,6 +55,14 @@ partmem_status __wrap_partmem_find_place(partmem_tenant tenant, const void *at, 
 {
     partmem_status status = __real_partmem_find_place(tenant, at, place);
     return WRONG == FINDS_ANOTHER && status == PARTMEM_NOT_HELD && at ? PARTMEM_DONE : status;
+}
+
+partmem_status __real_partmem_find_object(partmem_tenant tenant, uint32_t place, partmem_object *found);
+partmem_status __wrap_partmem_find_object(partmem_tenant tenant, uint32_t place, partmem_object *found)
+{
+    partmem_status status = __real_partmem_find_object(tenant, place, found);
+    if (WRONG == FINDS_BESIDE && status == PARTMEM_DONE && found->cache != PARTMEM_OF_NO_CACHE) found->place += found->bytes;
+    return status;
 }
 
 partmem_status __real_partmem_lend(partmem_tenant tenant, uint32_t place, uint32_t bytes, partmem_lent *lent);
@@ -119,6 +129,14 @@ partmem_status __wrap_partmem_lend_block(partmem_tenant tenant, uint32_t place, 
     partmem_status status = __real_partmem_lend_block(tenant, place, block);
     if (WRONG != LENDS_SLAB || status == PARTMEM_DONE) return status;
     return partmem_lend(tenant, place, 1, block);
+}
+
+partmem_status __real_partmem_read(partmem_tenant tenant, uint32_t place, void *to, size_t bytes);
+partmem_status __wrap_partmem_read(partmem_tenant tenant, uint32_t place, void *to, size_t bytes)
+{
+    partmem_status status = __real_partmem_read(tenant, place, to, bytes);
+    if (WRONG == CLEARS_REFUSED && status == PARTMEM_BAD_LENGTH) memset(to, 0, bytes < 4096 ? bytes : 4096);
+    return status;
 }
 
 partmem_status __real_partmem_take(partmem_tenant tenant, uint32_t cache, partmem_lent *object);
