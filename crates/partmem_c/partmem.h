@@ -125,7 +125,8 @@ extern "C" {
  * PARTMEM_MOST_BYTES, or the text of a line, at most PARTMEM_MOST_TEXT_BYTES.
  *
  * Each function lists what it returns besides DONE, and returns the first that applies. All functions with a tenant return
- * NO_MACHINE and NO_TENANT before what they list, but for a wrong number of bytes in partmem_write and partmem_make_cache. */
+ * NO_MACHINE and NO_TENANT before what they list; only a wrong number of bytes in partmem_write and partmem_make_cache comes
+ * between the two. */
 typedef enum partmem_status {
     PARTMEM_DONE = 0,
 

@@ -19,10 +19,11 @@
  *     init, usable_size, place                none: they look things up
  *
  * If a take finds too few frames for a slab, which has up to 8, a page block of one frame is allocated instead. If the tenant
- * has 32 caches, a request whose class has none gets an object of the next class that has one, or else a page block. So the
- * commands follow from the earlier calls of the heap, the tenant's other commands, and its grants, take-backs and resets: a
- * tenant gets the same places, sizes and refusals whatever other tenants do. No object has a header, and nothing is kept for each
- * frame: the library finds what is live at a place (partmem_find_object).
+ * has 32 caches, a request whose class has none gets an object of the next class that has one, or else a page block. So, but for
+ * whether partmem_heap_init accepts the slots of a heap with runs (RUNS), the commands follow from the earlier calls of the heap,
+ * the tenant's other commands, and its grants, take-backs and resets: a tenant gets the same places, sizes and refusals whatever
+ * other tenants do. No object has a header, and nothing is kept for each frame: the library finds what is live at a place
+ * (partmem_find_object).
  *
  * DIRECT CALLS. A tenant may use direct calls beside its heap. They have 8 of its 32 caches, or more if the heap has fewer
  * classes. Do not free by the heap what a direct call allocated, nor the other way round. The heap refuses an object of a
