@@ -55,8 +55,8 @@
  * a second one count as direct calls. Before partmem_heap_init, after a reset of the tenant and after the machine's end, a heap
  * is not used until it is initialised, unless all of it is 0.
  *
- * PROVED: what each direct call does, so that of the heap's commands too. TESTED: all of heap.c. docs/heap.md says how, and
- * what it costs. */
+ * PROVED: what each command of the heap does. TESTED: all of heap.c, and partmem_find_place and partmem_superblock_address,
+ * which it uses and which are C. docs/heap.md says how, and what it costs. */
 #ifndef PARTMEM_HEAP_H
 #define PARTMEM_HEAP_H
 
