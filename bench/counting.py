@@ -64,5 +64,5 @@ def of_command(program, how, command, folder, tunables=TUNABLES):
     """Returns the instructions of a command of bench/events.c, as an event or a direct call: the one of each round that its
     `measured` makes, on average."""
     run = [program, how, command, str(ROUNDS)]
-    functions = "measured|event|call"
+    functions = "measured|run|event|call"
     return of_calls(run, f"{folder}/{how}-{command}", functions=functions, called=r"partmem_\w+", tunables=tunables) / ROUNDS

@@ -4,9 +4,9 @@
  *
  * COMMAND is alloc, free, take, give, read, write, cache, destroy, reap, report, grant, take_back, move or reset; or, of calls
  * alone, lend, lend_object, lend_block or find_object. Only its events or direct calls go through `measured`, so that callgrind
- * counts these alone; what undoes them does not. The machine has 32 superblocks of order 6 and 8 tenants. Tenant 0 has half of
- * the superblocks, a page block in each, which was written, and two caches with live objects. A reset is of tenant 1, who has a
- * superblock with a page block and a slab.
+ * counts these alone; what undoes them is made in the same way, and not counted. The machine has 32 superblocks of order 6 and 8
+ * tenants. Tenant 0 has half of the superblocks, a page block in each, which was written, and two caches with live objects. A
+ * reset is of tenant 1, who has a superblock with a page block and a slab.
  *
  *     events new ORDER           the first write into each superblock, whose memory was never touched
  *     events again ORDER ROUNDS  the first write after a grant, into memory that was touched before
@@ -87,10 +87,13 @@ static uint32_t call(uint32_t kind, uint32_t first, uint32_t second) {
 
 static int is_direct;
 
-/* The same by an event or a direct call, counted. */
-__attribute__((noinline)) uint32_t measured(uint32_t kind, uint32_t first, uint32_t second) {
+/* The same by an event or a direct call. */
+static uint32_t run(uint32_t kind, uint32_t first, uint32_t second) {
     return is_direct ? call(kind, first, second) : event(kind, first, second);
 }
+
+/* The same, counted. */
+__attribute__((noinline)) uint32_t measured(uint32_t kind, uint32_t first, uint32_t second) { return run(kind, first, second); }
 
 static void boot(int order) {
     const partmem_config config = {(uint32_t)order, SUPERBLOCKS, TENANTS};
@@ -104,14 +107,14 @@ static uint32_t set_up(void) {
     uint32_t frame = 0;
     boot(6);
     for (int i = 0; i < SLOTS; i++) {
-        event(PARTMEM_GRANT, 0, 0);
-        frame = event(PARTMEM_ALLOC, 3, 0);
-        event(PARTMEM_WRITE, FRAME_BYTES * frame, 0);
+        run(PARTMEM_GRANT, 0, 0);
+        frame = run(PARTMEM_ALLOC, 3, 0);
+        run(PARTMEM_WRITE, FRAME_BYTES * frame, 0);
     }
-    event(PARTMEM_CACHE, SMALL, 8);
-    event(PARTMEM_CACHE, LARGE, 8);
+    run(PARTMEM_CACHE, SMALL, 8);
+    run(PARTMEM_CACHE, LARGE, 8);
     for (uint32_t i = 0; i < 200; i++) {
-        event(PARTMEM_TAKE, i % 2, 0);
+        run(PARTMEM_TAKE, i % 2, 0);
     }
     return frame;
 }
@@ -119,39 +122,39 @@ static uint32_t set_up(void) {
 /* Gives tenant 1 memory, and takes it back by a reset, which is counted. */
 static void reset_another(void) {
     tenant = 1;
-    event(PARTMEM_GRANT, 0, 0);
-    event(PARTMEM_ALLOC, 0, 0);
-    event(PARTMEM_CACHE, SMALL, 8);
-    event(PARTMEM_TAKE, 0, 0);
+    run(PARTMEM_GRANT, 0, 0);
+    run(PARTMEM_ALLOC, 0, 0);
+    run(PARTMEM_CACHE, SMALL, 8);
+    run(PARTMEM_TAKE, 0, 0);
     measured(PARTMEM_RESET, 0, 0);
 }
 
 /* Runs a command once, counted, and what makes it possible or undoes it. */
 static void run_round(const char *command, uint32_t frame) {
     if (!strcmp(command, "alloc")) {
-        event(PARTMEM_FREE, measured(PARTMEM_ALLOC, 0, 0), 0);
+        run(PARTMEM_FREE, measured(PARTMEM_ALLOC, 0, 0), 0);
     } else if (!strcmp(command, "free")) {
-        measured(PARTMEM_FREE, event(PARTMEM_ALLOC, 0, 0), 0);
+        measured(PARTMEM_FREE, run(PARTMEM_ALLOC, 0, 0), 0);
     } else if (!strcmp(command, "take")) {
-        event(PARTMEM_GIVE, 0, measured(PARTMEM_TAKE, 0, 0));
+        run(PARTMEM_GIVE, 0, measured(PARTMEM_TAKE, 0, 0));
     } else if (!strcmp(command, "give")) {
-        measured(PARTMEM_GIVE, 0, event(PARTMEM_TAKE, 0, 0));
+        measured(PARTMEM_GIVE, 0, run(PARTMEM_TAKE, 0, 0));
     } else if (!strcmp(command, "read")) {
         measured(PARTMEM_READ, FRAME_BYTES * frame, PARTMEM_MOST_BYTES);
     } else if (!strcmp(command, "write")) {
         measured(PARTMEM_WRITE, FRAME_BYTES * frame, 0);
     } else if (!strcmp(command, "cache")) {
-        event(PARTMEM_DESTROY, measured(PARTMEM_CACHE, SMALL, 8), 0);
+        run(PARTMEM_DESTROY, measured(PARTMEM_CACHE, SMALL, 8), 0);
     } else if (!strcmp(command, "destroy")) {
-        measured(PARTMEM_DESTROY, event(PARTMEM_CACHE, SMALL, 8), 0);
+        measured(PARTMEM_DESTROY, run(PARTMEM_CACHE, SMALL, 8), 0);
     } else if (!strcmp(command, "reap")) {
         measured(PARTMEM_REAP, 0, 0);
     } else if (!strcmp(command, "report")) {
         measured(PARTMEM_REPORT, 0, 0);
     } else if (!strcmp(command, "grant")) {
-        event(PARTMEM_TAKE_BACK, measured(PARTMEM_GRANT, 0, 0), 0);
+        run(PARTMEM_TAKE_BACK, measured(PARTMEM_GRANT, 0, 0), 0);
     } else if (!strcmp(command, "take_back")) {
-        measured(PARTMEM_TAKE_BACK, event(PARTMEM_GRANT, 0, 0), 0);
+        measured(PARTMEM_TAKE_BACK, run(PARTMEM_GRANT, 0, 0), 0);
     } else if (!strcmp(command, "move")) {
         measured(PARTMEM_MOVE, 0, 0);
     } else if (!strcmp(command, "reset")) {
@@ -159,15 +162,15 @@ static void run_round(const char *command, uint32_t frame) {
     } else if (is_direct && !strcmp(command, "lend")) {
         measured(LEND, FRAME_BYTES * frame, PARTMEM_MOST_BYTES);
     } else if (is_direct && !strcmp(command, "lend_object")) {
-        uint32_t place = event(PARTMEM_TAKE, 0, 0);
+        uint32_t place = run(PARTMEM_TAKE, 0, 0);
         measured(LEND_OBJECT, 0, place);
-        event(PARTMEM_GIVE, 0, place);
+        run(PARTMEM_GIVE, 0, place);
     } else if (is_direct && !strcmp(command, "lend_block")) {
         measured(LEND_BLOCK, FRAME_BYTES * frame, 0);
     } else if (is_direct && !strcmp(command, "find_object")) {
-        uint32_t place = event(PARTMEM_TAKE, 0, 0);
+        uint32_t place = run(PARTMEM_TAKE, 0, 0);
         measured(FIND_OBJECT, place + SMALL - 1, 0);
-        event(PARTMEM_GIVE, 0, place);
+        run(PARTMEM_GIVE, 0, place);
     } else {
         fail("there is no such command");
     }

@@ -24,7 +24,7 @@
 #define CALLGRIND_START_INSTRUMENTATION
 #endif
 
-enum { MOST_CACHES = 32, MOST_TENANTS = 64, FRAME_BYTES = 4096 };
+enum { MOST_TENANTS = 64, FRAME_BYTES = 4096 };
 
 /* what malloc has to do for a line */
 enum deed { NOTHING, TAKE, GIVE };
@@ -122,62 +122,84 @@ static void boot(char **sizes) {
     check(partmem_boot(&machine, &config) == PARTMEM_DONE, "boot");
 }
 
-static partmem_reply run(const struct call *call) {
-    partmem_reply reply;
-    partmem_status status =
-        partmem_event(&machine, &call->request, call->bytes, call->bytes_len, &reply, buffer, sizeof buffer);
-    check(status == PARTMEM_DONE, "event");
-    return reply;
+/* What the direct calls return, but for their status. */
+struct results {
+    partmem_lent lent;
+    partmem_slot slot;
+    partmem_cache cache;
+    uint32_t frames;
+};
+
+/* Always inlined, so that callgrind counts the library's calls alone. */
+__attribute__((always_inline)) static inline partmem_status run_direct(const struct call *call, struct results *results) {
+    const partmem_tenant tenant = {&machine, call->request.tenant};
+    uint32_t first = call->request.first, second = call->request.second;
+    switch (call->request.kind) {
+    case PARTMEM_ALLOC: return partmem_alloc(tenant, first, &results->lent);
+    case PARTMEM_FREE: return partmem_free(tenant, first * FRAME_BYTES);
+    case PARTMEM_TAKE: return partmem_take(tenant, first, &results->lent);
+    case PARTMEM_GIVE: return partmem_give(tenant, first, second);
+    case PARTMEM_READ: return partmem_read(tenant, first, buffer, second);
+    case PARTMEM_WRITE: return partmem_write(tenant, first, call->bytes, call->bytes_len);
+    case PARTMEM_CACHE: return partmem_make_cache(tenant, first, second, call->bytes, call->bytes_len, &results->cache);
+    case PARTMEM_REAP: return partmem_reap(tenant, &results->frames);
+    case PARTMEM_GRANT: return partmem_grant(tenant, &results->slot);
+    default: return PARTMEM_NOT_AN_EVENT;
+    }
 }
 
-/* What is taken or given by each line, by what the library answers it: a frame or a place says which block is given back. */
+/* The place that a call names, or at which begins what it took. */
+static uint32_t place_of(const struct call *call, const struct results *results) {
+    const partmem_request *request = &call->request;
+    switch (request->kind) {
+    case PARTMEM_ALLOC:
+    case PARTMEM_TAKE: return results->lent.place;
+    case PARTMEM_FREE: return request->first * FRAME_BYTES;
+    case PARTMEM_GIVE: return request->second;
+    default: return request->first;
+    }
+}
+
+/* What is taken or given by each line, by what the library answers it: the place says which block is given back. */
 static void plan(char **sizes) {
-    size_t frames = (size_t)atol(sizes[1]) << atol(sizes[0]), granules = frames * FRAME_BYTES / 8;
-    static size_t chunk[MOST_TENANTS][MOST_CACHES];
-    uint32_t *of_frame[MOST_TENANTS], *of_place[MOST_TENANTS];
+    size_t granules = ((size_t)atol(sizes[1]) << atol(sizes[0])) * FRAME_BYTES / 8;
+    uint32_t *taker[MOST_TENANTS]; /* the call that took what begins at a place */
     for (size_t tenant = 0; tenant < MOST_TENANTS; tenant++) {
-        of_frame[tenant] = some(frames, sizeof **of_frame);
-        of_place[tenant] = some(granules, sizeof **of_place);
+        taker[tenant] = some(granules, sizeof **taker);
     }
     boot(sizes);
     for (size_t i = 0; i < call_count; i++) {
         struct call *call = &calls[i];
-        const partmem_request *request = &call->request;
-        partmem_reply reply = run(call);
-        check(request->tenant < MOST_TENANTS, "a load has no such tenant");
-        uint32_t *frame = of_frame[request->tenant], *place = of_place[request->tenant];
-        switch (reply.kind) {
-        case PARTMEM_FRAME:
-            frame[reply.first] = (uint32_t)block_count;
-            call->deed = TAKE, call->block = block_count++, call->size = (size_t)FRAME_BYTES << request->first;
-            break;
-        case PARTMEM_MADE:
-            chunk[request->tenant][reply.first] = request->first;
-            break;
-        case PARTMEM_OBJECT:
-            place[reply.first / 8] = (uint32_t)block_count;
-            call->deed = TAKE, call->block = block_count++, call->size = chunk[request->tenant][request->first];
-            break;
-        case PARTMEM_FREED:
-            call->deed = GIVE, call->block = frame[request->first], call->size = (size_t)FRAME_BYTES << reply.first;
-            break;
-        case PARTMEM_GIVEN:
-            call->deed = GIVE, call->block = place[request->second / 8], call->size = chunk[request->tenant][request->first];
-            break;
-        default:
-            break;
+        uint32_t tenant = call->request.tenant, kind = call->request.kind;
+        struct results results;
+        check(tenant < MOST_TENANTS, "a load has no such tenant");
+        partmem_status status = run_direct(call, &results);
+        check(status < PARTMEM_NO_MACHINE, "a direct call");
+        if (status != PARTMEM_DONE) {
+            continue;
+        }
+        uint32_t place = place_of(call, &results);
+        if (kind == PARTMEM_ALLOC || kind == PARTMEM_TAKE) {
+            taker[tenant][place / 8] = (uint32_t)i;
+            call->deed = TAKE, call->block = block_count++, call->size = results.lent.bytes;
+        } else if (kind == PARTMEM_FREE || kind == PARTMEM_GIVE) {
+            const struct call *its = &calls[taker[tenant][place / 8]];
+            call->deed = GIVE, call->block = its->block, call->size = its->size;
         }
     }
     check(partmem_end(&machine) == PARTMEM_DONE, "end");
     for (size_t tenant = 0; tenant < MOST_TENANTS; tenant++) {
-        free(of_frame[tenant]);
-        free(of_place[tenant]);
+        free(taker[tenant]);
     }
 }
 
 __attribute__((noinline)) static void run_events(void) {
     for (size_t i = 0; i < call_count; i++) {
-        run(&calls[i]);
+        partmem_reply reply;
+        const struct call *call = &calls[i];
+        partmem_status status =
+            partmem_event(&machine, &call->request, call->bytes, call->bytes_len, &reply, buffer, sizeof buffer);
+        check(status == PARTMEM_DONE, "event");
     }
 }
 
@@ -203,36 +225,17 @@ static void load(const uint8_t *at, const struct call *call) {
     check(*at == (uint8_t)call->block && memcmp(at, at + 1, call->size - 1) == 0, "bytes are not as they were stored");
 }
 
-static partmem_status run_direct(const struct call *call, partmem_lent *lent) {
-    const partmem_tenant tenant = {&machine, call->request.tenant};
-    uint32_t first = call->request.first, second = call->request.second;
-    partmem_slot slot;
-    partmem_cache cache;
-    switch (call->request.kind) {
-    case PARTMEM_ALLOC: return partmem_alloc(tenant, first, lent);
-    case PARTMEM_FREE: return partmem_free(tenant, first * FRAME_BYTES);
-    case PARTMEM_TAKE: return partmem_take(tenant, first, lent);
-    case PARTMEM_GIVE: return partmem_give(tenant, first, second);
-    case PARTMEM_READ: return partmem_read(tenant, first, buffer, second);
-    case PARTMEM_WRITE: return partmem_write(tenant, first, call->bytes, call->bytes_len);
-    case PARTMEM_CACHE: return partmem_make_cache(tenant, first, second, call->bytes, call->bytes_len, &cache);
-    case PARTMEM_REAP: return partmem_reap(tenant, &first);
-    case PARTMEM_GRANT: return partmem_grant(tenant, &slot);
-    default: return PARTMEM_NOT_AN_EVENT;
-    }
-}
-
 __attribute__((noinline)) static void run_calls(uint8_t **blocks, int is_used) {
-    partmem_lent lent;
+    struct results results;
     for (size_t i = 0; i < call_count; i++) {
         const struct call *call = &calls[i];
         if (is_used && call->deed == GIVE) {
             load(blocks[call->block], call);
         }
-        check(run_direct(call, &lent) < PARTMEM_NO_MACHINE, "a direct call");
+        check(run_direct(call, &results) < PARTMEM_NO_MACHINE, "a direct call");
         if (call->deed == TAKE) {
-            blocks[call->block] = lent.at;
-            store(lent.at, call, is_used);
+            blocks[call->block] = results.lent.at;
+            store(results.lent.at, call, is_used);
         }
     }
 }
