@@ -6,7 +6,8 @@
  * alone, lend, lend_object, lend_block or find_object. Only its events or direct calls go through `measured`, so that callgrind
  * counts these alone; what undoes them is made in the same way, and not counted. The machine has 32 superblocks of order 6 and 8
  * tenants. Tenant 0 has half of the superblocks, a page block in each, which was written, and two caches with live objects. A
- * reset is of tenant 1, who has a superblock with a page block and a slab.
+ * reset is of tenant 1, who has a superblock with a page block and a slab. With bench/floor.c linked in the place of the library,
+ * direct calls of alloc, free, take, give, read, write and lend run.
  *
  *     events new ORDER           the first write into each superblock, whose memory was never touched
  *     events again ORDER ROUNDS  the first write after a grant, into memory that was touched before

@@ -1,6 +1,7 @@
 /* Runs the lines of a trace by the static library, or by malloc and free, and prints the nanoseconds of a call.
  *
  *     library HOW ORDER SUPERBLOCKS TENANTS TRACE
+ *     library answers ORDER SUPERBLOCKS TENANTS TRACE   writes what each direct call returns, a line each
  *     library --order=ORDER --superblocks=SUPERBLOCKS --tenants=TENANTS   writes the replies to lines, as `partmem` does
  *
  * HOW is `event` (partmem_event), `line` (partmem_line), `call` (the direct calls) or `malloc`. The calls are made in turn on a
@@ -8,8 +9,11 @@
  * or an object is a block of as many bytes; lines that neither take nor give are left out. The allocator that is linked or
  * preloaded is the one that is measured. After a direct call and after malloc the first byte is stored. With `call-used` and
  * `malloc-used` all bytes of a block or an object are stored when it is taken, and loaded and checked before it is given back.
+ *
+ * With bench/floor.c linked in the place of the library, `call`, `call-used` and `answers` run. Its answers have to be the same.
  */
 #define _POSIX_C_SOURCE 200809L
+#include <inttypes.h>
 #include <stdio.h>
 #include <stdlib.h>
 #include <string.h>
@@ -261,6 +265,64 @@ __attribute__((noinline)) static size_t run_malloc(uint8_t **blocks, int is_used
     return count;
 }
 
+/* A number that depends on all bytes, on their order, and on the number before. */
+static uint64_t sum(uint64_t before, const void *bytes, size_t count) {
+    const uint8_t *at = bytes;
+    for (size_t size; count > 0; count -= size, at += size) {
+        uint64_t word = 0;
+        size = count < sizeof word ? count : sizeof word;
+        memcpy(&word, at, size);
+        before = (before ^ word) * 0x9e3779b97f4a7c15u;
+        before ^= before >> 29;
+    }
+    return before;
+}
+
+/* Adds to a sum what more calls about a place return: lends, some of them of too many bytes, and calls that are refused since no
+ * object or block begins there, or none any more. */
+static uint64_t sum_of_more(uint64_t before, const struct call *call, uint32_t place, uint32_t bytes) {
+    const partmem_tenant tenant = {&machine, call->request.tenant};
+    const struct { uint32_t place, bytes; } lends[] = {
+        {place, bytes}, {place, bytes + 1}, {place + bytes - 1, 1}, {place - 1, 2}, {place, 0},
+    };
+    struct results results;
+    for (size_t i = 0; i < sizeof lends / sizeof *lends; i++) {
+        partmem_lent lent = {buffer, 1, 1};
+        uint32_t status = partmem_lend(tenant, lends[i].place, lends[i].bytes, &lent);
+        const uint32_t found[] = {status, lent.place, lent.bytes, lent.at != NULL ? *(uint8_t *)lent.at : 256};
+        before = sum(before, found, sizeof found);
+    }
+    const uint32_t refusals[] = {
+        partmem_free(tenant, place + 4),
+        partmem_give(tenant, call->request.first, place + 4),
+        call->deed == GIVE ? run_direct(call, &results) : PARTMEM_DONE,
+    };
+    return sum(before, refusals, sizeof refusals);
+}
+
+/* Writes what each direct call returns: its kind, its status, the place that it names or takes, the bytes that it takes or gives
+ * back, and a sum of these bytes, of all else that it returns, and of what more calls about the place return. */
+static void write_answers(uint8_t **blocks) {
+    for (size_t i = 0; i < call_count; i++) {
+        const struct call *call = &calls[i];
+        struct results results;
+        memset(&results, 0xee, sizeof results);
+        memset(buffer, 0, PARTMEM_MOST_BYTES);
+        uint64_t all = call->deed == GIVE ? sum(0, blocks[call->block], call->size) : 0;
+        uint32_t status = run_direct(call, &results), place = place_of(call, &results);
+        if (call->deed == TAKE) {
+            blocks[call->block] = results.lent.at;
+            all = sum(all, results.lent.at, call->size);
+            store(results.lent.at, call, 1);
+        }
+        const uint8_t is_null = results.lent.at == NULL;
+        results.lent.at = NULL; /* addresses differ from run to run */
+        all = sum(sum(sum(all, &is_null, 1), &results, sizeof results), buffer, PARTMEM_MOST_BYTES);
+        all = sum_of_more(all, call, place, call->size > 0 ? (uint32_t)call->size : 8);
+        printf("%u %u %u %zu %016" PRIx64 "\n", call->request.kind, status, place, call->size, all);
+    }
+}
+
 /* Writes the reply to each line of the standard input, as soon as it is read. */
 static int answer_lines(char **sizes) {
     char *line = NULL, *plain[3];
@@ -299,6 +361,10 @@ int main(int argc, char **argv) {
     uint8_t **blocks = some(block_count, sizeof *blocks);
     size_t count = call_count;
     boot(sizes);
+    if (strcmp(argv[1], "answers") == 0) {
+        write_answers(blocks);
+        return 0;
+    }
     CALLGRIND_START_INSTRUMENTATION;
     double start = processor_time();
     if (strcmp(argv[1], "event") == 0) {
