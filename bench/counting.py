@@ -7,10 +7,10 @@ COMMANDS = 'alloc free take give read write cache destroy reap report grant take
 # Direct calls that are no events.
 CALLS = 'lend lend_object lend_block find_object'.split()
 ROUNDS = 100
-# The C library has a memcpy and a memset for each kind of processor. With these settings it takes the same ones on all.
+# The C library has a memcpy and a memset for each kind of processor. With these settings it uses the same ones on all.
 TUNABLES = "glibc.cpu.hwcaps=-ERMS,-FSRM,-AVX,-AVX2,-AVX512F,-AVX512VL,-AVX_Fast_Unaligned_Load"
 LIBRARY = "C library"
-# Programs that use this header say where callgrind begins. Until there it is faster.
+# Programs that use this header say where callgrind begins. They run faster until there.
 HEADER = "/usr/include/valgrind/callgrind.h"
 LATE = ["--instr-atstart=no"] if os.path.exists(HEADER) else []
 
@@ -21,7 +21,7 @@ def own_library():
 
 
 def read_ceilings(path):
-    """Returns the C library that the numbers of a file are for, or None, and what the file has for each name."""
+    """Returns the C library that the numbers of a file were measured with, or None, and the value of each name in the file."""
     with open(path, encoding="utf-8") as lines:
         rows = [line.partition("#")[0].strip() for line in lines]
     split = {name: value.strip() for name, _, value in (row.partition(":") for row in rows if row)}
@@ -46,8 +46,8 @@ def callgrind(command, *options, out="/dev/null", tunables=TUNABLES, preload="")
 
 
 def of_calls(command, out, *options, toggle="measured", functions="measured", called=r".*", tunables=TUNABLES, preload=""):
-    """Returns the instructions of the calls that some functions make, with all below, while `toggle` runs. callgrind writes to
-    the file `out`. `options` are callgrind's; `functions` and `called` are patterns of names."""
+    """Returns the instructions of the calls that some functions make, with all that these calls call, while `toggle` runs.
+    callgrind writes to the file `out`. `options` are callgrind's; `functions` and `called` are patterns of names."""
     own = ["--compress-strings=no", "--compress-pos=no", f"--toggle-collect={toggle}"]
     ran = callgrind(command, *own, *options, out=out, tunables=tunables, preload=preload)
     if ran.returncode:
@@ -61,8 +61,8 @@ def of_calls(command, out, *options, toggle="measured", functions="measured", ca
 
 
 def of_command(program, how, command, folder, tunables=TUNABLES):
-    """Returns the instructions of a command of bench/events.c, as an event or a direct call: the one of each round that its
-    `measured` makes, on average."""
+    """Returns the average instructions of a command of bench/events.c, as an event or a direct call: of the call that its
+    `measured` makes in each round."""
     run = [program, how, command, str(ROUNDS)]
     functions = "measured|run|event|call"
     return of_calls(run, f"{folder}/{how}-{command}", functions=functions, called=r"partmem_\w+", tunables=tunables) / ROUNDS

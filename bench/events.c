@@ -2,17 +2,17 @@
  *
  *     events event|call COMMAND ROUNDS
  *
- * COMMAND is alloc, free, take, give, read, write, cache, destroy, reap, report, grant, take_back, move or reset; or, of calls
- * alone, lend, lend_object, lend_block or find_object. Only its events or direct calls go through `measured`, so that callgrind
- * counts these alone; what undoes them is made in the same way, and not counted. The machine has 32 superblocks of order 6 and 8
- * tenants. Tenant 0 has half of the superblocks, a page block in each, which was written, and two caches with live objects. A
- * reset is of tenant 1, who has a superblock with a page block and a slab. With bench/floor.c linked in the place of the library,
- * direct calls of alloc, free, take, give, read, write and lend run.
+ * COMMAND is alloc, free, take, give, read, write, cache, destroy, reap, report, grant, take_back, move or reset. For `call` it
+ * may also be lend, lend_object, lend_block or find_object. Only its events or direct calls go through `measured`, so that
+ * callgrind counts these alone; what undoes them is made in the same way, and not counted. The machine has 32 superblocks of order
+ * 6 and 8 tenants. Tenant 0 has half of the superblocks, a page block in each, which was written, and two caches with live
+ * objects. A reset is of tenant 1, who has a superblock with a page block and a slab. If bench/floor.c is linked in the place of
+ * the library, direct calls of alloc, free, take, give, read, write and lend run.
  *
  *     events new ORDER           the first write into each superblock, whose memory was never touched
  *     events again ORDER ROUNDS  the first write after a grant, into memory that was touched before
  *
- * These print the page faults and the nanoseconds of such a write. The machine has 32 superblocks of that order.
+ * The last two print the page faults and the nanoseconds of such a write. The machine has 32 superblocks of that order.
  */
 #define _DEFAULT_SOURCE
 #include <stdio.h>
@@ -23,7 +23,7 @@
 
 #include "partmem.h"
 
-enum { LEND = 100, LEND_OBJECT, LEND_BLOCK, FIND_OBJECT }; /* direct calls that are no events */
+enum { LEND = 100, LEND_OBJECT, LEND_BLOCK, FIND_OBJECT }; /* direct calls that are not events */
 enum { SUPERBLOCKS = 32, TENANTS = 8, SLOTS = SUPERBLOCKS / 2, SMALL = 96, LARGE = 2048, FRAME_BYTES = 4096 };
 
 static partmem_machine machine;
@@ -54,7 +54,7 @@ static void done(partmem_status status) {
     }
 }
 
-/* The same by a direct call. */
+/* Does the same by a direct call. */
 static uint32_t call(uint32_t kind, uint32_t first, uint32_t second) {
     const partmem_tenant me = {&machine, tenant};
     partmem_lent lent = {0};
@@ -88,7 +88,7 @@ static uint32_t call(uint32_t kind, uint32_t first, uint32_t second) {
 
 static int is_direct;
 
-/* The same by an event or a direct call. */
+/* Does the same by an event or a direct call. */
 static uint32_t run(uint32_t kind, uint32_t first, uint32_t second) {
     return is_direct ? call(kind, first, second) : event(kind, first, second);
 }
@@ -130,7 +130,7 @@ static void reset_another(void) {
     measured(PARTMEM_RESET, 0, 0);
 }
 
-/* Runs a command once, counted, and what makes it possible or undoes it. */
+/* Runs a command once, counted, with what makes it possible and what undoes it, which are not. */
 static void run_round(const char *command, uint32_t frame) {
     if (!strcmp(command, "alloc")) {
         run(PARTMEM_FREE, measured(PARTMEM_ALLOC, 0, 0), 0);

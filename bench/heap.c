@@ -4,8 +4,8 @@
  *     heap heap-used|malloc-used LOG stores all bytes, and prints the most bytes that were requested and not yet freed, and by
  *                                    how many bytes the process grew
  *
- * LOG is of machines/malloc_log.c: a realloc is a free and a malloc there. The requests are read before, so that only calls are
- * measured. The allocator that is linked or preloaded is that of `malloc`. The machine has 64 superblocks of a MiB, all of them
+ * LOG is a log of machines/malloc_log.c, where a realloc is a free and a malloc. The requests are read first, so that only calls
+ * are measured. `malloc` measures the allocator that is linked or preloaded. The machine has 64 superblocks of a MiB, all of them
  * the tenant's, with runs.
  */
 #define _DEFAULT_SOURCE
@@ -27,7 +27,7 @@
 
 enum { ORDER = 8, SUPERBLOCKS = 64, FREED = 0xffffffff /* the bytes of a call that frees */ };
 
-/* A request, or a free; `piece` numbers what it allocates or frees. */
+/* A request, or a free; `piece` is the number of what it allocates or frees. */
 struct call {
     uint32_t piece, bytes;
 };
@@ -44,7 +44,7 @@ static void check(int holds, const char *what) {
     }
 }
 
-/* Memory that is the system's, so that no allocator has it. */
+/* Returns memory from the system, which no allocator has. */
 static void *some(size_t bytes) {
     void *at = mmap(NULL, bytes, PROT_READ | PROT_WRITE, MAP_PRIVATE | MAP_ANONYMOUS, -1, 0);
     check(at != MAP_FAILED, "not enough memory");
@@ -53,7 +53,7 @@ static void *some(size_t bytes) {
 
 /* ---- The log ------------------------------------------------------------------------------------------------------------ */
 
-/* The pieces that are live, by address: open addressing in a table of a power of two. A piece is its number and 1. */
+/* The live pieces by address: open addressing in a table whose size is a power of two. An entry is a piece's number plus 1. */
 static struct entry {
     uint64_t at;
     size_t piece;
@@ -143,7 +143,7 @@ static double processor_time(void) {
     return (double)now.tv_sec + 1e-9 * (double)now.tv_nsec;
 }
 
-/* A number of /proc/self/status, in bytes. It makes no request. */
+/* Returns a number of /proc/self/status, in bytes. It allocates nothing. */
 static size_t status(const char *name) {
     char text[4096];
     int file = open("/proc/self/status", O_RDONLY);
@@ -156,7 +156,7 @@ static size_t status(const char *name) {
     return strtoul(found + strlen(name), NULL, 10) * 1024;
 }
 
-/* From now on VmHWM is the peak of what comes. */
+/* Resets VmHWM, which from now on is the peak of what follows. */
 static void forget_peak(void) {
     int file = open("/proc/self/clear_refs", O_WRONLY);
     check(file >= 0 && write(file, "5", 1) == 1, "/proc/self/clear_refs cannot be written");

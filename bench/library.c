@@ -5,12 +5,12 @@
  *     library --order=ORDER --superblocks=SUPERBLOCKS --tenants=TENANTS   writes the replies to lines, as `partmem` does
  *
  * HOW is `event` (partmem_event), `line` (partmem_line), `call` (the direct calls) or `malloc`. The calls are made in turn on a
- * machine just booted, with all that is passed to them made before, and what they return is thrown away. For malloc a page block
- * or an object is a block of as many bytes; lines that neither take nor give are left out. The allocator that is linked or
- * preloaded is the one that is measured. After a direct call and after malloc the first byte is stored. With `call-used` and
- * `malloc-used` all bytes of a block or an object are stored when it is taken, and loaded and checked before it is given back.
+ * machine that was just booted. Their arguments are made before, and their results are not used. For malloc a page block or an
+ * object is a block of as many bytes; lines that neither take nor give are left out. `malloc` measures the allocator that is
+ * linked or preloaded. After a direct call and after malloc the first byte is stored. With `call-used` and `malloc-used` all
+ * bytes of a block or an object are stored when it is taken, and loaded and checked before it is given back.
  *
- * With bench/floor.c linked in the place of the library, `call`, `call-used` and `answers` run. Its answers have to be the same.
+ * If bench/floor.c is linked in the place of the library, `call`, `call-used` and `answers` run. Its answers have to be the same.
  */
 #define _POSIX_C_SOURCE 200809L
 #include <inttypes.h>
@@ -21,7 +21,7 @@
 
 #include "partmem.h"
 
-/* Callgrind is slow, so it begins where the calls begin, if it is there. */
+/* Callgrind is slow, so it is started just before the calls if it is there. */
 #if __has_include(<valgrind/callgrind.h>)
 #include <valgrind/callgrind.h>
 #else
@@ -40,7 +40,7 @@ struct call {
     uint8_t bytes[PARTMEM_MOST_BYTES];
     size_t bytes_len;
     enum deed deed;
-    size_t block; /* how many blocks were taken before it */
+    size_t block; /* how many blocks were taken before this line */
     size_t size;  /* of what is taken or given, in bytes */
 };
 
@@ -164,7 +164,7 @@ static uint32_t place_of(const struct call *call, const struct results *results)
     }
 }
 
-/* What is taken or given by each line, by what the library answers it: the place says which block is given back. */
+/* Finds what each line takes or gives back, from the library's replies: a frame or a place says which block is given back. */
 static void plan(char **sizes) {
     size_t granules = ((size_t)atol(sizes[1]) << atol(sizes[0])) * FRAME_BYTES / 8;
     uint32_t *taker[MOST_TENANTS]; /* the call that took what begins at a place */
@@ -323,7 +323,7 @@ static void write_answers(uint8_t **blocks) {
     }
 }
 
-/* Writes the reply to each line of the standard input, as soon as it is read. */
+/* Writes the reply to each line of standard input as soon as the line is read. */
 static int answer_lines(char **sizes) {
     char *line = NULL, *plain[3];
     size_t size = 0, written;

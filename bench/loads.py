@@ -1,7 +1,7 @@
-"""The loads of the benchmark: what tenants ask for, one batch of lines after the other.
+"""The loads of the benchmark: what tenants request, one batch of lines after the other.
 
-A load never models the allocator. It talks to the program while the trace is made: what the program answers (frames, places) is
-what later lines name. So every line of a trace does something, and the trace can be run again at full speed.
+A load never models the allocator. It talks to the program while the trace is made: later lines name the frames and places of its
+replies. So every line of a trace does something, and the trace can be run again at full speed.
 """
 import random
 
@@ -13,31 +13,31 @@ BATCH = 256
 
 
 class Tenant:
-    """What a tenant holds, as far as it was told."""
+    """What a tenant holds, as far as the replies said."""
 
     def __init__(self, number, slots, order):
         self.number, self.slots, self.frames = number, slots, slots << order
         self.blocks, self.objects, self.used = [], [], 0
 
     def drop(self, held, draw):
-        """One of the things held, which is given back: any may be the one."""
+        """Removes and returns a random one of the things held."""
         at = draw.randrange(len(held))
         held[at], held[-1] = held[-1], held[at]
         return held.pop()
 
 
 def grants(superblocks, tenants):
-    """The superblocks are shared out in turn."""
+    """Shares out the superblocks in turn."""
     return [f'admin grant {m % tenants}' for m in range(superblocks)]
 
 
 def caches(draw, tenants):
-    """Each tenant makes a cache of every size; a constructed object is a pattern of 1, 4 or 8 bytes, over and over."""
+    """Each tenant makes a cache of every size; a constructed object is a pattern of 1, 4 or 8 bytes, repeated."""
     return [f'{t} cache {size} 8 {draw.randbytes(draw.choice((1, 4, 8))).hex()}' for t in range(tenants) for size in SIZES]
 
 
 def alloc(draw, tenant):
-    """Mostly a small block."""
+    """Allocates a block, mostly a small one."""
     order = draw.choices((0, 1, 2, 3), (8, 4, 2, 1))[0]
     return tenant, f'{tenant.number} alloc {order}', order
 
@@ -146,16 +146,16 @@ def object_of(held):
 
 LOADS = {'pages': pages, 'objects': objects, 'scattered': scattered, 'transfers': transfers, 'mixed': mixed, 'faulty': faulty,
          'administered': administered}
-# Of these no call of an allocator's has the like.
+# An allocator has no call like those of these loads.
 LINES_ALONE = ('faulty', 'administered')
-# Of these the blocks and objects are also used in place.
+# The blocks and objects of these loads are also used in place.
 USED = ('pages', 'objects')
 
 
 def make(name, ask, lines, order, superblocks, tenants, seed=1):
-    """All lines of a load; `ask` runs some and answers the replies, one to a line."""
+    """Returns all lines of a load. `ask` runs some lines and returns the replies, one to a line."""
     draw = random.Random(f'{name} {seed}')
-    # one superblock is left to move to
+    # One superblock is left without owner, so that slots can be moved to it.
     granted = superblocks - 1 if name == 'administered' else superblocks
     made = grants(granted, tenants) + caches(draw, tenants)
     if name == 'mixed':

@@ -15,7 +15,7 @@
 
 #include "partmem.h"
 
-/* Callgrind is slow, so it begins where a call begins, if it is there. */
+/* Callgrind is slow, so it is started just before a call if it is there. */
 #if __has_include(<valgrind/callgrind.h>)
 #include <valgrind/callgrind.h>
 #else
@@ -43,7 +43,7 @@ static void must(partmem_status status)
 
 static void boot(void) { must(partmem_boot_in(&machine, &config, &memory)); }
 
-/* Grants all superblocks but some, and touches each, so that none is cleared later. */
+/* Grants all superblocks but some, and touches each, so that none has to be cleared later. */
 static void grant_all_but(uint32_t some)
 {
     partmem_slot slot;
@@ -63,7 +63,7 @@ static void make_caches(uint32_t count, uint32_t size)
     while (count--) must(partmem_make_cache(me, size, 8, "0123456789abcdef", 16, &made));
 }
 
-/* A slab of one object in each frame. */
+/* Makes a slab of one object in each frame. */
 static void fill(void)
 {
     grant_all();
@@ -71,14 +71,14 @@ static void fill(void)
     for (place_count = 0; partmem_take(me, 0, &lent) == PARTMEM_DONE;) places[place_count++] = lent.place;
 }
 
-/* An empty slab in each frame. */
+/* Makes an empty slab in each frame. */
 static void empty_all(void)
 {
     fill();
     for (uint32_t i = 0; i < place_count; i++) must(partmem_give(me, 0, places[i]));
 }
 
-/* SOME empty slabs of 32 KiB, or fewer if they do not fit. */
+/* Makes SOME empty slabs of 32 KiB, or fewer if they do not fit. */
 static void empty_some(void)
 {
     partmem_cache made;
@@ -90,14 +90,14 @@ static void empty_some(void)
     for (uint32_t i = 0; i < place_count; i++) must(partmem_give(me, 0, places[i]));
 }
 
-/* A page block in each frame. */
+/* Allocates a page block in each frame. */
 static void fill_with_blocks(void)
 {
     grant_all();
     while (partmem_alloc(me, 0, &lent) == PARTMEM_DONE) continue;
 }
 
-/* In each superblock a frame that is taken, free frames, and an empty slab of each cache, as far as they fit. */
+/* Makes, in each superblock, a taken frame, free frames, and an empty slab of each cache, as far as they fit. */
 static void block_all(void)
 {
     uint32_t frames = 1u << config.order, caches = frames - 1 < PARTMEM_MOST_CACHES ? frames - 1 : PARTMEM_MOST_CACHES, kept;
@@ -119,7 +119,7 @@ static void block_all(void)
 
 static void grant_to_move(void) { grant_all_but(1); }
 
-/* A superblock that was granted anew. */
+/* Grants a superblock that was just taken back. */
 static void grant_again(void)
 {
     partmem_slot slot;
@@ -128,7 +128,7 @@ static void grant_again(void)
     must(partmem_grant(me, &slot));
 }
 
-/* A superblock to grant, a cache with a live object, and a page block, which is `lent`. */
+/* Leaves a superblock to grant, a cache with a live object, and a page block, which is `lent`. */
 static void hold_some(void)
 {
     grant_all_but(1);
@@ -151,7 +151,7 @@ static partmem_status reap(void)
     return partmem_reap(me, &frames);
 }
 
-/* Each other call once, but the end, events and lines. */
+/* Makes each other call once, except the end, events and lines. */
 static partmem_status others(void)
 {
     static uint8_t bytes[PARTMEM_MOST_BYTES];

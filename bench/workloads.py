@@ -12,14 +12,15 @@ SEED = 1
 
 
 def workloads(checkout):
-    """Each line is NAME CRATE WORD..; a last word <FILE is the standard input, and SEED stands for a number."""
+    """Returns the rows of bench/workloads.txt. Each line is NAME CRATE WORD..; a last word <FILE is the standard input, and SEED
+    is replaced by a number."""
     with open(os.path.join(checkout, 'bench/workloads.txt'), encoding='utf-8') as file:
         rows = [line.partition('#')[0].split() for line in file]
     return [(row[0], row[1], row[2:]) for row in rows if row]
 
 
 def command(checkout, crate, words, seed):
-    """The command of a workload in a checkout, and the path of its standard input."""
+    """Returns the command of a workload in a checkout, and the path of its standard input."""
     words = [str(seed) if word == 'SEED' else word for word in words]
     given = os.devnull
     if words and words[-1].startswith('<'):
@@ -31,7 +32,7 @@ def command(checkout, crate, words, seed):
 
 
 def turn(checkout, crate, words, seed):
-    """The seconds that a run takes, and the sum of what it prints."""
+    """Returns the seconds that a run takes, and the hash of what it prints."""
     its, given = command(checkout, crate, words, seed)
     with open(given, 'rb') as file:
         begun = time.perf_counter()
@@ -43,7 +44,8 @@ def turn(checkout, crate, words, seed):
 
 
 def compare(old, new, seed):
-    """Prints a row for each workload of the new checkout: the medians of its turns in both, and the old one's over the new one's."""
+    """Prints a row for each workload of the new checkout: the medians of its turns in both, and the old one's divided by the new
+    one's."""
     rows = workloads(new)
     print(f'{TURNS} turns, seed {seed}: seconds, medians')
     print(f'{"workload":<12}{"old":>9}{"new":>9}{"old/new":>9}   least to most')

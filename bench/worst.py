@@ -1,7 +1,7 @@
-"""The dearest lines that one tenant may send for ever: what stands before, and the lines that are sent again and again.
+"""The most expensive lines that one tenant may send for ever: the lines before, and those that are sent again and again.
 
-As with the loads, what is answered to the lines before is what later lines name. Beside each case stands a usual one: lines of the
-same kind where little else is held.
+As in the loads, later lines name what the replies to the lines before had. bench/run shows a usual case beside each: lines of the
+same kind of a tenant that holds little else.
 """
 CACHES = 32
 
@@ -15,12 +15,12 @@ def cache(size):
 
 
 def last_number(reply):
-    """The frame or the place that a reply tells."""
+    """Returns the frame or the place in a reply."""
     return int(reply.split()[-1])
 
 
 class Standing:
-    """The lines so far, and what was answered."""
+    """The lines so far; `run` returns the replies to more."""
 
     def __init__(self, ask):
         self.ask, self.lines = ask, []
@@ -32,7 +32,7 @@ class Standing:
 
 
 def no_room_around_slabs(standing, order, superblocks):
-    """A block of the greatest order, where each superblock has an empty slab of every cache, free frames, and one taken."""
+    """Requests a block of the greatest order. Each superblock has an empty slab of every cache, free frames, and a taken one."""
     frames = 1 << order
     some = min(CACHES, frames - 1)
     standing.run(grants(superblocks) + [cache(4096)] * CACHES)
@@ -45,43 +45,43 @@ def no_room_around_slabs(standing, order, superblocks):
 
 
 def no_frame(standing, order, superblocks):
-    """A frame, where all are taken and no slab is empty."""
+    """Requests a frame. All are taken, and no slab is empty."""
     standing.run(grants(superblocks) + [f'0 alloc {order}'] * superblocks)
     return ['0 alloc 0']
 
 
 def middle_of_full_slabs(standing, order, superblocks):
-    """The object of the first frame of the middle superblock, where all other slabs are full."""
+    """Gives and takes the object of the first frame of the middle superblock. All other slabs are full."""
     standing.run(grants(superblocks) + [cache(4096)] + ['0 take 0'] * (superblocks << order))
     return [f'0 give 0 {4096 * (superblocks // 2 << order)}', '0 take 0']
 
 
 def last_frame(standing, order, superblocks):
-    """The last frame of the last slot, where all others are taken."""
+    """Frees and allocates the last frame of the last slot. All others are taken."""
     standing.run(grants(superblocks) + ['0 alloc 0'] * (superblocks << order))
     return [f'0 free {(superblocks << order) - 1}', '0 alloc 0']
 
 
 def last_superblock(standing, order, superblocks):
-    """A frame of the last slot, which is free as a whole, where all others are taken."""
+    """Allocates and frees a frame of the last slot, which is free as a whole. All others are taken."""
     standing.run(grants(superblocks) + [f'0 alloc {order}'] * (superblocks - 1))
     return ['0 alloc 0', f'0 free {superblocks - 1 << order}']
 
 
 def large_block(standing, order, superblocks):
-    """The last 64 bytes of a block of the greatest order."""
+    """Reads the last 64 bytes of a block of the greatest order."""
     standing.run(grants(superblocks) + [f'0 alloc {order}'] * superblocks)
     return [f'0 read {(superblocks << order + 12) - 64} 64']
 
 
 def small_object(standing, order, superblocks):
-    """A byte of an object of 24 bytes."""
+    """Reads a byte of an object of 24 bytes."""
     standing.run(grants(superblocks) + [cache(24)] + ['0 take 0'] * 160)
     return [f'0 read {24 * at} 1' for at in range(8)]
 
 
 def figures(standing, order, superblocks):
-    """The report of a tenant that has every cache."""
+    """Requests the report of a tenant that has every cache."""
     standing.run(grants(superblocks) + [cache(4096)] * CACHES)
     return ['0 report']
 
@@ -90,7 +90,7 @@ CASES = (no_room_around_slabs, no_frame, middle_of_full_slabs, last_frame, last_
 
 
 def made(case, ask, order, superblocks):
-    """The lines before, and those that are sent again and again."""
+    """Returns the lines before, and those that are sent again and again."""
     standing = Standing(ask)
     again = case(standing, order, superblocks)
     return standing.lines, again
