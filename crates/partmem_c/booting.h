@@ -1,4 +1,4 @@
-/* What memory.c has for boot.c. It is not installed. */
+/* What memory.c declares for boot.c. It is not installed. */
 #ifndef BOOTING_H
 #define BOOTING_H
 

@@ -1,5 +1,5 @@
-/* The heap of a tenant, over direct calls. It knows the caches of its classes and its runs. What is live where, the library
- * knows. */
+/* The heap of a tenant, over direct calls. It keeps the caches of its classes and its runs. The library knows what is live
+ * where. */
 #include <stdbool.h>
 #include <string.h>
 
@@ -22,7 +22,7 @@ enum {
 static const uint16_t default_sizes[] = {16,  32,  48,  64,   80,   96,   128,  176,  224,  256,  336,  448,
                                          576, 816, 1024, 1168, 1360, 1632, 2048, 2336, 2720, 3264, 3568, 4096};
 
-/* The order of the smallest page block that has this number of bytes, at most a superblock's. */
+/* Returns the order of the smallest page block that has this number of bytes, at most a superblock's order. */
 static uint32_t order_for(size_t bytes)
 {
     uint32_t order = 0;
@@ -32,8 +32,8 @@ static uint32_t order_for(size_t bytes)
 
 /* ---- Initialisation ----------------------------------------------------------------------------------------------------- */
 
-/* The alignment of a class. Caches have up to 256. An object whose size is a power of two from 512 on begins at a multiple of
- * its size, since the slabs of such a cache have no bytes left for colours. */
+/* Returns the alignment of a class. Caches have up to 256. An object whose size is a power of two from 512 on begins at a
+ * multiple of its size, since the slabs of such a cache have no bytes left for colours. */
 static uint32_t alignment_of(uint32_t size)
 {
     const uint32_t power = size & -size;
@@ -95,7 +95,7 @@ partmem_status partmem_heap_init(partmem_heap *heap, partmem_tenant tenant, cons
 
 /* ---- Objects ------------------------------------------------------------------------------------------------------------ */
 
-/* The class of a request, or heap->classes if it is none's. */
+/* Returns the class of a request, or heap->classes if no class serves it. */
 static uint32_t class_for(const partmem_heap *heap, size_t bytes)
 {
     return bytes <= PARTMEM_FRAME_BYTES ? heap->class_of[(bytes + STEP - 1) / STEP] : heap->classes;
@@ -117,8 +117,8 @@ static partmem_status make_cache(partmem_heap *heap, uint32_t class)
     return PARTMEM_DONE;
 }
 
-/* Takes an object of a class. If a direct call destroyed its cache, the number may be that of another cache by now: an object
- * that is not the class's is given back, and the class gets a new cache. */
+/* Takes an object of a class. If a direct call destroyed its cache, its number may now be another cache's: an object that is not
+ * the class's is given back, and the class gets a new cache. */
 static partmem_status take(partmem_heap *heap, uint32_t class, partmem_lent *object)
 {
     if (heap->cache_of[class]) {
@@ -208,7 +208,7 @@ static void *allocate(partmem_heap *heap, size_t align, size_t bytes)
     return status == PARTMEM_DONE ? object.at : take_pages(heap, bytes);
 }
 
-/* How many bytes a request is given if there are enough frames. */
+/* Returns how many bytes a request gets if there are enough frames. */
 static size_t bytes_for(const partmem_heap *heap, size_t bytes)
 {
     const uint32_t class = class_for(heap, bytes);
@@ -228,7 +228,7 @@ static bool is_own(const partmem_heap *heap, const partmem_object *object)
     return class && heap->size[class - 1] == object->bytes;
 }
 
-/* Finds the piece that begins at an address. A run is a page block here, of all its bytes. */
+/* Finds the piece that begins at an address. A run counts as a page block here, of all its bytes. */
 static partmem_status find_piece(const partmem_heap *heap, const void *at, partmem_object *piece)
 {
     uint32_t place;

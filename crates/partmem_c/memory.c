@@ -14,9 +14,9 @@ struct state {
     uint8_t *ram;
     uint8_t *next; /* the free bytes of the tables, and how many there are */
     size_t left;
-    size_t unit; /* bytes of a superblock */
+    size_t unit; /* of a superblock, in bytes */
     uint32_t superblocks, tenants;
-    uint32_t allocated; /* superblocks, up to now */
+    uint32_t allocated; /* how many superblocks are allocated by now */
     void (*release)(void *memory);
 };
 
@@ -31,11 +31,11 @@ struct allocation {
     void *at; /* not NULL */
 };
 
-/* The machine that boots, or NULL: outside of boot every allocation is refused. */
+/* The machine that is booting, or NULL: outside of boot every allocation is refused. */
 static struct state *booting;
 
-/* The state of a machine that is booted. Only what is used of it is loaded; memcpy would be a call, since -ffreestanding makes one
- * of each. */
+/* Returns the state of a machine that is booted. Only what is used of it is loaded. memcpy would be a call, since -ffreestanding
+ * makes one of each. */
 static inline struct state state_of(const partmem_machine *machine)
 {
     struct state state;

@@ -14,19 +14,19 @@
  * - A constructor with arguments of a machine, tenant, cache or heap, result<T>::value() and partmem::check() throw a
  *   partmem::error, which is a std::system_error. Each such constructor has a function of the same arguments, boot() or open(),
  *   that returns a status instead.
- * Compiled with -fno-exceptions, what would throw calls std::abort. That is so of a std::pmr container, too: of a heap, only
- * try_allocate and make return at exhaustion.
+ * Compiled with -fno-exceptions, what would throw calls std::abort. So does a std::pmr container: only a heap's try_allocate and
+ * make return at exhaustion.
  *
  * ORDER. Declare a machine before its tenants, a tenant before its caches and heaps, and these before what is made in them:
  * destructors run the other way round. Before tenant::reset() destroy what was made for the tenant, its containers too, or a
- * destructor frees what another has by then. After it open() the tenant's caches and heaps again.
+ * destructor frees what another has by then. After tenant::reset() open() the tenant's caches and heaps again.
  *
  * A machine and a heap stay where they are. Tenants, caches, page blocks and pointers are moved, and not copied. After
  * tenant::move() the addresses of objects, pieces and blocks in that slot are stale; page_block::data() lends again.
  *
  * DUTIES. Those of partmem.h and partmem_heap.h. A container stores addresses in its tenant's memory; partmem_heap.h says what is
- * lost by that. One call at a time on a machine: partmem::locked has a container lock a mutex. What is not here is called by
- * the functions in C, with get(). With partmem_watched.h include that first. */
+ * lost by that. Make one call at a time on a machine: with partmem::locked a container locks a mutex. For what is not here, call
+ * the functions in C with get(). Include partmem_watched.h first, if you use it. */
 #ifndef PARTMEM_HPP
 #define PARTMEM_HPP
 
@@ -104,7 +104,7 @@ inline std::error_code make_error_code(status code) noexcept
     return {static_cast<int>(code), category()};
 }
 
-/* What a call throws that was not done; code() has the status. */
+/* Thrown for a call that was not done; code() has the status. */
 class error final : public std::system_error {
 public:
     explicit error(status code) : std::system_error(make_error_code(code)) {}
@@ -131,7 +131,7 @@ public:
     bool has_value() const noexcept { return value_.has_value(); }
     explicit operator bool() const noexcept { return has_value(); }
 
-    /* Returns the status; done with a value. */
+    /* Returns the status, which is done if there is a value. */
     status code() const noexcept { return code_; }
 
     /* Returns the value. Throws an error without one. */
@@ -146,7 +146,7 @@ public:
         return std::move(*value_);
     }
 
-    /* The value, of which there has to be one. */
+    /* Returns the value. There has to be one. */
     T &operator*() noexcept { return *value_; }
     T *operator->() noexcept { return &*value_; }
     const T &operator*() const noexcept { return *value_; }
@@ -168,10 +168,10 @@ public:
     machine &operator=(const machine &) = delete;
     ~machine() { static_cast<void>(end()); }
 
-    /* Boots in memory of aligned_alloc and malloc. Returns has_machine, bad_config, no_memory. */
+    /* Boots in memory from aligned_alloc and malloc. Returns has_machine, bad_config, no_memory. */
     status boot(const partmem_config &config) noexcept { return status_of(partmem_boot(&machine_, &config)); }
 
-    /* Boots in memory of the caller's. Returns has_machine, bad_config, bad_memory, no_memory. */
+    /* Boots in memory of the caller. Returns has_machine, bad_config, bad_memory, no_memory. */
     status boot(const partmem_config &config, const partmem_memory &memory) noexcept
     {
         return status_of(partmem_boot_in(&machine_, &config, &memory));
@@ -189,7 +189,7 @@ private:
 
 /* ---- Page blocks and tenants --------------------------------------------------------------------------------------------- */
 
-/* A page block, which is freed by the destructor. */
+/* A page block. Its destructor frees it. */
 class page_block {
 public:
     page_block(partmem_tenant tenant, const partmem_lent &lent) noexcept
@@ -208,8 +208,8 @@ public:
         if (bytes_ > 0) static_cast<void>(!partmem_free(tenant_, place_));
     }
 
-    /* Lends the block and returns its address, which changes if its slot is moved. After a reset of the tenant it is not used: it
-     * returns nullptr, or the address of what was allocated there since. */
+    /* Lends the block and returns its address, which changes if its slot is moved. Do not use it after a reset of the tenant: it
+     * would return nullptr, or the address of what was allocated there since. */
     void *data() const noexcept { return partmem_at(tenant_, place_, bytes_); }
     std::size_t size() const noexcept { return bytes_; }
     std::uint32_t place() const noexcept { return place_; }
@@ -220,8 +220,8 @@ private:
     std::uint32_t bytes_; /* 0 if another has the block */
 };
 
-/* A tenant of a machine, which is reset by the destructor. One tenant at a time has a number. Of one that is none (default, moved
- * from, or after a refused open()), only open(), reset() and get() are called. */
+/* A tenant of a machine. Its destructor resets it. Only one tenant at a time has a number. If it is no tenant (default, moved
+ * from, or after a refused open()), call only open(), reset() and get(). */
 class tenant {
 public:
     constexpr tenant() noexcept = default;
@@ -234,8 +234,8 @@ public:
     }
     ~tenant() { static_cast<void>(reset()); }
 
-    /* Makes this the tenant of a number, with so many superblocks more. If it cannot have them, it is reset and is none. Returns
-     * has_machine if this is a tenant already, no_machine, no_tenant, pool_empty. */
+    /* Makes this the tenant of a number, and grants it this number of superblocks more. If there are too few, it is reset and is
+     * no tenant. Returns has_machine if this is a tenant already, no_machine, no_tenant, pool_empty. */
     status open(machine &machine, std::uint32_t number, std::uint32_t superblocks = 0) noexcept
     {
         if (tenant_.machine) return status::has_machine;
@@ -261,7 +261,7 @@ public:
     /* Takes back an unused slot. Returns no_slot, slot_busy. */
     status take_back(std::uint32_t slot) noexcept { return status_of(partmem_take_back(tenant_, slot)); }
 
-    /* Puts another superblock under a slot. What was lent there has another address. Returns no_slot, pool_empty. */
+    /* Puts another superblock under a slot. What was lent there then has another address. Returns no_slot, pool_empty. */
     result<partmem_slot> move(std::uint32_t slot) noexcept
     {
         partmem_slot moved;
@@ -349,7 +349,7 @@ public:
         if (tenant_.machine) static_cast<void>(!partmem_destroy_cache(tenant_, cache_));
     }
 
-    /* Makes a cache of the tenant's. Unless refused, what this was before is forgotten. Returns no_machine, no_cache_slot. */
+    /* Makes a cache of the tenant. Unless refused, what this was before is forgotten. Returns no_machine, no_cache_slot. */
     status open(const tenant &tenant) noexcept
     {
         partmem_cache made;
@@ -381,7 +381,7 @@ public:
     std::uint32_t number() const noexcept { return cache_; }
 
 private:
-    /* Gives an object back, unless it has been made. */
+    /* Gives an object back, unless its constructor has returned. */
     struct unfinished {
         partmem_tenant tenant;
         std::uint32_t cache, place;
@@ -437,7 +437,7 @@ public:
         return partmem_heap_aligned_alloc(&heap_, align, bytes);
     }
 
-    /* Frees a piece. Returns what partmem_heap_free does of a wrong address, and then nothing has changed. */
+    /* Frees a piece. Returns what partmem_heap_free returns for a wrong address; then nothing has changed. */
     status free(void *at) noexcept { return status_of(partmem_heap_free(&heap_, at)); }
 
     /* Makes an object, T(args..). Returns no_frames. If the constructor throws, the piece is freed. */
@@ -451,7 +451,7 @@ public:
         return pointer<T>(made, deleter<T>(*this));
     }
 
-    /* Returns the place of an address, which the tenant may store and be shown; PARTMEM_NO_PLACE if it is not the tenant's. */
+    /* Returns the place of an address, which the tenant may store and see; PARTMEM_NO_PLACE if it is not the tenant's. */
     std::uint32_t place(const void *at) const noexcept { return partmem_heap_place(&heap_, at); }
 
     /* Returns the heap for functions in C. */
@@ -491,7 +491,7 @@ void deleter<T>::operator()(T *object) const noexcept
     if (heap_->free(object) != status::done) std::abort();
 }
 
-/* A heap that locks a mutex for each call. All that use one machine lock the same. */
+/* A heap that locks a mutex for each call. All users of one machine have to lock the same one. */
 template <typename Mutex>
 class locked final : public std::pmr::memory_resource {
 public:

@@ -6,7 +6,8 @@
  *     text = partmem_heap_realloc(&heap, text, 5000);   NULL in that case, and the old text stays
  *     partmem_heap_free(&heap, text)                    refuses an address at which nothing of its own begins
  *
- * What a heap has allocated and not freed is called a piece. What it cannot tell from that counts as one (DIRECT CALLS).
+ * What a heap has allocated and not freed is called a piece. What it cannot distinguish from its pieces counts as one (DIRECT
+ * CALLS).
  *
  * COMMANDS. Each call runs commands of this tenant, by direct calls of partmem.h:
  *
@@ -27,33 +28,33 @@
  *
  * DIRECT CALLS. A tenant may use direct calls beside its heap. They have 8 of its 32 caches, or more if the heap has fewer
  * classes. Do not free by the heap what a direct call allocated, nor the other way round. The heap refuses an object of a
- * cache with a number that it never used, or of another size than its class of that number. It cannot tell from its own a page
- * block of a direct call, nor any other object of one. A direct call may reap, and destroy caches of the heap that have no live
- * object. If it makes another cache of that number, the heap takes an object of the wrong size or alignment, notices that,
- * gives it back, and makes itself a new cache.
+ * cache with a number that it never used, or of another size than its class of that number. It cannot distinguish a page block,
+ * or any other object, of a direct call from its own. A direct call may reap, and destroy caches of the heap that have no live
+ * object. If it makes another cache of that number, the heap takes an object of the wrong size or alignment, notices that, gives
+ * it back, and makes itself a new cache.
  *
  * RUNS. Without them nothing in the heap depends on superblocks or addresses. With them (has_runs) a request larger than a
  * superblock takes superblocks, from the first free one on, until enough lie in a row; the others are freed again. So the slots
  * of the tenant have to lie in RAM one behind another, as grants to it in a row, at the start, make them, and partmem_heap_init
- * refuses others. Slots that are granted later become part of no run. From then on no slot of it is moved or taken back.
- * [A run with that slot leads to memory that others own by then, and which requests are refused depends on superblocks.]
+ * refuses other slots. Slots that are granted later become part of no run. From then on move no slot of the tenant, and take none
+ * back. [A run with that slot leads to memory that others own by then, and which requests are refused depends on superblocks.]
  *
- * ADDRESSES. Duty 6 of partmem.h forbids to store addresses in lent bytes. Each program that calls malloc does that. If it may,
+ * ADDRESSES. Duty 6 of partmem.h forbids storing addresses in lent bytes. Each program that calls malloc does that. If it may,
  * - no slot of the tenant is moved as long as an address is in use. [Stored addresses lead to what others own by then.]
  * - what the program computes from the numbers in addresses, such as their order, a hash or a printed pointer, depends on who
  *   holds which superblock. So the tenant may learn of grants to others, and of their moves, resets and take-backs.
- * The rest of that duty stays, and so does all else: which bytes are whose, places, sizes, refusals, and every result that does
- * not follow from the numbers in addresses. A place may be stored and shown (partmem_heap_place).
+ * The rest of that duty stays, and so does everything else: which bytes are whose, places, sizes, refusals, and every result that
+ * does not follow from the numbers in addresses. A place may be stored and shown (partmem_heap_place).
  *
  * NOT COVERED: stores outside of a piece, which hit others of this tenant, the record of which objects are live, or, past a
  * superblock, another tenant (duty 4); addresses that are used after their free (duty 5); a second free after the address was
  * allocated again; and time. With partmem_watched.h AddressSanitizer and valgrind see most of the first two.
  *
- * DUTIES. Those of partmem.h, but config and the address of a piece may be NULL, and an address may be any. A call of a heap
- * counts as a call on its machine: one at a time. Heap and config lie outside of the machine's memory. Nobody but these
- * functions reads or writes a heap; it may be copied elsewhere if the old one is not used again. A tenant has one heap: calls of
- * a second one count as direct calls. Before partmem_heap_init, after a reset of the tenant and after the machine's end, a heap
- * is not used until it is initialised, unless all of it is 0.
+ * DUTIES. Those of partmem.h, except that config and the address of a piece may be NULL, and that an address may have any value.
+ * A call of a heap counts as a call on its machine: make one at a time. Heap and config lie outside of the machine's memory. Only
+ * these functions read or write a heap; it may be copied elsewhere if the old one is not used again. A tenant has one heap: calls
+ * of a second one count as direct calls. Before partmem_heap_init, after a reset of the tenant and after the machine's end, a
+ * heap is not used until it is initialised, unless all of it is 0.
  *
  * PROVED: what each command of the heap does. TESTED: all of heap.c, and partmem_find_place and partmem_superblock_address,
  * which it uses and which are C. docs/heap.md says how, and what it costs. */
@@ -69,15 +70,15 @@ extern "C" {
 #define PARTMEM_HEAP_MOST_CLASSES 24u /* of a heap: a tenant has 32 caches */
 #define PARTMEM_HEAP_STEP 16u         /* the sizes of classes are multiples of it, and so are all addresses */
 
-/* How a heap is to be. All 0 is the default classes, and no runs. */
+/* How to set up a heap. All 0 means the default classes and no runs. */
 typedef struct partmem_heap_config {
     const uint16_t *sizes; /* of the classes, in bytes: multiples of 16 that rise, up to 4096. Not used after the call */
     uint32_t count;        /* of the sizes: up to 24. If it is 0, the heap has the default classes, and `sizes` is not read */
     uint32_t has_runs;     /* 0 or 1 */
 } partmem_heap_config;
 
-/* A heap. All of it is 0 if its initialisation was refused: then a call returns NULL, 0, PARTMEM_NO_PLACE or NO_MACHINE, and a
- * free of NULL DONE. */
+/* A heap. If its initialisation was refused, all of it is 0. Then a call returns NULL, 0, PARTMEM_NO_PLACE or NO_MACHINE, and a
+ * free of NULL returns DONE. */
 typedef struct partmem_heap {
     partmem_tenant tenant;
     unsigned char *base; /* with runs: the address of place 0, and how many slots lie in sequence; else NULL and 0 */
@@ -85,9 +86,9 @@ typedef struct partmem_heap {
     uint32_t order; /* of a superblock */
     uint32_t classes;
     uint16_t size[PARTMEM_HEAP_MOST_CLASSES];                      /* of the objects of a class, in bytes */
-    uint16_t align[PARTMEM_HEAP_MOST_CLASSES];                     /* of the same */
-    uint8_t cache_of[PARTMEM_HEAP_MOST_CLASSES];                   /* the cache of a class and 1; 0 without one */
-    uint8_t class_in[PARTMEM_MOST_CACHES];                         /* the last class that had this cache and 1, or 0 */
+    uint16_t align[PARTMEM_HEAP_MOST_CLASSES];                     /* of the objects of a class */
+    uint8_t cache_of[PARTMEM_HEAP_MOST_CLASSES];                   /* the cache of a class plus 1; 0 without one */
+    uint8_t class_in[PARTMEM_MOST_CACHES];                         /* the last class that had this cache plus 1, or 0 */
     uint8_t class_of[PARTMEM_FRAME_BYTES / PARTMEM_HEAP_STEP + 1]; /* of a request, in steps; `classes` if it has none */
     uint16_t run[PARTMEM_MOST_SUPERBLOCKS];                        /* a run's superblocks from its first on; 0xffff inside; 0 */
 } partmem_heap;
@@ -105,18 +106,18 @@ void *partmem_heap_malloc(partmem_heap *heap, size_t bytes);
 /* Allocates `count` times `bytes` bytes, which are 0. Returns NULL as malloc does, and if the product overflows. */
 void *partmem_heap_calloc(partmem_heap *heap, size_t count, size_t bytes);
 
-/* Allocates as malloc does, at a multiple of `align`, which is a power of two up to 4096: else it returns NULL. */
+/* Allocates as malloc does, at a multiple of `align`. Returns NULL unless `align` is a power of two up to 4096. */
 void *partmem_heap_aligned_alloc(partmem_heap *heap, size_t align, size_t bytes);
 
-/* Gives a piece another size, and perhaps another address. Its bytes stay, up to the smaller size. `old` may be NULL: then it
+/* Gives a piece another size, and perhaps another address. Its bytes stay, up to the smaller size. If `old` is NULL, it
  * allocates. With 0 bytes the piece stays, perhaps smaller and elsewhere, with any values. Returns NULL as malloc does, and if no
  * piece begins at `old`; then `old` and its bytes are as before. */
 void *partmem_heap_realloc(partmem_heap *heap, void *old, size_t bytes);
 
-/* Frees the piece that begins at an address; of NULL nothing. After another status than DONE nothing has changed. Returns
- * NOT_HELD outside of the tenant's slots, OUT_OF_REACH if nothing is live there, NOT_AN_OBJECT or NOT_A_BLOCK inside of a piece,
- * and for an object that it can tell from its own. Of a direct call it frees a page block, and an object that it cannot tell from
- * its own (DIRECT CALLS). */
+/* Frees the piece that begins at an address. Of NULL it frees nothing. If it returns another status than DONE, nothing has
+ * changed. Returns NOT_HELD outside of the tenant's slots, OUT_OF_REACH if nothing is live there, and NOT_AN_OBJECT or
+ * NOT_A_BLOCK inside of a piece, and for an object that it can distinguish from its own. It frees page blocks of direct calls,
+ * and objects of direct calls that it cannot distinguish from its own (DIRECT CALLS). */
 partmem_status partmem_heap_free(partmem_heap *heap, void *at);
 
 /* Returns how many bytes of a piece may be used, at least those that were requested; 0 if no piece begins at the address. */

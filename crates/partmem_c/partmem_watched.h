@@ -6,8 +6,8 @@
  *     cc -g -fsanitize=address -include partmem_watched.h program.c -lpartmem_watched
  *     cc -g -DPARTMEM_VALGRIND -include partmem_watched.h program.c -lpartmem          and run it by valgrind
  *
- * It then puts a function of its own in the place of each that lends bytes, ends their lifetime or uses RAM. Without these words
- * it includes partmem_heap.h and does nothing else.
+ * It then replaces each function that lends bytes, ends their lifetime or uses RAM by one of its own. Without these words it only
+ * includes partmem_heap.h.
  *
  * SEEN, at the load or store, with the line of the program:
  * - behind the last byte of an object, a page block or a piece of a heap, up to the next one that is lent. A piece of a heap ends
@@ -15,18 +15,18 @@
  * - after a give, free, take-back, move, reset or end, in what was lent before. In what a move has moved, too, until it is lent
  *   again at its new address.
  * - at an address of RAM that no call has returned: free frames, the record of which objects are live. So the program's own loads
- *   and stores through partmem_superblock_address, as for a dump, are reported.
+ *   and stores through partmem_superblock_address, for example for a dump, are reported.
  *
  * LEAKS. If the environment has PARTMEM_LEAKS, with any value, and something is still live, partmem_end prints it on standard
  * error (at most 100 lines, and how many blocks and objects there are), and then calls abort.
  *
- * NOT SEEN: a load or store in bytes that are lent, though to somebody else; a stale one in what has been lent again; one by a
- * device; by AddressSanitizer, one from code that is not compiled for it, but for functions such as memcpy; duty 6 (flows).
- * After the end of a machine in memory of the caller's, all of that memory may be used. A machine's tables are not watched.
+ * NOT SEEN: a load or store in bytes that are lent to somebody else; a stale one in what has been lent again; one by a device; by
+ * AddressSanitizer, one from code that is not compiled for it, except functions such as memcpy; duty 6 (flows). After the end of
+ * a machine in memory of the caller's, all of that memory may be used. A machine's tables are not watched.
  *
- * ARCHIVE. AddressSanitizer checks what memcpy, memmove and memset are passed, by anybody. So libpartmem_watched.a is the code of
- * libpartmem.a with three such functions of its own. valgrind sees each access of the library; its reports are off during calls.
- * It works with either archive. */
+ * ARCHIVE. AddressSanitizer checks the arguments of memcpy, memmove and memset, whoever calls them. So libpartmem_watched.a is
+ * the code of libpartmem.a with three such functions of its own. valgrind sees each access of the library; its reports are off
+ * during calls. It works with either archive. */
 #ifndef PARTMEM_WATCHED_H
 #define PARTMEM_WATCHED_H
 
@@ -50,7 +50,7 @@
 #include <stdlib.h>
 #include <string.h>
 
-/* A page block, an object or a piece of a heap. It begins in a superblock, whose address is that of its pool for valgrind. */
+/* A page block, an object or a piece of a heap. It begins in a superblock, whose address names its pool for valgrind. */
 typedef struct partmem_watched_piece {
     unsigned char *superblock;
     unsigned char *at;
@@ -65,7 +65,7 @@ typedef struct partmem_watched_piece {
 #ifdef __cplusplus
 extern "C" {
 #endif
-/* Does nothing. Only libpartmem_watched.a has it: with another archive the program is not linked. */
+/* Does nothing. Only libpartmem_watched.a has it, so a program does not link with another archive. */
 void partmem_link_with_libpartmem_watched(void);
 #ifdef __cplusplus
 }
@@ -81,7 +81,7 @@ PARTMEM_INLINE void partmem_watched_empty(unsigned char *superblock, size_t byte
     __asan_poison_memory_region(superblock, bytes);
 }
 
-/* Leaves a superblock to the caller, at the end of a machine. */
+/* Leaves a superblock to the caller at the end of a machine. */
 PARTMEM_INLINE void partmem_watched_forget(unsigned char *superblock, size_t bytes)
 {
     __asan_unpoison_memory_region(superblock, bytes);
@@ -107,7 +107,7 @@ PARTMEM_INLINE void partmem_watched_begin(partmem_watched_piece piece, size_t ke
     __asan_unpoison_memory_region(piece.at, piece.bytes);
 }
 
-/* Says that bytes outside of the RAM have values, which a call has stored there. */
+/* Marks bytes outside of the RAM, which a call has stored there, as having values. */
 PARTMEM_INLINE void partmem_watched_stored(void *at, size_t bytes)
 {
     (void)at;
@@ -155,7 +155,7 @@ PARTMEM_INLINE size_t partmem_watched_lent(unsigned char *at, size_t bytes)
     return end ? end - (size_t)at : bytes;
 }
 
-/* Bytes that are lent already stay as they are: some may have no value yet. */
+/* Bytes that are already lent stay as they are: some may have no value yet. */
 PARTMEM_INLINE void partmem_watched_lend(unsigned char *at, size_t bytes)
 {
     if (partmem_watched_lent(at, bytes) < bytes) (void)VALGRIND_MAKE_MEM_DEFINED(at, bytes);
@@ -277,11 +277,11 @@ PARTMEM_INLINE partmem_status partmem_watched_end(partmem_machine *machine)
 
 /* ---- What ends a lifetime ------------------------------------------------------------------------------------------------ */
 
-/* What a command may end: a live block or object, and all in some slots. */
+/* What a command may end: a live block or object, and everything in some slots. */
 typedef struct partmem_watched_ending {
     partmem_tenant tenant;
     uint32_t place;
-    partmem_watched_piece piece; /* that begins there; of 0 bytes without one */
+    partmem_watched_piece piece; /* that begins there; of 0 bytes if there is none */
     uint32_t slots;
     partmem_slot slot[PARTMEM_MOST_SUPERBLOCKS];
 } partmem_watched_ending;
@@ -304,8 +304,8 @@ PARTMEM_INLINE void partmem_watched_note_place(partmem_watched_ending *ending, u
     ending->piece.bytes = object.bytes;
 }
 
-/* Notes what a command may end, before it is run; `kind` and the numbers are those of a partmem_request. A direct call that frees
- * or gives back has a place, as PARTMEM_GIVE. */
+/* Notes what a command may end, before it is run. `kind` and the numbers are those of a partmem_request. A direct call that frees
+ * or gives back has a place, as PARTMEM_GIVE has. */
 PARTMEM_INLINE void partmem_watched_before(partmem_watched_ending *ending, partmem_tenant tenant, uint32_t kind, uint32_t first,
                                            uint32_t second)
 {
@@ -407,8 +407,8 @@ PARTMEM_INLINE partmem_status partmem_watched_event(partmem_machine *machine, co
     return status;
 }
 
-/* Reads what a line may end: the numbers of a request, of kind 0 for a line that ends nothing. Nothing is poisoned
- * unless it has ended, so the line may be faulty. */
+/* Reads what a line may end: the numbers of a request, of kind 0 for a line that ends nothing. Nothing is poisoned unless it has
+ * ended, so the line may be faulty. */
 PARTMEM_INLINE partmem_request partmem_watched_read(const char *line, size_t line_len)
 {
     static const struct {
@@ -457,7 +457,7 @@ PARTMEM_INLINE partmem_status partmem_watched_line(partmem_machine *machine, con
 
 /* ---- What lends bytes, and what does neither ----------------------------------------------------------------------------- */
 
-/* Ends a call that has allocated, or lent, if it is done. */
+/* Finishes a call that allocates or lends: lends its bytes if it was done. */
 PARTMEM_INLINE partmem_status partmem_watched_allocated(partmem_tenant tenant, partmem_status status, const partmem_lent *lent)
 {
     partmem_watched_piece piece;
@@ -546,7 +546,7 @@ PARTMEM_INLINE partmem_status partmem_watched_write_bytes(partmem_tenant tenant,
     return status;
 }
 
-/* Calls that only must not be reported. */
+/* For these calls the tools only have to be silent. */
 #define PARTMEM_WATCHED_QUIET(name, parameters, arguments)                                                                      \
     PARTMEM_INLINE partmem_status partmem_watched_##name parameters                                                             \
     {                                                                                                                           \
@@ -572,7 +572,7 @@ PARTMEM_WATCHED_QUIET(heap_init, (partmem_heap * heap, partmem_tenant tenant, co
 
 /* ---- Heaps --------------------------------------------------------------------------------------------------------------- */
 
-/* A piece of a heap that begins at an address, said to have this number of bytes. */
+/* Returns a piece of a heap that begins at an address and has this number of bytes. */
 PARTMEM_INLINE partmem_watched_piece partmem_watched_heap_piece(const partmem_heap *heap, void *at, size_t bytes)
 {
     partmem_watched_piece piece = {NULL, NULL, 0};
@@ -583,7 +583,7 @@ PARTMEM_INLINE partmem_watched_piece partmem_watched_heap_piece(const partmem_he
     return piece;
 }
 
-/* Ends a call of a heap that has allocated, of which the first `kept` bytes have values. */
+/* Finishes a call of a heap that allocates. The first `kept` bytes have values. */
 PARTMEM_INLINE void *partmem_watched_heap_allocated(const partmem_heap *heap, void *at, size_t bytes, size_t kept)
 {
     if (at != NULL) partmem_watched_begin(partmem_watched_heap_piece(heap, at, bytes > 0 ? bytes : 1), kept);

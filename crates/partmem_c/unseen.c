@@ -1,8 +1,8 @@
-/* The memory functions of libpartmem_watched.a. AddressSanitizer checks what those of the C library are passed, and the library
- * has to reach bytes that are poison for the program. The linker has its calls lead here: --wrap in tools/building.py. */
+/* The memory functions of libpartmem_watched.a. AddressSanitizer checks the arguments of the C library's own, and the library has
+ * to access bytes that are poison for the program. The linker replaces its calls by these: --wrap in tools/building.py. */
 #include <stddef.h>
 
-/* Called in partmem_watched.h, so that no program with the sanitizer is linked with another archive. */
+/* Called in partmem_watched.h, so that a program with the sanitizer does not link with another archive. */
 void partmem_link_with_libpartmem_watched(void);
 void partmem_link_with_libpartmem_watched(void) {}
 
