@@ -1,4 +1,4 @@
-/* The administrator. Partition 0 gets and loses the same at the same points of its own run in all worlds. All else differs. */
+/* The administrator. Partition 0 gets and loses the same at the same points of its own run in all worlds. All else may differ. */
 #include "kernel.h"
 
 /* The words of the boot line, NAME=VALUE. */
@@ -12,14 +12,14 @@ static uint64_t acted_at;
 static unsigned moves;        /* of slots of partition 0 */
 static uint64_t longest_move; /* in instructions, without printing */
 
-/* Returns a number below `below`. */
+/* Returns a pseudo-random number below `below`. */
 static unsigned draw(unsigned below)
 {
     state = state * 6364136223846793005u + 1442695040888963407u;
     return (unsigned)(state >> 33) % below;
 }
 
-/* Returns what follows in a text that begins with a word, or NULL. */
+/* Returns the text that follows a word, if a text begins with it, or NULL. */
 static const char *behind(const char *text, const char *word)
 {
     while (*word && *text == *word) text++, word++;
@@ -80,8 +80,8 @@ void administer_at_start(void)
     start_1();
 }
 
-/* Partition 1 has filled its memory. It loses all of it, and partition 0 gets the first superblock that it had: those without an
- * owner before that one are kept back meanwhile. */
+/* Partition 1 has filled its memory. It loses all of it, and partition 0 gets the first superblock that it had. Superblocks
+ * without an owner before that one are kept back meanwhile. */
 static void hand_over(void)
 {
     uint32_t next = 0;
@@ -94,7 +94,7 @@ static void hand_over(void)
     start_1();
 }
 
-/* Partition 0 waits: for a superblock, for the loss of it, for another one. */
+/* Partition 0 waits for a superblock, for its loss, or for another one. */
 static void serve_meeting(void)
 {
     if (meeting_of(0) == 2) take_back(0, 1);
@@ -114,7 +114,7 @@ static void move_0(uint32_t slot)
     if (is_moved && taken > longest_move) longest_move = taken;
 }
 
-/* What partition 0 must not notice. */
+/* Does what partition 0 must not notice. */
 static void act(void)
 {
     partmem_slot granted;

@@ -1,4 +1,4 @@
-/* Entry by multiboot, long mode, the stubs of traps, and the return to a partition. */
+/* The entry by multiboot, long mode, the stubs of traps, and the return to a partition. */
         .set    MAGIC, 0x1badb002
         .set    FLAGS, 0x00010002               /* the address fields are valid; the size of memory is wanted */
         .section .boot, "awx"

@@ -1,4 +1,4 @@
-/* The processor: gates for traps, the timer, the ways to stop. */
+/* The processor: gates for traps, the timer, and the ways to stop. */
 #include "kernel.h"
 
 struct gate {
@@ -17,8 +17,8 @@ static void set_gate(unsigned vector, const char *stub, uint8_t stack, uint8_t k
     gates[vector] = (struct gate){(uint16_t)at, 0x08, stack, kind, (uint16_t)(at >> 16), (uint32_t)(at >> 32), 0};
 }
 
-/* Interrupt gates, so interrupts are off in the kernel and one call of the library runs at a time (duty 8). What can interrupt
- * it all the same has a stack of its own: the library uses 128 bytes below its stack pointer (duty 9). */
+/* Sets up interrupt gates, so interrupts are off in the kernel and one call of the library runs at a time (duty 8). What can
+ * still interrupt it has a stack of its own: the library uses 128 bytes below its stack pointer (duty 9). */
 static void set_up_gates(void)
 {
     for (unsigned vector = 0; vector < 48; vector++)
@@ -39,7 +39,8 @@ static void check_processor(void)
     if ((c & wanted) != wanted) panic("the library requires x86-64-v2");
 }
 
-/* User mode cannot read the time. The kernel cannot run what user mode can reach, nor use it at user mode's addresses. */
+/* Keeps user mode from reading the time, and the kernel from running what user mode can access, or accessing user mode's
+ * addresses. */
 static void protect(void)
 {
     uint32_t a = 7, b, c = 0, d;

@@ -3,7 +3,7 @@
 #include "kernel.h"
 
 enum planted planted;
-static partmem_machine machine; /* all zeroes, and the library's alone (duty 1) */
+static partmem_machine machine; /* all zeroes; only the library uses it (duty 1) */
 static uint8_t tables[PARTMEM_TABLE_BYTES(ORDER, SUPERBLOCKS, TENANTS)] __attribute__((aligned(16)));
 
 static partmem_tenant tenant_of(unsigned t) { return (partmem_tenant){&machine, t}; }
@@ -13,7 +13,7 @@ void must(partmem_status status)
     if (status != PARTMEM_DONE) panic(partmem_strerror(status));
 }
 
-/* One boot (duty 14), in two regions that nothing else uses (duty 3). The RAM holds what an earlier system left there. */
+/* Boots once (duty 14), in two regions that nothing else uses (duty 3). The RAM has whatever an earlier system left there. */
 void set_up_memory(void)
 {
     const partmem_config config = {ORDER, SUPERBLOCKS, TENANTS};
@@ -24,7 +24,7 @@ void set_up_memory(void)
         if (partmem_superblock_address(&machine, m) != RAM + m * SUPERBLOCK) panic("a superblock lies elsewhere");
 }
 
-/* Duty 10. */
+/* Clears the RAM and the tables (duty 10). */
 void end_memory(void)
 {
     must(partmem_end(&machine));
@@ -34,7 +34,8 @@ void end_memory(void)
 
 enum { ADMIN = TENANTS };
 
-/* Prints a refusal, of a tenant or of the administrator, and returns true if there is one. An error of the caller is the end. */
+/* Prints a refusal, of a tenant or of the administrator, and returns true if there is one. An error of the caller ends the
+ * kernel. */
 static bool is_refused(unsigned who, partmem_status status)
 {
     static char name[32];
@@ -50,15 +51,16 @@ static bool is_refused(unsigned who, partmem_status status)
 
 /* ---- Page blocks -------------------------------------------------------------------------------------------------------- */
 
-/* Maps a block as partmem_alloc or partmem_lend_block returned it: no slab, no free frame, and no other superblock (duty 11). */
+/* Maps a block as partmem_alloc or partmem_lend_block returned it, and so no slab, no free frame, and no other superblock (duty
+ * 11). */
 static void map_block(unsigned t, partmem_lent block)
 {
     uint8_t *at = block.at;
-    if (planted == OTHER_ADDRESS && t == 0 && block.place) at = RAM + ((at - RAM) ^ SUPERBLOCK); /* but for the first stack */
+    if (planted == OTHER_ADDRESS && t == 0 && block.place) at = RAM + ((at - RAM) ^ SUPERBLOCK); /* except for the first stack */
     map(t, block.place, at, block.bytes);
 }
 
-/* The planted fault NO_WRITE_OUT: the address of the superblock in the place of a lend. */
+/* The planted fault NO_WRITE_OUT: uses the address of the superblock instead of a lend. */
 static partmem_status alloc_without_lend(unsigned t, uint32_t order, partmem_lent *block)
 {
     const partmem_request request = {PARTMEM_ALLOC, t, order, 0};
@@ -86,7 +88,7 @@ partmem_status alloc_block(unsigned t, uint32_t order, uint32_t *frame)
     return PARTMEM_DONE;
 }
 
-/* Unmaps the block, then frees it (duty 12). */
+/* Unmaps the block, and then frees it (duty 12). */
 partmem_status free_block(unsigned t, uint32_t frame)
 {
     partmem_lent block = {0};
@@ -127,7 +129,7 @@ partmem_status take_object(unsigned t, uint32_t cache, uint32_t *place)
     return PARTMEM_DONE;
 }
 
-/* The place comes from a user. The library refuses every place but an object's of this cache (duty 7). */
+/* The place comes from a user. The library refuses every place at which no object of this cache begins (duty 7). */
 partmem_status drop_object(unsigned t, uint32_t cache, uint32_t place)
 {
     partmem_status status = partmem_give(tenant_of(t), cache, place);
@@ -184,7 +186,7 @@ bool grant(unsigned t, partmem_slot *granted)
     return true;
 }
 
-/* Maps the page blocks of a slot, where they lie now (duty 5). */
+/* Maps the page blocks of a slot again, at their new addresses (duty 5). */
 static void map_slot(unsigned t, uint32_t slot)
 {
     partmem_block it;
@@ -210,7 +212,7 @@ bool move_slot(unsigned t, uint32_t slot)
     return true;
 }
 
-/* Nothing of the slot is mapped if this is done: the library refuses while a page block is in it. */
+/* If this is done, nothing of the slot is mapped: the library refuses a take-back while a page block is in it. */
 bool take_back(unsigned t, uint32_t slot)
 {
     partmem_slot found = {0};
@@ -249,7 +251,7 @@ unsigned slots_of(unsigned t)
     return slots;
 }
 
-/* Counts what lies in a superblock, whoever may read it. */
+/* Counts the bytes that are not 0 in a superblock, whoever owns it. */
 uint64_t bytes_not_zero(uint32_t superblock)
 {
     const uint8_t *at = partmem_superblock_address(&machine, superblock);

@@ -1,4 +1,4 @@
-/* Page tables. The kernel's GiB is in all spaces. A tenant's page blocks are in its own space alone. */
+/* Page tables. The kernel's GiB is in all address spaces. A tenant's page blocks are only in its own. */
 #include "kernel.h"
 
 enum { PRESENT = 1, WRITABLE = 2, USER = 4, TABLES = (FRAMES + 511) / 512 };
@@ -11,12 +11,12 @@ extern uint8_t kernel_guard[], kernel_stack_top[];
 extern const char programs[], programs_bytes[];
 static table roots[PARTITIONS], pointers[PARTITIONS], directories[PARTITIONS], pages[PARTITIONS][TABLES];
 static table code_pointers, code_directory, code_pages, guard_pages;
-static unsigned entered = PARTITIONS; /* whose space is in use; PARTITIONS at boot */
+static unsigned entered = PARTITIONS; /* whose address space is in use; PARTITIONS at boot */
 
 static uint64_t entry_of(const void *at, unsigned rights) { return (uint64_t)at | PRESENT | rights; }
 
-/* Unmaps the page below the kernel's stack: an overflow is a double fault, on a stack of its own (duty 9). Paints the stack, to
- * see later how much of it was used. */
+/* Unmaps the page below the kernel's stack, so that an overflow is a double fault, on a stack of its own (duty 9). Fills the
+ * stack with a pattern, which later shows how much of it was used. */
 static void guard_stack(void)
 {
     for (volatile uint8_t *at = kernel_guard + FRAME; at < (uint8_t *)__builtin_frame_address(0) - 128; at++) *at = 0xcc;
@@ -56,7 +56,7 @@ void map(unsigned t, uint32_t place, void *at, uint32_t bytes)
         *page_of(t, place + b) = entry_of((uint8_t *)at + b, WRITABLE | USER) | NOT_EXECUTABLE;
 }
 
-/* Unmaps a range, and flushes it. A space that is not in use is flushed when it is entered. */
+/* Unmaps a range, and flushes it from the TLB. An address space that is not in use is flushed when it is entered. */
 void unmap(unsigned t, uint32_t place, uint32_t bytes)
 {
     for (uint32_t b = 0; b < bytes; b += FRAME) {
@@ -72,7 +72,7 @@ void enter_space(unsigned t)
     __asm__ volatile("mov %0, %%cr3" : : "r"(roots[t]) : "memory");
 }
 
-/* Returns where the kernel reads a text at an address of the programs, or NULL for any other address. */
+/* Returns the address at which the kernel reads a text of the programs, or NULL for any other address. */
 const char *program_text(uint64_t address)
 {
     uint64_t offset = address - USER_CODE;

@@ -1,11 +1,11 @@
-/* Partitions: traps, threads and endpoints, system calls, and whose turn it is. */
+/* Partitions: traps, threads and endpoints, system calls, and scheduling. */
 #include "calls.h"
 #include "kernel.h"
 
-/* The objects of a partition, in two caches of its own. They hold what its own calls put there and nothing else. */
+/* The objects of a partition, in two caches of its own. They hold only what its own calls put there. */
 struct thread {
     uint64_t handler;   /* where it continues after a fault; 0: it ends */
-    uint64_t waits_for; /* 1 more than the place of the endpoint that it waits for, or 0 */
+    uint64_t waits_for; /* the place of the endpoint that it waits for plus 1, or 0 */
 };
 
 struct endpoint {
@@ -15,7 +15,7 @@ struct endpoint {
 
 enum { THREAD_CACHE, ENDPOINT_CACHE, MOST_COUNTS = 1024 };
 
-/* Registers are saved at times that depend on other partitions. So they lie here, and not in the thread's object. */
+/* Registers are saved at times that depend on other partitions. So they are here, and not in the thread's object. */
 struct context {
     struct registers registers;
     uint8_t vectors[512] __attribute__((aligned(16))); /* the x87 and SSE state */
@@ -26,13 +26,13 @@ struct context {
 static struct context contexts[PARTITIONS][THREADS];
 static struct {
     bool is_running;
-    unsigned thread; /* whose turn it is in the partition: it changes in system calls and faults alone */
+    unsigned thread; /* the thread whose turn it is; it changes only in system calls and faults */
     uint32_t meeting;
 } partitions[PARTITIONS];
 static unsigned current;
 uint64_t ticks;
 
-/* The instructions of each call of partition 0, and those that are not for printing. */
+/* The instructions of each call of partition 0, and of these the ones that are not for printing. */
 static struct {
     const char *name;
     uint64_t all, quiet;
@@ -74,7 +74,7 @@ static void load_vectors(const struct context *context)
 
 /* ---- Threads ------------------------------------------------------------------------------------------------------------ */
 
-/* Whether user mode can continue there: iretq to an address that is not canonical is a fault of the kernel. */
+/* Returns whether user mode can continue there: iretq to an address that is not canonical faults in the kernel. */
 static bool is_of_user(uint64_t address) { return address < 1ul << 47; }
 
 static uint64_t start_thread(unsigned t, uint64_t address, uint64_t stack, uint64_t argument)
@@ -94,7 +94,7 @@ static uint64_t start_thread(unsigned t, uint64_t address, uint64_t stack, uint6
     return number;
 }
 
-/* Gives the turn to a thread of the partition that can run. Without one the partition is done. */
+/* Gives the turn to a thread of the partition that can run. If there is none, the partition has ended. */
 static void choose_thread(unsigned t)
 {
     for (unsigned i = 1; i <= THREADS; i++) {
@@ -127,7 +127,7 @@ void start_partition(unsigned t, enum program program, uint64_t argument)
     partitions[t].meeting = 0;
 }
 
-/* Nothing of the partition is left, so its number can pass to another one (duty 13). */
+/* Nothing of the partition is left, so another one can get its number (duty 13). */
 void end_partition(unsigned t)
 {
     memset(contexts[t], 0, sizeof contexts[t]);
@@ -189,7 +189,7 @@ static uint64_t receive(unsigned t, uint32_t place)
     return REFUSED;
 }
 
-/* A dropped endpoint must have no thread that waits for it. */
+/* Drops an endpoint. No thread may be waiting for it. */
 static uint64_t drop(unsigned t, uint32_t place)
 {
     if (waiting_for(t, place)) return REFUSED;
@@ -198,7 +198,7 @@ static uint64_t drop(unsigned t, uint32_t place)
 
 /* ---- Traps -------------------------------------------------------------------------------------------------------------- */
 
-/* Prints a text of the program and a number. A partition says what it computed; the kernel adds nothing (duty 6). */
+/* Prints a text of the program and a number. A partition prints only what it computed; the kernel adds nothing (duty 6). */
 static uint64_t say(unsigned t, uint64_t address, uint64_t number)
 {
     char text[80];
@@ -218,7 +218,7 @@ static uint64_t catch_faults(unsigned t, uint64_t handler)
     return 0;
 }
 
-/* A number of a system call, made to fit the numbers of the library. Too large stays too large. */
+/* Returns a number of a system call as the library takes it. A number that is too large stays too large. */
 static uint32_t fit(uint64_t number) { return number > UINT32_MAX ? UINT32_MAX : (uint32_t)number; }
 
 static uint64_t answer(unsigned t, uint64_t call, uint64_t first, uint64_t second, uint64_t third)
@@ -261,7 +261,7 @@ static void system_call(struct context *context, uint64_t begin)
     counts[count++].quiet = all - printing;
 }
 
-/* A fault of a partition is reported, by its place and not by an address, and its thread continues at its handler (duty 6). */
+/* Reports a fault of a partition, by its place and not by an address. The thread continues at its handler (duty 6). */
 static void fault(unsigned t, struct context *context)
 {
     const struct registers *registers = &context->registers;
@@ -274,7 +274,7 @@ static void fault(unsigned t, struct context *context)
     else end_thread(t);
 }
 
-/* Chooses the next partition that can run, from the current one on or, at the end of its turn, from the next one on. */
+/* Chooses the next partition that can run: from the current one on or, at the end of its turn, from the next one on. */
 static void choose_partition(bool is_end_of_turn)
 {
     for (unsigned i = is_end_of_turn; i <= PARTITIONS; i++) {
@@ -286,7 +286,7 @@ static void choose_partition(bool is_end_of_turn)
     panic("no partition can run");
 }
 
-/* Puts the registers of the partition whose turn it is on the kernel's stack, from where they are loaded. */
+/* Puts the registers of the partition whose turn it is on the kernel's stack, from which they are loaded. */
 static void switch_to_current(struct registers *registers)
 {
     const struct registers before = *registers;

@@ -1,4 +1,4 @@
-/* The programs of partitions. They have no variables but on their stacks, which lie in page blocks of their partition. */
+/* The programs of partitions. All their variables are on their stacks, which lie in page blocks of their partition. */
 #include <stdint.h>
 
 #include "calls.h"
@@ -21,7 +21,7 @@ static uint64_t alloc(uint64_t order) { return call(CALL_ALLOC, order, 0, 0); }
 static void free_frame(uint64_t frame) { call(CALL_FREE, frame, 0, 0); }
 static volatile uint64_t *words_of(uint64_t frame) { return (volatile uint64_t *)(PLACES + frame * FRAME); }
 
-/* Loads the byte at an address, stores one, or runs what is there. Returns REFUSED after a fault: `in_vain` is the handler. */
+/* Loads the byte at an address, stores one, or runs the code there. Returns REFUSED after a fault, whose handler is `in_vain`. */
 uint64_t load_byte(uint64_t address);
 uint64_t store_byte(uint64_t address);
 uint64_t run_at(uint64_t address);
@@ -63,7 +63,7 @@ static uint64_t words_not_zero(uint64_t frame, uint64_t frames)
 
 /* ---- Registers that another partition could change ----------------------------------------------------------------------- */
 
-/* The x87 and SSE state, as fxsave stores it: word 3 has MXCSR, each second word from 4 on has the bits of an x87 register, and
+/* The x87 and SSE state, as fxsave stores it. Word 3 has MXCSR, every second word from 4 on has the bits of an x87 register, and
  * words 20 to 51 are the vector registers. */
 struct vectors {
     uint64_t words[64];
@@ -114,7 +114,7 @@ static uint64_t wrong_selectors(uint64_t seed)
     return (ds != selector(seed, 0)) + (es != selector(seed, 1)) + (fs != selector(seed, 2)) + (gs != selector(seed, 3));
 }
 
-/* Of the flags those that no instruction changes by the way: nested task, alignment check and identification. */
+/* The flags that other instructions do not change: nested task, alignment check and identification. */
 enum { FLAGS = 1 << 14 | 1 << 18 | 1 << 21 };
 
 static void load_flags(uint64_t flags)
@@ -174,7 +174,7 @@ static void touch_what_is_not_its_own(uint64_t slab)
     call(CALLS, 0, 0, 0);
 }
 
-/* The other thread: returns each word doubled, until it is 0. */
+/* The other thread: returns each word doubled, until a word is 0. */
 void serve(uint64_t endpoints, uint64_t registers);
 void serve(uint64_t endpoints, uint64_t registers)
 {
@@ -289,7 +289,7 @@ static void fill_all(void)
 }
 
 struct load {
-    uint64_t state, taken[8], orders[8], held, lost, made; /* `held` blocks, of which words were lost; the last endpoint */
+    uint64_t state, taken[8], orders[8], held, lost, made; /* `held` blocks, in which `lost` words were wrong; an endpoint */
 };
 
 static void take_block(struct load *load, uint64_t order)
@@ -310,7 +310,7 @@ static void drop_block(struct load *load, uint64_t at)
     load->orders[at] = load->orders[load->held];
 }
 
-/* A call, with other values in the registers each time. */
+/* Makes a call, with other values in the registers each time. */
 static void call_any(struct load *load)
 {
     uint64_t what = next(&load->state) >> 8 & 7, which = load->state >> 24 & 0xfffff;
@@ -323,7 +323,7 @@ static void call_any(struct load *load)
         load->made = call(CALL_MAKE, 0, 0, 0);
         call(CALL_SEND, load->made, load->state, 0);
     } else if (what == 6) {
-        uint64_t of_partition_0 = 4 * FRAME + (which & 1) * 64; /* if it is one of this partition, too, nothing is lost */
+        uint64_t of_partition_0 = 4 * FRAME + (which & 1) * 64; /* if this partition has it too, nothing is lost */
         call(CALL_DROP, load->made, 0, 0);
         call(CALL_SEND, of_partition_0, load->state, 0);
         call(CALL_RECEIVE, of_partition_0, 0, 0);
@@ -340,13 +340,13 @@ static uint64_t frames_reached(void)
     return found;
 }
 
-/* Frees all blocks but its stack. */
+/* Frees all its blocks except its stack. */
 static void free_all(void)
 {
     for (uint64_t frame = 1; frame < SUPERBLOCKS * SLOT; frame++) free_frame(frame);
 }
 
-/* All that it can; then it fills all of its memory, and begins anew. */
+/* Does all that it can; then fills all of its memory, and starts again. */
 void noisy(uint64_t seed);
 void noisy(uint64_t seed)
 {

@@ -3,7 +3,7 @@
 
 #include "kernel.h"
 
-/* Printed text waits here, so that it costs a system call the same at all times. QEMU takes it from port 0xe9. */
+/* Printed text is buffered here, so that a system call that prints costs the same at all times. QEMU takes it from port 0xe9. */
 static char waiting[1 << 16];
 static size_t length;
 uint64_t printing;
@@ -89,7 +89,7 @@ void *memmove(void *to, const void *from, size_t bytes)
     return to;
 }
 
-/* An unproved library refers to it, for a notice at the start of a program: nothing here makes it write one. */
+/* An unproved library refers to it, for a notice when a program starts. Nothing here makes it write one. */
 long write(int file, const void *text, size_t bytes);
 long write(int file, const void *text, size_t bytes)
 {

@@ -1,6 +1,6 @@
 /* /dev/partmem. Its administrator, a process with CAP_SYS_ADMIN, grants superblocks to partitions, and binds files to them. A
- * process with a bound file maps its partition's places, MAP_SHARED and from offset 0, and allocates page blocks there. A touch of a
- * place that is in no page block of the partition is SIGBUS. */
+ * process with a bound file maps its partition's places, MAP_SHARED and from offset 0, and allocates page blocks there. An access
+ * to a place outside the partition's page blocks raises SIGBUS. */
 #ifndef PARTMEM_DEVICE_H
 #define PARTMEM_DEVICE_H
 
@@ -8,21 +8,21 @@
 #include <linux/types.h>
 
 struct partmem_call {
-	__u32 partition;        /* of the administrator's calls */
+	__u32 partition;        /* for the administrator's calls */
 	__u32 number;           /* a slot, an order or a place, as each call says */
 	__u32 status;           /* a partmem_status */
 	__u32 place, bytes;     /* of a page block */
-	__u32 slot, superblock; /* of the administrator's calls */
+	__u32 slot, superblock; /* for the administrator's calls */
 };
 
-/* The administrator's. A reset also ends the binding of each file of the partition. A file is bound once. */
+/* Calls of the administrator. A reset also ends the binding of each file of the partition. A file is bound once. */
 #define PARTMEM_IOC_GRANT _IOWR('m', 1, struct partmem_call)
 #define PARTMEM_IOC_TAKE_BACK _IOWR('m', 2, struct partmem_call) /* slot */
 #define PARTMEM_IOC_MOVE _IOWR('m', 3, struct partmem_call)      /* slot */
 #define PARTMEM_IOC_RESET _IOWR('m', 4, struct partmem_call)
 #define PARTMEM_IOC_BIND _IOWR('m', 5, struct partmem_call)
 
-/* For a bound file. */
+/* Calls on a bound file. */
 #define PARTMEM_IOC_ALLOC _IOWR('m', 6, struct partmem_call) /* order */
 #define PARTMEM_IOC_FREE _IOWR('m', 7, struct partmem_call)  /* place */
 

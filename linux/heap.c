@@ -1,5 +1,5 @@
-/* malloc for a program of one thread, by LD_PRELOAD, over the page blocks of its partition, to which the file PARTMEM_FILE is bound.
- * All that is allocated lies there. A piece has 2^k bytes, and is at a multiple of 2^k up to a page. */
+/* malloc for a program of one thread, by LD_PRELOAD, over the page blocks of its partition, to which the file PARTMEM_FILE is
+ * bound. All that it allocates lies in them. A piece has 2^k bytes, and begins at a multiple of 2^k up to a page. */
 #include <errno.h>
 #include <stdint.h>
 #include <stdlib.h>
@@ -18,9 +18,9 @@ struct unused {
 static int file;
 static char *places;
 static struct unused *unused[PAGE];
-static uint8_t power_in[PAGES]; /* by page: of the pieces in it, or of the block that begins there */
+static uint8_t power_in[PAGES]; /* by page: k of the pieces in it, or of the block that begins there */
 
-/* Maps as much as the partition can name. */
+/* Maps all places that the partition can name. */
 static void start(void)
 {
     file = atoi(getenv("PARTMEM_FILE"));

@@ -1,6 +1,7 @@
-/* /init of the virtual machine that linux/run boots. In each world partition 0 does the same, and prints what it is told and what
- * it finds; the runner compares these lines. In a noisy world partition 1 meanwhile does what it can, slots of both are moved, and
- * partition 1 is reset. Then perl runs with its heap in a partition whose slots are moved. What is printed leaves by port 0xe9. */
+/* /init of the virtual machine that linux/run boots. In each world partition 0 does the same, and prints the results of its calls
+ * and what it finds; linux/run compares these lines. In a noisy world partition 1 meanwhile does what it can, slots of both are
+ * moved, and partition 1 is reset. Then perl runs with its heap in a partition whose slots are moved. The output goes to port
+ * 0xe9. */
 #define _GNU_SOURCE
 #include <errno.h>
 #include <fcntl.h>
@@ -26,14 +27,14 @@
 
 enum { FRAME = 4096, ORDER = 4, SUPERBLOCKS = 12, UNIT = FRAME << ORDER, PLACES = SUPERBLOCKS * UNIT };
 enum { ROUNDS = 4000, MEETING = 40, MOST = 64, SLOTS = 3, PORT = 0xe9, OTHER = 0xbb };
-enum { PERL_SUPERBLOCKS = 40, PERL_SLOTS = 36 }; /* of order 6 */
+enum { PERL_SUPERBLOCKS = 40, PERL_SLOTS = 36 }; /* at order 6 */
 
 struct block {
     uint32_t place, bytes;
-    uint64_t seed; /* of its words */
+    uint64_t seed; /* of the numbers in its words */
 };
 
-static int file; /* the administrator's, or that of the partition */
+static int file; /* of the administrator, or of the partition */
 static uint8_t *places;
 static struct block blocks[MOST];
 static uint32_t held;
@@ -152,7 +153,7 @@ static void take_over(int to_administrator, int from_administrator)
 {
     char byte;
     uint64_t not_zero = 0;
-    while (add(ORDER)) fill(&blocks[held - 1], 2); /* so that the next whole superblock is the one that it is granted now */
+    while (add(ORDER)) fill(&blocks[held - 1], 2); /* so that the only whole free superblock is the one that is granted now */
     meet(to_administrator, from_administrator);
     if (!add(ORDER)) die("no superblock");
     struct block *block = &blocks[held - 1];
@@ -187,12 +188,12 @@ static void fill_all(int asked, int done)
     if (write(done, &byte, 1) != 1) die("cannot say that all is filled");
 }
 
-/* Allocates, frees and stores at random, among others where it has nothing; and fills all when it is asked to. */
+/* Allocates, frees and stores at random, also at places that it does not have; and fills all memory when it is asked to. */
 static void run_partition_1(int asked, int done)
 {
     static uint64_t state = 12345;
     struct pollfd is_asked = {asked, POLLIN, 0};
-    sigsetjmp(on_bus_error, 1); /* it stored where nothing is mapped */
+    sigsetjmp(on_bus_error, 1); /* after a store where nothing is mapped */
     for (;;) {
         const uint64_t random = random_of(&state), which = random >> 32;
         if (poll(&is_asked, 1, 0) == 1) fill_all(asked, done);
@@ -213,7 +214,7 @@ static int bound_file(uint32_t partition)
     return bound;
 }
 
-/* Begins a process with a file of a partition, and nothing else that it could reach memory by. */
+/* Starts a process with a file of a partition, and no other way to reach its memory. */
 static pid_t start(uint32_t partition)
 {
     const int bound = bound_file(partition);
@@ -269,13 +270,13 @@ static void make_noise(uint64_t random)
     noise.moves += call(PARTMEM_IOC_MOVE, 0, noise.moves % SLOTS).status == 0;
     call(kinds[random % 3], 1, random >> 32 & 3);
     if (++noise.made % 25) return;
-    call(PARTMEM_IOC_RESET, 1, 0); /* and another client gets the number */
+    call(PARTMEM_IOC_RESET, 1, 0); /* then another client gets the number */
     end(noise.neighbour);
     start_neighbour();
     noise.resets++;
 }
 
-/* Has partition 1 fill all that there is and lose it, and grants partition 0 a superblock of it. */
+/* Has partition 1 fill all its memory and lose it, and grants partition 0 one of its superblocks. */
 static void hand_over(bool is_noisy)
 {
     char byte = 0;
@@ -336,7 +337,7 @@ static void run_perl(void)
 
 /* ---- All of it ------------------------------------------------------------------------------------------------------------ */
 
-/* Sends what is in /lines, and empties it. */
+/* Prints what is in /lines, and empties it. */
 static void send_lines(void)
 {
     static char text[1 << 20];

@@ -19,18 +19,19 @@ module_param(superblocks, uint, 0444);
 module_param(partitions, uint, 0444);
 module_param(mistake, uint, 0444);
 
-/* What `mistake` plants, for the test. */
+/* The mistakes that the parameter `mistake` plants, for the test. */
 enum { NO_UNMAP_AT_FREE = 1, NO_UNMAP_AT_MOVE, NO_UNMAP_AT_RESET, MAP_ADDRESS };
 
-/* Over the library and what is mapped: a page is unmapped before the call that ends its lifetime, and faults wait (duties 8, 12). */
+/* Protects the library and the mappings: a page is unmapped before the call that ends its lifetime, and faults wait (duties 8,
+ * 12). */
 static DEFINE_MUTEX(lock);
 static partmem_machine machine;
 static u8 *ram, *tables;
 static u32 unit;      /* bytes of a superblock */
-static u32 pages;     /* that a partition can name */
-static u32 *bindings; /* of each partition: how often its files have lost it (duty 13) */
+static u32 pages;     /* how many a partition can name */
+static u32 *bindings; /* by partition: how often its files have lost it (duty 13) */
 
-/* All maps are of this inode, whatever the path that was opened. Page p of partition i has the offset i * pages + p. */
+/* All mappings are of this inode, whatever path was opened. Page p of partition i has the offset i * pages + p. */
 static struct inode *node;
 
 struct handle {
@@ -79,7 +80,7 @@ static long call_of_administrator(unsigned int kind, struct handle *handle, stru
 	case PARTMEM_IOC_GRANT:
 		call->status = partmem_grant(tenant(call->partition), &slot);
 		break;
-	case PARTMEM_IOC_TAKE_BACK: /* which is refused if the slot has a page block, so nothing is mapped */
+	case PARTMEM_IOC_TAKE_BACK: /* refused if the slot has a page block, so nothing of it is mapped */
 		call->status = partmem_take_back(tenant(call->partition), call->number);
 		break;
 	case PARTMEM_IOC_MOVE:
@@ -114,7 +115,7 @@ static long call_of_partition(unsigned int kind, struct handle *handle, struct p
 			unmap(handle->partition, block.place, block.bytes, NO_UNMAP_AT_FREE);
 		call->status = partmem_free(tenant(handle->partition), call->number);
 	}
-	call->place = block.place; /* and not the address (duty 6) */
+	call->place = block.place; /* not the address (duty 6) */
 	call->bytes = block.bytes;
 	return 0;
 }
@@ -133,7 +134,7 @@ static long device_ioctl(struct file *file, unsigned int kind, unsigned long at)
 		return -EINVAL;
 	mutex_lock(&lock);
 	status = is_own ? call_of_partition(kind, file->private_data, &call) : call_of_administrator(kind, file->private_data, &call);
-	mutex_unlock(&lock); /* before the copy, which may fault and then takes it */
+	mutex_unlock(&lock); /* before the copy, which may fault, and a fault takes the lock */
 	return !status && copy_to_user((void __user *)at, &call, sizeof(call)) ? -EFAULT : status;
 }
 
@@ -242,7 +243,7 @@ static int boot(void)
 	bindings = kcalloc(partitions, sizeof(*bindings), GFP_KERNEL);
 	if (!ram || !tables || !bindings)
 		return -ENOMEM;
-	memset(ram, 0xa5, (size_t)superblocks * unit); /* only for the test: the library needs no cleared RAM */
+	memset(ram, 0xa5, (size_t)superblocks * unit); /* only for the test: the library does not need cleared RAM */
 	return partmem_boot_in(&machine, &config, &memory) ? -EINVAL : 0;
 }
 
@@ -251,7 +252,7 @@ static int __init start(void)
 	int status;
 
 	if (partmem_version() / 10000 != PARTMEM_VERSION / 10000 || !boot_cpu_has(X86_FEATURE_POPCNT))
-		return -ENODEV; /* the library is for x86-64-v2 */
+		return -ENODEV; /* the library requires x86-64-v2 */
 	if (order < PARTMEM_LEAST_ORDER || order > PARTMEM_MOST_ORDER || superblocks < 1 || superblocks > PARTMEM_MOST_SUPERBLOCKS ||
 	    partitions < 1 || partitions > PARTMEM_MOST_TENANTS)
 		return -EINVAL;
@@ -268,7 +269,7 @@ static int __init start(void)
 	return status;
 }
 
-/* No file is open: each holds the module. */
+/* No file is open: an open file holds the module. */
 static void __exit stop(void)
 {
 	misc_deregister(&device);

@@ -1,4 +1,4 @@
-# Fills a hash, sorts it, joins and splits long strings, and prints what it has now and then. Nothing printed is an address.
+# Fills a hash, sorts it, joins and splits long strings, and now and then prints what it has. It prints no address.
 my %seen;
 my $state = 7;
 sub word {
