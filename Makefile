@@ -1,4 +1,4 @@
-# What one can do here; `make` lists it.
+# What you can do here; `make` lists it.
 SHELL := bash
 PREFIX ?= out/installed
 LIBDIR ?= lib
@@ -44,7 +44,7 @@ tools: ; @tests/missing-tools
 proved: ; @tests/verdict --still
 $(addprefix check-,$(OVER_PROGRAMS)): proved
 $(addprefix check-,$(OVER_LIBRARY)): library
-# Scripts run `make` as a user does: not as a part of this one, which would print the folders that it enters.
+# Scripts run `make` as a user does, and not as a part of this `make`, which would print the folders that it enters.
 AS_A_USER := env -u MAKEFLAGS -u MFLAGS -u MAKELEVEL
 check-pasted-first: ; $(AS_A_USER) tests/pasted --first
 IN_FOLDERS := $(addprefix check-,in-place heap watched cpp)
