@@ -1,4 +1,4 @@
-"""Finds what is built, for scripts that use it: what is proved, or else what tools/unproved has left."""
+"""Finds what is built, for scripts that use it: the proved program or library, or else the one that tools/unproved has left."""
 import os
 import sys
 
@@ -7,13 +7,13 @@ HOW = 'build it by `make unproved`, which proves nothing and takes two minutes, 
 
 
 def found(user, proved, unproved):
-    """The path of the first of these files at the top of the repository or of a release, or None. If only the unproved one is
-    there, its user says so on standard error."""
+    """Returns the path of the first of these files at the top of the repository or of a release, or None. If only the unproved
+    one is there, it says so on standard error, in the name of `user`."""
     for file in [*proved, unproved]:
         path = os.path.join(TOP, file)
         if os.path.isfile(path):
             if file == unproved:
-                print(f'{user}: {file} is used, of which nothing is proved: there is no {proved[0]}', file=sys.stderr)
+                print(f'{user}: uses {file}, which is not proved: there is no {proved[0]}', file=sys.stderr)
             return path
     return None
 

@@ -1,4 +1,4 @@
-"""Who has allocated what lives when most bytes do, for from-malloc."""
+"""Finds, for from-malloc, who allocated the blocks that are live when most bytes are."""
 import collections
 import os
 import shutil
@@ -8,11 +8,11 @@ import time
 import summary
 
 MOST_ROWS, MOST_LOOKED_UP, MOST_CHARACTERS = 20, 1000, 80
-MOST_SECONDS, MOST_BYTES = 60, 1 << 32  # of all calls of addr2line; of a file in which it looks
+MOST_SECONDS, MOST_BYTES = 60, 1 << 32  # for all runs of addr2line; of a file that it reads
 
 
 class Calls:
-    """The bytes and blocks of a caller: those that are live, and those that were at the peak of a number."""
+    """The bytes and blocks of a caller: those that are live, and those that were live at the peak of a number."""
     __slots__ = 'size', 'count', 'peak', 'then'
 
     def __init__(self):
@@ -21,12 +21,13 @@ class Calls:
 
 
 class Callers:
-    """The callers of malloc in a log, and what each has when most bytes are live. A caller is a path and an offset, or None."""
+    """The callers of malloc in a log, and what each of them has when most bytes are live. A caller is a path and an offset, or
+    None."""
 
     def __init__(self):
         self.calls = collections.defaultdict(Calls)     # by caller
-        self.blocks = {}                                # by pointer: the calls that its block is of, and its bytes
-        self.total = self.most = self.peaks = 0         # bytes live now and at most; how often there were more than before
+        self.blocks = {}                                # by pointer: the calls that its block belongs to, and its bytes
+        self.total = self.most = self.peaks = 0         # bytes live now and at most; how many peaks there were
 
     def allocate(self, pointer, size, caller):
         self.free(pointer)
@@ -40,7 +41,8 @@ class Callers:
             self.change(calls, -size, -1)
 
     def change(self, calls, size, count):
-        """What has not changed since the last peak is what it was then; so only the first change has to keep it."""
+        """Counts a change. What has not changed since the last peak is still what it was then, so only the first change keeps
+        it."""
         if calls.peak < self.peaks:
             calls.peak, calls.then = self.peaks, (calls.size, calls.count)
         calls.size += size
@@ -51,19 +53,20 @@ class Callers:
             self.peaks += 1
 
     def at_peak(self):
-        """The bytes and blocks of each caller when most bytes were live, most bytes first."""
+        """Returns the bytes and blocks of each caller at the time when most bytes were live, most bytes first."""
         then = [(calls.then if calls.peak == self.peaks else (calls.size, calls.count), caller)
                 for caller, calls in self.calls.items()]
         return sorted(((size, count, caller) for (size, count), caller in then if count), key=lambda it: (-it[0], str(it[2])))
 
 
 def is_plain(path):
-    """Whether a path, which a log may have from anybody, is a plain file: those of /proc have no size, or more than RAM has."""
+    """Returns whether a path is a plain file, since a log may name any path: files of /proc have no size, or more than RAM."""
     return os.path.isabs(path) and os.path.isfile(path) and 0 < os.path.getsize(path) <= MOST_BYTES
 
 
 def functions(path, offsets, seconds):
-    """The functions of a file that calls return to at these offsets, if addr2line knows them. It asks no server for symbols."""
+    """Returns the functions that contain these return addresses in a file, if addr2line knows them. It asks no server for
+    symbols."""
     if seconds <= 0 or not shutil.which('addr2line'):
         return {}
     asked = ''.join(f'{max(offset - 1, 0):x}\n' for offset in offsets)
@@ -88,7 +91,7 @@ def name_of(caller, function):
 
 
 def by_name(rows):
-    """The bytes and blocks of each name, most bytes first; calls of one function are counted together."""
+    """Returns the bytes and blocks of each name, most bytes first. Calls from one function are counted together."""
     offsets, end = collections.defaultdict(list), time.monotonic() + MOST_SECONDS
     for _, _, caller in rows[:MOST_LOOKED_UP]:
         if caller:
@@ -103,7 +106,7 @@ def by_name(rows):
 
 
 def tell(callers):
-    """Prints the callers with most bytes."""
+    """Prints the callers with the most bytes."""
     rows = by_name(callers.at_peak())
     summary.heading(f'when most bytes were live, {callers.most} of them: bytes and allocations by the caller of malloc')
     shown, rest = rows[:MOST_ROWS], rows[MOST_ROWS:]

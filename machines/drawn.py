@@ -29,17 +29,17 @@ LAYER = re.compile(r'<path class="(?P<classes>cells d(?P<depth>\d))" transform="
 
 
 class Figures:
-    """How many frames a tenant holds in each column, how many of them are taken, and how often it had been refused some."""
+    """How many frames a tenant holds in each column, how many of these are taken, and how often it had been refused frames."""
 
     def __init__(self):
         self.held, self.taken, self.refused = [], [], []
 
     def at_most(self):
-        """The most frames that were taken, and those that were held then."""
+        """Returns the most frames that were taken, and the number that was held then."""
         return max(zip(self.taken, self.held), default=(0, 0))
 
     def refusing(self):
-        """The columns in whose lines the tenant was refused frames."""
+        """Returns the columns in whose lines the tenant was refused frames."""
         return [at for at, (before, count) in enumerate(zip([0, *self.refused], self.refused)) if count > before]
 
     def at_end(self):
@@ -47,7 +47,7 @@ class Figures:
 
 
 def read_table(table):
-    """The lines of the columns, and by tenant the figures."""
+    """Returns the lines of the columns, and the figures by tenant."""
     lines, figures = [], collections.defaultdict(Figures)
     for row in table.splitlines()[1:]:
         line, tenant, held, taken, refused = map(int, row.split(',')[:5])
@@ -60,7 +60,7 @@ def read_table(table):
 
 
 def parts_of(picture):
-    """The head of a picture of framemap and its bands."""
+    """Returns the head of a picture of framemap, and its bands."""
     head = HEAD.match(picture)
     at, bands = head.end() if head else 0, []
     while head and (band := BAND.match(picture, at)):

@@ -1,5 +1,5 @@
-"""Adds to the picture that framemap has drawn what its trace and its figures say: names, bytes, time, and titles under the
-pointer. What is drawn where stays as framemap decides."""
+"""Adds to a picture of framemap what its trace and its figures say: names, bytes, time, and titles under the pointer. All else
+stays where framemap has drawn it."""
 import html
 import re
 
@@ -7,14 +7,14 @@ import drawn
 import scales
 from scales import WIDTH
 
-LEFT, RIGHT, MARGIN = 72, 36, 16        # what is at the left of the columns and at their right, and what is added to both
-NAME_LINE = 18                          # how much higher each band is, for a line with its name
-BELOW, FREE_BELOW = 18, 40              # how much lower than the foot of a band the numbers of its lines are, and its end
-MARKS_BELOW, MARK_HEIGHT = 4, 9         # how much lower than the rows the marks of refusals are, and how high
-INDENT = 12                             # of the figures of a band, away from the word above its axis
+LEFT, RIGHT, MARGIN = 72, 36, 16        # the space to the left and right of the columns; added on both sides
+NAME_LINE = 18                          # by how much each band becomes higher, for a line with its name
+BELOW, FREE_BELOW = 18, 40              # how far below the foot of a band the numbers of its lines are, and its end
+MARKS_BELOW, MARK_HEIGHT = 4, 9         # how far below the rows the marks of refusals are, and their height
+INDENT = 12                             # of the figures of a band, after the word above its axis
 BYTES_RIGHT = 22                        # where the numbers of bytes end
 MOST_NAME = 64                          # characters of a name
-MOST_TITLES, LEAST_WIDTH, LEAST_HEIGHT = 1500, 3, 3     # rectangles with a title, and how many pixels they have at least
+MOST_TITLES, LEAST_WIDTH, LEAST_HEIGHT = 1500, 3, 3     # how many rectangles have a title, and their least size in pixels
 KINDS = {'page': 'page blocks', 'full': 'full slabs', 'partial': 'partial slabs', 'empty': 'empty slabs', 'free': 'free',
          'none': 'not held'}
 SHARES = {'one': 'up to a quarter', 'two': 'up to half', 'three': 'up to three quarters', '': 'more than three quarters'}
@@ -59,14 +59,14 @@ class Band:
                       for it in drawn.PATH.finditer(found['cells'])]
 
     def area(self, rectangle):
-        """How many pixels a rectangle has, if it can be pointed to, or else 0."""
+        """Returns the area of a rectangle in pixels, or 0 if it is too small to point at."""
         column, _, columns, rows = rectangle
         width = self.labels.axis.edges[column + columns] - self.labels.axis.edges[column]
         height = rows * self.row_height
         return width * height if width >= LEAST_WIDTH and height >= LEAST_HEIGHT else 0
 
     def title(self, kind, shade, rectangle):
-        """What a rectangle shows: its frames, its lines, and what they are."""
+        """Returns what a rectangle shows: its frames, its lines, and what they are."""
         column, row, columns, rows = rectangle
         first, end, lines = row * self.per_row, (row + rows) * self.per_row, self.labels.lines
         frames = f'frames {first} to {end - 1}' if end > first + 1 else f'frame {first}'
@@ -85,7 +85,7 @@ class Band:
         return f'M{x} {row}h{width}v{rows}h-{width}z' if width else ''
 
     def draw_cells(self, titled):
-        """The paths of the cells; rectangles among `titled` have their own, with a title."""
+        """Yields the paths of the cells. Rectangles in `titled` have their own path, with a title."""
         for kind, shade, rectangles in self.paths:
             classes = f'{kind} {shade}'.rstrip()
             plain_ones = ''.join(self.draw_rectangle(it) for it in rectangles if (self.tenant, it) not in titled)
@@ -96,7 +96,7 @@ class Band:
                     yield f'<path class="{classes}" d="{self.draw_rectangle(it)}"><title>{title}</title></path>'
 
     def draw_layers(self, order):
-        """The layers of the free frames."""
+        """Yields the layers of the free frames."""
         axis = self.labels.axis
         for it in drawn.LAYER.finditer(self.found['layers']):
             path = re.sub(r'H(\d+)', lambda turn: f'H{axis.place(int(turn[1]))}', it['path'])
@@ -107,7 +107,7 @@ class Band:
                    f'd="{path}">{title}</path>')
 
     def draw_refused(self):
-        """The marks of refusals: by time where the column begins to be shown, and else where framemap has drawn them."""
+        """Returns the marks of refusals: by time where their column begins, else where framemap has drawn them."""
         axis = self.labels.axis
         if not axis.by_time:
             return self.found['refused'].rstrip()
@@ -116,7 +116,7 @@ class Band:
         return f'<path class="refused" d="{marks}"/>'
 
     def draw_window(self, titled, order):
-        """What moves if the lines that are shown change."""
+        """Yields what moves if other lines are shown."""
         height = self.foot - self.top
         yield (f'<svg class="window" x="{LEFT}" y="{self.top}" width="{WIDTH}" height="{height}" '
                f'viewBox="{LEFT} {self.top} {WIDTH} {height}" preserveAspectRatio="none">')
@@ -131,7 +131,7 @@ class Band:
         yield '</svg>'
 
     def draw_axes(self):
-        """The axes beside the rows, with bytes beside the frames."""
+        """Returns the axes beside the rows, with bytes beside the frames."""
         unit, bytes_at = self.labels.unit, f'class="right" x="{BYTES_RIGHT}" y='
         axes = re.sub(r'<text class="right" x="66" y=("\d+")>frame</text>', rf'\g<0><text {bytes_at}\1>{unit.name}</text>',
                       self.found['axes'])
@@ -148,7 +148,7 @@ class Band:
         yield text('seconds', self.foot + BELOW, LEFT - 9, 'right')
 
     def draw(self, titled, order, moved):
-        """The band, so much lower."""
+        """Yields the band, moved down by this much."""
         labels, unit = self.labels, self.labels.unit
         name, full = (escaped(it) for it in (labels.short(self.tenant), labels.name_of(self.tenant)))
         yield (f'<g class="band" data-tenant="{self.tenant}" data-top="{self.y - 2 * NAME_LINE}" '
@@ -170,14 +170,14 @@ class Band:
 
 
 def titled_in(bands):
-    """The largest rectangles of all bands, which have titles."""
+    """Returns the largest rectangles of all bands, which get titles."""
     found = [(band.area(it), band.tenant, it) for band in bands for _, _, rectangles in band.paths for it in rectangles]
     largest = sorted((it for it in found if it[0]), reverse=True)[:MOST_TITLES]
     return {(tenant, it) for _, tenant, it in largest}
 
 
 def add(head, found, labels):
-    """The picture of this head and these bands, with its labels."""
+    """Yields the picture of this head and these bands, with its labels."""
     bands, order = [Band(it, labels) for it in found], int(head['frames']).bit_length() - 1
     height = int(head['height']) + NAME_LINE * len(bands)
     titled = titled_in(bands) if labels.has_titles else set()

@@ -14,8 +14,8 @@
    "SECONDS malloc POINTER BYTES" and "SECONDS free POINTER"; a realloc is a free and a malloc. They are written through a shared
    mapping of the file, so none is lost however the process ends. The file ends in zeroes.
 
-   If MALLOC_LOG_CALLERS is set and not empty, a malloc also has " FILE+OFFSET", where its call returns to, in hex digits. The
-   line "# file FILE is PATH" is before the first of a file. That needs glibc 2.35.
+   If MALLOC_LOG_CALLERS is set and not empty, a malloc also has " FILE+OFFSET", the address to which its call returns, in hex
+   digits. The line "# file FILE is PATH" comes before the first line with that file. That needs glibc 2.35.
 
    If a log cannot be written, the library says so on standard error, and the program runs on without a log. */
 #define _GNU_SOURCE
@@ -45,9 +45,9 @@ void __libc_free(void *old);
 #define VARIABLE "MALLOC_LOG"
 enum { WINDOW_BYTES = 1 << 16, PAGE_BYTES = 1 << 12, PATH_BYTES = 4096, NAME_BYTES = 200, MOST_FILES = 1000 };
 
-/* A handler of fork that another library has registered may ask for memory while this is held, so it may be taken again. */
+/* A fork handler of another library may allocate while this is held, so it is recursive. */
 static pthread_mutex_t lock = PTHREAD_RECURSIVE_MUTEX_INITIALIZER_NP;
-static char entry[sizeof VARIABLE "=" + PATH_BYTES] = VARIABLE "="; /* what the environment of children has */
+static char entry[sizeof VARIABLE "=" + PATH_BYTES] = VARIABLE "="; /* what the environment of children gets */
 static char *const name = entry + sizeof VARIABLE;                  /* absolute; nothing is logged while it is empty */
 static char path[PATH_BYTES + 32];
 static char head[NAME_BYTES + 32]; /* the first line of each log */
@@ -58,7 +58,7 @@ static struct {
     uint64_t name; /* a hash of it */
 } files[MOST_FILES]; /* the loaded files that this log has named */
 static int file_count;
-static char *window;       /* the part of the log that is written now, or NULL before the first line */
+static char *window;       /* the part of the log that is being written, or NULL before the first line */
 static off_t window_start; /* its offset in the file */
 static size_t window_used;
 
@@ -75,7 +75,7 @@ static int open_log(void)
     }
 }
 
-/* Maps the next part of the file; returns 0, or the number of the error. */
+/* Maps the next part of the file. Returns 0, or the number of the error. */
 static int map_window(int file)
 {
     int error = posix_fallocate(file, window_start, WINDOW_BYTES);
@@ -88,7 +88,7 @@ static int map_window(int file)
     return 0;
 }
 
-/* Makes space for at least one more line, or returns the number of the error. The file is open only here: programs close files
+/* Makes space for at least one more line. Returns 0, or the number of the error. The file is open only here: programs close files
    that they did not open. */
 static int next_window(void)
 {
@@ -106,7 +106,7 @@ static int next_window(void)
     return error;
 }
 
-/* Blocks the signals that a file that may not grow and a standard error that nobody reads would send to the program. */
+/* Blocks the signals that are sent for a file that may not grow, and for a standard error that nobody reads. */
 static void hold_signals(sigset_t *held, sigset_t *before)
 {
     sigemptyset(held);
@@ -115,7 +115,7 @@ static void hold_signals(sigset_t *held, sigset_t *before)
     pthread_sigmask(SIG_BLOCK, held, before);
 }
 
-/* Drops those that came, and ends the block. */
+/* Drops those signals if they came, and ends the block. */
 static void drop_signals(const sigset_t *held, const sigset_t *before)
 {
     static const struct timespec at_once;
@@ -138,7 +138,7 @@ static void give_up(const char *what, int error)
     name[0] = 0;
 }
 
-/* Goes to the next window, or gives up. A log begins with its head. */
+/* Goes to the next window, or gives up. A log begins with its first line. */
 static void begin_window(void)
 {
     bool is_first = !window;
@@ -165,7 +165,7 @@ static void put(const char *line, size_t length)
     }
 }
 
-/* Ends a line of text, in which control characters become question marks; returns its length. */
+/* Ends a line of text, in which control characters become question marks. Returns its length. */
 static size_t end_line(char *line)
 {
     size_t length = strlen(line);
@@ -177,7 +177,7 @@ static size_t end_line(char *line)
     return length + 1;
 }
 
-/* Returns the number of a loaded file, or -1 if there are too many. A file that is new has a line first. */
+/* Returns the number of a loaded file, or -1 if there are too many. A new file is first named in a line. */
 static int file_of(uintptr_t load, const char *loaded)
 {
     static char line[PATH_BYTES + 32];
@@ -196,7 +196,7 @@ static int file_of(uintptr_t load, const char *loaded)
     return file_count++;
 }
 
-/* Writes the file and the offset of a caller, and returns how long that is: 0 if they are not wanted, or nobody knows them.
+/* Writes the file and the offset of a caller, and returns how long that is: 0 if callers are not logged, or if it is unknown.
    This takes no lock of the loader: another thread may hold one and wait for ours. */
 static int write_caller(char *to, size_t size, void *caller)
 {
@@ -232,7 +232,7 @@ static void add_line(const char *what, const void *at, const size_t *bytes, void
     errno = error;
 }
 
-/* A malloc is logged behind the call and a free before it, so that no other thread can log the same bytes between. */
+/* A malloc is logged after the call and a free before it, so that no other thread can log the same bytes in between. */
 static void *log_malloc(void *at, size_t bytes, void *caller)
 {
     if (at)
@@ -260,7 +260,7 @@ static void after_fork_in_child(void)
     lock = (pthread_mutex_t)PTHREAD_RECURSIVE_MUTEX_INITIALIZER_NP;
 }
 
-/* Makes the path from the name that was given, and tests its folder; returns 0, or the number of the error. */
+/* Makes the path from the given name, and tests its folder. Returns 0, or the number of the error. */
 static int make_path(const char *given)
 {
     size_t folder = 0;
@@ -280,7 +280,7 @@ static int make_path(const char *given)
     return error;
 }
 
-/* Puts the entry into the environment. A shell may have a putenv of its own, which does not do that. */
+/* Puts the entry into the environment. A shell may have a putenv of its own, which does not. */
 static void put_entry(void)
 {
     size_t count = 0;
@@ -299,7 +299,7 @@ static void put_entry(void)
     environ = more;
 }
 
-/* Makes the first line of a log, and what names the callers in it. */
+/* Makes the first line of a log, and prepares what names the callers in it. */
 static void make_head(void)
 {
     const char *called = program_invocation_short_name, *wanted = getenv("MALLOC_LOG_CALLERS");
@@ -311,7 +311,7 @@ static void make_head(void)
         strcpy(own_file, "unknown");
 }
 
-/* The name is written last, since nothing is logged before main is near. */
+/* The name is set last, so that nothing is logged before all is ready. */
 __attribute__((constructor)) static void begin(void)
 {
     pthread_atfork(before_fork, after_fork_in_parent, after_fork_in_child);
@@ -325,7 +325,7 @@ __attribute__((constructor)) static void begin(void)
         strcpy(name, path);
 }
 
-/* Where the call of a function of this library returns to. */
+/* The address to which a call of a function of this library returns. */
 #define CALLER __builtin_return_address(0)
 
 static void *resize(void *old, size_t bytes, void *caller)

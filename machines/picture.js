@@ -4,7 +4,7 @@ const LEAST_DRAG = 4 // pixels of the picture: less is a click
 const PLAY_SECONDS = 12
 const MOST_TICKS = 10
 const TINY = 1e-6
-// How much higher than the foot of a band the words above its free frames are, and how much lower its numbers of lines.
+// How far above the foot of a band the words above its free frames are, and how far below it its numbers of lines.
 const ABOVE_FOOT = 61
 const BELOW_FOOT = 18
 
@@ -18,7 +18,7 @@ const head = bands[0].top + bands[0].group.transform.baseVal[0].matrix.f // wher
 const slider = document.getElementById('column')
 const playButton = document.getElementById('play')
 
-let view = { from: 0, to: WIDTH } // which part of the picture is shown, in pixels of the whole
+let view = { from: 0, to: WIDTH } // the part of the picture that is shown, in pixels of the whole
 let cursor = { column: 0, place: 0 } // the place is in pixels of the whole
 let drag = null // where a drag began, in pixels of the picture
 let playing = null // when and where playing began
@@ -62,7 +62,7 @@ function readBand(group) {
   }
 }
 
-/** How far to the right a place of the whole picture is shown now, and the other way round. */
+/** Converts a place of the whole picture to where it is shown now, and back. */
 const shownAt = (place) => (place - view.from) / (view.to - view.from) * WIDTH
 const placeAt = (x) => view.from + x / WIDTH * (view.to - view.from)
 
@@ -107,7 +107,7 @@ function moveCursor(place) {
 
 const middleOf = (column) => (facts.edges[column] + facts.edges[column + 1]) / 2
 
-/** The least of 1, 2 and 5 times a power of ten of which there are few enough in a length. */
+/** Returns the least number of the form 1, 2 or 5 times a power of ten of which a length has few enough. */
 function stepOf(length) {
   const power = 10 ** Math.floor(Math.log10(length / MOST_TICKS))
   return [1, 2, 5, 10].map((round) => round * power).find((step) => length <= MOST_TICKS * step)
@@ -140,7 +140,7 @@ function showView(from, to) {
   showCursor()
 }
 
-/** Shows the bands of the tenants that are chosen, one below the other. */
+/** Shows the bands of the tenants that are selected, one below the other. */
 function showTenants() {
   const shown = new Set([...document.querySelectorAll('#tenants input:checked')].map((box) => Number(box.value)))
   let at = head
@@ -155,14 +155,14 @@ function showTenants() {
   picture.setAttribute('height', at)
 }
 
-/** Where the pointer is, in pixels of the picture or of a part of it. */
+/** Returns where the pointer is, in pixels of the picture or of a part of it. */
 function pointOf(event, part = picture) {
   return new DOMPoint(event.clientX, event.clientY).matrixTransform(part.getScreenCTM().inverse())
 }
 
 const insideX = (x) => Math.min(Math.max(x - LEFT, 0), WIDTH)
 
-/** What lies under the pointer: the tenant, its frames and what they are. */
+/** Returns what lies under the pointer: the tenant, its frames and what they are. */
 function describe(event) {
   const target = event.target.closest('svg.window > *, svg.window g.cells > *')
   const band = bands.find((it) => it.group.contains(target))

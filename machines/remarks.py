@@ -1,4 +1,4 @@
-"""What the comments of a trace say to those who draw it: the sizes of the machine, the names of tenants, and the time."""
+"""Reads the comments of a trace for programs that draw it: the sizes of the machine, the names of tenants, and the time."""
 import bisect
 import re
 
@@ -11,24 +11,24 @@ INTERVAL = re.compile(r'# times every (\d{1,12}(?:\.\d{1,9})?) seconds')
 
 
 class Clock:
-    """When the lines of a trace were run. A remark gives the time of the lines behind it, or up to an interval less."""
+    """When the lines of a trace were run. A remark gives the time of the lines after it, or up to an interval less."""
 
     def __init__(self):
-        self.lines, self.times, self.interval = [], [], None    # the lines that have a remark, and its seconds
+        self.lines, self.times, self.interval = [], [], None    # the lines that have a remark, and their seconds
 
     def add(self, line, time):
-        """Adds the remark of a line. Whether it is no earlier than the one before."""
+        """Adds the remark of a line. Returns whether it is no earlier than the one before."""
         self.lines.append(line)
         self.times.append(time)
         return len(self.times) == 1 or time >= self.times[-2]
 
     def read(self, line):
-        """The last remark at this line or before it; the first one before that."""
+        """Returns the time of the last remark at this line or before it, or else of the first one."""
         return self.times[max(bisect.bisect_right(self.lines, line) - 1, 0)]
 
     def place(self, line, last):
-        """About when the line was run: the lines behind a remark are spread evenly over its interval, or up to the next remark if
-        that comes before. The trace ends with line `last`."""
+        """Returns about when the line was run. The lines after a remark are spread evenly over its interval, or up to the next
+        remark if that comes before. The trace ends with line `last`."""
         at = bisect.bisect_right(self.lines, line) - 1
         if at < 0:
             return self.times[0]
@@ -40,7 +40,7 @@ class Clock:
 
 
 class Remarks:
-    """The sizes, the names by tenant and the clock that a trace has."""
+    """The sizes, the names by tenant and the clock of a trace."""
 
     def __init__(self, path):
         self.sizes, self.names, self.clock = None, {}, Clock()
@@ -60,7 +60,7 @@ class Remarks:
 
 
 def printable(text):
-    """The text with a question mark for each character that cannot be shown."""
+    """Returns the text with a question mark for each character that cannot be shown."""
     return ''.join(it if it.isprintable() else '?' for it in text)
 
 

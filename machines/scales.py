@@ -8,12 +8,12 @@ PARTS = 100         # of a pixel, to which places on an axis of time are rounded
 
 
 def plain(number):
-    """A number without zeroes at its end."""
+    """Returns a number without zeroes at its end."""
     return f'{number:.3f}'.rstrip('0').rstrip('.')
 
 
 class Unit:
-    """In which bytes are shown: MiB, or KiB if no tenant has 2 MiB."""
+    """The unit in which bytes are shown: MiB, or KiB if no tenant has 2 MiB."""
 
     def __init__(self, frames):
         self.name, self.bytes = ('MiB', 1 << 20) if frames * FRAME >= 2 << 20 else ('KiB', 1 << 10)
@@ -22,12 +22,12 @@ class Unit:
         return plain(frames * FRAME / self.bytes)
 
     def share(self, frames, whole):
-        """So many frames of these, in bytes, to a tenth."""
+        """Returns this share of the frames, in bytes, to a tenth."""
         return f'{plain(round(frames * FRAME / self.bytes, 1))} of {plain(round(whole * FRAME / self.bytes, 1))} {self.name}'
 
 
 def step_of(whole):
-    """The least of 1, 2 and 5 times a power of ten of which at most MOST_TICKS are in this number."""
+    """Returns the least number of the form 1, 2 or 5 times a power of ten that fits at most MOST_TICKS times into this one."""
     power = -9
     while True:
         for step in (1, 2, 5):
@@ -37,7 +37,7 @@ def step_of(whole):
 
 
 class Axis:
-    """Where columns lie, as `edges` from 0 to WIDTH, and what the numbers below them are."""
+    """Where the columns lie, as `edges` from 0 to WIDTH, and what the numbers below them mean."""
 
     def __init__(self, lines, width, clock=None):
         count, self.by_time = len(lines), clock is not None
@@ -45,7 +45,7 @@ class Axis:
             begin, end = clock.times[0], clock.place(lines[-1], lines[-1]) if lines else 0
             if not end > begin:
                 tenants.fail('no time passes in the trace: draw it by lines')
-            # A moment shows the column whose line is nearest: what is run after a pause is not shown in it.
+            # A moment shows the column whose line is nearest, so a pause does not show what was run after it.
             places = [clock.place((line + after) / 2, lines[-1]) for line, after in zip(lines, lines[1:])]
             self.edges = [0, *((place - begin) / (end - begin) * WIDTH for place in places), WIDTH]
             self.name, self.begin, self.end = 'seconds', begin, end
@@ -54,14 +54,14 @@ class Axis:
             self.name, self.begin, self.end = 'line', 0, width * count
 
     def place(self, column):
-        """Where a column begins, in units of the paths."""
+        """Returns where a column begins, in units of the paths."""
         return round(self.edges[column] * PARTS) if self.by_time else column
 
     def scale(self, plain_scale):
         return f'{1 / PARTS}' if self.by_time else plain_scale
 
     def ticks(self):
-        """The numbers of the axis, each with how far to the right it is."""
+        """Yields the numbers of the axis, each with its distance from the left."""
         step = step_of(self.end - self.begin)
         at = -(-self.begin // step)
         while at * step <= self.end:

@@ -1,4 +1,4 @@
-"""The summary that from-kmem and from-malloc print of each tenant on standard error: first what it used, then what it asked for,
+"""The summary that from-kmem and from-malloc print of each tenant on standard error: first what it used, then what it requested,
 and last what docs/capacity.md says of any load with as many blocks and objects."""
 import collections
 import sys
@@ -12,7 +12,7 @@ def plural(noun, count):
 
 
 def visible(text):
-    """The text on one line, without control characters: these and backslashes are escaped."""
+    """Returns the text on one line, without control characters: these and backslashes are escaped."""
     return ''.join(it if it.isprintable() and it != '\\' else it.encode('unicode_escape').decode() for it in text)
 
 
@@ -25,16 +25,18 @@ def heading(text):
 
 
 class Used:
-    """What a tenant has, and the most at a time. A slab without live objects does not count: it is freed on demand."""
+    """What a tenant has, and the most that it had at a time. A slab without live objects does not count: it is freed on
+    demand."""
 
     def __init__(self):
         self.slots = self.largest = 0                   # the most slots, and the frames of the largest block
-        self.frames = self.in_slabs = self.asked = 0    # frames taken now, those of slabs, and bytes asked for of live objects
-        self.most = 0, 0, 0                             # these three when most frames were taken, and then most bytes asked for
+        self.frames = self.in_slabs = self.asked = 0    # frames taken now, those in slabs, requested bytes of live objects
+        self.most = 0, 0, 0                             # these when most frames were taken, and then most bytes requested
         self.objects = collections.Counter()            # the live objects of each slab, by its first frame
 
     def note(self, slots, frames):
-        """A request was met, by blocks of up to so many frames. One that is refused has its blocks for a moment only."""
+        """Notes that a request was met, by blocks of up to this number of frames. A refused request has its blocks only for a
+        moment."""
         if slots > self.slots:
             self.slots = slots
         if frames > self.largest:
@@ -50,7 +52,7 @@ class Used:
         self.frames -= frames
 
     def add_object(self, slab, frames, asked):
-        """An object of this size, in the slab of this number of frames that begins at frame `slab`."""
+        """Adds an object of this size, in the slab of this number of frames that begins at frame `slab`."""
         self.objects[slab] += 1
         self.asked += asked
         if self.objects[slab] == 1:
@@ -67,7 +69,7 @@ class Used:
 
 
 def tell_used(used, refused, order):
-    """What was used. The bytes of slabs in which none lies that was asked for are lost."""
+    """Prints what was used. Bytes of slabs that are not part of a request are lost."""
     frames, in_slabs, asked = used.most
     heading('used')
     row(used.slots, f'{plural("slot", used.slots)} of {2**order} frames at most')
@@ -80,15 +82,15 @@ def tell_used(used, refused, order):
 
 
 def bits(size):
-    """Of the powers of two that are no less than a size, the exponent of the least one; sizes up to 16 are counted as that."""
+    """Returns the exponent of the least power of two that is no less than a size. Sizes up to 16 count as 16."""
     return max((size - 1).bit_length(), LEAST_BITS)
 
 
 def tell_sizes(sizes):
-    """A histogram of the sizes asked for: of each power of two how many are not above it, and above half of it."""
+    """Prints a histogram of the requested sizes: for each power of two, how many are at most that, and above half of it."""
     if not sizes:
         return
-    heading('sizes asked for, in bytes')
+    heading('requested sizes, in bytes')
     names = {size: f'of {2**(size - 1) + 1 if size > LEAST_BITS else 0} to {2**size}' for size in sorted(sizes)}
     width, most = max(map(len, names.values())), max(sizes.values())
     for size, name in names.items():
@@ -96,9 +98,9 @@ def tell_sizes(sizes):
 
 
 def tell_needs(blocks, order):
-    """How many superblocks are enough, by docs/capacity.md, for any load with so many blocks of each order at a time."""
+    """Prints how many superblocks are enough, by docs/capacity.md, for any load with as many blocks of each order at a time."""
     frames = sum(count * 2**block for block, count in blocks)
-    heading('for a load of which nothing is known but the most blocks and objects that it has at a time')
+    heading('for any load with at most as many blocks and objects at a time')
     row(frames, f'{plural("frame", frames)} {"holds" if frames == 1 else "hold"} them')
     for block in sorted({block for block, _ in blocks}):
         needed = (frames - 2**block) // 2**(order - block) + 1
@@ -109,10 +111,10 @@ def tell_needs(blocks, order):
 
 
 def tell(tenant, larger):
-    """Prints the summary of a tenant; `larger` names the larger machines that there are."""
+    """Prints the summary of a tenant. `larger` names the larger machines that exist."""
     refused = sum(count for what, count in tenant.told.items() if 'refused' in what)
     tell_used(tenant.used, refused, tenant.machine.order)
-    heading('asked for')
+    heading('requested')
     for what, count in sorted((+tenant.told).items()):
         row(count, what)
     tell_sizes(tenant.sizes)

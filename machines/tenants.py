@@ -1,5 +1,5 @@
-"""What from-kmem and from-malloc share: tenants that ask a running partmem for page blocks and objects, and write each line that
-they ask. They know nothing of how memory is laid out: partmem's reply says where a thing lies, or that no memory is left.
+"""What from-kmem and from-malloc share: tenants that request page blocks and objects from a running partmem, and write each line
+that they send. They know nothing of how memory is laid out: partmem's reply says where a thing lies, or that no memory is left.
 """
 import argparse
 import collections
@@ -19,7 +19,7 @@ from summary import FRAME, MOST_SUPERBLOCKS, visible
 GREATEST_OBJECT = 4096
 CACHES = 32
 ORDERS, MOST_TENANTS = range(3, 9), 64
-MOST_CHARACTERS = 1 << 17   # of a line; malloc_log.c leaves up to half of that behind the last one
+MOST_CHARACTERS = 1 << 17   # of a line; malloc_log.c leaves up to half of it after the last line
 MOST_BYTES, BYTES_BEGUN = 255, 100  # of a line of a trace; of a name that is cut, before the cut
 SECOND, MOST_TIMES = 10**9, 100     # in nanoseconds; remarks of the time in a trace
 AGAIN = 'given again without a free between: given back first'
@@ -37,16 +37,16 @@ def fail(text, status=1):
 def arguments(description):
     given = argparse.ArgumentParser(description=description, formatter_class=argparse.RawDescriptionHelpFormatter)
     given.add_argument('--order', type=int, default=8, metavar='S', help='a superblock has 2^S frames, S 3 to 8 (8)')
-    given.add_argument('--superblocks', type=int, default=256, metavar='N', help='superblocks there are, 1 to 256 (256)')
+    given.add_argument('--superblocks', type=int, default=256, metavar='N', help='how many superblocks there are, 1 to 256 (256)')
     given.add_argument('--together', action='store_true', help='let all logs begin at the same time')
-    given.add_argument('--partmem', metavar='PROGRAM', help='what answers (the proved partmem, or else the unproved one)')
+    given.add_argument('--partmem', metavar='PROGRAM', help='the partmem to run (the proved one, or else the unproved one)')
     given.add_argument('--largest', type=int, metavar='N', help='take the N largest logs, 1 to 64; a LOG may be a folder')
     given.add_argument('logs', nargs='+', metavar='LOG', help='1 to 64 files, each a tenant, gzipped if the name ends in .gz')
     return checked(given.parse_args())
 
 
 def checked(given):
-    """The arguments, if a machine can have them, with the files of folders."""
+    """Returns the arguments, if a machine can have them, with the files of folders."""
     if given.order not in ORDERS:
         fail(f'--order {given.order}: the order of a superblock is {ORDERS[0]} to {ORDERS[-1]}', 2)
     if not 1 <= given.superblocks <= MOST_SUPERBLOCKS:
@@ -63,7 +63,7 @@ def checked(given):
 
 
 def size_of_text(path):
-    """The bytes of a file without the zeroes at its end."""
+    """Returns the bytes of a file without the zeroes at its end."""
     status = os.stat(path)
     if not stat.S_ISREG(status.st_mode):
         return 0
@@ -73,7 +73,7 @@ def size_of_text(path):
 
 
 def files_of(path):
-    """The path with its size; of a folder those of the files in it."""
+    """Yields the path with its size, or if it is a folder those of its files."""
     try:
         found = [entry.path for entry in os.scandir(path) if entry.is_file()] if os.path.isdir(path) else [path]
         return [(it, size_of_text(it)) for it in found]
@@ -82,7 +82,7 @@ def files_of(path):
 
 
 def largest(paths, most):
-    """The largest logs, at most this number."""
+    """Returns the largest logs, at most this number."""
     files = {it: size for path in paths for it, size in files_of(path)}
     if not files:
         fail(f'{" ".join(paths)} has no file')
@@ -94,7 +94,8 @@ def reason(problem):
 
 
 def lines_in(file, path):
-    """Yields the lines of a file with their numbers. A longer one than any log has is refused, before it fills the memory."""
+    """Yields the lines of a file with their numbers. Refuses a line that is longer than any log has, before it fills the
+    memory."""
     for at, line in enumerate(iter(lambda: file.readline(MOST_CHARACTERS + 1), ''), 1):
         if len(line) > MOST_CHARACTERS:
             fail(f'{path} line {at}: it has more than {MOST_CHARACTERS} characters')
@@ -116,7 +117,7 @@ def lines_of(path):
 
 
 def write(line, what='the trace'):
-    """Writes a line of the trace, or of what it is."""
+    """Writes a line of the trace, or of `what`."""
     try:
         print(line)
     except OSError as problem:
@@ -124,7 +125,7 @@ def write(line, what='the trace'):
 
 
 def flush(what='the trace'):
-    """Writes what is buffered of it."""
+    """Writes what is buffered of the trace, or of `what`."""
     try:
         sys.stdout.flush()
     except OSError as problem:
@@ -132,13 +133,13 @@ def flush(what='the trace'):
 
 
 def cannot_write(problem, what):
-    """Ends, without another attempt to write what is buffered."""
+    """Ends the program, without another attempt to write what is buffered."""
     os.dup2(os.open(os.devnull, os.O_WRONLY), sys.stdout.fileno())
     fail(f'cannot write {what}: {reason(problem)}')
 
 
 def remark(number, name):
-    """The line that names a tenant. Of a name that is too long the middle is left out."""
+    """Returns the line that names a tenant. If a name is too long, its middle is left out."""
     begin, shown = f'# tenant {number} is ', visible(name).encode()
     most = MOST_BYTES - len(begin)
     if len(shown) > most:
@@ -147,7 +148,7 @@ def remark(number, name):
 
 
 def interval_of(time):
-    """The least of 1, 2 and 5 nanoseconds, 10, 20 and so on of which at most MOST_TIMES are in this time."""
+    """Returns the least of 1, 2, 5, 10, 20 .. nanoseconds that fits at most MOST_TIMES times into this time."""
     unit = 1
     while True:
         for interval in unit, 2 * unit, 5 * unit:
@@ -157,12 +158,12 @@ def interval_of(time):
 
 
 def seconds(time):
-    """A time in seconds, with as many decimals as it needs."""
+    """Returns a time in seconds, with as many decimals as it needs."""
     return f'{time // SECOND}.{time % SECOND:09}'.rstrip('0').rstrip('.')
 
 
 class Clock:
-    """Writes into the trace how much time has passed since the first event, as often as an interval has."""
+    """Writes into the trace how much time has passed since the first event, once in each interval."""
 
     def __init__(self, longest):
         self.interval, self.start, self.next = interval_of(longest), None, float('-inf')
@@ -178,7 +179,8 @@ class Clock:
 
 
 class Survey:
-    """What one reading of a log shows: how often it asks for each size, the time of its first event, and the greatest."""
+    """What a first reading of a log finds: how often it requests each size, the time of its first event, and the greatest
+    time."""
 
     def __init__(self, events, size_of):
         self.counts, first, most = collections.Counter(), None, 0
@@ -194,15 +196,15 @@ class Survey:
 
 
 def longest(surveys, together):
-    """How much time passes in all of these logs, in nanoseconds."""
+    """Returns how much time passes in all of these logs, in nanoseconds."""
     if together:
         return round(max(it.most - it.first for it in surveys) * SECOND)
     return round((max(it.most for it in surveys) - min(it.first for it in surveys)) * SECOND)
 
 
 def merged(counts, most):
-    """For each size the one that stands for it, of which there are at most so many. The least memory is wasted first: what is
-    asked for in a size times what the next one has more."""
+    """Returns for each size the size that is used instead, of which there are at most `most`. It merges first the sizes that
+    waste the least memory: the number of requests of a size times its distance to the next one."""
     kept = dict(counts)
     while len(kept) > most:
         sizes = sorted(kept)
@@ -212,7 +214,7 @@ def merged(counts, most):
 
 
 class Machine:
-    """A running partmem, and the trace of all that it was asked."""
+    """A running partmem, and the trace of all lines that were sent to it."""
 
     def __init__(self, given):
         sizes = f'--order {given.order} --superblocks {given.superblocks} --tenants {len(given.logs)}'
@@ -225,8 +227,8 @@ class Machine:
         write(f'# partmem {sizes}')
 
     def ask(self, line):
-        """The words of the reply behind its actor. None, if the line was refused for want of frames or of superblocks, or since
-        the slot is still in use; nothing else is refused to the lines that are asked here."""
+        """Returns the words of the reply after its actor, or None if the line was refused for want of frames or of superblocks,
+        or because the slot is still in use. Nothing else is refused to the lines that are sent here."""
         try:
             self.program.stdin.write(line + '\n')
             self.program.stdin.flush()
@@ -241,7 +243,8 @@ class Machine:
         return None if words[1] in ('1', '13', '15') else fail(f'partmem answered "{line}" by "{" ".join(words)}"')
 
     def grant(self, tenant):
-        """Whether the tenant got a superblock. Where none is left, another tenant has to give one up that it doesn't use."""
+        """Returns whether the tenant got a superblock. If none is left, another tenant has to give up one that it does not
+        use."""
         line = f'admin grant {tenant.number}'
         words = self.ask(line)
         if not words and any(other.take_back(1) for other in self.tenants if other is not tenant):
@@ -260,8 +263,8 @@ class Machine:
 
 
 class Part(typing.NamedTuple):
-    """A block or an object of a thing: the line that gives it back and the one that asked for it, the first frame of its block
-    or of its slab, and of an object the bytes that were asked for."""
+    """A block or an object of a thing: the line that gives it back, the line that requested it, the first frame of its block or
+    of its slab, and for an object the requested bytes."""
     back: str
     asked: str
     frame: int
@@ -269,7 +272,7 @@ class Part(typing.NamedTuple):
 
 
 class Tenant:
-    """What one log asks for. `counts` says of each size up to GREATEST_OBJECT how often it is asked for."""
+    """What one log requests. `counts` says how often it requests each size up to GREATEST_OBJECT."""
 
     def __init__(self, machine, counts):
         self.machine, self.number = machine, len(machine.tenants)
@@ -277,9 +280,9 @@ class Tenant:
         self.slots = {}     # how many blocks and objects lie in each slot that is held
         self.things = {}    # by name: the parts of each thing
         self.told, self.used = collections.Counter(), summary.Used()
-        self.sizes = collections.Counter()      # how often was asked for so many bytes, by summary.bits
-        self.live, self.most = collections.Counter(), collections.Counter()     # what each line asked for, now and at a time
-        self.blocks = {}    # of each line, the order of the block that it takes, and how many things that has
+        self.sizes = collections.Counter()      # how often each size was requested, by summary.bits
+        self.live, self.most = collections.Counter(), collections.Counter()     # what each line allocated, now and at most
+        self.blocks = {}    # by line: the order of the block that it takes, and how many things that has
         stands_for = merged(counts, CACHES)
         sizes = sorted(set(stands_for.values()))
         self.cache_of = {size: sizes.index(stands_for[size]) for size in counts}
@@ -288,7 +291,7 @@ class Tenant:
             self.blocks[f'{self.number} take {cache}'] = int(words[5]), int(words[7])
 
     def request(self, line):
-        """The frame or place that is answered, or None. A tenant that is short is granted a superblock, where one is left."""
+        """Returns the frame or place of the reply, or None. A tenant that is short is granted a superblock, if one is left."""
         words = self.machine.ask(line)
         if not words and self.machine.grant(self):
             words = self.machine.ask(line)
@@ -305,7 +308,7 @@ class Tenant:
         parts.append(part)
 
     def note(self, parts):
-        """Notes what there is, now that a request was met by these parts."""
+        """Notes what the tenant has, now that a request was met by these parts."""
         for part in parts:
             if self.live[part.asked] > self.most[part.asked]:
                 self.most[part.asked] = self.live[part.asked]
@@ -313,7 +316,7 @@ class Tenant:
             self.used.note(len(self.slots), 2**self.blocks[parts[0].asked][0])
 
     def take(self, name, size, asked):
-        """An object of this size for so many bytes that were asked for. One that no cache can have is a page block."""
+        """Takes an object of this size for `asked` requested bytes. If no cache can have it, it is a page block."""
         if size > GREATEST_OBJECT:
             return self.alloc(name, -(-size // FRAME))
         self.give(name, AGAIN)
@@ -328,7 +331,8 @@ class Tenant:
         self.told['objects taken' if parts else 'objects refused for want of frames'] += 1
 
     def alloc(self, name, frames):
-        """Page blocks that have so many frames: as long as that is more than a slot has, slots, and then the least that does."""
+        """Allocates page blocks with this number of frames: whole slots as long as more than a slot is left, and then the
+        smallest block that is enough."""
         self.give(name, AGAIN)
         parts = self.things.setdefault(name, [])
         while frames > 0:
@@ -346,7 +350,7 @@ class Tenant:
         self.told['page blocks allocated' if self.things[name] else 'page blocks refused for want of frames'] += 1
 
     def give(self, name, what=None):
-        """Gives the thing back, if there is one of this name; whether there was."""
+        """Gives the thing of this name back, if there is one. Returns whether there was."""
         if name not in self.things:
             return False
         if what:
@@ -368,8 +372,8 @@ class Tenant:
             self.take_back(2)
 
     def take_back(self, least):
-        """If at least so many slots are not used, the last of them is taken back, with empty slabs or without. One is left to a
-        tenant as long as nobody is short, or it would be granted and taken back at every turn."""
+        """If at least `least` slots are not used, the last of them is taken back, with empty slabs or without. A tenant keeps one
+        as long as nobody is short; otherwise it would be granted and taken back again and again."""
         spare = [slot for slot, things in self.slots.items() if things == 0]
         if len(spare) < least:
             return False
@@ -387,19 +391,19 @@ class Tenant:
         """Prints what else is known of the load, in the summary."""
 
     def most_blocks(self):
-        """The most blocks of each order at a time: a cache never has more slabs than its most objects fill."""
+        """Returns the most blocks of each order at a time. A cache never has more slabs than its most objects fill."""
         return [(order, -(-self.most[line] // things)) for line, (order, things) in self.blocks.items() if self.most[line]]
 
 
 def larger(given):
-    """Which machines are larger than that of the arguments."""
+    """Returns the arguments that a larger machine would have."""
     more = 'more --superblocks, ' if given.superblocks < MOST_SUPERBLOCKS else ''
     return more + ('a larger --order, ' if given.order < ORDERS[-1] else '')
 
 
 def convert(given, read, size_of, kind, name_of=str):
-    """Reads each log twice: first what sizes it asks for, and whether it is sound, and then all of them, merged by time. Each is
-    a tenant of that kind, which applies its events. Trace and summary name it by `name_of`."""
+    """Reads each log twice: first to find the sizes that it requests and whether it is sound, and then all of them, merged by
+    time. Each is a tenant of class `kind`, which applies its events. Trace and summary name it by `name_of`."""
     sys.stdout.reconfigure(encoding='utf-8')
     surveys, names = [Survey(read(path), size_of) for path in given.logs], [name_of(path) for path in given.logs]
     machine = Machine(given)

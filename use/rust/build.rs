@@ -46,7 +46,7 @@ fn main() {
     let folder = fs::canonicalize(folder).unwrap_or_else(|error| fail(&error.to_string(), how));
     let library = folder.join(format!("lib{name}.a"));
     if name == UNPROVED {
-        println!("cargo:warning={} is linked, of which nothing is proved: there is no libpartmem.a", library.display());
+        println!("cargo:warning=links {}, which is not proved: there is no libpartmem.a", library.display());
     }
     println!("cargo:rerun-if-changed={}", library.display());
     println!("cargo:rustc-link-search=native={}\ncargo:rustc-link-lib=static={name}", folder.display());
