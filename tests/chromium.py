@@ -17,7 +17,7 @@ def found():
 
 
 class Browser:
-    """One page. What goes wrong in it is in `faults`, and what it asks for in `requests`."""
+    """One page. Its errors are in `faults`, and its requests in `requests`."""
 
     def __init__(self, folder):
         read, self.write_end = os.pipe()
@@ -47,7 +47,7 @@ class Browser:
         return json.loads(message)
 
     def call(self, method, **parameters):
-        """Sends a command, and returns its result; events until then are noted."""
+        """Sends a command, and returns its result. Events until then are noted."""
         self.number += 1
         message = {"id": self.number, "method": method, "params": parameters}
         if self.session:
@@ -78,7 +78,7 @@ class Browser:
             time.sleep(0.05)
 
     def evaluate(self, expression):
-        """The value of an expression of JavaScript; that of a promise once it is fulfilled."""
+        """Returns the value of an expression of JavaScript; of a promise, the value once it is fulfilled."""
         got = self.call("Runtime.evaluate", expression=expression, returnByValue=True, awaitPromise=True)
         if "exceptionDetails" in got:
             raise ValueError(f"{expression}: {got['exceptionDetails']}")

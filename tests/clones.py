@@ -1,4 +1,4 @@
-"""Fresh clones of the repository as it lies here, for tests that paste the pages."""
+"""Makes fresh clones of the repository as it is here, for tests that paste the pages."""
 import os
 import shutil
 import subprocess
@@ -7,7 +7,7 @@ TOP = os.path.dirname(os.path.dirname(os.path.abspath(__file__)))
 PROGRAMS = ["partmem", "framemap", "partcheck"]
 ARCHIVES = [f"out/lib/libpartmem{kind}.a" for kind in ("", "_kernel", "_linux", "_watched")]
 BUILT = [*(f"crates/{name}/out/{name}" for name in PROGRAMS), *ARCHIVES]
-# Stands in for the command `rt` over programs that are there: what would be proved once more is taken as it is.
+# Stands in for the command `rt` if the programs are there: it takes what would be proved once more as it is.
 RT = r"""#!/bin/sh
 case $1 in
     run) shift; [ "${1-}" != --jobs ] || shift 2; [ "${1-}" != -- ] || shift; exec "out/$(basename "$PWD")" "$@" ;;
@@ -28,18 +28,18 @@ for name in "$@"; do
     esac
 done
 """
-# Stands in for tools/library, whose archives are there.
+# Stands in for tools/library if its archives are there.
 LIBRARY = "#!/bin/sh\n"
 
 
 def changed_files(folder):
-    """The files of a folder that git does not know, and those that are not as they were added."""
+    """Returns the files of a folder that git does not know, and those that differ from what was added."""
     asked = ["git", "-C", folder, "ls-files", "-mo", "--exclude-standard"]
     return subprocess.run(asked, stdout=subprocess.PIPE, text=True, check=True).stdout.splitlines()
 
 
 def put(path, folder):
-    """Copies a file of the repository into the folder; if it is gone, it goes there too."""
+    """Copies a file of the repository into the folder. If it was removed here, it is removed there too."""
     to = os.path.join(folder, path)
     os.makedirs(os.path.dirname(to), exist_ok=True)
     if os.path.exists(os.path.join(TOP, path)):
@@ -49,7 +49,7 @@ def put(path, folder):
 
 
 def fresh_clone(work):
-    """A clone with the changes that are not committed, and nothing built."""
+    """Makes a clone with the changes that are not committed, and nothing built."""
     folder = os.path.join(work, "partmem")
     subprocess.run(["git", "clone", "-q", TOP, folder], check=True)
     for path in changed_files(TOP):
@@ -65,7 +65,8 @@ def write_script(path, text):
 
 
 def with_stand_ins(work, folder):
-    """Has `rt`, tools/unproved and tools/library take what is built in the folder as it is. Returns the environment for that."""
+    """Makes `rt`, tools/unproved and tools/library take what is built in the folder as it is. Returns the environment for
+    that."""
     write_script(os.path.join(folder, "tools/unproved"), UNPROVED)
     write_script(os.path.join(folder, "tools/library"), LIBRARY)
     subprocess.run(["git", "-C", folder, "add", "tools"], check=True)

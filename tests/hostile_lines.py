@@ -1,13 +1,13 @@
-"""Lines of every kind, with the reply to each, which was worked out by hand. Before each line, BEFORE gave tenant 0 all frames of
-its superblock in one block, on a machine of two superblocks of eight frames and two tenants."""
+"""Lines of every kind, with the reply to each, which was worked out by hand. Before each line, the lines of BEFORE give tenant 0
+all frames of its superblock in one block, on a machine of two superblocks of eight frames and two tenants."""
 
 BEFORE = b"admin grant 0\n0 alloc 3\n"
 REPLIES_BEFORE = b"admin> granted 0 slot 0 superblock 0\n0> frame 0\n"
 
-# By reply: the lines, with a bar between any two. No reply: blank lines and comments.
+# The lines by their reply, with a bar between any two. Lines without a reply are blank lines and comments.
 LINES = {
     "": "| \t |#|# note|\t # note|#0 alloc 0|#\xff\0",
-    # The first word is no actor, or the second no command of it.
+    # The first word is not an actor, or the second is not a command of the actor.
     "!> fault Unknown": "frob|-1 alloc 0|+0 alloc 0|ADMIN pool|admin frob|admin alloc 0|admin report|0 ALLOC 0|0 frob|0 grant 1"
     "|0 pool|0 #|0 # note|0 \xff|\xff|\0|\r\r|0 reap\r\r|0 reap\0|\xef\xbb\xbf0 reap|\xc2\xa00 reap|\xd9\xa0 reap|\x0b0 reap"
     "|4294967295 frob|a b c d e f g h",
@@ -15,17 +15,17 @@ LINES = {
     "!> fault Words": "admin|0|\t0 |4294967295|admin grant|admin grant 0 0|admin pool 0|admin move 0|0 alloc|0 alloc 0 0"
     "|0 alloc x y|0 alloc 0 #|0 read 0|0 write 0|0 write 0 00 00|0 cache 16 8|0 cache 16 8 00 00 00|0 reap 0|0 report 0"
     "|0 give 0 0 0 0 0 0 0 0",
-    # A word that is no number of at most ten digits and 32 bits.
+    # A word that is not a number of at most ten digits and 32 bits.
     "!> fault Number": "0x alloc 0|1e3 report|0\0 reap|0\x0breap|00000000000 reap|00000000001 alloc 0|4294967296 report"
     "|9999999999 report|18446744073709551616 report|0 alloc x|0 alloc #|0 alloc -1|0 alloc +1|0 alloc 0x1|0 alloc 1.0"
     "|0 alloc \xff|0 alloc 0\0|0 alloc 0\r\r|0 alloc 0\r |0 alloc 00000000000|0 alloc 4294967296|0 alloc 18446744073709551616"
     "|0 read 0 4294967296|0 write x zz|0 cache x 8 zz|0 cache 16 x zz|0 give 0 4294967296|admin grant x|admin grant 4294967296"
     "|admin takeback 0 4294967296|admin move x x",
-    # Bytes that are no hex digits, no whole bytes, or too many.
+    # Bytes that are not hex digits, have an odd digit, or are too many.
     "!> fault Hex": "0 write 0 0|0 write 0 abc|0 write 0 0g|0 write 0 zz|0 write 0 0x00|0 write 0 -1|0 write 0 \xff\xff"
     "|0 write 0 00\r\r|0 cache 16 8 0|0 cache 0 0 zz|0 write 0 " + 65 * "00" + "|0 write 9 " + 129 * "0" + "|0 cache 16 8 "
     + 17 * "00",
-    # Numbers that name no tenant, also where their lower bits would; the tenant is tested first.
+    # Numbers of tenants that do not exist, also where their lower bits name one. The tenant is tested first.
     "!> refused 12 NoTenant": "2 alloc 0|256 alloc 0|65536 reap|4294967295 report|4294967295 read 0 0|2 cache 0 0 00",
     "admin> refused 12 NoTenant": "admin grant 2|admin grant 256|admin grant 4294967295|admin reset 256|admin reset 4294967295"
     "|admin takeback 2 0|admin takeback 4294967295 4294967295|admin move 256 0|admin move 4294967295 9",
@@ -44,19 +44,19 @@ LINES = {
     "0> refused 4 OutOfReach": "0 read 32705 64|0 read 32767 2|0 read 32768 1|0 read 65536 1|0 read 2147483648 1"
     "|0 read 4294967232 64|0 read 4294967295 1|0 read 4294967295 2|0 read 4294967295 64|0 write 32767 0000|0 write 32768 00"
     "|0 write 4294967295 00|0 write 4294967295 0000|0 write 32705 " + 64 * "00" + "|0 write 4294967232 " + 64 * "00",
-    # Lengths that no read has, in reach or not.
+    # Lengths that no read may have, in reach or not.
     "0> refused 5 BadLength": "0 read 0 0|0 read 0 65|0 read 0 256|0 read 0 4294967295|0 read 4294967295 0"
     "|0 read 4294967295 4294967295",
-    # Sizes that no object has, with any alignment.
+    # Sizes that no object may have, with any alignment.
     "0> refused 6 BadSize": "0 cache 0 8 00|0 cache 4097 8 00|0 cache 4097 3 00|0 cache 0 0 00|0 cache 4294967295 8 00"
     "|0 cache 65552 8 00",
-    # Alignments that there are none of.
+    # Alignments that no cache may have.
     "0> refused 7 BadAlign": "0 cache 16 0 00|0 cache 16 1 00|0 cache 16 4 00|0 cache 16 12 00|0 cache 16 512 00"
     "|0 cache 16 264 00|0 cache 16 4294967295 00|0 cache 16 2147483648 00",
-    # Numbers of no cache.
+    # Numbers of caches that do not exist.
     "0> refused 9 NoCache": "0 take 0|0 take 32|0 take 256|0 take 4294967295|0 give 4294967295 0|0 give 32 4294967295"
     "|0 destroy 31|0 destroy 256|0 destroy 4294967295",
-    # The most that is in order.
+    # The most that is allowed.
     "0> written 64": "0 write 32704 " + 64 * "00",
     "0> bytes " + 64 * "00": "0 read 32704 64|0 read 0000032704 0000000064",
     "0> cache 0 chunk 16 order 0 objects 254 colours 1": "0 cache 16 8 " + 16 * "00" + "|0 cache 1 8 aA",
@@ -65,7 +65,7 @@ LINES = {
 
 
 def answered():
-    """Each line as bytes, with what it writes."""
+    """Yields each line as bytes, with what it writes."""
     for reply, lines in LINES.items():
         for line in lines.split("|"):
             yield line.encode("latin-1"), f"{reply}\n".encode() if reply else b""

@@ -26,7 +26,7 @@ static partmem_machine machine;
 static char buffer[PARTMEM_MOST_TEXT_BYTES];
 static unsigned long interrupts;
 
-/* In place of the C library's, which use vector registers. */
+/* Replaces those of the C library, which use vector registers. */
 __asm__(".globl memset, memcpy, memmove\n"
         "memset: mov %rdi, %r8; movzbl %sil, %eax; mov $0x0101010101010101, %rcx; imul %rcx, %rax\n"
         "  mov %rdx, %rcx; shr $3, %rcx; rep stosq; mov %edx, %ecx; and $7, %ecx; rep stosb; mov %r8, %rax; ret\n"
@@ -35,7 +35,7 @@ __asm__(".globl memset, memcpy, memmove\n"
         "1: mov %rdi, %rax; lea -1(%rdi,%rdx), %rdi; lea -1(%rsi,%rdx), %rsi; mov %rdx, %rcx; std; rep movsb; cld; ret\n");
 void *memset(void *to, int byte, size_t bytes);
 
-/* partmem_line, with a stack that is not aligned to 16 bytes. */
+/* Calls partmem_line with a stack that is not aligned to 16 bytes. */
 partmem_status unaligned_line(partmem_machine *, const char *, size_t, char *, size_t, size_t *);
 __asm__("unaligned_line: call partmem_line; ret\n");
 

@@ -1,13 +1,13 @@
-/* What the library for C does with memory. To be linked with a program and the library, and with the linker's --wrap for each
- * function __wrap_NAME and OTHER(NAME, ..) below, so that NAME goes through it. A block is one of the C library, or one that the
- * kernel allocates in the RAM or the tables.
+/* Checks what the library for C does with memory. Link it with a program and the library, and with the linker's --wrap for each
+ * function __wrap_NAME and OTHER(NAME, ..) below, so that calls of NAME go through it. A block is one of the C library, or one
+ * that the kernel allocates in the RAM or the tables.
  *
  * It ends the process with status 70 if
  * - the library allocates or frees a block in a call other than a boot or an end;
  * - a boot that is not done keeps a block, or returns NO_MEMORY when none was refused;
  * - an end frees more blocks or fewer than the boot of that machine took, or allocates one;
  * - a block is held when the program ends.
- * Else it prints on standard error how many calls there were. What the program itself does with memory is not counted.
+ * Otherwise it prints on standard error how many calls there were. What the program itself does with memory is not counted.
  */
 #include <stdbool.h>
 #include <stdint.h>
@@ -37,7 +37,7 @@ static void hold(bool holds, const char *what)
     _exit(70);
 }
 
-/* the blocks that the machine in this place took; of NULL a free entry */
+/* The blocks that the machine in this place took; a free entry has a NULL place. */
 static long *blocks_of(const partmem_machine *machine, const partmem_machine *from_now_on)
 {
     int i = 0;
@@ -47,7 +47,7 @@ static long *blocks_of(const partmem_machine *machine, const partmem_machine *fr
     return &held[i].blocks;
 }
 
-/* an allocation of the library's, before it is made */
+/* Counts an allocation of the library before it is made. */
 static bool is_refused(void)
 {
     hold(place == IN_BOOT, "allocated outside of boot");
@@ -90,7 +90,7 @@ void __wrap_free(void *block)
     __real_free(block);
 }
 
-/* the functions that the kernel allocates by, in memory.c */
+/* The functions by which the kernel allocates, in memory.c. */
 struct allocation {
     bool is_done;
     void *at;
@@ -134,7 +134,7 @@ static partmem_status count_boot(partmem_machine *machine, partmem_status status
     return status;
 }
 
-/* partmem_boot calls it, too: that is part of its boot. */
+/* partmem_boot calls it too, as a part of its boot. */
 partmem_status __real_partmem_boot_in(partmem_machine *machine, const partmem_config *config, const partmem_memory *memory);
 partmem_status __wrap_partmem_boot_in(partmem_machine *machine, const partmem_config *config, const partmem_memory *memory)
 {

@@ -1,11 +1,11 @@
-/* What a program that is linked with library_memory.c can ask of it. */
+/* What library_memory.c offers to a program that is linked with it. */
 #ifndef LIBRARY_MEMORY_H
 #define LIBRARY_MEMORY_H
 
-/* the allocation that is refused, of those that the library asks for from now on; 0: none */
+/* The number of the allocation that is refused, counted from now on; 0 for none. */
 extern long refused_allocation;
 
-/* how many blocks the library holds */
+/* Returns how many blocks the library holds. */
 extern long blocks_held;
 
 #endif

@@ -1,4 +1,4 @@
-/* Asks for memory in functions of known names, which tests/machines finds by the addresses in a log of machines/malloc_log.c. */
+/* Allocates memory in functions of known names, which tests/machines finds by the addresses in a log of machines/malloc_log.c. */
 #include <stdlib.h>
 
 #define ALONE __attribute__((noinline)) static void
@@ -28,7 +28,7 @@ ALONE hold_aligned(void)
     kept[13] = aligned_alloc(1024, 2048);
 }
 
-/* Not live when most bytes are. */
+/* Not live at the time when most bytes are. */
 ALONE let_go(void)
 {
     kept[14] = malloc(9000);

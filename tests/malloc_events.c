@@ -1,4 +1,4 @@
-/* Asks for memory in each way that machines/malloc_log.c logs, in sizes that nobody else asks for, and is then killed. */
+/* Allocates memory in each way that machines/malloc_log.c logs, in sizes that nothing else requests, and is then killed. */
 #define _GNU_SOURCE
 #include <pthread.h>
 #include <signal.h>
@@ -39,7 +39,7 @@ int main(int words, char **unused)
         return 2;
     free(at);
 
-    /* A child has a log of its own, and so has what it becomes. */
+    /* A child has a log of its own, and so has the program that it becomes. */
     pid_t child = fork();
     if (child == 0) {
         free(malloc(1801));
@@ -52,7 +52,7 @@ int main(int words, char **unused)
         return 4;
     free(passed);
 
-    /* More than a window of the log, with no file and no folder left that was open, and no end that could be told of. */
+    /* Writes more than a window of the log, with no file and no folder left open, and with no end that could be logged. */
     for (int file = 3; file < 1024; file++)
         close(file);
     if (chdir("/"))

@@ -1,4 +1,4 @@
-"""A plain machine: the rules of docs/ written down once more, without regard to the code of crates/ and to what anything costs.
+"""A plain machine: the rules of docs/ written down once more, independently of the code of crates/ and without regard to costs.
 
     machine = Machine(order, superblocks, tenants)
     replies = machine.answer(line)
@@ -39,7 +39,7 @@ def bytes_of(word, most):
 
 
 def command_of(line):
-    """The actor of a line, its command and its arguments; None if it says nothing."""
+    """Returns the actor of a line, its command and its arguments; None for a blank line or a comment."""
     text = line.decode("latin-1").removesuffix("\r")
     if len(text) > MOST_LINE:
         raise Fault("Long")
@@ -96,11 +96,11 @@ class Tenant:
         self.order, self.slots, self.pages, self.slabs, self.caches = order, {}, {}, {}, {}
 
     def blocks(self):
-        """The orders of all taken blocks, by first frame."""
+        """Returns the orders of all taken blocks, by first frame."""
         return {**self.pages, **{first: slab.cache.order for first, slab in self.slabs.items()}}
 
     def kinds(self):
-        """What each frame of the held slots is: free, in a page block, or in a full, partial or empty slab."""
+        """Returns what each frame of the held slots is: free, in a page block, or in a full, partial or empty slab."""
         frames = {slot * 2**self.order + k: "free" for slot in self.slots for k in range(2**self.order)}
         for first, order in self.blocks().items():
             kind = self.slabs[first].kind() if first in self.slabs else "page"
@@ -108,7 +108,7 @@ class Tenant:
         return frames
 
     def free_blocks(self, also=()):
-        """The order and first frame of each free block; frames of the kinds `also` count as free."""
+        """Returns the order and first frame of each free block. Frames of the kinds `also` count as free."""
         taken = {frame for frame, kind in self.kinds().items() if kind not in ("free", *also)}
         found = []
 
@@ -124,7 +124,8 @@ class Tenant:
         return found
 
     def choose(self, order):
-        """The first frame of the block that a request of this order gets. If need be, all empty slabs are freed for it."""
+        """Returns the first frame of the block that a request of this order gets. If there is none, all empty slabs are freed
+        first."""
         for also in (), ("empty",):
             fitting = [block for block in self.free_blocks(also) if block[0] >= order]
             if fitting:
@@ -134,7 +135,7 @@ class Tenant:
         raise Refused("NoFrames")
 
     def free_slabs(self, is_meant):
-        """Frees the empty slabs that are meant, whose bytes are then zero, and returns how many frames they had."""
+        """Frees the empty slabs that are selected, whose bytes are then zero, and returns how many frames they had."""
         frames = 0
         for first, slab in list(self.slabs.items()):
             if is_meant(slab) and not slab.live:
@@ -205,7 +206,7 @@ class Tenant:
         return f"destroyed {self.free_slabs(lambda slab: slab.number == number)}"
 
     def slab_with_free_object(self, number):
-        """The partial slab of least frame, else the empty one of least frame, else a new one."""
+        """Returns the partial slab with the least frame, else the empty one with the least frame, else a new one."""
         cache = self.cache_of(number)
         for kind in "partial", "empty":
             its = [first for first, slab in self.slabs.items() if slab.number == number and slab.kind() == kind]
@@ -252,14 +253,14 @@ class Tenant:
 
 
 class Machine:
-    """The machine of all tenants: the owner of each superblock, a tenant and its slot, and each tenant's private machine."""
+    """The machine of all tenants: the owner of each superblock (a tenant and its slot), and each tenant's private machine."""
 
     def __init__(self, order, superblocks, tenants):
         self.order, self.owners = order, [None] * superblocks
         self.tenants = [Tenant(order) for _ in range(tenants)]
 
     def answer(self, line):
-        """The reply lines to a line of a trace, which has no LF."""
+        """Returns the reply lines to a line of a trace, which has no LF."""
         try:
             said = command_of(line)
         except Fault as fault:
@@ -327,7 +328,7 @@ class Machine:
 
 
 def run(machine, trace):
-    """What a trace writes, as bytes."""
+    """Returns what a trace writes, as bytes."""
     lines = trace.split(b"\n")
     replies = [reply for line in (lines if lines[-1] else lines[:-1]) for reply in machine.answer(line)]
     return "".join(f"{reply}\n" for reply in replies).encode()

@@ -1,7 +1,7 @@
-/* To be loaded before the C library: counts the allocations of a process, and refuses the REFUSED-th of them.
+/* A library to load before the C library. It counts the allocations of a process, and refuses the REFUSED-th of them.
  *
- * Where COUNTED names a file, a line is added to it when the process ends: how many allocations there were before the first
- * read, and how many from then on; `none` for these, if nothing was read. A process that ends by a signal adds no line.
+ * If COUNTED names a file, a line is added to it when the process ends: how many allocations there were before the first read,
+ * and how many from then on, or `none` if nothing was read. A process that is ended by a signal adds no line.
  */
 #define _GNU_SOURCE
 #include <dlfcn.h>
@@ -17,7 +17,7 @@
 #include <sys/uio.h>
 #include <unistd.h>
 
-/* the function of this name that would be called without this library */
+/* Returns the function of this name that would be called without this library. */
 #define BEHIND(name) ((__typeof__(&(name)))dlsym(RTLD_NEXT, #name))
 
 static long before_reading, since_reading;
@@ -42,7 +42,7 @@ void *malloc(size_t size)
     return is_refused() ? NULL : next(size);
 }
 
-/* by malloc, since dlsym may call this one */
+/* Allocated by malloc, since dlsym may call this one. */
 void *calloc(size_t number, size_t size)
 {
     size_t bytes;

@@ -1,24 +1,24 @@
 /* Runs a trace through the library for C, and follows the commands that are marked instruction by instruction.
  *
- * same_path ORDER SUPERBLOCKS TENANTS talk         runs the lines of standard input; writes what each is answered, and a line "."
+ * same_path ORDER SUPERBLOCKS TENANTS talk         runs the lines of standard input; writes the reply to each, and a line "."
  * same_path ORDER SUPERBLOCKS TENANTS step [N]     runs a trace from standard input; writes a row for each marked command, or all
  *                                                  steps of marked command N
  *
  * A row of a trace begins with '.' for a line that is run at full speed, '+' for one that is followed, and '=' for an event that
  * is followed: its kind, tenant, first and second number and the hex of its bytes. '@' is the same as a direct call, with a lend
- * before it. With '*', '#' and '&' in their place the command is followed into the C library too. A row of the output has how
- * many steps a command took, a hash of the addresses of its instructions, one of what they read and wrote, and one of results.
+ * before it. With '*', '#' and '&' instead, the command is followed into the C library too. A row of the output has how many
+ * steps a command took, a hash of the addresses of its instructions, one of what they read and wrote, and one of results.
  *
  * The processor traps after each instruction while its trap flag is set, and the handler of that signal sees all registers.
  * So nothing of another process is read, which takes a fourth of the time of ptrace and no permission. The program runs with
- * address randomisation off; it is to be linked statically, so that each instruction has the same address in every run.
+ * address randomisation off. Link it statically, so that each instruction has the same address in every run.
  *
  * The file "operands", if there is one in the working folder, has the memory operand of each instruction (as tests/same-path reads
- * them from a disassembly). Of an access to a block that boot took, the block's size (one more for a superblock) and the offset in
- * it are hashed. If the size is a multiple of the number of superblocks (for a block that grew in boot, of the next power of two),
- * the block has a part for each superblock, and the offset in the part is hashed. Blocks and parts are numbered in each command in
- * the order of their first access, so equal hashes mean equal accesses but for the numbers of superblocks. Of other accesses the
- * address is hashed.
+ * them from a disassembly). For an access to a block that boot took, the block's size (one more for a superblock) and the offset
+ * in it are hashed. If the size is a multiple of the number of superblocks (for a block that grew in boot, of the next power of
+ * two), the block has a part for each superblock, and the offset in the part is hashed. Blocks and parts are numbered in each
+ * command in the order of their first access, so equal hashes mean equal accesses except for the numbers of superblocks. For
+ * other accesses the address is hashed.
  */
 #define _GNU_SOURCE /* registers by name */
 #include <fcntl.h>
@@ -44,7 +44,7 @@ static void hold(bool holds, const char *what)
     exit(1);
 }
 
-/* the blocks that boot took, by address */
+/* The blocks that boot took, by address. */
 static struct block {
     uint64_t start, size, part_bytes;
     uint32_t first_part;
@@ -58,7 +58,7 @@ static void add_block(void *start, size_t size, bool has_grown)
     blocks[block_count++] = (struct block){.start = (uint64_t)start, .size = size, .has_grown = has_grown};
 }
 
-/* the functions that the kernel allocates by, in memory.c */
+/* The functions by which the kernel allocates, in memory.c. */
 struct allocation {
     bool is_done;
     void *at;
@@ -107,7 +107,7 @@ static void boot(partmem_machine *machine, uint32_t order, uint32_t superblocks,
     hold(parts <= MOST_PARTS, "too many parts of blocks");
 }
 
-/* the memory operand of the instruction at each address of the program's text, registers by their numbers in a signal frame */
+/* The memory operand of the instruction at each address of the program's text. Registers have their numbers in a signal frame. */
 struct operand {
     int32_t displacement;
     uint8_t base, index, scale, is_there;
@@ -130,7 +130,7 @@ static void map_operands(void)
     hold((uint64_t)found.st_size == 16 + text_bytes * sizeof(struct operand), "the operands");
 }
 
-/* what is known of the command that is followed */
+/* What is known of the command that is being followed. */
 static struct {
     uint64_t steps, path, data;
     uint32_t command, touched;
@@ -170,7 +170,7 @@ static uint64_t told_of_address(uint64_t address)
     return mix(mix(block->size + block->is_superblock, met[part].number), offset % block->part_bytes);
 }
 
-/* a step at an address, with the hash of what it read or wrote */
+/* Counts a step at an address, with the hash of what it read or wrote. */
 static void count_step(uint64_t at, uint64_t touched)
 {
     now.path = mix(now.path, at);
@@ -209,8 +209,8 @@ static void catch_traps(void)
 #define FOLLOW() __asm__ volatile("pushfq\n\torq $0x100, (%%rsp)\n\tpopfq" ::: "memory", "cc")
 #define LET_GO() __asm__ volatile("pushfq\n\tandq $~0x100, (%%rsp)\n\tpopfq" ::: "memory", "cc")
 
-/* What the C library copies and clears is followed inside if the row says so. Else its length is hashed, and where what it writes
- * and reads begins: in 64 bytes, for the path, and in its block. */
+/* What the C library copies and clears is followed inside if the row says so. Otherwise its length is hashed, and where it begins
+ * to write and to read: in 64 bytes, for the path, and in its block. */
 static bool is_apart;
 
 static void tell_apart(const void *to, const void *from, size_t count)
@@ -256,7 +256,7 @@ static size_t line_len, bytes_len, written;
 static partmem_request request;
 static partmem_reply reply;
 
-/* Each command is run from the same place, with all that is passed in places that stay. */
+/* Each command is run from the same place in the code, and all its arguments lie at fixed places. */
 __attribute__((noinline)) static uint32_t follow_line(void)
 {
     FOLLOW();
@@ -273,7 +273,7 @@ __attribute__((noinline)) static uint32_t follow_event(void)
     return status;
 }
 
-/* The results of direct calls. Where bytes are is not compared: that is another superblock in another world. */
+/* The results of direct calls. Addresses are not compared: another world has another superblock there. */
 static struct {
     partmem_status lent_as, status;
     partmem_lent lent, made;

@@ -2,13 +2,13 @@
 
 A tenant's own list is its commands with the grants, take-backs and resets that the administrator did for it. Only the mixed trace
 has refused grants and take-backs, moves, and the commands of the other tenants. The traces are made by talking to the library, so
-they use the frames and places that it answers, and the same seed makes the same traces.
+they use the frames and places that it returns, and the same seed makes the same traces.
 """
 import random
 
 # The numbers of the tenants' commands in partmem.h.
 KINDS = dict(zip("alloc free read write cache destroy take give reap report".split(), range(6, 16)))
-# How often a tenant asks for each while it takes more than it gives back, and while it gives back more.
+# How often a tenant requests each while it takes more than it gives back, and while it gives back more.
 FILLING = dict(zip(KINDS, (20, 5, 14, 14, 4, 2, 34, 10, .3, 1)))
 EMPTYING = FILLING | {"alloc": 4, "free": 20, "take": 8, "give": 34, "reap": .6}
 ADMIN = {"grant": 5, "takeback": 8, "reset": 4, "move": 12, "pool": 1, "broken": 4}
@@ -20,7 +20,7 @@ EVENTS, WHOLE = .7, .06
 
 
 class Tenant:
-    """What a tenant holds, as far as it was told."""
+    """What a tenant holds, as far as the replies said."""
 
     def __init__(self, number, order):
         self.number, self.order, self.is_filling, self.slots = number, order, True, set()
@@ -30,7 +30,7 @@ class Tenant:
         self.blocks, self.caches, self.objects = {}, {}, []
 
     def place(self, draw, count):
-        """A place of which so many bytes are in reach where it holds anything."""
+        """Returns a place from which this many bytes are in reach, if the tenant holds anything."""
         rooms = [(frame * FRAME_BYTES, FRAME_BYTES << order) for frame, order in self.blocks.items()]
         rooms += [(place, self.caches[cache]) for cache, place in self.objects]
         start, room = draw.choice(rooms) if rooms else (draw.randrange(2**16), count)
@@ -68,7 +68,7 @@ class Tenant:
         return [cache] if kind in ("destroy", "take") else []
 
     def faulty(self, kind, draw):
-        """Arguments of which most are refused."""
+        """Returns arguments most of which are refused."""
         some = draw.choice((0, 7, 33, 4097, 2**20, 2**32 - 1))
         if kind in ("read", "write"):
             count = draw.choice((0, 1, 64, 65, 2**32 - 1)) if kind == "read" else draw.choice((1, 64))
@@ -81,7 +81,7 @@ class Tenant:
         return [some] if kind in ("alloc", "free", "destroy", "take") else []
 
     def learn(self, words, reply):
-        """What it holds after this answer to its command."""
+        """Updates what it holds after this reply to its command."""
         said = reply.split()
         if said[1] == "frame":
             self.blocks[int(said[2])] = words[1]
@@ -106,12 +106,12 @@ class Pair:
         order, superblocks, tenants = machine
         self.tenants = [Tenant(t, order) for t in range(tenants)]
         self.mixed, self.alone = [], [[] for _ in range(tenants)]
-        # Of each command that is followed in the mixed trace, whose it is, its text and what it was answered first.
+        # For each command that is followed in the mixed trace: its tenant, its text and its first reply.
         self.followed = []
         self.run(commands)
 
     def run(self, commands):
-        """Makes the traces, until so many own commands are followed."""
+        """Makes the traces, until this many own commands are followed."""
         self.grant_all(2)
         while len(self.followed) < commands:
             if self.draw.random() < .12:
@@ -121,13 +121,13 @@ class Pair:
                 self.command(tenant, tenant.words(self.draw))
 
     def grant_all(self, count):
-        """Grants each tenant so many superblocks."""
+        """Grants each tenant this many superblocks."""
         for _ in range(count):
             for tenant in self.tenants:
                 self.grant(tenant.number)
 
     def command(self, tenant, words):
-        """A tenant's command that is followed."""
+        """Adds a tenant's command that is followed."""
         line = " ".join(map(str, [tenant.number, *words]))
         reply = self.ask(line)[0]
         tenant.learn(words, reply)
@@ -143,7 +143,7 @@ class Pair:
         self.followed.append((tenant.number, line, reply))
 
     def own(self, tenant, line, is_done):
-        """A line of the administrator's about a tenant, which is its own where it was done."""
+        """Adds a line of the administrator about a tenant, which is in its own list if it was done."""
         reply = self.ask(line)[0]
         self.mixed.append("." + line)
         if is_done(reply):
@@ -151,7 +151,7 @@ class Pair:
         return reply.split()
 
     def at_full_speed(self, tenant, words):
-        """A tenant's command that is not followed."""
+        """Adds a tenant's command that is not followed."""
         reply = self.own(tenant, " ".join(map(str, [tenant.number, *words])), lambda reply: True)
         tenant.learn(words, " ".join(reply))
 
@@ -161,7 +161,7 @@ class Pair:
             self.tenants[t].slots.add(int(said[4]))
 
     def others(self):
-        """Something that no tenant does."""
+        """Adds something that no tenant does."""
         kind = self.draw.choices(list(ADMIN), ADMIN.values())[0]
         tenant = self.draw.choice(self.tenants)
         slot = self.draw.choice([*tenant.slots, 0])
@@ -181,20 +181,21 @@ class Pair:
             self.foreign(line)
 
     def foreign(self, line):
-        """A line that is in no tenant's own list."""
+        """Adds a line that is in no tenant's own list."""
         self.ask(line)
         self.mixed.append("." + line)
 
 
 class LongPair(Pair):
-    """As Pair, but each tenant has two caches of 200 slabs, so that the library keeps their lists in groups of slabs.
+    """Like Pair, but each tenant has two caches of 200 slabs, so that the library keeps their lists in groups of slabs.
 
     A slab has two objects, so it is full, partial or empty, and most commands move one into the middle of another list. A tenant
     gives back one object of most slabs of a cache, slot by slot, then the other one, and then takes all of them again. Most of its
     commands are not followed, to save time.
     """
 
-    # The first and the last cache of a tenant are used. The blocks are as large as a slot: the slabs lie on both sides of them.
+    # The first and the last cache of a tenant are used. The blocks are as large as a slot, and the slabs lie on both sides of
+    # them.
     CACHES, SLABS, STAY_FULL, BLOCKS = (0, 31), 200, 30, 25
 
     def run(self, commands):

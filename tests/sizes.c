@@ -1,7 +1,7 @@
 /* Boots machines of each order with each number of superblocks, with each number of tenants, and with every tenth number of
- * superblocks together with every third number of tenants; asks for sizes beside these, which are refused. Checks what each
- * machine says of itself, and every byte that a call may write and those around it. The place of a machine is zeroes after its end.
- * Refuses each allocation of a boot in turn, too: to be linked with library_memory.c. */
+ * superblocks together with every third number of tenants. Sizes beside these are refused. Checks what each machine reports of
+ * itself, and every byte that a call may write and those around it. The partmem_machine is zeroes after its end. Also refuses
+ * each allocation of a boot in turn, so it is linked with library_memory.c. */
 #include <stdbool.h>
 #include <stdio.h>
 #include <stdlib.h>
@@ -14,7 +14,7 @@
 
 enum { UNTOUCHED = 0xa5, MACHINE = sizeof(partmem_machine) };
 
-/* what a call writes, with bytes around it that it may not touch */
+/* What a call writes, with bytes around it that it may not touch. */
 static struct {
     uint8_t front[64];
     union {
@@ -37,7 +37,7 @@ static void check(bool holds, const char *what, uint32_t order, uint32_t superbl
     exit(1);
 }
 
-/* all bytes are as they were, but so many of the inside */
+/* Checks that all bytes are as they were, except this many of the inside. */
 static bool is_kept_behind(const void *fenced, size_t bytes)
 {
     static uint8_t untouched[sizeof fence];
@@ -59,7 +59,7 @@ static partmem_status boot(partmem_machine *machine, uint32_t order, uint32_t su
     return partmem_boot(machine, &config);
 }
 
-/* the six numbers of the reply to an event */
+/* The six numbers of the reply to an event. */
 static const uint32_t *reply_to(partmem_machine *machine, uint32_t kind, uint32_t tenant, uint32_t first, uint32_t second)
 {
     const partmem_request request = {kind, tenant, first, second};
@@ -79,7 +79,7 @@ static bool is_reply(const uint32_t *words, uint32_t kind, uint32_t first, uint3
     return words[0] == kind && words[1] == first && words[2] == second && words[3] == third;
 }
 
-/* the call is done, and returns that the superblock has no owner, or is slot 0 of this tenant */
+/* Checks that the call is done, and returns that the superblock has no owner, or is slot 0 of this tenant. */
 static bool is_owner(partmem_machine *machine, uint32_t superblock, bool is_owned, uint32_t tenant)
 {
     memset(&fence, UNTOUCHED, sizeof fence);
@@ -88,7 +88,7 @@ static bool is_owner(partmem_machine *machine, uint32_t superblock, bool is_owne
            fence.inside.words[1] == tenant && fence.inside.words[2] == 0;
 }
 
-/* a machine that was booted is one of these sizes */
+/* Checks that a machine that was booted has these sizes. */
 static void look_at(partmem_machine *machine, uint32_t order, uint32_t superblocks, uint32_t tenants)
 {
     uint32_t last = tenants - 1;
@@ -113,7 +113,8 @@ static void look_at(partmem_machine *machine, uint32_t order, uint32_t superbloc
     check(buffer.inside.bytes[0] == 0x3c && buffer.inside.bytes[63] == 0x3c, "bytes", order, superblocks, tenants);
 }
 
-/* the last superblock as a page block, used in place up to its last byte; events, which lend nothing, allocate those before it */
+/* Allocates the last superblock as a page block, and uses it in place up to its last byte. Events, which lend nothing, allocate
+ * the superblocks before it. */
 static void use_in_place(partmem_machine *machine, uint32_t order, uint32_t superblocks, uint32_t tenants)
 {
     const partmem_tenant last = {machine, tenants - 1};
@@ -144,7 +145,7 @@ static void use_in_place(partmem_machine *machine, uint32_t order, uint32_t supe
     check(is_done && fence.inside.figures.frames == superblocks << order, "the figures of a tenant", order, superblocks, tenants);
 }
 
-/* the reply to `pool`: as many bytes as are returned, and no more of the buffer */
+/* Checks the reply to `pool`: it has as many bytes as are returned, and changes no more of the buffer. */
 static void look_at_text(partmem_machine *machine, uint32_t superblocks, uint32_t tenants)
 {
     memset(&fence, UNTOUCHED, sizeof fence);
@@ -170,7 +171,7 @@ static void boot_and_end(uint32_t order, uint32_t superblocks, uint32_t tenants)
     check(is_vacant, "what end leaves", order, superblocks, tenants);
 }
 
-/* no allocation is asked for where a number is out of its range */
+/* Nothing is allocated if a number is out of its range. */
 static void refuse_sizes(uint32_t order, uint32_t superblocks, uint32_t tenants)
 {
     partmem_machine *machine = vacant_place(), zeroes = {{0}};
@@ -199,7 +200,7 @@ static int try_edges(void)
     return refused;
 }
 
-/* how many allocations a boot of these sizes has: with each of them refused, it takes none and leaves the place as it was */
+/* Returns how many allocations a boot of these sizes has. If one is refused, it takes none and leaves the place as it was. */
 static long refuse_each(uint32_t order, uint32_t superblocks, uint32_t tenants)
 {
     for (long number = 1;; number++) {

@@ -12,8 +12,8 @@ ERASED = b"\r\x1b[K"
 
 
 def run(words, stdin=subprocess.DEVNULL, pause=0, most=None, whole=False):
-    """Runs a program with a terminal as standard error, and as standard output too if `whole`. Reads its output from `pause`
-    seconds on, `most` bytes if it is given. Returns its status, its output and what it wrote to the terminal."""
+    """Runs a program with a terminal as standard error, and as standard output too if `whole`. Reads its output after `pause`
+    seconds, and at most `most` bytes if that is given. Returns its status, its output and what it wrote to the terminal."""
     terminal, end = pty.openpty()
     with subprocess.Popen(words, stdin=stdin, stdout=end if whole else subprocess.PIPE, stderr=end) as program:
         os.close(end)
@@ -34,8 +34,8 @@ def run(words, stdin=subprocess.DEVNULL, pause=0, most=None, whole=False):
 
 
 def long_run(words, path, begin, size, end):
-    """Writes a trace of at least `size` bytes for which the program of these words needs more than a second: short comments
-    between its `begin` and its `end`. Without a terminal nothing may be on standard error. Returns the trace."""
+    """Writes a trace of at least `size` bytes for which the program with these words needs more than a second: short comments
+    between its `begin` and its `end`. Without a terminal it may print nothing on standard error. Returns the trace."""
     while True:
         trace = begin + b"#\n" * ((size - len(begin) - len(end) + 1) // 2) + end
         with open(path, "wb") as file:
@@ -49,7 +49,7 @@ def long_run(words, path, begin, size, end):
 
 
 def behind_progress(written, program, trace):
-    """Returns what a program wrote to the terminal behind its progress in this trace. The progress is one line or more, each with
+    """Returns what a program wrote to the terminal after its progress in this trace. The progress is one line or more, each with
     the number of lines and the share of the pieces that were read, and the last one is erased. Without it, returns None."""
     pieces, lines = set(), 0
     for begin in range(0, len(trace), PIECE):

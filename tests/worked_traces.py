@@ -13,7 +13,7 @@ LITERAL = r'b"((?:[^"\\]|\\.)*)"'
 
 
 def rows_of(name, table="ROWS"):
-    """The traces of a table of crates/tests/src/tables/NAME.rt, each with what it must write."""
+    """Yields the traces of a table of crates/tests/src/tables/NAME.rt, each with what it must write."""
     source = open(f"crates/tests/src/tables/{name}.rt", encoding="utf-8").read()
     constants = dict(re.findall(rf'const (\w+): &\[u8\] =\s*{LITERAL};', source, re.S))
     number, body = re.search(rf"static {table}: \[Row; (\d+)\] = \[(.*?)\n?\}}?\];\n", source, re.S).groups()
@@ -25,7 +25,8 @@ def rows_of(name, table="ROWS"):
 
 
 def built():
-    """The traces that crates/tests/src/built_traces.rt builds, with the words of their command line and what they must write."""
+    """Yields the traces that crates/tests/src/built_traces.rt builds, with the words of their command line and what they must
+    write."""
     cache = "0> cache {} chunk 16 order 0 objects 254 colours 1\n"
     yield SMALL, ["admin grant 0\n0 cache 1 8 00\n" + 255 * "0 take 0\n",
                   "admin> granted 0 slot 0 superblock 0\n" + cache.format(0)

@@ -21,7 +21,7 @@ static bool add_member(struct guest *guest, cJSON *list, uint32_t number)
     return false;
 }
 
-/* Prints a list, and notes the text and whether it parses to the same list. Returns whether there was enough memory. */
+/* Prints a list, notes the text, and checks that it parses to the same list. Returns whether there was enough memory. */
 static bool print(struct guest *guest, const cJSON *list)
 {
     char *text = cJSON_PrintUnformatted(list);

@@ -1,5 +1,5 @@
 /* The edges of the heap, one after another: what an initialisation refuses, requests of no bytes and of too many, alignments,
- * runs, and direct calls that take caches from the heap. */
+ * runs, and direct calls that take caches away from the heap. */
 #include "partmem_heap.h"
 #include "trial.h"
 
@@ -23,7 +23,7 @@ static partmem_status init(partmem_tenant tenant, const uint16_t *sizes, uint32_
     return partmem_heap_init(&heap, tenant, &config);
 }
 
-/* A heap that was not initialised answers each call. */
+/* A heap that was not initialised refuses each call. */
 static void check_zeroes(void)
 {
     const char *bytes = (const char *)&heap;
@@ -155,7 +155,7 @@ static void check_runs(void)
     at = partmem_heap_malloc(&heap, 2 * UNIT - 1);
     other = partmem_heap_malloc(&heap, 2 * UNIT + 1);
     MUST(block && at == block + UNIT && other == at + 2 * UNIT && partmem_heap_usable_size(&heap, other) == 3 * UNIT);
-    MUST(!partmem_heap_malloc(&heap, UNIT + 1)); /* one slot is left, which was granted later */
+    MUST(!partmem_heap_malloc(&heap, UNIT + 1)); /* the one free slot was granted later */
     MUST(partmem_heap_free(&heap, block) == PARTMEM_DONE && !partmem_heap_malloc(&heap, UNIT + 1));
     MUST(partmem_heap_free(&heap, at) == PARTMEM_DONE && partmem_heap_realloc(&heap, other, 4 * UNIT) == NULL);
     MUST(partmem_heap_realloc(&heap, other, UNIT + 1) == other && partmem_heap_realloc(&heap, other, UNIT) == block);
@@ -163,7 +163,7 @@ static void check_runs(void)
     MUST(partmem_heap_free(&heap, block) == PARTMEM_DONE);
 }
 
-/* Makes the heap's cache of a class anew by direct calls, at an alignment of 8, and returns its number. */
+/* Makes the heap's cache of a class again by direct calls, at an alignment of 8, and returns its number. */
 static uint32_t replace_cache(uint32_t class_size, uint32_t size)
 {
     partmem_cache made;
@@ -176,7 +176,7 @@ static uint32_t replace_cache(uint32_t class_size, uint32_t size)
     return made.cache;
 }
 
-/* A cache of a class that direct calls made anew, of another size, and of the same size at a smaller alignment. */
+/* Checks a cache of a class that direct calls made again, of another size, and of the same size at a smaller alignment. */
 static void check_caches(void)
 {
     partmem_lent direct;

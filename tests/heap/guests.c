@@ -1,11 +1,10 @@
-/* Interpreters, databases and parsers that nobody here wrote, each in the heap of its own tenant. All guests do their steps by
- * turns. Half of them are reset at random, and start anew. Then each guest of the other half runs alone, on a machine where its
- * superblocks lie elsewhere. Its results, the place of each of its pieces, and its refusals have to be the same.
+/* Interpreters, databases and parsers of others, each in the heap of its own tenant. All guests make their steps by turns. Half
+ * of them are reset at random, and start again. Then each guest of the other half runs alone, on a machine where its superblocks
+ * lie elsewhere. Its results, the place of each of its pieces, and its refusals have to be the same.
  *
  *     guests STEPS [outsider | addresses]
  *
- * With the second word something is wrong, and the program has to find it: others allocate in a guest's heap, or Lua shows
- * addresses.
+ * The second word plants a mistake, which the program has to find: others allocate in a guest's heap, or Lua shows addresses.
  */
 #include "guests.h"
 
@@ -33,7 +32,7 @@ enum { PROGRAMS = LEN(programs), STABLE = 2 * PROGRAMS, GUESTS = 2 * STABLE, LIB
 bool shows_addresses;
 static bool has_outsider;
 static partmem_machine machine;
-static struct guest guests[GUESTS + 1], *current; /* the last is for the libraries' own state */
+static struct guest guests[GUESTS + 1], *current; /* the last one has the libraries' own state */
 static unsigned char *ram;
 
 /* ---- The heaps of guests ------------------------------------------------------------------------------------------------ */
@@ -109,7 +108,7 @@ static void open_guest(uint32_t number)
     MUST(partmem_heap_init(&guest->heap, (partmem_tenant){&machine, number}, NULL) == PARTMEM_DONE);
 }
 
-/* Boots a machine in which a tenant that is no guest has so many superblocks, and sets up the libraries. */
+/* Boots a machine in which a tenant that is no guest has this many superblocks, and sets up the libraries. */
 static void begin(uint32_t others)
 {
     boot(&machine, ORDER, 256, OTHER + 1);
@@ -137,7 +136,7 @@ static void step(uint32_t number)
     current = &guests[LIBRARIES];
 }
 
-/* A step of one of the others, which is sometimes reset then: its program is gone without an end. */
+/* Makes a step of one of the other guests. Sometimes that one is then reset, which stops its program without cleaning up. */
 static int disturb(void)
 {
     const uint32_t other = STABLE + any(STABLE);

@@ -1,5 +1,5 @@
-/* What the programs of guests.c share. Each is a library that somebody else wrote. All its memory comes from the heap of a
- * guest, which is a tenant. */
+/* What the programs of guests.c share. Each uses a library of others. All its memory comes from the heap of a guest, which is a
+ * tenant. */
 #ifndef GUESTS_H
 #define GUESTS_H
 
@@ -12,12 +12,12 @@ struct guest {
     partmem_heap heap;
     const struct program *program;
     uint64_t random;
-    uint64_t results, places; /* hashes of all results, and of the place of each piece */
-    unsigned long calls, refused, failed, steps; /* calls of the heap; steps that ran out of memory, and all */
-    void *state[STATES];                         /* the program's */
+    uint64_t results, places; /* hashes of all results, and of the places of all pieces */
+    unsigned long calls, refused, failed, steps; /* calls of the heap; the steps that ran out of memory, and all steps */
+    void *state[STATES];                         /* of the program */
 };
 
-/* A program, and how many superblocks of 128 KiB a guest has for it: so few that it sometimes runs out of memory. */
+/* A program, and how many superblocks of 128 KiB its guest gets: so few that it sometimes runs out of memory. */
 struct program {
     const char *name;
     uint32_t slots;
@@ -31,18 +31,19 @@ extern const struct program lua, sqlite, expat, zlib, cjson;
 /* Whether Lua shows its guests addresses, which others determine. */
 extern bool shows_addresses;
 
-/* Returns a number below `below` that follows from the guest's own history. */
+/* Returns a number below `below` that depends only on the guest's own history. */
 uint32_t any_of(struct guest *guest, uint32_t below);
 
 /* Adds to the results of a guest. */
 void note(struct guest *guest, const void *bytes, size_t count);
 
-/* The heap of a guest. A wrong free ends the program. */
+/* Call the heap of a guest. A wrong free ends the program. */
 void *guest_malloc(struct guest *guest, size_t bytes);
 void *guest_realloc(struct guest *guest, void *old, size_t bytes);
 void guest_free(struct guest *guest, void *at);
 
-/* The heap of the guest that runs, for libraries that pass nothing on; what is freed or grows is its owner's. */
+/* Call the heap of the guest that runs, for libraries that pass no argument. What is freed or grows belongs to its owner's
+ * heap. */
 void *current_malloc(size_t bytes);
 void *current_realloc(void *old, size_t bytes);
 void current_free(void *at);

@@ -1,6 +1,6 @@
-/* The heap as malloc of an unmodified program, by LD_PRELOAD. One tenant has all superblocks of a machine of 256 MiB, with
- * runs. A wrong free ends the program. At its end a line is added to the file that HEAP_COUNTS names: how many requests and
- * frees there were, and how many requests were refused. */
+/* The heap as the malloc of an unmodified program, by LD_PRELOAD. One tenant has all superblocks of a machine of 256 MiB, with
+ * runs. A wrong free ends the program. When the program ends, a line is added to the file that HEAP_COUNTS names: how many
+ * requests and frees there were, and how many requests were refused. */
 #define _GNU_SOURCE
 #include <errno.h>
 #include <fcntl.h>

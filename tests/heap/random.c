@@ -18,25 +18,25 @@ enum kind { NOTHING, PIECE, OBJECT, BLOCK }; /* a piece of the heap; an object o
 struct piece {
     enum kind kind;
     unsigned char *at;
-    size_t bytes; /* that were requested */
+    size_t bytes; /* as requested */
     size_t usable;
     uint32_t place, cache;
-    uint32_t stamp; /* its bytes are those of `pattern` from here on */
+    uint32_t stamp; /* from here on its bytes are those of `pattern` */
 };
 
 struct user {
     partmem_tenant tenant;
     partmem_heap heap;
     struct piece pieces[PIECES];
-    uint16_t direct[PARTMEM_MOST_CACHES]; /* of a cache that a direct call made: its size, else 0 */
+    uint16_t direct[PARTMEM_MOST_CACHES]; /* the sizes of the caches that direct calls made; 0 for others */
     uint64_t random, hash;
-    bool is_filling; /* more is allocated than freed, or less */
+    bool is_filling; /* whether it allocates more than it frees */
     unsigned long calls, refused, wrong_frees, moved, runs, changes;
 };
 
 static const uint16_t few_sizes[] = {32, 48, 512, 2048}, many_sizes[] = {16, 64, 80, 272, 1008, 4096};
 static const uint32_t slots_of_order[] = {0, 0, 0, 18, 12, 8, 5, 4, 4};
-static uint32_t order, unit, slots; /* of superblocks, and how many a tenant has */
+static uint32_t order, unit, slots; /* of superblocks; how many a tenant has */
 static partmem_machine machine;
 static struct user users[USERS];
 static unsigned char *pattern;
@@ -172,7 +172,7 @@ static uint32_t longest_row(const struct user *user)
     return longest;
 }
 
-/* A request that was refused is one for which the tenant has no frames. */
+/* Checks that a request was refused because the tenant has no frames for it. */
 static void check_refused(struct user *user, size_t bytes)
 {
     partmem_lent block;
@@ -189,7 +189,7 @@ static void check_refused(struct user *user, size_t bytes)
 
 /* ---- Wrong frees -------------------------------------------------------------------------------------------------------- */
 
-/* No piece of the heap begins at the address: so a free and a realloc are refused, and no command changes anything. */
+/* No piece of the heap begins at the address. Checks that a free and a realloc are refused, and that nothing changes. */
 static void check_wrong(struct user *user, void *at)
 {
     const unsigned long changes = user->changes;
@@ -202,7 +202,7 @@ static void check_wrong(struct user *user, void *at)
     user->wrong_frees++;
 }
 
-/* Addresses inside of a piece, at least the beginning of each superblock of a run. */
+/* Tries addresses inside of a piece, at least the beginning of each superblock of a run. */
 static void check_inner(struct user *user, const struct piece *piece)
 {
     const size_t steps[] = {1, 8, 16, PARTMEM_FRAME_BYTES, piece->usable / 2, piece->usable - 1};
@@ -218,7 +218,7 @@ static const struct piece *piece_at(const struct user *user, uint32_t place)
     return NULL;
 }
 
-/* An address of the tenant's, at which nothing begins. */
+/* Tries an address of the tenant at which nothing begins. */
 static void check_anywhere(struct user *user)
 {
     partmem_slot slot;
@@ -228,7 +228,7 @@ static void check_anywhere(struct user *user)
     check_wrong(user, (unsigned char *)partmem_superblock_address(&machine, slot.superblock) + place % unit);
 }
 
-/* Addresses outside of the tenant's superblocks. */
+/* Tries addresses outside of the tenant's superblocks. */
 static void check_outside(struct user *user)
 {
     partmem_owner owner;
@@ -263,7 +263,7 @@ static void allocate(struct user *user, struct piece *piece)
     case 0: at = partmem_heap_malloc(heap, bytes); break;
     case 1: at = partmem_heap_realloc(heap, NULL, bytes); break;
     case 2:
-        cleared = 1 + any_of(user, 4); /* how many elements */
+        cleared = 1 + any_of(user, 4); /* the number of elements */
         at = partmem_heap_calloc(heap, cleared, bytes);
         bytes *= cleared;
         break;
@@ -316,8 +316,8 @@ static uint32_t direct_caches(const struct user *user)
     return count;
 }
 
-/* How many caches the tenant makes by direct calls: the heap always leaves 8. The last tenant makes so many that the heap has
- * none for some classes. */
+/* Returns how many caches the tenant makes by direct calls: the heap always leaves 8. The last tenant makes so many that the heap
+ * has none for some classes. */
 static uint32_t most_direct(const struct user *user) { return user->tenant.number == STABLE - 1 ? 29 : 8; }
 
 static void make_cache(struct user *user)
@@ -332,7 +332,7 @@ static void make_cache(struct user *user)
     if (status == PARTMEM_DONE) user->direct[made.cache] = (uint16_t)size;
 }
 
-/* Destroys a cache of any number, the heap's too, or makes one, or reaps. */
+/* Destroys a cache of any number, also the heap's, or makes one, or reaps. */
 static void administer(struct user *user)
 {
     uint32_t cache = any_of(user, PARTMEM_MOST_CACHES), frames;
@@ -370,7 +370,7 @@ static bool is_class(const struct user *user, size_t bytes)
     return false;
 }
 
-/* Gives back an object, which the heap refuses to free if no class has its size, or frees a page block. */
+/* Gives back an object, which the heap refuses to free if no class has its size; or frees a page block. */
 static void release_direct(struct user *user, struct piece *piece)
 {
     MUST(is_kept(piece, piece->bytes));
@@ -382,7 +382,7 @@ static void release_direct(struct user *user, struct piece *piece)
 
 /* ---- Worlds ------------------------------------------------------------------------------------------------------------- */
 
-/* Something live, or something that is not, as the tenant has more and more or less and less. */
+/* Uses something live or something that is not, while the tenant has more and more, or less and less. */
 static struct piece *any_piece(struct user *user)
 {
     struct piece *piece = NULL;
@@ -442,7 +442,7 @@ static void open_user(uint32_t number, uint64_t seed)
     MUST(partmem_heap_init(&user->heap, user->tenant, config) == PARTMEM_DONE && has_runs(user) == wants_runs(number));
 }
 
-/* Frees all that a tenant has, and finds no frame in use. */
+/* Frees all that a tenant has, and checks that no frame is in use. */
 static void close_user(struct user *user)
 {
     partmem_figures figures;
@@ -463,7 +463,7 @@ static int disturb(uint64_t seed)
     return 1;
 }
 
-/* All tenants together. Returns how often one of the others was reset. */
+/* Runs all tenants together. Returns how often one of the others was reset. */
 static int run_together(long calls, uint64_t seed)
 {
     int resets = 0;
@@ -483,7 +483,7 @@ static int run_together(long calls, uint64_t seed)
     return resets;
 }
 
-/* A stable tenant alone, on other superblocks. */
+/* Runs a stable tenant alone, on other superblocks. */
 static void run_alone(uint32_t number, long calls, uint64_t seed)
 {
     boot(&machine, order, 2 * slots + 1, USERS + 1);

@@ -1,4 +1,4 @@
-/* zlib: streams that are compressed at any level, window and memory. */
+/* zlib: streams that are compressed at any level, window size and memory level. */
 #include <zlib.h>
 
 #include "guests.h"

@@ -1,5 +1,5 @@
-/* Makes random calls, stores and loads, and writes each as a line of a trace and what it returned as reply lines, for a
- * comparison with the program `partmem`. A store in place is a line of a write, and a load in place a line of a read.
+/* Makes random calls, stores and loads. Writes each as a line of a trace, and its result as reply lines, for a comparison with
+ * the program `partmem`. A store in place becomes a write line, and a load in place a read line.
  *
  *     equal ORDER SUPERBLOCKS TENANTS CALLS SEED TRACE REPLIES
  */
@@ -11,11 +11,11 @@ enum { MOST_KEPT = 64, MOST_STORED = 300 };
 
 static partmem_machine machine;
 static uint32_t order, superblocks, tenants, superblock_bytes;
-static uint32_t kept[MOST_KEPT], kept_count; /* places of blocks and objects, in turn */
+static uint32_t kept[MOST_KEPT], kept_count; /* places of blocks and objects, kept in a ring */
 static FILE *trace, *replies;
 static unsigned done, refused, in_place;
 
-/* the tenant of this call: its number, and a cache and a place that it may have */
+/* The tenant of this call: its number, and a cache and a place that it may have. */
 static uint32_t t, cache, place;
 static partmem_tenant me;
 
@@ -101,7 +101,7 @@ static void load(void)
     }
 }
 
-/* Stores bytes in place, more than a line can write: they are several lines. */
+/* Stores bytes in place, more than one line can write: they become several lines. */
 static void store(void)
 {
     partmem_lent lent;
@@ -260,7 +260,7 @@ static void report(void)
     }
 }
 
-/* The table of owners, from the owner of each superblock. */
+/* Writes the table of owners, from the owner of each superblock. */
 static void pool(void)
 {
     partmem_owner owners[PARTMEM_MOST_SUPERBLOCKS];
@@ -277,7 +277,7 @@ static void pool(void)
     }
 }
 
-/* A line and an event between the calls. */
+/* Makes a line and an event between the calls. */
 static void run_line(void)
 {
     static char buffer[PARTMEM_MOST_TEXT_BYTES];

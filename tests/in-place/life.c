@@ -1,6 +1,6 @@
-/* The lifetime rule: after each of many random calls, all that is lent and lives is lent again, and has to be at the same
- * address with the same bytes, and its address leads back to its place. After a move it is elsewhere, with the same bytes; what was
- * not in that slot has not moved.
+/* Checks the lifetime rule. After each of many random calls, all that is lent and live is lent again. It has to be at the same
+ * address with the same bytes, and its address has to lead back to its place. After a move it is at another address, with the
+ * same bytes; what was not in that slot has not moved.
  *
  *     life CALLS SEED
  */
@@ -14,7 +14,7 @@ struct range {
     partmem_lent lent;
     bool is_live, is_object;
     uint32_t cache;
-    uint8_t stamp; /* its bytes follow from this */
+    uint8_t stamp; /* its bytes depend on this */
 };
 
 static partmem_machine machine;
@@ -38,7 +38,7 @@ static bool is_filled(const struct range *range, uint32_t step)
     return true;
 }
 
-/* An object is lent as itself, not as another one, and not as a page block. */
+/* Checks that an object is lent as itself, and not as another object or as a page block. */
 static bool is_lent_as_object(partmem_tenant me, const struct range *range)
 {
     partmem_lent lent;
@@ -48,7 +48,7 @@ static bool is_lent_as_object(partmem_tenant me, const struct range *range)
            partmem_lend_block(me, place, &lent) == PARTMEM_OUT_OF_REACH && !lent.at;
 }
 
-/* A page block is lent whole from anywhere in it, and not as an object. */
+/* Checks that a page block is lent whole from anywhere in it, and not as an object. */
 static bool is_lent_as_block(partmem_tenant me, const struct range *range)
 {
     partmem_lent lent;
@@ -59,7 +59,7 @@ static bool is_lent_as_block(partmem_tenant me, const struct range *range)
            found.place == lent.place && found.bytes == lent.bytes && !partmem_object_at(me, 0, lent.place);
 }
 
-/* The object or page block is found from a byte of it. */
+/* Checks that the object or page block is found from a byte of it. */
 static bool is_found(partmem_tenant me, const struct range *range, uint32_t place)
 {
     partmem_object found;
@@ -161,7 +161,7 @@ static void reset(uint32_t t)
     make_caches(t);
 }
 
-/* A read, and a write of one byte that is then as it was, are the bytes in place. */
+/* Checks that a read, and a write that restores a byte, use the bytes in place. */
 static void read_and_write(uint32_t t, const struct range *range)
 {
     uint8_t bytes[PARTMEM_MOST_BYTES], other;

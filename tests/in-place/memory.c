@@ -1,6 +1,7 @@
-/* The memory of a machine by partmem_boot_in. For a grid of sizes: boot writes no more of the tables than PARTMEM_TABLE_BYTES and
- * nothing of the RAM, and superblock m lies at ram + m * unit. For each order, in memory full of zeroes and of other bytes: where
- * superblocks, blocks and objects lie, which place an address has, and that superblocks which were never granted are never touched. */
+/* Checks the memory of a machine of partmem_boot_in. For a grid of sizes: boot writes no more of the tables than
+ * PARTMEM_TABLE_BYTES and nothing of the RAM, and superblock m lies at ram + m * unit. For each order, in memory full of zeroes
+ * and of other bytes: where superblocks, blocks and objects lie, which place an address has, and that superblocks which were
+ * never granted are never touched. */
 #include <sys/mman.h>
 
 #include "trial.h"
@@ -10,9 +11,9 @@ enum { FIRST_ORDER = 3, LAST_ORDER = 8, TENANTS = 2, OTHER = 0xee, GUARD = 4096,
 static partmem_machine machine;
 static const partmem_tenant me = {&machine, 1}, another = {&machine, 0};
 static partmem_config sizes;
-static uint8_t *ram, *tables; /* of the machine; the tables are followed by GUARD bytes */
+static uint8_t *ram, *tables; /* of the machine; GUARD bytes follow the tables */
 static size_t unit, table_bytes;
-static uint64_t seen; /* a hash of all that was lent, and of its bytes */
+static uint64_t seen; /* a hash of all that was lent, with its bytes */
 
 static bool are_all(const uint8_t *from, int byte, size_t bytes)
 {
@@ -25,7 +26,7 @@ static partmem_status boot_at(void *its_ram, void *its_tables)
     return partmem_boot_in(&machine, &sizes, &memory);
 }
 
-/* Boots in tables full of a byte. */
+/* Boots with tables that are full of one byte. */
 static void boot_in(uint32_t order, uint32_t superblocks, uint32_t tenants, int before)
 {
     sizes = (partmem_config){order, superblocks, tenants};
@@ -44,7 +45,7 @@ static void end(void)
     MUST(are_all(tables + table_bytes, OTHER, GUARD));
 }
 
-/* Boots a grid of sizes, in RAM that nobody can load or store. */
+/* Boots a grid of sizes, in RAM that cannot be loaded or stored. */
 static void try_sizes(void)
 {
     static const uint32_t superblocks[] = {1,  2,  3,  4,  5,  6,  7,  8,  9,   12,  15,  16,  17,  20,
@@ -65,7 +66,7 @@ static void try_sizes(void)
     printf("%u sizes: the tables are %.4f to %.3f times what boot writes, %.4f in the mean\n", count, least, most, sum / count);
 }
 
-/* What is lent lies in its superblock, and its first and last byte have their places: for this tenant alone. */
+/* Checks that what is lent lies in its superblock, and that its first and last byte have their places, for this tenant alone. */
 static void check(const partmem_lent *lent)
 {
     uint8_t *at = lent->at;
@@ -88,7 +89,7 @@ static void grant_half(void)
     for (uint32_t m = 0; m < sizes.superblocks / 2; m++) MUST(partmem_grant(me, &slot) == PARTMEM_DONE && slot.superblock == m);
 }
 
-/* Page blocks of an order until there is none: each begins on a page, and at a multiple of its size in the RAM. */
+/* Allocates page blocks of an order until there is none. Each begins on a page, and at a multiple of its size in the RAM. */
 static void try_blocks(uint32_t order)
 {
     partmem_lent block;
@@ -101,7 +102,7 @@ static void try_blocks(uint32_t order)
     MUST(count == sizes.superblocks / 2 << (sizes.order - order));
 }
 
-/* Some objects of a cache, perhaps after a reset: each begins at a multiple of the alignment. */
+/* Takes some objects of a cache, perhaps after a reset. Each begins at a multiple of the alignment. */
 static void try_objects(uint32_t size, uint32_t align, bool is_reset)
 {
     partmem_cache cache;
@@ -115,7 +116,8 @@ static void try_objects(uint32_t size, uint32_t align, bool is_reset)
     }
 }
 
-/* Addresses that no tenant holds, in a superblock without an owner too, and after a move those that the tenant held before. */
+/* Checks addresses that no tenant holds, also in a superblock without an owner, and after a move those that the tenant held
+ * before. */
 static void try_addresses(void)
 {
     partmem_lent block, moved;
@@ -135,7 +137,7 @@ static void try_addresses(void)
     check(&moved);
 }
 
-/* Returns the hash of what is seen of a machine that was booted in memory full of a byte. */
+/* Returns the hash of what is seen of a machine that was booted in memory full of one byte. */
 static uint64_t seen_in(uint32_t order, int before)
 {
     static const uint32_t object_sizes[] = {1, 24, 100, 320, 1000, 4096};
@@ -150,7 +152,7 @@ static uint64_t seen_in(uint32_t order, int before)
     return seen;
 }
 
-/* Memory that is none, and what is tested before it; a machine of partmem_boot, beside one that was booted here. */
+/* Checks wrong memory, and what is tested before it; and a machine of partmem_boot beside one that was booted here. */
 static void try_boots(void)
 {
     static const partmem_machine zeroes;
@@ -172,7 +174,7 @@ static void try_boots(void)
     MUST(partmem_end(&second) == PARTMEM_DONE && !memcmp(&second, &zeroes, sizeof zeroes));
 }
 
-/* Reserves memory between two pages that nobody can load or store. */
+/* Reserves memory between two pages that cannot be loaded or stored. */
 static uint8_t *reserve(size_t bytes, int how)
 {
     uint8_t *at = mmap(NULL, bytes + 8192, PROT_NONE, MAP_PRIVATE | MAP_ANONYMOUS | MAP_NORESERVE, -1, 0);

@@ -1,4 +1,4 @@
-/* What a caller can get wrong without breaking memory: each returns its status, the first that applies, and zeroes as results; a
+/* Mistakes of a caller that do not break memory: each call returns its status, the first that applies, and zeroes as results; a
  * read leaves its buffer unchanged. Then what is right at the edges, lengths that no memory has, and the functions in C. */
 #include "trial.h"
 
@@ -26,15 +26,15 @@ static bool are_all(const void *result, uint8_t byte, size_t size)
     return size == 0;
 }
 
-/* A call returns a status, and leaves so many bytes of this value as its result. */
+/* Checks that a call returned a status, and left this many bytes of this value as its result. */
 #define LEAVES(call, status, result, byte) \
     (memset(&(result), UNTOUCHED, sizeof(result)), (call) == (status) && are_all(&(result), byte, sizeof(result)))
 
-/* A call returns a status, and leaves zeroes as its result, or what was there. */
+/* Checks that a call returned a status, and left zeroes as its result, or what was there. */
 #define ZEROED(call, status, result) LEAVES(call, status, result, 0)
 #define KEPT(call, status, result) LEAVES(call, status, result, UNTOUCHED)
 
-/* Every function with a tenant tests for a machine, and then for the tenant, before all else. */
+/* Every function with a tenant first tests for a machine, and then for the tenant. */
 static void check_tenant(partmem_tenant tenant, partmem_status status)
 {
     MUST(ZEROED(partmem_grant(tenant, &slot), status, slot) && ZEROED(partmem_move(tenant, 99, &slot), status, slot));
@@ -76,7 +76,7 @@ static bool is_kept_around(size_t written)
            are_all(fenced.inside + written, UNTOUCHED, sizeof fenced.inside + sizeof fenced.back - written);
 }
 
-/* An event that reads, with a buffer that is said to have `buffer_len` bytes, returns this kind, and writes what it read. */
+/* An event that reads, with a buffer of `buffer_len` bytes by its argument, returns this kind and writes what it read. */
 static bool reads(uint32_t place, uint32_t count, size_t buffer_len, uint32_t kind)
 {
     const partmem_request request = {PARTMEM_READ, first.number, place, count};
@@ -127,8 +127,8 @@ static void check_machines(void)
     MUST(partmem_superblock_bytes(&none) == 0 && partmem_superblock_bytes(&machine) == 32768);
 }
 
-/* The live object or page block of each byte around objects of 72 bytes, one beside another at multiples of 32, and of a page block
- * of two frames. Of three objects the middle one is given back. */
+/* Checks the live object or page block of each byte around objects of 72 bytes, side by side at multiples of 32, and of a page
+ * block of two frames. Of three objects the middle one is given back. */
 static void check_objects(uint32_t pages)
 {
     partmem_lent lives[3];
@@ -156,7 +156,7 @@ static void check_objects(uint32_t pages)
     MUST(partmem_destroy_cache(first, 1) == PARTMEM_DONE);
 }
 
-/* Refusals of a tenant that has two slots, a cache with a live object, and a page block of two frames. */
+/* Checks refusals of a tenant that has two slots, a cache with a live object, and a page block of two frames. */
 static void check_refusals(void)
 {
     partmem_lent pages, object;

@@ -1,4 +1,5 @@
-/* A page block, an object and a piece of a heap used in place, in memory of the program's, in what C89 and C++98 have in common. */
+/* Uses a page block, an object and a piece of a heap in place, in memory of the program, with what C89 and C++98 have in
+ * common. */
 #include "partmem_heap.h"
 
 static unsigned char ram[PARTMEM_RAM_BYTES(3, 2)] __attribute__((aligned(4096)));

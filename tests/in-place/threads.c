@@ -15,7 +15,7 @@ static atomic_bool is_over;
 static partmem_lent ranges[RANGES];
 static atomic_ulong rounds, calls;
 
-/* Fills all ranges, and finds all of it there afterwards. */
+/* Fills all ranges, and checks later that all of it is still there. */
 static void *use_in_place(void *wrong)
 {
     for (unsigned seed = 0; !is_over; seed++, rounds++) {
@@ -34,7 +34,7 @@ static void store(partmem_status status, const partmem_lent *lent)
     if (status == PARTMEM_DONE) memset(lent->at, 0xee, lent->bytes);
 }
 
-/* A call for a tenant whose memory nobody else uses. */
+/* Makes a call for a tenant whose memory nothing else uses. */
 static void call_for_other(partmem_tenant other, unsigned *random)
 {
     partmem_lent lent;
@@ -54,7 +54,7 @@ static void call_for_other(partmem_tenant other, unsigned *random)
     }
 }
 
-/* A call for the tenant whose ranges are in use: none that ends their lifetime. */
+/* Makes a call for the tenant whose ranges are in use: none that ends their lifetime. */
 static void call_for_same(partmem_tenant same, unsigned *random)
 {
     partmem_lent lent;

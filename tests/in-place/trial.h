@@ -1,4 +1,4 @@
-/* What the programs of this folder share: checks that end a program, and numbers that look random. */
+/* What the programs of this folder share: checks that end a program, and pseudo-random numbers. */
 #ifndef TRIAL_H
 #define TRIAL_H
 
@@ -24,7 +24,7 @@ static inline uint32_t any(uint32_t below)
 /* Returns true once in `times` calls. */
 static inline bool rarely(uint32_t times) { return any(times) == 0; }
 
-/* Boots a machine, on a processor that the library runs on. */
+/* Boots a machine, on a processor that the library supports. */
 static inline void boot(partmem_machine *machine, uint32_t order, uint32_t superblocks, uint32_t tenants)
 {
     const partmem_config config = {order, superblocks, tenants};

@@ -1,12 +1,10 @@
-# Writes a random trace: what tenant 0 does and gets is drawn from `seed` alone, and all that comes between from `seed` and
+# Writes a random trace. What tenant 0 does and gets is drawn only from `seed`, and all that comes between from `seed` and
 # `world`. So two worlds of one seed and order have the same own list of tenant 0, whatever their other numbers are.
 #
 #   awk -v seed=1 -v world=1 -v lines=1000000 -v order=3 -v superblocks=256 -v tenants=64 -v broken=10 -f tests/soak/traces.awk
-#
-# `lines` counts the lines of both worlds that are tenant 0's; `others` lines come between on average; `broken` in a hundred of
-# those are no command, or one with numbers that nobody has.
-#
-# Tenant 0 never holds more than 4 superblocks, and others never more than all but 4, so that no grant to it is refused: there
+# `lines` counts the lines of tenant 0 in both worlds; `others` lines come between them on average; `broken` in a hundred of those
+# are no command, or one with numbers that nobody has.
+# Tenant 0 never holds more than 4 superblocks, and others never more than all but 4, so that no grant to it is refused. There
 # have to be more than 4.
 
 # A number below n: Park and Miller's generator, one for the own list (0) and one for what is between (1).
@@ -65,7 +63,7 @@ function command(t,    word, c) {
     return t " " (word == "cache" ? "reap" : word)
 }
 
-# What is done with the tenant's superblocks; it never holds more than `most`.
+# What the administrator does with the tenant's superblocks; it never holds more than `most`.
 function administer(t, most,    word) {
     word = pick("grant grant grant grant takeback takeback reset")
     if (word == "grant" && held[t] < most) { held[t]++; all_held++; return "admin grant " t }
@@ -73,13 +71,13 @@ function administer(t, most,    word) {
     return "admin takeback " t " " draw(held[t] + 1)
 }
 
-# A number that hardly anything has: the ends of ranges, and what wraps to a small number.
+# A number that hardly anything has: an end of a range, or one that wraps to a small number.
 function far() {
     return pick("31 32 63 64 255 256 65535 65536 1048576 16777216 536870912 2147483647 2147483648 4294963200 4294967232 4294967295 " \
         "4294967296 9999999999 00000000000 18446744073709551616 -1 +1 0x1 1e3 x")
 }
 
-# A line that is no command, or one that is refused whatever the machine is like.
+# A line that is no command, or one that is refused on any machine.
 function broken_line(    kind, text, n) {
     kind = draw(8)
     if (kind == 0) { n = draw(300); while (n-- > 0) text = text sprintf("%c", 11 + draw(245)); return (text ~ /^[ 0a]/ ? "~" : "") text }
