@@ -14,9 +14,9 @@ PROGRAMS = ["partmem", "framemap", "partcheck"]
 TARGET = "x86_64-unknown-linux-gnu"
 HEADER_FILES = ["partmem.h", "partmem_heap.h"]
 DECLARED = re.compile(r"^(?!PARTMEM_INLINE)[a-zP][^*(\n]*\*?(partmem_\w+)\(", re.M)
-# What code for an archive is compiled with.
+# The flags with which code for an archive is compiled.
 CODE = ["-march=x86-64-v2", "-ffunction-sections", "-fPIE", "-O2"]
-# The functions of string.h that libpartmem_watched.a has of its own, and the file in C that has them.
+# The functions of string.h that libpartmem_watched.a has itself, and the C file that defines them.
 OWN_FUNCTIONS, OF_WATCHED = ["memcpy", "memmove", "memset"], "unseen.c"
 # The part of the standard headers that the two headers and the functions in C use: the kit's clang has none of its own.
 HEADERS = {
@@ -34,7 +34,7 @@ def printed(*words):
 
 @functools.lru_cache(maxsize=None)
 def kit():
-    """Returns the folder of the toolchain: that of the page which `rt doc` names."""
+    """Returns the folder of the toolchain: the one with the page that `rt doc` names."""
     return os.path.dirname(printed("rt", "doc"))
 
 
@@ -45,7 +45,7 @@ def version():
 
 @functools.lru_cache(maxsize=None)
 def uses():
-    """Returns the libraries that each crate of crates.txt uses, its own repository's and the kit's."""
+    """Returns the libraries that each crate of crates.txt uses, those of this repository and the kit's."""
     with open(f"{TOP}/crates.txt", encoding="utf-8") as lines:
         rows = [line.partition("#")[0].partition(":") for line in lines]
     return {name.split()[0]: used.split() for name, _, used in rows if name.strip()}
@@ -53,7 +53,7 @@ def uses():
 
 @functools.lru_cache(maxsize=None)
 def below(crate):
-    """Returns the repository's crates that a crate uses, directly or not, each behind those that it uses."""
+    """Returns the repository's crates that a crate uses, directly or not, each after those that it uses."""
     found = []
     for used in uses()[crate]:
         if used in uses():
@@ -77,8 +77,8 @@ def declared():
 
 
 def compile_in_c(work, flags, files):
-    """Compiles C files by the kit's clang, so that no other compiler is needed: to objects if the flags have -c, to assembly if they
-    have -S. Returns the names of the files that it makes in `work`."""
+    """Compiles C files by the kit's clang, so that no other compiler is needed: to objects if the flags have -c, to assembly if
+    they have -S. Returns the names of the files that it makes in `work`."""
     for name, text in HEADERS.items():
         write(f"{work}/{name}", text)
     command = [f"{kit()}/toolchain/bin/clang", f"--target={TARGET}", "-std=c11", "-ffreestanding", "-isystem", work, *CODE]
@@ -87,7 +87,7 @@ def compile_in_c(work, flags, files):
 
 
 def compile_functions_in_c(work, flags, left_out=()):
-    """Compiles the C files beside partmem.h as compile_in_c does, without those left out and that of libpartmem_watched.a."""
+    """Compiles the C files beside partmem.h as compile_in_c does, except those left out and the one of libpartmem_watched.a."""
     files = sorted(glob.glob(f"{TOP}/crates/{LIBRARY}/*.c"))
     return compile_in_c(work, flags, [file for file in files if os.path.basename(file) not in [OF_WATCHED, *left_out]])
 
@@ -104,7 +104,7 @@ def add_functions_in_c(library, to):
 
 
 def make_watched(archive, to):
-    """Writes to `to` the code of an archive as one object, whose calls of functions of string.h lead to its own."""
+    """Writes to `to` the code of an archive as one object, whose calls of functions of string.h go to its own."""
     tools = f"{kit()}/toolchain/bin"
     with tempfile.TemporaryDirectory(prefix="watched-") as work:
         own = compile_in_c(work, ["-c"], [f"{TOP}/crates/{LIBRARY}/{OF_WATCHED}"])

@@ -5,9 +5,9 @@ tools/library builds each by `rattle build` from the same checked crate as the l
     python3 tools/kernels.py NAME FOLDER CLANG WORD..
 
 in its place. For the module of the library it adds to the text what KERNELS lists, and compiles it with the flags there. All other
-calls go to CLANG as they are. In FOLDER it leaves the assembly (module.s), which tools/one_object.py joins with that of the functions
-in C; and for tests/kernel-archives the text before (module.ll) and after (changed.ll), and the words of the call. No proof and no kit
-vouches for these flags.
+calls go to CLANG as they are. In FOLDER it leaves the assembly (module.s), which tools/one_object.py joins with the assembly of
+the functions in C; and for tests/kernel-archives the text before (module.ll) and after (changed.ll), and the words of the call.
+No proof and no kit vouches for these flags.
 """
 import json
 import os
@@ -18,12 +18,13 @@ from typing import NamedTuple
 
 
 class Kernel(NamedTuple):
-    """What an archive differs in."""
+    """How the build of an archive differs from that of the library."""
 
     # Flags of clang, and those that only change what it makes of C.
     flags: list[str]
     flags_for_c: list[str]
-    # What is added to each function's attributes in the text, for flags that change nothing in a module that is text already.
+    # What is added to the attributes of each function in the text, since some flags have no effect on a module that is already
+    # text.
     attributes: str
     # The same for flags of the module: the text's last lines.
     last: str
@@ -39,7 +40,7 @@ FLAGGED = """!llvm.module.flags = !{!9001, !9002}
 !9001 = !{i32 8, !"cf-protection-branch", i32 1}
 !9002 = !{i32 4, !"indirect_branch_cs_prefix", i32 1}
 """
-# Bytes of padding before each function, into which Linux can write what counts the calls.
+# Bytes of padding before each function, into which Linux can write code that counts the calls.
 PADDING = 16
 PADDED = f'"patchable-function-prefix"="{PADDING}"'
 # Where clang puts functions that are seldom called.
@@ -61,7 +62,7 @@ OWN = b"partmem_boot_kernel"
 
 
 def text_of(clang, module):
-    """Returns the text of a module, in which nothing is changed."""
+    """Returns the text of a module unchanged."""
     words = [TARGET, "-S", "-emit-llvm", "-Xclang", "-disable-llvm-passes", "-x", "ir", module, "-o", "-"]
     return subprocess.run([clang, *words], stdout=subprocess.PIPE, text=True, check=True).stdout
 
@@ -73,7 +74,7 @@ def changed(text, kernel):
 
 
 def module_among(words):
-    """Returns the words' module of the library, or None if there is none."""
+    """Returns the module of the library among the words, or None if there is none."""
     for word in words:
         if word.endswith(".bc") and os.path.isfile(word):
             with open(word, "rb") as file:

@@ -1,6 +1,6 @@
 """Makes an archive for kernels of one object: the module of the library and its functions in C, joined as assembly.
 
-In one file of assembly a name that is not declared global is known to nobody else, so no tool has to hide it afterwards. Only the
+In one file of assembly a name that is not declared global is visible nowhere else, so no tool has to hide it afterwards. Only the
 functions of the headers stay global.
 """
 import os
@@ -42,8 +42,8 @@ def joined(texts, renamed):
 
 
 def make_archive(module, kernel, to):
-    """Writes to `to` the archive of one object: a module's assembly, in the file `module`, and the functions in C, but for
-    partmem_boot, which is over the C library."""
+    """Writes to `to` the archive of one object: a module's assembly, in the file `module`, and the functions in C, except
+    partmem_boot, which needs the C library."""
     clang = f"{kit()}/toolchain/bin/clang"
     with tempfile.TemporaryDirectory(prefix="object-") as work:
         units = compile_functions_in_c(work, ["-S", *kernel.flags, *kernel.flags_for_c], ["boot.c"])
