@@ -1,5 +1,5 @@
-"""Compares crates/partmem_c/partmem.h, with two functions that memory.c declares, with the exports, structs and constants of the
-crate's source, all of both.
+"""Compares crates/partmem_c/partmem.h, and two functions that memory.c declares, with the exports, structs and constants of the
+crate's source. All of both is compared.
 
 A word of the header that belongs to nothing that is compared is refused, and so is an export or a struct that was not read."""
 import glob
@@ -7,11 +7,11 @@ import re
 import sys
 
 LIMITS = "FRAME_BYTES LEAST_ORDER MOST_ORDER MOST_SUPERBLOCKS MOST_TENANTS MOST_CACHES MOST_PATTERN MOST_BYTES".split()
-# The types of C, by those of Rust.
+# The types of C by those of Rust.
 TYPES = {"u32": "uint32_t", "usize": "size_t", "bool": "uint32_t", "*mut u8": "void *"}
-# What Rust has no field of that name for.
+# Fields that have another name in Rust.
 FIELDS = {"usage": "use"}
-# A partmem_tenant goes where a machine and a number go.
+# A partmem_tenant is passed for a machine and a number.
 TENANT = [("machine", "partmem_machine *"), ("tenant", "uint32_t")]
 IN_C = ["partmem_" + name for name in "strerror version boot boot_in end superblock_address find_place".split()]
 # Exports that return a number and no status.
@@ -39,13 +39,14 @@ def fail(text):
 
 
 def declared(text):
-    """The name and the type of what C declares."""
+    """Returns the name and the type of what C declares."""
     found = DECLARED.fullmatch(" ".join(text.split()))
     return (found[2], found[1] + (found[3] or "")) if found else fail(f"not read: {text!r}")
 
 
 def parts_of_header():
-    """The macros, enums, structs and functions of the header. All else in it is preprocessor lines and inline functions."""
+    """Returns the macros, enums, structs and functions of the header. All else in it is preprocessor lines and inline
+    functions."""
     macros = re.findall(r"^#define PARTMEM_(\w+) (\w+?)u\b", header, re.M)
     text = " ".join(line for line in header.replace("\\\n", " ").splitlines() if not line.startswith("#"))
     text = INLINE.sub(" ", " ".join(text.split()))
@@ -59,12 +60,12 @@ def constants(text):
     return re.findall(r"PARTMEM_(\w+) = (\w+)", text)
 
 
-# What Rust calls a struct of the header: read off the exports, in which both ends name a parameter alike.
+# What Rust calls a struct of the header. This comes from the exports, where both languages give a parameter the same name.
 names = {"Machine": "partmem_machine"}
 
 
 def of_rust(text):
-    """The type of C for one of Rust's."""
+    """Returns the type of C for a type of Rust."""
     array = re.fullmatch(r"\[(\w+); (\w+)\]", text)
     if array:
         return f"{of_rust(array[1])}[{array[2]}]"
@@ -87,7 +88,7 @@ def exports_of_header(functions):
 
 
 def exports_of_source(in_header):
-    """The exports of the source, in the types of C: a slice is a pointer, to bytes or to text, and a length."""
+    """Returns the exports of the source, in the types of C: a slice is a pointer, to bytes or to text, and a length."""
     exports = re.findall(r'#\[unsafe\(no_mangle\)\]\s*pub extern "C" fn (\w+)\((.*?)\)\s*->\s*u32', source, re.S)
     marks = len(re.findall(r"no_mangle|export_name", source))
     if not marks == source.count("extern") == len(exports):
@@ -120,7 +121,7 @@ def structs_of_header(structs):
 
 
 def structs_of_source(in_header):
-    """The structs of the source. C does not see the two that hold a machine."""
+    """Returns the structs of the source. C does not see the two that hold a machine."""
     structs = re.findall(r"#\[repr\(C\)\]\s*(?:#\[[^\]]*\]\s*)*pub struct (\w+) \{(.*?)\n\}", source, re.S)
     if len(structs) != source.count("repr("):
         fail(f"the source has {source.count('repr(')} structs for C, of which {len(structs)} were read")
@@ -142,14 +143,14 @@ def structs_of_source(in_header):
 
 
 def plain(structs, limits):
-    """The structs with numbers as lengths of arrays, and enums as what carries them."""
+    """Returns the structs with numbers as lengths of arrays, and with integers for enums."""
     for name, fields in structs.items():
         kinds = [re.sub(r"\[(.*)\]", lambda found: f"[{length(found[1], limits)}]", kind) for _, kind in fields]
         yield name, [(field, kind.replace("partmem_use", "uint32_t")) for (field, _), kind in zip(fields, kinds)]
 
 
 def length(text, limits):
-    """A length of an array, which is a limit, in C perhaps with 1 added, or a constant of the source that is made of limits."""
+    """Returns a length of an array: a limit, in C perhaps plus 1, or a constant of the source that is made of limits."""
     names = {"ORDERS": limits["MOST_ORDER"] + 1, "CACHES": limits["MOST_CACHES"], **limits}
     return sum(int(names.get(part.removeprefix("PARTMEM_"), part)) for part in text.split(" + "))
 
@@ -159,7 +160,7 @@ def snake(name):
 
 
 def numbers_of_source():
-    """The numbers of the source: statuses, kinds and uses, and what bounds them."""
+    """Returns the numbers of the source: statuses, kinds and uses, and what bounds them."""
     for path, text in sources.items():
         for name, number in re.findall(r"pub const (\w+): u32 = (\d+|u32::MAX);", text):
             yield name, 2 ** 32 - 1 if number == "u32::MAX" else int(number)
@@ -174,7 +175,7 @@ def numbers_of_source():
 
 
 def by_name(what, pairs):
-    """The pairs by their names, each of which is there once."""
+    """Returns the pairs by their names, each of which occurs once."""
     pairs = list(pairs)
     if len(pairs) != len(dict(pairs)):
         fail(f"a {what} is there twice")
@@ -192,7 +193,7 @@ def compare(what, in_header, in_source):
 macros, enums, structs, functions = parts_of_header()
 numbers = macros + [pair for text, _ in enums for pair in constants(text)]
 numbers = by_name("number", [(name, int(number, 0)) for name, number in numbers])
-# Of C alone: the version, the place of no byte, the width of the two enums, and statuses of functions in C.
+# Constants that only C has: the version, the place of no byte, the width of the two enums, and statuses of functions in C.
 OF_C = {"VERSION": 20000, "NO_PLACE": 2 ** 32 - 1, "STATUS_BITS": 2 ** 31 - 1, "USE_BITS": 2 ** 31 - 1, "BAD_MEMORY": 35, "NOT_HELD": 38}
 for name, number in OF_C.items():
     if numbers.pop(name, None) != number:

@@ -1,5 +1,5 @@
-/* Freestanding: two static arrays are the memory of a machine. The library needs memcpy, memmove and memset, and nothing else.
- * What comes after "The board" is for x86-64 Linux without a C library: a kernel or a board has its own.
+/* A freestanding program: two static arrays are the memory of a machine. The library needs memcpy, memmove and memset, and
+ * nothing else. What comes after "The board" is for x86-64 Linux without a C library: a kernel or a board has its own.
  *
  *     gcc -std=c11 -O2 -ffreestanding -nostdlib -static use/embed.c -lpartmem -o embed
  */
@@ -12,7 +12,8 @@ static _Alignas(16) unsigned char tables[PARTMEM_TABLE_BYTES(ORDER, SUPERBLOCKS,
 static partmem_machine machine;
 static const partmem_tenant driver = {&machine, 0}, logger = {&machine, 1};
 
-/* Messages are objects of the logger. Each has the place of the one before it, since a move changes addresses. */
+/* Messages are objects of the logger. Each holds the place of the one before it, not its address, since a move changes
+ * addresses. */
 struct message {
     uint32_t before;
     char text[28];

@@ -1,5 +1,5 @@
-/* A server that has a pool for each client, a tenant of the machine. A pool is a hash table in a page block, entries that are
- * objects of a cache, and blobs in page blocks. All are used in place, and all links are places.
+/* A server with a pool for each client. Each client is a tenant of the machine. A pool is a hash table in a page block, entries
+ * that are objects of a cache, and blobs in page blocks. All are used in place, and all links are places.
  *
  * The server runs twice. In one run client 0 takes part and is reset at random, and slots of the others are moved. The others
  * have to get the same answers, and to read the same bytes, as in the run without. Otherwise the program exits with 1. */
@@ -41,7 +41,7 @@ static void see(struct pool *pool, const void *bytes, size_t count) {
     pool->bytes += count;
 }
 
-/* Counts an answer to a client, with the place in it, and returns whether the request was done. */
+/* Counts an answer to a client, with the place in it. Returns whether the request was done. */
 static int is_done(struct pool *pool, partmem_status status, const uint32_t *place) {
     see(pool, &status, sizeof status);
     see(pool, place, sizeof *place);
@@ -59,7 +59,7 @@ static uint32_t *link_to(const struct pool *pool, uint32_t key) {
     return link;
 }
 
-/* Puts a key, if it is not there. A fresh object or block has zeroes, or what the client left in it: the client reads that. */
+/* Adds a key, unless it is there. A new object or block has zeroes, or what the client left in it, and the client reads that. */
 static void put(struct pool *pool, uint32_t key) {
     uint32_t *link = link_to(pool, key);
     partmem_lent object, blob;
@@ -122,7 +122,7 @@ static int disturb(struct pool pools[CLIENTS]) {
     return 1;
 }
 
-/* Runs the server, with client 0 or without it, and returns how often that was reset. */
+/* Runs the server, with client 0 or without it. Returns how often client 0 was reset. */
 static int run(struct pool pools[CLIENTS], int with_first) {
     static partmem_machine machine;
     const partmem_config config = {ORDER, SLOTS * CLIENTS + 1, CLIENTS};

@@ -1,4 +1,4 @@
-/* Boots two machines. Runs the lines of a file on the first and prints their replies; uses memory of the second where it lies. */
+/* Boots two machines. Runs the lines of a file on the first and prints their replies; uses memory of the second in place. */
 #define _POSIX_C_SOURCE 200809L /* getline */
 #include <stdio.h>
 #include <stdlib.h>
@@ -7,7 +7,7 @@
 #include "partmem.h"
 
 struct message {
-    uint32_t next; /* a place, since an address would be another one on another run */
+    uint32_t next; /* a place, since an address would differ from run to run */
     char text[60];
 };
 
@@ -38,7 +38,7 @@ static void run_lines(partmem_machine *machine, FILE *trace) {
     free(line);
 }
 
-/* Puts a message before those that begin at a place, and returns the place where they begin now. */
+/* Puts a message before the list that begins at a place, and returns the place where the list begins now. */
 static uint32_t put_message(partmem_tenant tenant, uint32_t messages, uint32_t next, const char *text) {
     partmem_lent object;
     must(partmem_take(tenant, messages, &object), "take");
@@ -48,7 +48,7 @@ static uint32_t put_message(partmem_tenant tenant, uint32_t messages, uint32_t n
     return object.place;
 }
 
-/* Objects and a page block of the last tenant, through a move. */
+/* Uses objects and a page block of the last tenant, through a move. */
 static void use_in_place(partmem_machine *machine) {
     const partmem_tenant last = {machine, 63}, other = {machine, 62};
     partmem_slot slot;

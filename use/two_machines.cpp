@@ -1,4 +1,4 @@
-// Two machines beside each other as in two_machines.c, in C++, where the destructor of one ends it.
+// Two machines side by side as in two_machines.c, in C++, where the destructor of a machine ends it.
 #include <cstdio>
 #include <cstring>
 #include <fstream>
@@ -33,7 +33,7 @@ private:
     std::vector<char> buffer = std::vector<char>(PARTMEM_MOST_TEXT_BYTES);
 };
 
-// An object of a cache, of type T, which is given back when this goes.
+// An object of a cache, of type T. The destructor gives it back.
 template <typename T>
 class Object {
 public:

@@ -1,4 +1,4 @@
-//! Two machines beside each other as in `two_machines.c`, in plain Rust, where dropping one ends it.
+//! Two machines side by side as in `two_machines.c`, in plain Rust, where dropping a machine ends it.
 use std::io::{BufRead, BufReader, Write};
 use std::os::raw::{c_char, c_void};
 use std::ptr;
@@ -87,7 +87,7 @@ impl Drop for Booted {
 }
 
 impl Lent {
-    /// The bytes, which nobody else uses.
+    /// Returns the bytes, which nobody else uses.
     fn bytes(&mut self) -> &mut [u8] {
         unsafe { std::slice::from_raw_parts_mut(self.at, self.bytes as usize) }
     }

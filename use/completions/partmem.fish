@@ -9,7 +9,7 @@ end
 for program in partmem framemap
     complete -c $program -l only -x -d 'This tenant alone'
 end
-complete -c partmem -l own -x -d 'The own list of this tenant, in place of replies'
-complete -c partmem -l tally -d 'Tell on standard error what was done, refused and faulty'
+complete -c partmem -l own -x -d 'The own list of this tenant, instead of replies'
+complete -c partmem -l tally -d 'Print on standard error what was done, refused and faulty'
 complete -c framemap -l columns -x -d 'Columns of the picture at most, 1 to 4096'
-complete -c framemap -l figures -d 'A table of the figures, in place of the picture'
+complete -c framemap -l figures -d 'A table of the figures, instead of the picture'

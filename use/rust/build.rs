@@ -1,5 +1,6 @@
-//! Finds libpartmem.a, or the unproved library if that is nowhere, or with the feature `kernel` libpartmem_kernel.a: in the folder
-//! PARTMEM_DIR or its lib; without that where pkg-config finds it, or in out/ of the repository that this crate is in.
+//! Finds libpartmem.a, or the unproved library if there is none, or with the feature `kernel` libpartmem_kernel.a. It searches
+//! the folder PARTMEM_DIR or its lib; without PARTMEM_DIR, where pkg-config finds it, or out/ of the repository that has this
+//! crate.
 use std::path::{Path, PathBuf};
 use std::process::{exit, Command};
 use std::{env, fs};
@@ -14,7 +15,7 @@ fn fail(why: &str, how: &str) -> ! {
     exit(1)
 }
 
-/// The first of these folders with the library of that name.
+/// Returns the first of these folders that has the library of that name.
 fn find<'a>(folders: &[PathBuf], name: &'a str) -> Option<(PathBuf, &'a str)> {
     let found = folders.iter().find(|folder| folder.join(format!("lib{name}.a")).is_file())?;
     Some((found.clone(), name))
@@ -25,7 +26,7 @@ fn ask_pkg_config() -> Option<PathBuf> {
     output.status.success().then(|| String::from_utf8_lossy(&output.stdout).trim_end().into())
 }
 
-/// Where the library may be, the likeliest first.
+/// Returns where the library may be, the likeliest place first.
 fn folders() -> Vec<PathBuf> {
     if let Some(named) = env::var_os("PARTMEM_DIR").map(PathBuf::from) {
         return vec![named.join("lib"), named];

@@ -1,5 +1,5 @@
-//! A program of `core` and `alloc` alone, as a kernel is: a static has its memory. Tenant 0 is the program's own heap; another
-//! tenant has typed values. Here the C library starts it; it returns 0 if all was right.
+//! A program that needs only `core` and `alloc`, as a kernel does: a static has its memory. Tenant 0 is the program's own heap;
+//! another tenant has typed values. Here the C library starts it; it returns 0 if all was right.
 #![no_std]
 #![no_main]
 extern crate alloc;
@@ -55,7 +55,7 @@ fn stop(_: &core::panic::PanicInfo<'_>) -> ! {
     loop {}
 }
 
-/// What a target with an operating system needs beyond that: `memcpy` and the like are the C library's there, and `alloc` was
+/// What a target with an operating system also needs: `memcpy` and the like come from the C library there, and `alloc` was
 /// compiled to unwind, which this program never does.
 mod hosted {
     #[link(name = "c")]

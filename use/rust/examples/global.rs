@@ -1,4 +1,4 @@
-//! All that this program allocates lies in the memory of one tenant, which is a static. Another tenant has what is left.
+//! All that this program allocates lies in the memory of one tenant, which is in a static. Another tenant has what is left.
 use partmem::{Config, Error, Global, LazyHeap, Machine, StaticMemory, Tenant};
 use std::collections::BTreeMap;
 use std::sync::Mutex;

@@ -1,4 +1,5 @@
-//! A server that keeps sessions as objects of its clients. Each client is a tenant. Machine and handles lie in one struct.
+//! A server that keeps sessions as objects of its clients. Each client is a tenant. The machine and the handles are in one
+//! struct.
 use partmem::{Cache, Config, Error, Machine, Object, Place, Tenant};
 use std::collections::HashMap;
 

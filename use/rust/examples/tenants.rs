@@ -7,7 +7,7 @@ struct Node<'h> {
     next: Option<Boxed<'h, Node<'h>>>,
 }
 
-/// Pushes numbers to a list until the heap has no memory, or `most` of them. Returns the list and its length.
+/// Pushes `most` numbers to a list, or as many as the heap has memory for. Returns the list and its length.
 fn push<'h>(heap: &'h Heap<'h>, most: u64) -> (Option<Boxed<'h, Node<'h>>>, u64) {
     let mut list = None;
     for number in 0..most {

@@ -2,8 +2,8 @@
 use crate::sys;
 use core::{fmt, slice, str};
 
-/// A refusal of a request, by its name in traces. Except `PoolEmpty` it follows from what the tenant itself did, its grants,
-/// take-backs and resets, and the machine's order and number of tenants.
+/// A refusal of a request, by its name in traces. Except for `PoolEmpty` it depends only on what the tenant itself did, its
+/// grants, take-backs and resets, and the machine's order and number of tenants.
 #[derive(Clone, Copy, Debug, PartialEq, Eq, Hash)]
 #[rustfmt::skip]
 pub enum Refusal {
@@ -28,17 +28,17 @@ pub enum Error {
     BadConfig,
     /// The [`Memory`](crate::Memory) of a machine is too small or not aligned; or a heap with runs has no slots in a row.
     BadMemory,
-    /// An allocation failed. Of a heap: its tenant has too few frames, or the request is too large.
+    /// An allocation failed. From a heap: its tenant has too few frames, or the request is too large.
     NoMemory,
-    /// The pattern of a cache has not 1 to 16 bytes.
+    /// The pattern of a cache does not have 1 to 16 bytes.
     BadPattern,
-    /// The handle is of another machine or tenant, its tenant was reset, or its cache was destroyed.
+    /// The handle belongs to another machine or tenant, its tenant was reset, or its cache was destroyed.
     Stale,
     /// A status that this crate does not expect.
     Other(u32),
 }
 
-/// Returns what a status of the library means.
+/// Returns the meaning of a status of the library.
 pub(crate) fn done(status: u32) -> Result<(), Error> {
     Err(match status {
         0 => return Ok(()),

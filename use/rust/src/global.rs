@@ -19,7 +19,7 @@ impl<T> Lock<T> for std::sync::Mutex<T> {
     }
 }
 
-/// A lock that waits in a loop. Not for interrupt handlers: one that has interrupted its holder waits for ever.
+/// A lock that waits in a loop. Do not use it in interrupt handlers: one that has interrupted the holder waits for ever.
 pub struct SpinLock<T> {
     is_held: AtomicBool,
     value: UnsafeCell<T>,
@@ -58,7 +58,7 @@ impl<T> Lock<T> for SpinLock<T> {
 /// How a program opens the machine of its global allocator. It may not allocate, nor panic, which allocates: both wait for ever.
 pub type Open = fn() -> Result<(Machine, Tenant), Error>;
 
-/// A heap that is opened by the first allocation, with its machine, which never ends.
+/// A heap with its machine, which never ends. The first allocation opens it.
 #[derive(Debug)]
 pub struct LazyHeap(State);
 

@@ -7,10 +7,10 @@ use core::ops::{Deref, DerefMut};
 use core::ptr::{self, NonNull};
 use core::{fmt, mem};
 
-/// All pieces begin at multiples of it.
+/// The alignment of all pieces.
 const STEP: usize = 16;
 
-/// The functions of partmem_heap.h for one heap, whose machine is booted. Calls are one at a time.
+/// The functions of partmem_heap.h for one heap, whose machine is booted. One call is made at a time.
 pub(crate) struct RawHeap(UnsafeCell<sys::Heap>);
 
 impl RawHeap {
@@ -33,7 +33,7 @@ impl RawHeap {
     }
 
     /// # Safety
-    /// The piece is of this heap, and not used again.
+    /// The piece is from this heap, and is not used again.
     pub(crate) unsafe fn free(&self, at: *mut u8) {
         // SAFETY: as said above. Of another address the heap frees nothing.
         let status = unsafe { sys::partmem_heap_free(self.0.get(), at) };
@@ -43,7 +43,7 @@ impl RawHeap {
     /// Gives a piece another size. Returns null if there is no memory; then nothing has changed.
     ///
     /// # Safety
-    /// The piece is of this heap, with the layout `old`. If it moves, the old one is not used again.
+    /// The piece is from this heap, with the layout `old`. If it moves, the old one is not used again.
     pub(crate) unsafe fn resize(&self, at: *mut u8, old: Layout, new: Layout) -> *mut u8 {
         if new.align().max(old.align()) <= STEP {
             // SAFETY: as said above.
@@ -60,7 +60,7 @@ impl RawHeap {
         to
     }
 
-    /// Destroys its caches, but for those that have a live object, which was leaked.
+    /// Destroys its caches, except those that have a live object, which was leaked.
     fn close(&mut self, tenant: sys::Tenant) {
         for cache in self.0.get_mut().cache_of.iter().filter(|cache| **cache > 0) {
             // SAFETY: the machine is booted, and no other call of it runs. Nothing of a cache without live objects is used.
@@ -77,21 +77,20 @@ impl RawHeap {
 /// The heap of a tenant. With the feature `allocator_api`, which needs a nightly compiler, `&Heap` is an `Allocator`:
 /// `Vec::new_in(&heap)`. On any compiler [`Heap::boxed`], [`Heap::copied`] and [`Heap::text`] put values, slices and texts in it.
 ///
-/// It borrows the [`Client`], and what it allocates borrows the heap: so they are gone before a reset or a move of this tenant.
-/// Dropping it destroys its caches.
-/// The tenant's values may hold addresses of each other. `partmem_heap.h` says what is lost if a program computes from the numbers
-/// in them.
+/// It borrows the [`Client`], and what it allocates borrows the heap. So they have to be dropped before a reset or a move of this
+/// tenant. Dropping it destroys its caches. The tenant's values may hold addresses of each other. `partmem_heap.h` says what is
+/// lost if a program computes from the numbers in them.
 ///
 /// # Runs
 /// With them a request larger than a superblock gets superblocks that lie in a row. The tenant's slots have to be 0, 1, 2 ..,
 /// and to lie in RAM one behind another, as grants at the start make them.
 pub struct Heap<'c> {
     raw: RawHeap,
-    /// A second one, whose user has the first one no longer, or only to borrow it. It is not shown.
+    /// A second client of the tenant. Its user no longer has the first one, or only borrows it. It is not public.
     client: Client<'c>,
 }
 
-/// A [`Heap`] that has its client and does not borrow it, for a list of guests. It derefs to the heap.
+/// A [`Heap`] that owns its client and does not borrow it, for a list of guests. It derefs to the heap.
 #[derive(Debug)]
 pub struct OwnedHeap<'a> {
     heap: Heap<'a>,
@@ -130,7 +129,7 @@ impl Drop for Heap<'_> {
 
 /// A value in a [`Heap`]: it derefs to the value. Dropping it drops the value and frees its memory.
 pub struct Boxed<'h, T: ?Sized> {
-    /// The value, alive.
+    /// The value, which is alive.
     at: NonNull<T>,
     heap: &'h Heap<'h>,
 }
@@ -159,7 +158,7 @@ impl<'c> Heap<'c> {
         self.boxed_with(|| value)
     }
 
-    /// Puts a value into the heap, which is made only if there is memory. Fails with `NoMemory`.
+    /// Makes a value and puts it into the heap, only if there is memory. Fails with `NoMemory`.
     pub fn boxed_with<T>(&self, make: impl FnOnce() -> T) -> Result<Boxed<'_, T>, Error> {
         let at = NonNull::new(self.raw.allocate(Layout::new::<T>()).cast::<T>()).ok_or(Error::NoMemory)?;
         let piece = Piece { at: at.as_ptr().cast(), heap: self };
@@ -191,7 +190,7 @@ impl<'c> Heap<'c> {
 }
 
 impl<T: ?Sized> Boxed<'_, T> {
-    /// Returns the place of its first byte, which may be stored and shown in the place of an address.
+    /// Returns the place of its first byte, which may be stored and shown instead of an address.
     pub fn place(this: &Self) -> Place {
         this.heap.raw.place(this.at.as_ptr().cast())
     }
@@ -209,7 +208,7 @@ impl<T> Boxed<'_, T> {
 
 impl<T: ?Sized> Drop for Boxed<'_, T> {
     fn drop(&mut self) {
-        // Frees the memory behind the value's end, also if that panics.
+        // Frees the memory after the value's end, also if that panics.
         let _piece = Piece { at: self.at.as_ptr().cast(), heap: self.heap };
         // SAFETY: the value is alive, and this is its only owner.
         unsafe { ptr::drop_in_place(self.at.as_ptr()) };
@@ -238,7 +237,7 @@ mod allocator {
     use core::alloc::{AllocError, Allocator};
     use core::ptr;
 
-    /// The memory of a layout, at an address that may be null.
+    /// Returns the memory of a layout, at an address that may be null.
     fn memory(at: *mut u8, layout: Layout) -> Result<NonNull<[u8]>, AllocError> {
         NonNull::new(ptr::slice_from_raw_parts_mut(at, layout.size())).ok_or(AllocError)
     }
@@ -273,7 +272,7 @@ impl fmt::Debug for Heap<'_> {
     }
 }
 
-/// The value's, without the address, which is shown to nobody.
+/// Formats the value without the address, which is not shown.
 impl<T: fmt::Debug + ?Sized> fmt::Debug for Boxed<'_, T> {
     fn fmt(&self, to: &mut fmt::Formatter<'_>) -> fmt::Result {
         (**self).fmt(to)

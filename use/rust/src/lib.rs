@@ -24,7 +24,7 @@
 //!
 //! # Bytes
 //!
-//! Numbers are stored in lent bytes by `to_le_bytes` and the like.
+//! Store numbers in lent bytes by `to_le_bytes` and the like.
 //!
 //! ```
 //! use partmem::{Config, Machine, Refusal, Tenant};
@@ -51,8 +51,8 @@
 //!
 //! - Any number of handles may be lent at once, beside `alloc`, `take`, `lend` and `report`, which need `&Machine`.
 //! - `free` and `give` consume their handle, so nobody has its bytes. Others may be lent.
-//! - `move_slot`, `reset` and the drop of the machine need that nothing is lent. Handles stay through a move, and are lent again.
-//!   A lend compares two numbers. It calls the library after a move, until a `lend_mut` has found the new address.
+//! - `move_slot`, `reset` and the drop of the machine require that nothing is lent. Handles stay through a move, and can be lent
+//! again. A lend compares two numbers. It calls the library after a move, until a `lend_mut` has found the new address.
 //! - Handles can lie beside the machine in one struct. Typed values and what a heap allocates borrow their [`Client`], and cannot.
 //! - A handle that is dropped leaves its bytes allocated until a reset. After a reset and on another machine it is
 //!   [`Error::Stale`].
@@ -138,14 +138,17 @@
 //! The header ends in a list of duties. The crate keeps those of machines, arguments, bounds, endings, threads and reused
 //! numbers. These are left to you:
 //!
-//! - *Flows.* Do not store what was loaded for one tenant for another, or show it to it. Do not store an address, such as the
+//! - *Flows.* Do not store for one tenant what was loaded for another, and do not show it to that tenant. Do not store an
+//! address, such as the
 //!   `as_ptr` of a lend, in lent bytes, or show it to a tenant. Values with references, and collections, are full of addresses:
-//!   such a tenant may learn of others what `partmem_heap.h` says.
-//! - *Users.* Whoever has the machine acts for any tenant, and `lend_at` reaches every live object. No tenant's user gets them. A
+//!   such a tenant may learn of others, as `partmem_heap.h` says.
+//! - *Users.* Whoever has the machine acts for any tenant, and `lend_at` reaches every live object. Give them to no tenant's
+//! user. A
 //!   [`Client`] acts for its tenant alone.
 //! - *After the end.* The memory goes back to the allocator with the tenants' bytes in it. Overwrite secrets before.
 //! - *Booting.* The crate boots one machine at a time. C code in the same program must not boot another beside it.
-//! - *Other code.* No call from a signal handler, nor from the forked child of a process with threads. The compiler sees no page
+//! - *Other code.* Make no call from a signal handler, nor from the forked child of a process with threads. The compiler sees no
+//! page
 //!   tables and no devices: unmap and stop them before a free, reset, move or end.
 #![no_std]
 #![cfg_attr(feature = "allocator_api", feature(allocator_api))]
@@ -174,7 +177,7 @@ pub use tenants::{Administrator, Client, Clients};
 #[derive(Clone, Copy, Debug, PartialEq, Eq, PartialOrd, Ord, Hash)]
 pub struct Tenant(pub u32);
 
-/// The number of a byte of a tenant. Blocks and objects are named by the place of their first byte.
+/// The number of a byte of a tenant. The place of its first byte names a block or an object.
 #[derive(Clone, Copy, Debug, PartialEq, Eq, PartialOrd, Ord, Hash)]
 #[repr(transparent)]
 pub struct Place(pub u32);
@@ -196,7 +199,7 @@ pub struct Config {
     pub tenants: u32,
 }
 
-/// A slot of a tenant, and the superblock under it, which is the administrator's knowledge and not the tenant's.
+/// A slot of a tenant, and the superblock under it. Only the administrator knows the superblock.
 #[derive(Clone, Copy, Debug, Default, PartialEq, Eq)]
 #[repr(C)]
 pub struct Slot {

@@ -1,4 +1,4 @@
-//! The machine and the handles of its blocks and objects. What is unsafe about lent bytes is all here.
+//! The machine and the handles of its blocks and objects. All that is unsafe about lent bytes is here.
 use crate::memory::{alone, Memory, Region};
 use crate::{error::done, sys, Administrator, Client, Clients, Config, Error, Figures, Place, Slot, Tenant};
 use core::cell::Cell;
@@ -10,7 +10,7 @@ const MOST_PATTERN: usize = 16;
 const MOST_TENANTS: usize = 64;
 static STAMPS: AtomicU64 = AtomicU64::new(0);
 
-/// Returns a number that no other tenant has or had, of any machine.
+/// Returns a number that no other tenant of any machine has or had.
 fn new_stamp() -> u64 {
     STAMPS.fetch_add(1, Ordering::Relaxed)
 }
@@ -24,7 +24,7 @@ pub(crate) fn result<T: Default>(call: impl FnOnce(&mut T) -> u32) -> Result<T, 
 /// A handle: the only name of a live block or object. Dropping it leaves the block allocated, or the object taken.
 #[must_use = "a dropped handle leaves its bytes allocated"]
 pub struct Handle<Kind> {
-    /// Of the tenant since its last reset.
+    /// The number of the tenant since its last reset.
     stamp: u64,
     /// How many moves the machine had made when `at` was the address.
     moves: u64,
@@ -61,7 +61,7 @@ impl<Kind> Handle<Kind> {
     }
 }
 
-/// Without the address, which is shown to nobody.
+/// Formats the handle without the address, which is not shown.
 impl<Kind> fmt::Debug for Handle<Kind> {
     fn fmt(&self, to: &mut fmt::Formatter<'_>) -> fmt::Result {
         write!(to, "Handle({} bytes at place {} of tenant {})", self.bytes, self.place.0, self.tenant.0)
@@ -78,15 +78,15 @@ pub struct Cache {
 
 /// A machine. Dropping it ends it, and frees the memory that [`Machine::boot`] has allocated.
 pub struct Machine {
-    /// In the tables, behind the library's. Booted.
+    /// The machine, in the tables behind the library's part. It is booted.
     raw: NonNull<sys::Machine>,
     config: Config,
-    /// What [`Machine::boot`] has allocated.
+    /// The memory that [`Machine::boot`] has allocated.
     #[cfg(feature = "std")]
     owned: Option<Region>,
-    /// Of each tenant. A reset takes a new one, so that older handles are refused.
+    /// A number of each tenant. A reset takes a new one, so that older handles are refused.
     stamps: [Cell<u64>; MOST_TENANTS],
-    /// The moves so far: addresses in handles of the same number are right.
+    /// The number of moves so far. Addresses in handles of the same number are right.
     moves: Cell<u64>,
 }
 
@@ -112,7 +112,7 @@ impl Machine {
         Ok(machine)
     }
 
-    /// Boots a machine in which no superblock has an owner, in memory of the caller's. Fails with `BadConfig`, `BadMemory`.
+    /// Boots a machine in which no superblock has an owner, in memory of the caller. Fails with `BadConfig`, `BadMemory`.
     ///
     /// # Panics
     /// If the library has another version than 2.
@@ -121,7 +121,7 @@ impl Machine {
         Machine::boot_at(config, memory.region(config)?)
     }
 
-    /// Boots a machine in a region that is large enough and aligned, and that nobody else uses.
+    /// Boots a machine in a region that is large enough and aligned, and that nothing else uses.
     fn boot_at(config: Config, region: Region) -> Result<Machine, Error> {
         // SAFETY: it only returns a number.
         assert_eq!(unsafe { sys::partmem_version() } / 10_000, 2, "the version of the library partmem");
@@ -151,7 +151,7 @@ impl Machine {
         sys::Tenant(self.raw.as_ptr(), tenant.0)
     }
 
-    /// Returns the tenant, or refuses what is of another machine or from before a reset.
+    /// Returns the tenant, or refuses a handle of another machine or from before a reset.
     fn check(&self, tenant: Tenant, stamp: u64) -> Result<sys::Tenant, Error> {
         let same = self.stamps.get(tenant.0 as usize).map(Cell::get) == Some(stamp);
         same.then_some(self.of(tenant)).ok_or(Error::Stale)

@@ -43,12 +43,12 @@ impl Config {
             + tenants * (4216 + 8 * superblocks + 12 * groups)
     }
 
-    /// Returns where the `partmem_machine` lies in the tables, behind the library's.
+    /// Returns where the `partmem_machine` lies in the tables, after the library's part.
     pub(crate) const fn machine_offset(self) -> usize {
         (self.library_bytes() + TABLE_ALIGN - 1) / TABLE_ALIGN * TABLE_ALIGN
     }
 
-    /// Returns how many bytes of tables a machine has. That is what the header says, and up to 40 bytes of this crate.
+    /// Returns how many bytes of tables a machine has: those that the header says, and up to 40 bytes of this crate.
     pub const fn table_bytes(self) -> usize {
         self.machine_offset() + size_of::<sys::Machine>()
     }
@@ -77,7 +77,7 @@ impl Memory {
         Memory { ram: without_values(ram), tables: without_values(tables) }
     }
 
-    /// Returns where it lies, if it is large enough and aligned.
+    /// Returns where the memory lies, if it is large enough and aligned.
     pub(crate) fn region(self, config: Config) -> Result<Region, Error> {
         let is_large = self.ram.len() >= config.ram_bytes() && self.tables.len() >= config.table_bytes();
         let region = Region { ram: NonNull::from(self.ram).cast(), tables: NonNull::from(self.tables).cast() };
@@ -93,7 +93,7 @@ impl fmt::Debug for Memory {
     }
 }
 
-/// Memory of a new machine from the global allocator, and its return.
+/// Memory of a new machine from the global allocator.
 #[cfg(feature = "std")]
 impl Region {
     fn layouts(config: Config) -> [std::alloc::Layout; 2] {
@@ -154,7 +154,7 @@ impl<const RAM: usize, const TABLES: usize> StaticMemory<RAM, TABLES> {
         }
     }
 
-    /// Returns the memory, the first time that it is called.
+    /// Returns the memory at the first call, and `None` afterwards.
     pub fn take(&'static self) -> Option<Memory> {
         if self.is_taken.swap(true, Ordering::Relaxed) {
             return None;

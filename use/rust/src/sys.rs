@@ -3,7 +3,7 @@ use crate::{Config, Figures, Place, Slot};
 use core::ffi::c_void;
 use core::mem::{size_of, MaybeUninit};
 
-/// All zeroes while there is no machine.
+/// A machine. It is all zeroes while none is booted.
 #[repr(C)]
 pub struct Machine(pub [*mut c_void; 3]);
 
@@ -46,7 +46,7 @@ pub struct Heap {
     numbers: [u32; 3],
     sizes: [u16; MOST_CLASSES],
     aligns: [u16; MOST_CLASSES],
-    /// The cache of a class and 1, or 0 without one.
+    /// The cache of a class plus 1, or 0 without one.
     pub cache_of: [u8; MOST_CLASSES],
     class_in: [u8; 32],
     class_of: [u8; 257],
@@ -62,7 +62,7 @@ const _: () = assert!(size_of::<Memory>() == 16 && size_of::<HeapConfig>() == 16
 const _: () = assert!(size_of::<Figures>() == 740);
 
 impl Heap {
-    /// Returns a heap of which all is 0, as after a refused initialisation.
+    /// Returns a heap that is all 0, as after a refused initialisation.
     pub fn none() -> Heap {
         // SAFETY: it has numbers and pointers alone, which may all be 0.
         unsafe { MaybeUninit::zeroed().assume_init() }

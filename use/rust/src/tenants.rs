@@ -6,7 +6,7 @@ use core::{fmt, ptr};
 #[derive(Clone, Copy)]
 pub struct Administrator<'a>(&'a Machine);
 
-/// A tenant of a machine that is divided by [`Machine::split`], the only handle of it. Whoever has it acts for this tenant alone.
+/// A tenant of a machine that is divided by [`Machine::split`], and its only handle. Code that has it acts for this tenant alone.
 ///
 /// Its calls are those of [`Machine`] for one tenant. What is lent borrows the client, and a handle of another tenant is
 /// [`Error::Stale`] here.
@@ -15,7 +15,7 @@ pub struct Client<'a> {
     tenant: Tenant,
 }
 
-/// The tenants of a machine, each once, in the order of their numbers.
+/// Yields the tenants of a machine, each once, in the order of their numbers.
 pub struct Clients<'a> {
     machine: &'a Machine,
     next: u32,
@@ -23,7 +23,7 @@ pub struct Clients<'a> {
 }
 
 impl<'a> Administrator<'a> {
-    /// The machine is divided: only its parts reach it.
+    /// Returns the administrator of a divided machine, which only its parts use.
     pub(crate) fn new(machine: &'a Machine) -> Administrator<'a> {
         Administrator(machine)
     }
@@ -65,7 +65,8 @@ impl Administrator<'_> {
 }
 
 impl<'a> Clients<'a> {
-    /// The machine is divided: only its parts reach it. One tenant may be left out, as the caller's own.
+    /// Returns an iterator over the tenants of a divided machine, which only its parts use. One may be left out, which the caller
+    /// has.
     pub(crate) fn new(machine: &'a Machine, left_out: Option<Tenant>) -> Clients<'a> {
         Clients { machine, next: 0, left_out }
     }
@@ -115,12 +116,12 @@ impl<'a> Client<'a> {
         Heap::new(self.again(), sizes, has_runs)
     }
 
-    /// Returns a heap as [`Client::heap_with`], which has this client and does not borrow it.
+    /// Returns a heap as [`Client::heap_with`] does, which owns this client and does not borrow it.
     pub fn into_heap(self, sizes: &[u16], has_runs: bool) -> Result<OwnedHeap<'a>, Error> {
         OwnedHeap::new(self, sizes, has_runs)
     }
 
-    /// A second client of the tenant. Only a heap has it, whose user has no other one, or only borrows it.
+    /// Returns a second client of the tenant. Only a heap has it, whose user has no other one, or only borrows it.
     pub(crate) fn again(&self) -> Client<'a> {
         Client { ..*self }
     }

@@ -11,14 +11,14 @@ const LEAST_ALIGN: usize = 8;
 /// A cache of values of type `T`. Dropping it destroys it, and frees its slabs.
 pub struct Cache<'c, T> {
     client: &'c Client<'c>,
-    /// Of this type alone: nobody else knows it.
+    /// A cache for this type alone: nothing else knows its number.
     cache: crate::Cache,
     values: PhantomData<T>,
 }
 
 /// A value in an object of a [`Cache`]: it derefs to the value. Dropping it drops the value and gives the object back.
 pub struct Object<'k, T> {
-    /// The value, alive.
+    /// The value, which is alive.
     at: NonNull<T>,
     place: Place,
     cache: &'k Cache<'k, T>,
@@ -48,7 +48,7 @@ impl<'c, T> Cache<'c, T> {
         self.take_with(|| value)
     }
 
-    /// Takes an object and writes a value to it, which is made only if there is an object. Fails with `NoFrames`.
+    /// Takes an object, and then makes a value and writes it there. Fails with `NoFrames`.
     pub fn take_with(&self, make: impl FnOnce() -> T) -> Result<Object<'_, T>, Error> {
         // SAFETY: the machine is booted, no other call of it runs, and the result goes to a local variable.
         let lent: sys::Lent = result(|lent| unsafe { sys::partmem_take(self.tenant(), self.cache.number, lent) })?;
@@ -80,7 +80,7 @@ impl<T> Drop for Taken<'_, T> {
 }
 
 impl<'k, T> Object<'k, T> {
-    /// Returns the place of its first byte, which may be stored and shown in the place of an address.
+    /// Returns the place of its first byte, which may be stored and shown instead of an address.
     pub fn place(this: &Self) -> Place {
         this.place
     }
@@ -92,7 +92,7 @@ impl<'k, T> Object<'k, T> {
         unsafe { taken.at.as_ptr().read() }
     }
 
-    /// The value is then the caller's to drop.
+    /// Returns the taken object. The caller then has to drop the value.
     fn into_taken(this: Self) -> Taken<'k, T> {
         let Object { at, place, cache } = *ManuallyDrop::new(this);
         Taken { at, place, cache }
@@ -101,7 +101,7 @@ impl<'k, T> Object<'k, T> {
 
 impl<T> Drop for Object<'_, T> {
     fn drop(&mut self) {
-        // Gives the object back behind the value's end, also if that panics.
+        // Gives the object back after the value's end, also if that panics.
         let taken = Taken { at: self.at, place: self.place, cache: self.cache };
         // SAFETY: the value is alive, and this is its only owner.
         unsafe { ptr::drop_in_place(taken.at.as_ptr()) };
@@ -130,7 +130,7 @@ impl<T> fmt::Debug for Cache<'_, T> {
     }
 }
 
-/// The value's, without the address, which is shown to nobody.
+/// Formats the value without the address, which is not shown.
 impl<T: fmt::Debug> fmt::Debug for Object<'_, T> {
     fn fmt(&self, to: &mut fmt::Formatter<'_>) -> fmt::Result {
         (**self).fmt(to)

@@ -1,4 +1,4 @@
-//! All that this program allocates lies in the memory of one tenant, and so does what the test's own threads allocate.
+//! All that this program allocates lies in the memory of one tenant, and so does all that the test's own threads allocate.
 use partmem::{Config, Error, Global, LazyHeap, Machine, SpinLock, StaticMemory, Tenant};
 use std::alloc::{GlobalAlloc, Layout};
 use std::collections::BTreeMap;

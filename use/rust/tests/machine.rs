@@ -5,7 +5,7 @@ use std::{sync::Barrier, thread};
 const ONE: Tenant = Tenant(0);
 const OTHER: Tenant = Tenant(1);
 
-/// A machine with a slot of ONE, and a cache in it.
+/// Returns a machine with a slot of ONE, and a cache in it.
 fn booted(superblocks: u32) -> (Machine, Cache) {
     let machine = Machine::boot(Config { order: 3, superblocks, tenants: 3 }).unwrap();
     machine.grant(ONE).unwrap();
@@ -120,7 +120,7 @@ struct User {
     seen: Vec<String>,
 }
 
-/// Lends what a user has all at once. It has what was stored, and is disjoint.
+/// Lends all that a user has at once. It has what was stored, and is disjoint.
 fn check<Kind>(machine: &Machine, handles: &mut [(Handle<Kind>, u8)]) {
     let mut lends: Vec<_> = handles.iter_mut().map(|(handle, fill)| (machine.lend_mut(handle).unwrap(), *fill)).collect();
     lends.sort_by_key(|(bytes, _)| bytes.as_ptr());
@@ -184,7 +184,7 @@ impl User {
     }
 }
 
-/// Whatever two others do, and wherever its slots are moved.
+/// Checks a user whatever two others do, and wherever its slots are moved.
 #[test]
 fn a_tenant_sees_the_same_alone_and_beside_others() {
     for seed in 0..10 {

@@ -23,7 +23,7 @@ fn with_two<R>(slots: u32, work: impl FnOnce(Administrator<'_>, Client<'_>, Clie
     work(administrator, first, second)
 }
 
-/// Counts its ends.
+/// A value that counts when it is dropped.
 #[derive(Debug)]
 struct Counted<'c>(&'c Cell<u32>);
 
@@ -132,7 +132,7 @@ fn values_lie_at_their_alignment() {
 /// A list in a heap.
 struct Node<'h>(u32, Option<Boxed<'h, Node<'h>>>);
 
-/// Returns how many nodes a heap has memory for, and leaks them.
+/// Returns for how many nodes a heap has memory, and leaks them.
 fn fill(heap: &Heap<'_>) -> u32 {
     let (mut list, mut length) = (None, 0);
     while let Ok(node) = heap.boxed_with(|| Node(length, list.take())) {
