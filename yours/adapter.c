@@ -13,18 +13,18 @@ static const char *const REFUSALS[] = {
 
 static unsigned machine_order, superblocks, tenants;
 
-/* Who owns each superblock, as the replies told it. */
+/* The owner of each superblock, as the replies gave it. */
 static struct {
     bool owned;
     unsigned tenant;
     uint32_t slot;
 } owners[MOST_SUPERBLOCKS];
 
-/* The words of a line; in the last place all that stand behind those that any command has. */
+/* The words of a line; the last place has all text after the words that any command has. */
 static char *words[MOST_WORDS];
 static int count;
 
-/* The arguments of a command, in their order: numbers, and at most one run of bytes. */
+/* The arguments of a command, in their order: numbers, and at most one byte string. */
 static uint32_t numbers[4];
 static uint8_t bytes[MOST_BYTES];
 static unsigned length;
@@ -51,7 +51,8 @@ static bool is_hex(const char *word, unsigned most) {
 
 static void fault(const char *name) { printf("!> fault %s\n", name); }
 
-/* Whether the words behind the actor and the command have these forms: n a number, b up to MOST_BYTES bytes, p a pattern. */
+/* Returns whether the words after the actor and the command have these forms: n a number, b up to MOST_BYTES bytes, p a
+ * pattern. */
 static bool have_forms(const char *forms) {
     if ((size_t)count != 2 + strlen(forms)) {
         fault("Words");
@@ -84,7 +85,7 @@ static void own(unsigned superblock, unsigned tenant, uint32_t slot) {
     owners[superblock].slot = slot;
 }
 
-/* The tenant gives up this slot, or all. */
+/* Frees this slot of the tenant, or all its slots. */
 static void disown(unsigned tenant, const uint32_t *slot) {
     for (unsigned i = 0; i < superblocks; i++)
         if (owners[i].tenant == tenant && (slot == NULL || owners[i].slot == *slot))
@@ -195,14 +196,14 @@ static void use(unsigned tenant, int command) {
         use_caches(tenant, command);
 }
 
-/* The command of this name, or a negative number. */
+/* Returns the command of this name, or a negative number. */
 static int command_of(const char *const names[][2], int most) {
     while (--most >= 0 && strcmp(words[1], names[most][0]) != 0)
         ;
     return most;
 }
 
-/* The line as one of the cases of docs/traces.md, in their order. */
+/* Handles the line as one of the cases of docs/traces.md, in their order. */
 static void answer(void) {
     uint32_t actor = 0;
     bool is_admin;
@@ -232,12 +233,12 @@ static void answer(void) {
     }
 }
 
-/* The next line, as words and without its end; false at the end of the trace. */
+/* Reads the next line, as words and without its end. Returns false at the end of the trace. */
 static bool next_line(char *line) {
     int size = 0, byte;
     while ((byte = getchar()) != EOF && byte != '\n')
         if (size++ <= MOST_LINE)
-            /* a byte 0 would end a word; one that is in no right word either stands for it */
+            /* a byte 0 would end a word; a byte that no right word has replaces it */
             line[size - 1] = byte == 0 ? 1 : (char)byte;
     if (byte == EOF && size == 0)
         return false;
@@ -282,7 +283,7 @@ int main(int given, char **arguments) {
     }
     while (next_line(line)) {
         answer();
-        /* Each line is answered before the next one is read: who asks may be waiting for it. */
+        /* Each line is answered before the next one is read: the sender may be waiting for the reply. */
         fflush(stdout);
     }
     return ferror(stdout) != 0;

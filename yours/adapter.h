@@ -5,8 +5,8 @@
  *
  * A superblock has 2^order frames of FRAME_BYTES bytes. Slot u has the tenant's frames from u * 2^order on, and frame f its
  * places from f * FRAME_BYTES on, all below 2^32; which slot a grant takes is yours to choose. A tenant that is passed exists;
- * slots, frames, places and numbers of caches are any that a line may have. A function that refuses changes nothing and answers
- * the first refusal that applies, in the order told with it; else it answers DONE. */
+ * slots, frames, places and numbers of caches are any that a line may have. A function that refuses changes nothing and returns
+ * the first refusal that applies, in the order named with it. Otherwise it stores its results and returns DONE. */
 #ifndef PARTMEM_ADAPTER_H
 #define PARTMEM_ADAPTER_H
 
@@ -38,35 +38,35 @@ enum reply {
     SLOT_BUSY
 };
 
-/* A machine of so many superblocks, that nobody owns, and tenants without anything; false where memory is not enough. */
+/* Boots a machine: superblocks that nobody owns, and tenants that have nothing. Returns false if memory runs out. */
 bool boot(unsigned order, unsigned superblocks, unsigned tenants);
 
-/* A superblock that nobody owns goes under a slot that the tenant does not hold, and reads as zero: POOL_EMPTY. */
+/* Puts a superblock that nobody owns under a slot that the tenant does not hold; it reads as zero: POOL_EMPTY. */
 enum reply grant(unsigned tenant, uint32_t *slot, unsigned *superblock);
 
-/* A slot without taken frames is given up; tells the superblock that it had: NO_SLOT, SLOT_BUSY. */
+/* Gives up a slot without taken frames, and stores the superblock that it had: NO_SLOT, SLOT_BUSY. */
 enum reply take_back(unsigned tenant, uint32_t slot, unsigned *superblock);
 
-/* All that the tenant has is gone; tells how many superblocks it had: never refused. */
+/* Takes away all that the tenant has, and stores how many superblocks it had. It is never refused. */
 enum reply reset(unsigned tenant, unsigned *superblocks);
 
-/* Another superblock goes under the slot, with all its bytes; tells which: NO_SLOT, POOL_EMPTY. */
+/* Puts another superblock under the slot, with all its bytes, and stores its number: NO_SLOT, POOL_EMPTY. */
 enum reply move(unsigned tenant, uint32_t slot, unsigned *superblock);
 
-/* A block of 2^order frames, of any order that a line may have; tells its first frame: BAD_ORDER, NO_FRAMES. */
+/* Allocates a block of 2^order frames, of any order that a line may have, and stores its first frame: BAD_ORDER, NO_FRAMES. */
 enum reply alloc(unsigned tenant, uint32_t order, uint32_t *frame);
 
-/* The block that begins at the frame is given back; tells its order: NOT_A_BLOCK. */
+/* Frees the block that begins at the frame, and stores its order: NOT_A_BLOCK. */
 enum reply release(unsigned tenant, uint32_t frame, unsigned *order);
 
-/* So many bytes, inside one block or object of the tenant; `bytes` has room for MOST_BYTES: BAD_LENGTH, OUT_OF_REACH. */
+/* Reads bytes inside one block or object of the tenant. `bytes` has space for MOST_BYTES: BAD_LENGTH, OUT_OF_REACH. */
 enum reply read_bytes(unsigned tenant, uint32_t place, uint32_t length, uint8_t *bytes);
 
-/* The same, written; the length is 1 to MOST_BYTES: OUT_OF_REACH. */
+/* Writes bytes in the same way; the length is 1 to MOST_BYTES: OUT_OF_REACH. */
 enum reply write_bytes(unsigned tenant, uint32_t place, uint32_t length, const uint8_t *bytes);
 
-/* What the reply to a new cache tells: its number, the bytes from one object to the next, the order of a slab, its objects and
- * its colours. */
+/* What the reply to a new cache says: its number, the bytes from one object to the next, the order of a slab, its objects and its
+ * colours. */
 struct layout {
     unsigned number, chunk, order, objects, colours;
 };
@@ -86,24 +86,24 @@ struct figures {
     struct cache_row rows[MOST_CACHES];
 };
 
-/* Where there are caches of objects. */
+/* The functions of an allocator that has caches of objects. */
 struct caches {
     /* BAD_SIZE, BAD_ALIGN, NO_CACHE_SLOT */
     enum reply (*make)(unsigned tenant, uint32_t size, uint32_t align, unsigned length, const uint8_t *pattern,
                        struct layout *layout);
-    /* tells the frames that come back: NO_CACHE, CACHE_IN_USE */
+    /* stores the number of frames that are freed: NO_CACHE, CACHE_IN_USE */
     enum reply (*destroy)(unsigned tenant, uint32_t cache, unsigned *frames);
-    /* tells the object's first place: NO_CACHE, NO_FRAMES */
+    /* stores the object's first place: NO_CACHE, NO_FRAMES */
     enum reply (*take)(unsigned tenant, uint32_t cache, uint32_t *place);
     /* NO_CACHE, NOT_AN_OBJECT */
     enum reply (*give)(unsigned tenant, uint32_t cache, uint32_t place);
-    /* tells the frames of the empty slabs that are given back */
+    /* stores the number of frames of the empty slabs that are freed */
     void (*reap)(unsigned tenant, unsigned *frames);
-    /* tells the rows of a report, those of caches by rising number */
+    /* stores the rows of a report, those of caches by rising number */
     void (*report)(unsigned tenant, struct figures *figures);
 };
 
-/* Your caches, or NULL where there are none: their commands then end the program, so test it with --pages. */
+/* Your caches, or NULL if there are none: their commands then end the program, so test it with --pages. */
 const struct caches *caches(void);
 
 #ifdef __cplusplus

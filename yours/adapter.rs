@@ -38,7 +38,7 @@ pub enum Refusal {
     SlotBusy,
 }
 
-/// A machine: superblocks that nobody owns, of `2^order` frames, and tenants that have nothing.
+/// A machine: superblocks of `2^order` frames that nobody owns, and tenants that have nothing.
 #[derive(Clone, Copy, Debug, Default)]
 pub struct Sizes {
     pub order: u32,
@@ -60,9 +60,9 @@ pub trait Allocator {
     fn alloc(&mut self, tenant: u32, order: u32) -> Result<u32, Refusal>;
     /// Takes back the block that begins at the frame. Returns its order: NotABlock.
     fn free(&mut self, tenant: u32, frame: u32) -> Result<u32, Refusal>;
-    /// Returns so many bytes, 1 to [`MOST_BYTES`], which lie in one block or object of the tenant: BadLength, OutOfReach.
+    /// Returns this many bytes, 1 to [`MOST_BYTES`], inside one block or object of the tenant: BadLength, OutOfReach.
     fn read(&mut self, tenant: u32, place: u32, length: u32) -> Result<Vec<u8>, Refusal>;
-    /// The same, written: OutOfReach.
+    /// Writes bytes in the same way: OutOfReach.
     fn write(&mut self, tenant: u32, place: u32, bytes: &[u8]) -> Result<(), Refusal>;
     /// Your caches; without any, their commands end the program, so test it with --pages.
     fn caches(&mut self) -> Option<&mut dyn Caches> {
@@ -101,18 +101,18 @@ pub struct Figures {
 pub trait Caches {
     /// BadSize, BadAlign, NoCacheSlot.
     fn make(&mut self, tenant: u32, size: u32, align: u32, pattern: &[u8]) -> Result<Layout, Refusal>;
-    /// Returns the frames that come back: NoCache, CacheInUse.
+    /// Returns the number of frames that are freed: NoCache, CacheInUse.
     fn destroy(&mut self, tenant: u32, cache: u32) -> Result<u32, Refusal>;
     /// Returns the object's first place: NoCache, NoFrames.
     fn take(&mut self, tenant: u32, cache: u32) -> Result<u32, Refusal>;
     /// NoCache, NotAnObject.
     fn give(&mut self, tenant: u32, cache: u32, place: u32) -> Result<(), Refusal>;
-    /// Returns the frames of the empty slabs that are given back.
+    /// Returns the number of frames of the empty slabs that are freed.
     fn reap(&mut self, tenant: u32) -> u32;
     fn report(&mut self, tenant: u32) -> Figures;
 }
 
-/// Who owns each superblock, as the replies said it.
+/// The owner of each superblock, as the replies gave it.
 type Owners = Vec<Option<(u32, u32)>>;
 
 enum Argument {
@@ -126,7 +126,7 @@ struct Adapter<A> {
     owners: Owners,
 }
 
-/// Boots an allocator by the sizes on the command line, and answers each line of standard input before it reads the next.
+/// Boots an allocator with the sizes on the command line, and answers each line of standard input before it reads the next.
 pub fn run<A: Allocator>(boot: impl FnOnce(Sizes) -> A) -> ExitCode {
     let Some(sizes) = sizes() else {
         eprintln!("usage: PROGRAM --order 3..8 --superblocks 1..256 --tenants 1..64 < TRACE");
@@ -200,7 +200,7 @@ fn told(result: Result<String, Refusal>) -> String {
 }
 
 impl<A: Allocator> Adapter<A> {
-    /// The reply to a line: the cases of docs/traces.md, in their order.
+    /// Returns the reply to a line: the cases of docs/traces.md, in their order.
     fn answer(&mut self, line: &[u8]) -> String {
         if line.len() > MOST_LINE {
             return "!> fault Long\n".into();

@@ -1,4 +1,4 @@
-/* A buddy allocator with one pool: for each order it marks the frames at which free blocks begin, outside the memory. */
+/* A buddy allocator with one pool. For each order it marks the frames at which free blocks begin, outside the pool's memory. */
 #include "pool.h"
 
 #include <stdbool.h>

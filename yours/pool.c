@@ -19,7 +19,7 @@ struct slot {
 
 static unsigned machine_order, frames, count;
 static size_t size;
-/* by tenant and slot */
+/* By tenant and slot. */
 static struct slot **slots;
 static bool *owned;
 
@@ -44,7 +44,7 @@ static bool own_superblock(unsigned *superblock) {
     return false;
 }
 
-/* A slot with a pool over zeroes. */
+/* Makes a slot with a pool over zeroes. */
 static struct slot *new_slot(unsigned superblock) {
     struct slot *slot = calloc(1, sizeof *slot);
     if (slot == NULL || (slot->whole = calloc(2, size)) == NULL)
@@ -95,7 +95,7 @@ enum reply reset(unsigned tenant, unsigned *superblocks) {
     return DONE;
 }
 
-/* The pool stays where it is, under another label. */
+/* The pool stays where it is, and gets another label. */
 enum reply move(unsigned tenant, uint32_t slot, unsigned *superblock) {
     struct slot *of = held(tenant, slot);
     if (of == NULL || !own_superblock(superblock))
@@ -113,7 +113,7 @@ enum reply alloc(unsigned tenant, uint32_t order, uint32_t *frame) {
         uint8_t *block = of == NULL ? NULL : pool_alloc(of->pool, order);
         if (block == NULL)
             continue;
-        /* A block outside the memory, or between two frames, becomes one that no reply may name. */
+        /* A block outside the memory, or between two frames, is reported as one that no reply may name. */
         size_t offset = (size_t)(block - of->memory);
         bool is_inside = block >= of->memory && offset < size && offset % FRAME_BYTES == 0;
         unsigned at = is_inside ? (unsigned)(offset / FRAME_BYTES) : frames;
@@ -139,7 +139,7 @@ enum reply release(unsigned tenant, uint32_t frame, unsigned *order) {
     return DONE;
 }
 
-/* The first of the bytes, where one block has them all. */
+/* Returns the address of the first of the bytes, if one block has them all. */
 static uint8_t *reach(unsigned tenant, uint32_t place, uint32_t length) {
     struct slot *of = held(tenant, place / FRAME_BYTES / frames);
     uint32_t at = place / FRAME_BYTES % frames, first = at;

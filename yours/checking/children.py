@@ -1,4 +1,4 @@
-"""Processes that are below this one: they end with it, those too that left its group or its session."""
+"""Processes below this one. They end with it, also those that left its group or its session."""
 import contextlib
 import ctypes
 import os
@@ -8,12 +8,12 @@ SET_PARENT_DEATH_SIGNAL, SET_CHILD_SUBREAPER = 1, 36
 
 
 def adopt():
-    """Makes this process the parent of those below it whose own parent ends. It cannot be done on systems other than Linux."""
+    """Makes this process the parent of processes below it whose own parent ends. Only Linux can do this."""
     control(SET_CHILD_SUBREAPER, 1)
 
 
 def end_with_parent():
-    """Lets SIGTERM come to this process when its parent ends."""
+    """Makes SIGTERM come to this process when its parent ends."""
     control(SET_PARENT_DEATH_SIGNAL, signal.SIGTERM)
 
 
@@ -23,7 +23,7 @@ def control(what, value):
 
 
 def children():
-    """The processes whose parent is this one."""
+    """Returns the processes whose parent is this one."""
     try:
         with open(f'/proc/self/task/{os.getpid()}/children') as file:
             return [int(word) for word in file.read().split()]
@@ -32,7 +32,8 @@ def children():
 
 
 def kill_all():
-    """Kills and waits for all processes below this one; what they leave behind comes to this one, and is killed too."""
+    """Kills and waits for all processes below this one. The children that they leave become children of this one, and are killed
+    too."""
     while left := children():
         for number in left:
             with contextlib.suppress(ProcessLookupError, PermissionError):

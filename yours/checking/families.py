@@ -1,4 +1,4 @@
-"""Which lines of a run belong together: one that gives a name, and those that need it."""
+"""Finds which lines of a run belong together: one that gives a name, and those that need it."""
 import collections
 import contextlib
 
@@ -14,7 +14,7 @@ class Givers:
         self.slots, self.caches, self.sizes, self.places = {}, {}, {}, Places()
 
     def needs(self, at, words, told):
-        """The lines that line `at` needs; it is noted what it gives."""
+        """Returns the lines that line `at` needs, and notes what it gives."""
         kind, needed = told[0] if told else '', []
         if len(words) > 1 and kind != 'fault':
             with contextlib.suppress(IndexError, ValueError):
@@ -25,18 +25,18 @@ class Givers:
         return {line for line in needed if line is not None}
 
     def named(self, words):
-        """The lines that gave what these words name."""
+        """Returns the lines that gave what these words name."""
         numbers = [(kind, number_in(words[at])) for at, kind in names_in(words)]
         return [self.slots.get(number) if kind == 'slot' else self.caches.get(number) if kind == 'cache' else
                 self.giver(number * FRAME_BYTES if kind == 'frame' else number) for kind, number in numbers]
 
     def giver(self, place):
-        """The line that gave what has a place, or else the slot in which it is."""
+        """Returns the line that gave what has this place, or else the slot in which it is."""
         begin = self.places.around(place)
         return self.slots.get(place // FRAME_BYTES >> self.order) if begin is None else self.places.known[begin][1]
 
     def slot_of_new(self, at, words, told, kind):
-        """Notes what a line gives; returns the line that gave the slot in which that is."""
+        """Notes what a line gives. Returns the line that gave the slot in which that lies."""
         if kind == 'granted':
             self.slots[number_in(told[3])] = at
         elif kind == 'cache':
@@ -50,7 +50,8 @@ class Givers:
 
 
 def families_of(run):
-    """For each line the lines that cannot be without it: itself, and those that need what it gives, or what these give."""
+    """Returns for each line the lines that cannot be kept without it: itself, and those that need what it gives, directly or
+    not."""
     tenants = collections.defaultdict(lambda: Givers(run.sizes.order))
     families, needed = [], []
     for at, (line, replies) in enumerate(run.exchanges):

@@ -9,7 +9,7 @@ from .runs import Run, replayed
 from .talk import Failure
 from .words import ending, visible, words_of
 
-# The exits of partcheck.
+# The exit statuses of partcheck.
 ALLOWED, NOT_ALLOWED = 0, 4
 # What partcheck prints: the number of the line, the line and the reply, the promise and its words. A reply, which is then quoted,
 # may look like the end of a finding too: the last promise is the broken one.
@@ -30,13 +30,13 @@ class Breach(NamedTuple):
 
 
 class Case(NamedTuple):
-    """A run, and what it shows."""
+    """A run, and its finding."""
     run: Run
     finding: Union[Breach, Failure]
 
 
 def line_of_reply(run, tenant, number):
-    """The line to which a tenant got the reply line of this number, or the last one."""
+    """Returns the line to which a tenant got the reply line of this number, or the last one."""
     begin, told = f'{tenant}> ', 0
     for at, (_, replies) in enumerate(run.exchanges, 1):
         told += sum(reply.startswith(begin) for reply in replies)
@@ -46,19 +46,19 @@ def line_of_reply(run, tenant, number):
 
 
 class Judge:
-    """A run in which the program fails breaks no promise."""
+    """Tests runs. A run in which the program fails breaks no promise."""
 
     def __init__(self, options, programs):
         self.programs, self.exact = programs, options.exact
         self.partmem, self.partcheck = options.partmem, options.partcheck
 
     def judged(self, run):
-        """What a run shows alone."""
+        """Returns what a run shows by itself."""
         finding = run.failure or self.broken_promise(run) or (self.compared_with_partmem(run) if self.exact else None)
         return finding and Case(run, finding)
 
     def run_tool(self, program, statuses, sizes, *files, **given):
-        """A run of partcheck or partmem, which has to end with one of these statuses."""
+        """Runs partcheck or partmem, which has to end with one of these statuses."""
         try:
             ran = subprocess.run([program, *words_of(sizes), *files], capture_output=True, **given)
         except OSError as error:
@@ -69,7 +69,7 @@ class Judge:
         return ran
 
     def broken_promise(self, run):
-        """What partcheck finds in the replies, if a promise is broken."""
+        """Returns what partcheck finds in the replies, if a promise is broken."""
         with tempfile.TemporaryDirectory(prefix='partmem-check-') as work:
             files = [os.path.join(work, name) for name in ('trace', 'replies')]
             for file, text in zip(files, (run.trace(), run.text())):
@@ -92,7 +92,7 @@ class Judge:
         return first and Breach('Exact', "reply line {}: partmem says '{}', the program '{}'".format(*first))
 
     def alone(self, run, tenant):
-        """What it shows that the tenant gets other replies if nobody else does anything; or that the program fails then."""
+        """Returns the finding if the tenant gets other replies while nobody else does anything, or if the program fails then."""
         other = replayed(self.programs, run.sizes, [(line, []) for line in run.own_list(tenant)])
         return Case(other, other.failure) if other.failure else self.compared(run, other, tenant, 'alone')
 
@@ -105,7 +105,7 @@ class Judge:
         return None
 
     def shows(self, sizes, exchanges, finding, order=None):
-        """A run of these lines, which had their replies on a machine of this order, that shows the same, if it does."""
+        """Runs these lines, which had their replies on a machine of this order. Returns the run if it shows the same."""
         run = replayed(self.programs, sizes, exchanges, order)
         is_alone = isinstance(finding, Breach) and finding.tenant is not None and not run.failure
         case = self.alone(run, finding.tenant) if is_alone else self.judged(run)

@@ -9,9 +9,9 @@ from .runs import Run, is_own
 from .talk import Programs
 from .words import Sizes
 
-# Everything is full if one of so many lines is refused because there are no frames, or no superblocks.
+# If one of this many lines is refused because there are no frames, or no superblocks, everything is full.
 FULL = 3
-# Own lines, with noise between them, that are sent at once, and lines of noise before each of them, at most.
+# Own lines, with noise between them, that are sent at once; and the most lines of noise before each of them.
 OWN_AT_ONCE, MOST_NOISE = 16, 3
 
 
@@ -19,7 +19,7 @@ class Reached(NamedTuple):
     """What runs reached."""
     lines: int = 0
     refused: collections.Counter = collections.Counter()
-    most: collections.Counter = collections.Counter()           # what one tenant had at a time
+    most: collections.Counter = collections.Counter()           # the most that one tenant had at a time
     orders: frozenset = frozenset()
     tenants: int = 0
     widest: Sizes = Sizes(0, 0, 0)
@@ -68,7 +68,7 @@ def load(options, number):
 
 
 def say_phase(run, maker, phase, at_once):
-    """Says the lines of a phase; returns when they were said, at its goal, or when everything is full or empty."""
+    """Sends the lines of a phase. Returns when all are sent, at its goal, or when everything is full or empty."""
     left, world = phase.lines, run.world
     phase = phase._replace(slot=world.tenants[phase.tenants[0]].slot_of_rank(phase.rank))
     while left > 0 and not run.failure and maker.commands(phase):
@@ -83,13 +83,14 @@ def say_phase(run, maker, phase, at_once):
 
 
 def most_lines(world, phase):
-    """How many lines of a phase may be said at once, so that it ends where it says: at its goal, or when nothing is held."""
+    """Returns how many lines of a phase may be sent at once, so that it ends where it has to: at its goal, or when nothing is
+    held."""
     tenants, most = [world.tenants[tenant] for tenant in phase.tenants], phase.lines
     if phase.until == 'empty' and not any(tenant.held() for tenant in tenants):
         return 0
     if phase.goal:
         most = phase.goal.away(tenants[0], world.sizes.order, phase.slot)
-        # a line of frames has a whole block of them
+        # a line about frames has a whole block of them
         most >>= max(phase.orders) if phase.goal.noun == 'frames' else 0
     return most
 
@@ -99,7 +100,7 @@ def refused_for_want(world):
 
 
 def most_held(lines):
-    """The most slots that these own lines have at a time."""
+    """Returns the most slots that these own lines have at a time."""
     held = most = 0
     for words in map(str.split, lines):
         step = words[1] if words[0] == 'admin' else ''
@@ -109,7 +110,7 @@ def most_held(lines):
 
 
 def between_noise(programs, before, tenant, maker):
-    """A run of a tenant's own list of the run before, between lines of the others. These leave it the superblocks that it will be
+    """Runs a tenant's own list of the run before, between lines of the others. These leave it the superblocks that it will be
     granted. Its own slots are moved too."""
     sizes, lines = before.sizes, before.own_list(tenant)
     others = [number for number in range(sizes.tenants) if number != tenant]

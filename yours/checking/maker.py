@@ -1,4 +1,4 @@
-"""Makes lines that mostly do something, and else have a number at an edge."""
+"""Makes lines that mostly do something, and otherwise have a number at an edge."""
 import functools
 from typing import NamedTuple, Optional
 
@@ -26,18 +26,18 @@ MOST_CACHES = 32
 
 
 class Goal(NamedTuple):
-    """Exactly so many frames, blocks, objects or slots of a tenant; or so many more objects than this number of slabs has."""
+    """Exactly this many frames, blocks, objects or slots of a tenant; or this many objects more than this number of slabs has."""
     noun: str
     count: int = 0
     slabs: int = 0
 
     def away(self, tenant, order, slot):
-        """How many of them a tenant lacks, or has beyond the goal."""
+        """Returns how many of them a tenant lacks, or has beyond the goal."""
         return abs(self.count + self.slabs * tenant.of_a_slab() - tenant.count(self.noun, order, slot))
 
 
 class Phase(NamedTuple):
-    """Some lines of one kind: which commands, in which proportion, of which tenants. They may end before."""
+    """Lines of one kind: which commands, in which proportion, of which tenants. The phase may end before all are sent."""
     lines: int
     weights: str
     tenants: list
@@ -45,15 +45,15 @@ class Phase(NamedTuple):
     sizes: list = OBJECTS
     alignments: list = ALIGNMENTS
     until: str = ''                                             # `full`, `empty`, or all lines
-    goal: Optional[Goal] = None                                 # it ends here too; of one tenant
+    goal: Optional[Goal] = None                                 # it also ends when one tenant reaches this
     is_plain: bool = False                                      # no number is wrong on purpose
     rank: Optional[int] = None                                  # the one slot that is used: 0 is the lowest, -1 the highest
-    slot: Optional[int] = None                                  # its number
+    slot: Optional[int] = None                                  # the number of that slot
 
 
 @functools.cache
 def commands_of(weights, without):
-    """The commands of a text as `alloc 5 free 4`, each as often as it says."""
+    """Returns the commands of a text such as `alloc 5 free 4`, each as often as it says."""
     words = weights.split()
     return [name for name, count in zip(words[::2], words[1::2]) if name not in without for _ in range(int(count))]
 
@@ -63,7 +63,7 @@ class Maker:
         self.rng, self.without = rng, tuple(without)
 
     def commands(self, phase):
-        """The commands of a phase that are not left out; there may be none."""
+        """Returns the commands of a phase that are not left out. There may be none."""
         return commands_of(phase.weights, self.without)
 
     def lines(self, world, phase, count):
@@ -82,7 +82,7 @@ class Maker:
         return ' '.join(map(str, [actor, *self.command(world, phase, world.tenants[tenant], command)]))
 
     def for_a_slot(self, world, tenant):
-        """A tenant and a command that gives this tenant a slot, or takes one from another if all are owned."""
+        """Returns a tenant and a command that gives this tenant a slot, or takes one from another tenant if all are owned."""
         owners = [number for number, other in enumerate(world.tenants) if other.slots]
         if sum(len(world.tenants[number].slots) for number in owners) < world.sizes.superblocks:
             return tenant, 'grant'
@@ -92,7 +92,7 @@ class Maker:
         return items[int(self.rng.random() * len(items))]
 
     def is_right(self, phase, chance):
-        """Whether a number is to be a right one, by chance or by the phase."""
+        """Returns whether a number has to be a right one, by chance or by the phase."""
         return phase.is_plain or self.rng.random() < chance
 
     def admin(self, world, phase, tenant, command):
@@ -112,13 +112,13 @@ class Maker:
         return self.near(slots.draw(self.rng) if slots else 0, 1, [1 << 20 - world.sizes.order, 1 << 32 - world.sizes.order])
 
     def near(self, number, span, spans=()):
-        """A number that is none of these: beside one of them, so far from it that it wraps, or at an edge."""
+        """Returns a number that is none of these: beside one of them, at a distance at which it wraps to one, or at an edge."""
         spans = [1, span, 1 << 8, 1 << 16, *spans]
         wrong = number + self.one([1, 1, -1]) * self.one(spans) if self.rng.random() < 0.7 else self.one(EDGES)
         return min(max(wrong, 0), MOST_NUMBER)
 
     def command(self, world, phase, tenant, command):
-        """The words of a command."""
+        """Returns the words of a command."""
         if command == 'free' and not tenant.pages and self.rng.random() < 0.8:
             command = 'alloc'
         if command == 'give' and not tenant.objects and self.rng.random() < 0.8:
@@ -150,12 +150,12 @@ class Maker:
         return self.one([world.sizes.order, world.sizes.order + 1]) if chance < 0.98 else self.one(WRONG_ORDERS)
 
     def drawn_in(self, bag, phase, places):
-        """One of these numbers, in the slot of the phase if it has one there; a slot has so many of these places."""
+        """Returns one of these numbers, in the slot of the phase if it has one there. A slot has this many of these places."""
         inside = [key for key in bag.keys if key // places == phase.slot] if phase.slot is not None else []
         return self.one(inside) if inside else bag.draw(self.rng)
 
     def page(self, world, phase, tenant):
-        """The first frame of a block, seldom another number. It is not drawn again before the reply is there."""
+        """Returns the first frame of a block, rarely another number. It is not drawn again before the reply is there."""
         if tenant.pages and self.is_right(phase, 0.93):
             first = self.drawn_in(tenant.pages, phase, 1 << world.sizes.order)
             tenant.pages.drop(first)
@@ -192,13 +192,13 @@ class Maker:
         return size, alignment, rng.randbytes(self.one([1, 1, 2, 3, 7, 16])).hex()
 
     def range(self, world, tenant):
-        """A place, and how many bytes from it on: mostly in something that is there, at its edges."""
+        """Returns a place, and how many bytes from it on: mostly in something live, at its edges."""
         chance = self.rng.random()
         if chance < 0.15 and tenant.written:
             return self.one(tenant.written)
         length = self.one(LENGTHS)
         if chance < 0.25 and world.offsets and tenant.slots:
-            # what somebody left at the same place of a superblock
+            # what somebody left at the same offset in a superblock
             place = tenant.slots.draw(self.rng) * (FRAME_BYTES << world.sizes.order) + self.one(world.offsets)
         elif chance < 0.28 or not tenant.pages and not tenant.objects:
             place = self.one([0, MOST_NUMBER, MOST_NUMBER - length + 1, MOST_NUMBER - length + 2, self.one(EDGES)])
@@ -209,7 +209,7 @@ class Maker:
         return min(max(place, 0), MOST_NUMBER), length
 
     def block(self, tenant):
-        """The first place of a block or an object, and its bytes."""
+        """Returns the first place of a block or an object, and its bytes."""
         if tenant.pages and (not tenant.objects or self.rng.random() < 0.5):
             frame = tenant.pages.draw(self.rng)
             return FRAME_BYTES * frame, FRAME_BYTES << tenant.pages.get(frame)
@@ -217,7 +217,7 @@ class Maker:
         return place, tenant.caches.get(tenant.objects.get(place), Cache()).size
 
     def at(self, size, length):
-        """Where a range begins, counted from the first place of a block."""
+        """Returns where a range begins, counted from the first place of a block."""
         rng = self.rng
         chance, last = rng.random(), max(size - length, 0)
         if chance < 0.2:

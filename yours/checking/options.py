@@ -12,7 +12,7 @@ from .traces import LIMITS
 from .words import Sizes
 
 TOP = os.path.dirname(os.path.dirname(os.path.dirname(os.path.abspath(__file__))))
-# Loads that are run if nothing else is said, and of the long ones; loads that are run at a time, at most.
+# The loads of a run without options, and with --long; the most loads that run at a time.
 LOADS, LONG_LOADS, MOST_JOBS = 300, 8, 256
 INFINITE = float('inf')
 # Options that say which loads are run, and how; the others are part of what is tested.
@@ -36,7 +36,7 @@ class Parser(argparse.ArgumentParser):
 
 
 def number_of(kind, least, most, text):
-    """The number that a word of the command line is."""
+    """Returns the number that a word of the command line is."""
     try:
         number = kind(text)
     except ValueError:
@@ -87,7 +87,7 @@ def add_loads(add):
 
 
 def options_of(words, description):
-    """The options of a command line; exits if it is wrong."""
+    """Returns the options of a command line. Exits if it is wrong."""
     parser = parser_of(description)
     options = parser.parse_args(words)
     options.command = [options.program, *options.arguments]
@@ -106,7 +106,7 @@ def options_of(words, description):
 
 
 def command_of(parser, options):
-    """The words of a command line with all that was given but which loads are run, and the program."""
+    """Returns the words of a command line except those that say which loads are run, and the program."""
     words = []
     for action in parser._actions:
         value = getattr(options, action.dest, None)
@@ -120,7 +120,7 @@ def command_of(parser, options):
 
 
 def again(options, made, saved):
-    """The command that runs a load or a trace alone."""
+    """Returns the command that runs a load or a trace alone."""
     which = ['--trace', saved or made.name] if saved or isinstance(made.name, str) else [
         '--seed', str(options.seed), '--load', str(made.name)]
     return shlex.join([sys.argv[0], *options.given, *which, *options.command])

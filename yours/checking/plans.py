@@ -1,4 +1,4 @@
-"""What a load is: a machine, and phases of lines. Small machines most often, and the widest in some."""
+"""What a load is: a machine, and phases of lines. Most have small machines, and some the widest."""
 import random
 from typing import NamedTuple
 
@@ -6,7 +6,7 @@ from .maker import ALIGNMENTS, MOST_CACHES, OBJECTS, Goal, Phase
 from .words import MOST_ORDER, Sizes
 
 MOST_SUPERBLOCKS, MOST_TENANTS = 256, 64
-# Lines of which the replies are not waited for one by one.
+# Lines whose replies are not waited for one by one.
 AT_ONCE = 64
 
 ALL = 'alloc 20 free 16 read 12 write 12 take 24 give 16 cache 6 destroy 3 reap 3 report 3 ' \
@@ -20,12 +20,12 @@ PROBE = 'takeback 6 alloc 6 take 3 read 4 write 2 move 2 report 2 grant 2 pool 1
 MOVES = 'move 1 read 4'
 GRANTS, RETURNS = 'grant 1', 'takeback 6 reset 1 grant 2 report 1 pool 1 move 1'
 CACHES = 'cache 12 destroy 1 take 3'
-# What is refused, or changes nothing: for counts that are at an edge.
+# Commands that are refused, or change nothing, for counts that are at an edge.
 HOLD = 'takeback 4 destroy 4 report 2 read 2 write 1 pool 1 reap 1'
-# What is refused between reports, which have to be the same then.
+# Commands that are refused between reports, which then have to be the same.
 QUIET = 'report 4 alloc 3 takeback 1 read 1'
 TAKE, GIVE, ALLOC, FREE = 'take 1', 'give 1', 'alloc 1', 'free 1'
-# Counts around one that a byte has no more, and slots around those that a word of 32, 64 or 128 bits has no more.
+# Counts around the least that does not fit into a byte, and slots around those that do not fit into 32, 64 or 128 bits.
 EDGES_OF_COUNTS = 255, 256, 257
 # Orders and superblocks of machines that one tenant fills.
 ALONE = [(8, 1), (8, 16), (8, MOST_SUPERBLOCKS), (8, MOST_SUPERBLOCKS), (7, MOST_SUPERBLOCKS), (6, 3)]
@@ -44,7 +44,7 @@ def granting(sizes, tenants):
 
 
 def granting_all_but_one(sizes, tenants):
-    """So a slot can be moved; if there is one superblock alone, it is granted."""
+    """Leaves one superblock, so that a slot can be moved. If there is only one superblock, it is granted."""
     return granting(sizes, tenants)._replace(goal=Goal('slots', max(sizes.superblocks - 1, 1)))
 
 
@@ -60,12 +60,13 @@ class Planner:
         return Sizes(*(drawn if fixed is None else fixed for fixed, drawn in zip(self.fixed, drawn)))
 
     def in_turn(self, choices, each):
-        """One of the choices, by turns in the loads of a kind, which comes once in so many loads; each seed begins elsewhere."""
+        """Returns one of the choices, by turns in the loads of a kind, of which there is one in `each` loads. Seeds begin
+        elsewhere."""
         shuffled = random.Random(f'{self.seed}').sample(choices, len(choices))
         return shuffled[self.number // each % len(choices)]
 
     def orders(self, sizes):
-        """Which orders are drawn: mostly small ones, or all, or one alone."""
+        """Returns the orders that are drawn: mostly small ones, or all, or one alone."""
         every = list(range(sizes.order + 1))
         return self.rng.choice([[0, 0, 0, 1, 1, 2, 3, sizes.order], [0, 0, 1, 2], every, [self.rng.choice(every)]])
 
@@ -84,7 +85,7 @@ class Planner:
         return Plan(sizes, [Phase(200, ALL, everyone, self.orders(sizes)), *self.phases(sizes, everyone, 800)])
 
     def life(self, lines=5000):
-        """One process lives long."""
+        """One process that lives long."""
         sizes = self.machine([3, 3, 4, 5, 6], [2, 3, 4, 6, 12], [1, 2, 3, 4])
         return Plan(sizes, self.phases(sizes, list(range(sizes.tenants)), lines))
 
@@ -125,9 +126,10 @@ class Planner:
                 Phase(2 * sizes.superblocks + 20, DRAIN, owner, every, until='empty'), Phase(60, RETURNS, owner, every)]
 
     def around(self, counts, noun, owner, order=0):
-        """Exactly these counts, one after the other and back to the first; at each, what is refused or changes nothing."""
+        """Exactly these counts, one after the other and back to the first. At each, commands that are refused or change
+        nothing."""
         up, down = (TAKE, GIVE) if noun == 'objects' else (ALLOC, FREE)
-        # blocks as large as they may be, then frames one by one
+        # blocks as large as possible, then single frames
         orders = sorted({order, 0}, reverse=True) if noun == 'frames' else [order]
         phases = []
         for at, count in enumerate([*counts, *counts[-2::-1]]):
@@ -147,7 +149,7 @@ class Planner:
                             Phase(300, DRAIN, everyone, [0], until='empty'), Phase(100, RETURNS, everyone, [0])])
 
     def objects(self):
-        """Counts of objects cross 2^8; all caches that there can be."""
+        """Counts of objects cross 2^8; all caches that a tenant can have."""
         sizes = self.machine([3, 4, 6, 8], [1, 2, 4, 8], [1, 2])
         owner = [self.rng.randrange(sizes.tenants)]
         few = [self.rng.choice([1, 8, 16, 24, 64, self.rng.choice(OBJECTS)])]

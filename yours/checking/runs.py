@@ -7,9 +7,9 @@ from .talk import ProgramFailed
 from .words import FRAME_BYTES, MOST_BYTES, MOST_NUMBER, is_number, number_in, order_in, told_in
 from .world import World
 
-# Lines that are sent at once if none of them waits for a reply.
+# The most lines that are sent at once if none of them waits for a reply.
 MOST_AT_ONCE = 256
-# How far a wrong number is from a name: what it may be cut by, or the next of some size.
+# The distances from a name at which a wrong number stays: powers of two, at which numbers may be cut, and which are sizes.
 POWERS = [1 << power for power in range(32)]
 DISTANCES = [0, *reversed(POWERS), *(-power for power in POWERS)]
 
@@ -59,17 +59,17 @@ class Run:
         return [reply for _, replies in self.exchanges for reply in replies if reply.startswith(begin)]
 
     def own_list(self, tenant):
-        """The tenant's commands, its resets, and what was granted to it and taken back."""
+        """Returns the tenant's commands, its resets, and the grants and take-backs that were done."""
         return [line for line, replies in self.exchanges if is_own(tenant, line, replies)]
 
     def speakers(self):
-        """The tenants that have an own list."""
+        """Returns the tenants that have an own list."""
         numbers = collections.Counter(tenant_of(line) for line, _ in self.exchanges)
         return [tenant for tenant in range(self.sizes.tenants) if numbers[str(tenant)]]
 
 
 def is_own(tenant, line, replies):
-    """Whether a line is in a tenant's own list."""
+    """Returns whether a line is in a tenant's own list."""
     words = line.split()
     if words[:1] == ['admin'] and len(words) > 2 and is_number(words[2]) and int(words[2]) == tenant:
         return words[1] in ('grant', 'takeback', 'reset') and has_done(replies)
@@ -77,24 +77,24 @@ def is_own(tenant, line, replies):
 
 
 def has_done(replies):
-    """Whether a line was neither refused nor faulty, nor a remark."""
+    """Returns whether a line was neither refused nor faulty, nor a remark."""
     return bool(replies) and not replies[0].startswith('!') and ' refused ' not in replies[0]
 
 
 def tenant_of(line):
-    """The word that names a line's tenant."""
+    """Returns the word that names a line's tenant."""
     words = line.split()
     return ''.join(words[2:3] if words[:1] == ['admin'] else words[:1])
 
 
 class Places:
-    """Places of one run, of blocks and objects that were handed out, with what they are called in another."""
+    """Places of blocks and objects that one run returned, with the places of the same in another run."""
 
     def __init__(self):
-        self.begins, self.known = [], {}                        # in rising order; sizes, and first places now
+        self.begins, self.known = [], {}                        # in rising order; their sizes and new first places
 
     def add(self, begin, size, now):
-        """What shares a place with it was handed out before, and is forgotten."""
+        """Adds something. What shares a place with it was returned before, and is forgotten."""
         at = bisect.bisect_left(self.begins, begin + size)
         while at and self.begins[at - 1] + self.known[self.begins[at - 1]][0] > begin:
             at -= 1
@@ -103,7 +103,7 @@ class Places:
         self.known[begin] = size, now
 
     def around(self, place):
-        """The first place of what has a place, or has it just before or behind it; none if nothing has."""
+        """Returns the first place of what contains a place, or has it just before or behind it; None if nothing has."""
         at = bisect.bisect_right(self.begins, place) - 1
         before = self.begins[at] if at >= 0 else None
         if before is not None and place <= before + self.known[before][0]:
@@ -112,7 +112,7 @@ class Places:
         return behind if behind is not None and behind - place <= MOST_BYTES else None
 
     def now(self, place):
-        """What a place is called now."""
+        """Returns the place in the other run."""
         begin = self.around(place)
         now = place if begin is None else self.known[begin][1] + place - begin
         return now if now >= 0 else place
@@ -126,26 +126,26 @@ class Renamed:
         self.before, self.now = FRAME_BYTES << before, FRAME_BYTES << now
         self.names = {'frame': {}, 'object': {}, 'cache': {}, 'slot': {}}
         self.places, self.sizes = Places(), {}                  # sizes of objects by cache
-        self.awaited = set()                                    # names of which the reply is not yet known, and their kinds
+        self.awaited = set()                                    # names whose reply is not yet known, and their kinds
 
     def awaits(self, old):
-        """A line of which the reply was `old` is sent and not answered."""
+        """Notes that a line whose reply was `old` is sent and not answered."""
         kind, at = name_in(old)
         if kind and len(old) > at:
             self.awaited |= {kind, (kind, old[at])}
 
     def needs(self, words):
-        """Whether a line with these words has a name that an awaited reply gives."""
+        """Returns whether a line with these words has a name that an awaited reply gives."""
         return bool(self.awaited) and any(self.is_awaited(kind, words[at]) for at, kind in names_in(words))
 
     def is_awaited(self, kind, word):
-        """Whether an awaited reply may say what a word is called now."""
+        """Returns whether an awaited reply may say what a word is called now."""
         if kind in self.names and int(word) in self.names[kind] or not self.awaited:
             return (kind, word) in self.awaited
         return bool(self.awaited & ({'frame', 'object', 'slot'} if kind in ('frame', 'place') else {kind}))
 
     def note(self, words, old, new):
-        """The reply to these words was `old`, and is `new`."""
+        """Notes that the reply to these words was `old`, and is now `new`."""
         kind, at = name_in(old)
         if kind and new[:1] == old[:1]:
             with contextlib.suppress(IndexError, ValueError):
@@ -167,7 +167,7 @@ class Renamed:
         return ' '.join(named)
 
     def number(self, kind, word):
-        """What a number is called now: a name, or as far from a name as it was."""
+        """Returns what a number is called now: a name, or a number at the same distance from a name."""
         names, number = self.names[kind], int(word)
         if kind == 'frame' and number not in names:
             return self.place(number * FRAME_BYTES, FRAME_BYTES) // FRAME_BYTES
@@ -178,7 +178,7 @@ class Renamed:
         return word
 
     def place(self, place, unit=1):
-        """The same of a place: in something, or beside it, or as many units from there as it was."""
+        """Returns the same for a place: in something, or beside it, or at the same distance from it in units."""
         for distance in (unit * distance for distance in DISTANCES if distance >= 0):
             now = self.known_place(place - distance) if distance <= place else None
             if now is not None:
@@ -186,19 +186,19 @@ class Renamed:
         return place
 
     def known_place(self, place):
-        """The same of a place that is in a block, an object or a slot."""
+        """Returns the same for a place that is in a block, an object or a slot."""
         slot, offset = divmod(place, self.before)
         if self.places.around(place) is not None:
             return self.places.now(place)
         if slot in self.names['slot']:
-            # as far from the end, if the slot is too small now
+            # at the same distance from the end, if the slot is too small now
             inside = offset if offset < self.now else max(offset - self.before + self.now, 0)
             return self.names['slot'][slot] * self.now + inside
         return None
 
 
 def name_in(told):
-    """Which kind of name a reply gives, and which of its words it is."""
+    """Returns which kind of name a reply gives, and which of its words it is."""
     kind = told[0] if told else ''
     return (kind, 1) if kind in ('frame', 'object', 'cache') else ('slot', 3) if kind == 'granted' else ('', 0)
 
@@ -208,13 +208,13 @@ NAMES = {'free': ['frame'], 'read': ['place'], 'write': ['place'], 'destroy': ['
 
 
 def names_in(words):
-    """The words of a line that are names which replies give, with their kinds."""
+    """Returns the words of a line that are names from replies, with their kinds."""
     return [(at, kind) for at, kind in enumerate(NAMES.get(words[1], []), 2) if kind and at < len(words) and is_number(words[at])]
 
 
 def replayed(programs, sizes, exchanges, order=None):
-    """A run of these lines, each with the reply that it had on a machine of this order: what they name by a reply is named by the
-    new one. Lines that need no reply which is not there yet are sent at once."""
+    """Runs these lines, each with the reply that it had on a machine of this order. Names from those replies are replaced by
+    those of the new replies. Lines that need no reply that is still missing are sent at once."""
     before = sizes.order if order is None else order
     run, renamed, sent = Run(programs, sizes), collections.defaultdict(lambda: Renamed(before, sizes.order)), []
 

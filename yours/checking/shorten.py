@@ -9,19 +9,19 @@ from .runs import has_done, tenant_of
 from .talk import SECONDS, Failure, Programs
 from .words import LEAST_ORDER, Sizes, counted, in_seconds, is_number, told_in
 
-# Seconds for which a load is shortened, and if the program hangs: each run that shows it is waited for.
+# Seconds for which a load is shortened, and if the program hangs: then each run that shows it takes the whole wait.
 SHORTENING, SHORTENING_OF_HANGING = 30, 4
-# While a failure is shortened, a reply may take so many times the longest wait before, and at least these seconds.
+# While a failure is shortened, a reply may take this many times the longest wait before, and at least these seconds.
 TIMES_SLOWEST, LEAST_SECONDS = 10, 0.2
 # Seconds that a reply may take when the shortened failure is run once more: a busy machine makes a program look as if it hung.
 SECONDS_AGAIN = 1
-# How failures begin that are there at once.
+# The kinds of failures that come at once begin with these words.
 AT_ONCE = 'by ', 'with status '
-# Parts of a load that are left out each alone at first, and how many times more if none can be.
+# The number of parts of a load that are first left out, each alone; and by how much it grows if none can be.
 FIRST_PARTS, TIMES_PARTS = 4, 4
-# Lines for which no other numbers are tried, and lines of a load of which pairs are left out.
+# With so few lines no other numbers are tried; up to this many lines of a load, pairs are left out.
 FEW_LINES, MOST_FOR_PAIRS = 3, 40
-# How replies begin that give a name, and the commands that end its life.
+# The first words of replies that give a name, and the commands that end its life.
 GIVERS, ENDS = ('granted', 'cache', 'frame', 'object'), ('free', 'give', 'destroy', 'takeback')
 
 
@@ -30,14 +30,14 @@ def is_at_once(finding):
 
 
 class Shortener:
-    """Numbers of `fixed` that are not None are those of each machine."""
+    """Shortens a case. Numbers of `fixed` that are not None are those of each machine."""
 
     def __init__(self, judge, case, deadline, note, fixed=Sizes(None, None, None)):
         self.judge, self.case, self.deadline, self.note, self.fixed = judge, case, deadline, note, fixed
         self.tried = set()
 
     def shorten(self):
-        """Returns whether it came to its end: then no line, and no pair of lines, can be left out of the case."""
+        """Shortens the case. Returns whether it came to its end: then no line, and no pair of lines, can be left out."""
         parts = FIRST_PARTS
         try:
             self.cut()
@@ -54,18 +54,18 @@ class Shortener:
             return False
 
     def cut(self):
-        """Leaves out at once what mostly can be."""
+        """Leaves out at once what can mostly be left out."""
         if isinstance(self.case.finding, Failure):
             self.without_idle_lines()
             return
         if self.case.finding.line:
-            # What follows is not judged.
+            # What follows that line is not judged.
             self.is_kept(range(self.case.finding.line))
         self.from_the_end()
 
     def leave_out(self, parts):
-        """Leaves lines out, the families of lines first, and fills the same space by fewer lines. As many parts of the changes of
-        a kind are tried each alone."""
+        """Leaves lines out, the families of lines first, and fills the same space by fewer lines. The changes of a kind are tried
+        in parts, down to `parts` of them."""
         for changes_of in (of_tenants, by_command, over, idle, grants, caches, rewriting.slabs_as_blocks, rewriting.joined_blocks,
                            taken):
             self.change(changes_of, parts)
@@ -82,8 +82,8 @@ class Shortener:
                 any(self.is_shown([change]) for change in changes_of(self.case.run))
 
     def change(self, changes_of, parts, less=0):
-        """Makes those of the changes to a run that can be made, all at once first, then halves, down to so many parts; returns
-        whether there is one. For each change the machine has so many superblocks less."""
+        """Makes those of the changes to a run that can be made: all at once first, then halves, down to `parts` parts. Returns
+        whether there is one. For each change the machine has `less` superblocks less."""
         changes, is_changed = list(changes_of(self.case.run)), False
         part = len(changes)
         while part and part * parts >= len(changes):
@@ -97,7 +97,7 @@ class Shortener:
         return is_changed
 
     def is_shown(self, changes, less=0):
-        """Whether the lines show it too with these changes; they are then the case."""
+        """Returns whether the lines still show it with these changes; then they become the case."""
         sizes, exchanges = self.case.run.sizes, self.case.run.exchanges
         instead = {at: new for change in changes for at, new in change.items()}
         changed = [instead.get(at, exchange) for at, exchange in enumerate(exchanges)]
@@ -105,7 +105,7 @@ class Shortener:
         return self.shows(sizes, [exchange for exchange in changed if exchange])
 
     def is_kept(self, kept):
-        """Whether these of the lines show it too, which are then the case."""
+        """Returns whether these of the lines still show it; then they become the case."""
         exchanges = self.case.run.exchanges
         return len(kept) < len(exchanges) and self.shows(self.case.run.sizes, [exchanges[at] for at in kept])
 
@@ -123,7 +123,7 @@ class Shortener:
         return case is not None
 
     def on_a_smaller_machine(self):
-        """Takes only the tenants that are named, the superblocks that are owned at a time, and the least order that shows it."""
+        """Keeps only the tenants that are named, the superblocks that are owned at a time, and the least order that shows it."""
         if not is_at_once(self.case.finding):
             return
         self.with_first_tenants()
@@ -148,7 +148,7 @@ class Shortener:
             self.shows(self.case.run.sizes, lines, finding)
 
     def from_the_end(self):
-        """Takes the last lines alone, ever more of them, behind the first grant or behind all grants."""
+        """Keeps only the last lines, more and more of them, after the first grant or after all grants."""
         exchanges, last = self.case.run.exchanges, 1
         grants = [at for at, (line, replies) in enumerate(exchanges) if line.startswith('admin grant') and has_done(replies)]
         while last < len(exchanges) // 2:
@@ -166,25 +166,25 @@ class Shortener:
         self.is_kept([at for at, tenant in enumerate(tenants) if tenant == tenants[-1]])
 
     def without_a_pair(self):
-        """Leaves out two lines if neither can be left out alone: a grant, and what it moved on."""
+        """Leaves out two lines if neither can be left out alone: for example a grant, and what it moved on."""
         count = len(self.case.run.exchanges)
         pairs = itertools.combinations(range(count if count <= MOST_FOR_PAIRS else 0), 2)
         return any(self.is_shown([dict.fromkeys(pair)]) for pair in pairs)
 
 
 def of_tenants(run):
-    """Changes that leave out all lines of a tenant."""
+    """Returns changes that leave out all lines of a tenant."""
     names = [tenant_of(line) for line, _ in run.exchanges]
     return [{at: None for at, other in enumerate(names) if other == name} for name in dict.fromkeys(names)]
 
 
 def kinds_of(run):
-    """For each line how its reply begins."""
+    """Returns for each line how its reply begins."""
     return [''.join(told_in(replies)[:1]) for _, replies in run.exchanges]
 
 
 def families(run, *kinds):
-    """Changes that leave out a line that gave one of these, with all that needs it."""
+    """Returns changes that leave out a line that gave one of these, with all that needs it."""
     return [dict.fromkeys(family) for family, kind in zip(families_of(run), kinds_of(run)) if kind in kinds]
 
 
@@ -201,12 +201,12 @@ def taken(run):
 
 
 def ends(run):
-    """For each line whether it ended the life of a name."""
+    """Returns for each line whether it ended the life of a name."""
     return [bool(set(line.split()[1:2]) & set(ENDS)) and has_done(replies) for line, replies in run.exchanges]
 
 
 def by_command(run):
-    """Changes that leave out all lines of a command, with all that needs them."""
+    """Returns changes that leave out all lines of a command, with all that needs them."""
     families, of = families_of(run), {}
     for at, (line, _) in enumerate(run.exchanges):
         of.setdefault(''.join(line.split()[1:2]), set()).update(families[at])
@@ -214,13 +214,13 @@ def by_command(run):
 
 
 def over(run):
-    """Changes that leave out families of which the life is over: blocks that are freed, caches that are destroyed, and so on."""
+    """Returns changes that leave out families whose life is over: blocks that are freed, caches that are destroyed, and so on."""
     are_ends = ends(run)
     return [dict.fromkeys(family) for family in families_of(run) if len(family) > 1 and any(are_ends[at] for at in family)]
 
 
 def idle(run):
-    """Changes that leave out a line that gave no name and ended none."""
+    """Returns changes that leave out a line that gave no name and ended none."""
     lines = zip(kinds_of(run), ends(run))
     return [{at: None} for at, (kind, is_end) in enumerate(lines) if kind not in GIVERS and not is_end]
 
@@ -230,7 +230,7 @@ def single(run):
 
 
 def needed_by(run, fixed):
-    """The least machine that may show the same as a run."""
+    """Returns the least machine that may show the same as a run."""
     owned = most = 0
     for _, replies in run.exchanges:
         told = told_in(replies)
@@ -248,7 +248,7 @@ def needed_by(run, fixed):
 
 
 def shortened(options, case, note):
-    """The shortest case that is found, and the seconds after which shortening was stopped, if it was."""
+    """Returns the shortest case that is found, and the seconds after which shortening was stopped, if it was."""
     is_failure, seconds, patience = isinstance(case.finding, Failure), options.shorten, SECONDS
     if is_failure:
         patience = min(SECONDS, max(LEAST_SECONDS, TIMES_SLOWEST * case.run.slowest))

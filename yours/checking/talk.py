@@ -12,16 +12,16 @@ from typing import NamedTuple
 from . import children
 from .words import ending, in_seconds, words_of
 
-# Seconds that a reply may take, and the end of a run, if the machine is not busy.
+# The seconds that a reply may take, and the end of a run, if the machine is not busy.
 SECONDS = 5
-# Seconds for which standard error of a program that was killed is read.
+# The seconds for which standard error of a program that was killed is read.
 SECONDS_OF_ERRORS = 0.2
-# Bytes that a run may print and that answer no line, and in which the replies to lines that are sent at once fit easily.
+# The bytes that a run may print that answer no line. The replies to lines that are sent at once easily fit into as many.
 MOST_UNASKED, MOST_WAITING = 1 << 16, 1 << 20
-# Bytes of standard error that are kept: the first, with the words of a sanitizer or of a panic, and the last.
+# The bytes of standard error that are kept: the first, with the words of a sanitizer or of a panic, and the last.
 FIRST_ERRORS, LAST_ERRORS = 1 << 14, 1 << 12
 
-# A new session takes longer: Linux gives it a share of the processors of its own.
+# A new session takes longer: Linux gives it its own share of the processors.
 GROUP_OF_ITS_OWN = {'process_group': 0} if sys.version_info >= (3, 11) else {'start_new_session': True}
 
 
@@ -41,7 +41,7 @@ class CannotRun(Exception):
 
 
 def on_this_machine(seconds):
-    """Seconds that are waited: so many times more as there are processes that want to run for each processor."""
+    """The seconds that are waited: more in proportion to the processes that want to run on each processor."""
     return round(seconds * max(1, os.getloadavg()[0] / (os.cpu_count() or 1)), 1)
 
 
@@ -58,7 +58,8 @@ class Programs(NamedTuple):
 
 
 class Talk:
-    """It is in a process group of its own. In the end all is killed that it started. One process has one at a time."""
+    """A run of the program in a process group of its own. At its end all that it started is killed. A process has one at a
+    time."""
 
     def __init__(self, command, seconds):
         self.process = subprocess.Popen(command, stdin=subprocess.PIPE, stdout=subprocess.PIPE, stderr=subprocess.PIPE,
@@ -82,7 +83,7 @@ class Talk:
             self.write()
 
     def write(self):
-        """Writes what the pipe takes. What is left is written while replies are waited for."""
+        """Writes what the pipe takes. The rest is written while replies are waited for."""
         is_waiting = len(self.unsent)
         try:
             self.unsent = self.unsent[os.write(self.input, self.unsent):]
@@ -97,7 +98,7 @@ class Talk:
                 self.poll.unregister(self.input)
 
     def reply(self, owed):
-        """Returns the reply to the next line, which has so many lines."""
+        """Returns the reply to the next line, which has `owed` lines."""
         if len(self.ready) < owed:
             start = time.monotonic()
             while len(self.ready) < owed:
@@ -115,11 +116,11 @@ class Talk:
         return lines
 
     def rest(self):
-        """Returns what was printed and is not yet taken, as lines; the last may have no end."""
+        """Returns what was printed and is not yet taken, as lines. The last one may have no end."""
         return self.taken(len(self.ready)) + ([self.held] if self.held else [])
 
     def end(self):
-        """Returns what the program still prints at the end of its input, where it has to exit with status 0."""
+        """Returns what the program still prints at the end of its input. There it has to exit with status 0."""
         if self.unsent:
             raise self.failed('deaf', f'it answers without reading: line {self.answered} does not fit into the pipe any more')
         self.process.stdin.close()
@@ -135,7 +136,8 @@ class Talk:
         return ''.join(f'{line}\n' for line in self.taken(len(self.ready))) + self.held
 
     def hear(self, deadline):
-        """Reads what comes next on either output, and writes what is not sent; false if nothing does until the deadline."""
+        """Reads what comes next on either output, and writes what is not sent. Returns false if nothing comes until the
+        deadline."""
         left = deadline - time.monotonic()
         is_heard = False
         for number, _ in self.poll.poll(1000 * left if left > 0 else 0):
@@ -164,7 +166,7 @@ class Talk:
         self.last_errors = (self.last_errors + piece[space:])[-LAST_ERRORS:]
 
     def exits(self, deadline):
-        """Whether the program exits until the deadline. It is not waited for if it prints too much."""
+        """Returns whether the program exits before the deadline. It does not wait if the program prints too much."""
         while self.open and self.held_bytes <= MOST_UNASKED and self.hear(deadline):
             pass
         if self.held_bytes > MOST_UNASKED:
@@ -178,7 +180,7 @@ class Talk:
         return True
 
     def unanswered(self):
-        """The failure of a program that answers no more: it is silent, or its output is closed, or its input."""
+        """Returns the failure of a program that no longer answers: it is silent, or has closed its output or its input."""
         line, is_silent = self.answered + 1, self.output in self.open
         if self.exits(time.monotonic() + (0 if is_silent else self.seconds)):
             self.finish()

@@ -15,11 +15,11 @@ LIMITS = Sizes((3, 8), (1, 256), (1, 64))
 
 
 class WrongTrace(Exception):
-    """A trace that cannot be read, or that does not say its machine."""
+    """A trace that cannot be read, or that does not name its machine."""
 
 
 def text_of(case, about):
-    """The trace of a case, with what it is about in remarks."""
+    """Returns the trace of a case, with its finding in remarks."""
     lines = [*(f'# {line}' for line in about), MACHINE + ' '.join(words_of(case.run.sizes))]
     for line, replies in case.run.exchanges:
         lines += [line, *(REPLY + reply for reply in replies)]
@@ -35,7 +35,7 @@ def save(name, case, about):
 
 
 def files_of(name):
-    """The file, or the files of a folder by name."""
+    """Returns the file, or the files of a folder by name."""
     try:
         inside = sorted(os.listdir(name)) if os.path.isdir(name) else None
     except OSError as error:
@@ -49,7 +49,7 @@ def files_of(name):
 
 
 def read(name, fixed):
-    """The machine of a trace, and its lines with the replies that it keeps. Numbers of `fixed` that are not None are the
+    """Returns the machine of a trace, and its lines with the replies that it keeps. Numbers of `fixed` that are not None are the
     machine's."""
     try:
         with open(name, 'rb') as file:
@@ -80,7 +80,7 @@ def sizes_in(name, line):
 
 
 def trace(options, name):
-    """Runs a kept trace, and tests it: the promises, and Alone for every tenant."""
+    """Runs a kept trace and tests it: the promises, and Alone for every tenant."""
     sizes, exchanges = read(name, Sizes(options.order, options.superblocks, options.tenants))
     judge = Judge(options, Programs(options.command))
     run = replayed(judge.programs, sizes, exchanges)

@@ -1,11 +1,11 @@
-"""Words that several parts share: the sizes of a machine, numbers of a reply, and text that is shown."""
+"""What several parts share: the sizes of a machine, numbers of a reply, and text that is shown."""
 import signal
 from typing import NamedTuple
 
 FRAME_SHIFT, LEAST_ORDER, MOST_ORDER, MOST_BYTES = 12, 3, 8, 64
 FRAME_BYTES = 1 << FRAME_SHIFT
 MOST_NUMBER = (1 << 32) - 1
-# Characters that are shown of a line.
+# The characters of a line that are shown.
 MOST_SHOWN = 200
 
 
@@ -42,7 +42,7 @@ def is_number(word):
 
 
 def number_in(word):
-    """The number that a word is. A program may answer anything: another word is a ValueError."""
+    """Returns the number that a word is. A program may answer anything: another word raises ValueError."""
     if not is_number(word):
         raise ValueError
     return int(word)
@@ -55,7 +55,7 @@ def order_in(word):
 
 
 def told_in(replies):
-    """The words of the first reply, without the tenant that it goes to; none if there is no reply, or no tenant."""
+    """Returns the words of the first reply, without the tenant that it goes to; none if there is no reply, or no tenant."""
     return replies[0].partition('> ')[2].split() if replies and not replies[0].startswith('!') else []
 
 
@@ -67,5 +67,5 @@ def ending(status):
     """Returns how a process ended: `by SIGSEGV`, `with status 3`."""
     if status < 0:
         return f'by {name_of_signal(-status)}'
-    # A shell exits so if the program that it runs ends by a signal.
+    # A shell exits like this if the program that it runs is ended by a signal.
     return f'with status {status}' + (f', 128 + {name_of_signal(status - 128)}' if status > 128 else '')

@@ -1,4 +1,4 @@
-"""Processes that do the work, each one task at a time. What they start ends with them, and they with this process."""
+"""Processes that do the work, each one task at a time. What they start ends with them, and they end with this process."""
 import multiprocessing
 import multiprocessing.connection
 import os
@@ -7,16 +7,16 @@ import traceback
 
 from . import children
 
-# Tasks for each worker that are begun before the first of all has ended.
+# Tasks for each worker that are started before the first of all has ended.
 AHEAD = 16
 
 
 class Broken(Exception):
-    """A worker ended, or something failed in it that should not."""
+    """A worker ended, or something failed in it that should not fail."""
 
 
 class Workers:
-    """Left as a context, it ends all that is below this process."""
+    """A group of workers. When it is left as a context, all processes below this one are ended."""
 
     def __init__(self, work, count, note=str):
         self.work, self.count, self.note, self.pipes = work, count, note, []
@@ -37,7 +37,7 @@ class Workers:
             pipe.close()
 
     def serve(self, pipe):
-        """What a worker does, until it is ended. The signals of a terminal come to all; the first process ends the others."""
+        """What a worker does until it is ended. Signals of a terminal come to all workers; the first process ends them."""
         def end(*_):
             children.kill_all()
             os._exit(0)
@@ -65,7 +65,7 @@ class Workers:
             return Broken(f'{type(error).__name__}: {error} ({os.path.basename(where.filename)}:{where.lineno})')
 
     def in_turn(self, tasks):
-        """The results of the tasks, in their order."""
+        """Yields the results of the tasks, in their order."""
         tasks, idle, working, done = enumerate(tasks), list(self.pipes), {}, {}
         begun = given = 0
         while True:

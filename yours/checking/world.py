@@ -1,15 +1,15 @@
-"""What the replies of a run told, as far as lines are made of it."""
+"""What the replies of a run said, as far as lines are made of it."""
 import collections
 from typing import Any, NamedTuple
 
 from .words import FRAME_BYTES, FRAME_SHIFT, is_number, number_in, order_in, told_in
 
-# What was freed or written last, of which lines are made that name it again.
+# How much of what was freed or written last is kept, for lines that name it again.
 LAST = 32
 
 
 class Bag:
-    """Numbers with what is known of each; one of them is drawn at once, however many there are."""
+    """Numbers with what is known of each. One of them is drawn in constant time, however many there are."""
 
     def __init__(self):
         self.known, self.keys, self.at = {}, [], {}
@@ -56,16 +56,16 @@ class Tenant:
         self.frames, self.last_cache = 0, 0
 
     def slot_of_rank(self, rank):
-        """The number of the slot of this rank, or of the highest; none if it has no slot, or there is no rank."""
+        """Returns the number of the slot of this rank, or of the highest; None if it has no slot, or if there is no rank."""
         slots = sorted(self.slots.keys)
         return slots[min(rank, len(slots) - 1)] if slots and rank is not None else None
 
     def held(self):
-        """How many blocks or objects it has, whichever are more."""
+        """Returns how many blocks or objects it has, whichever are more."""
         return max(len(self.pages), len(self.objects))
 
     def count(self, noun, order, slot=None):
-        """How many slots, frames, blocks or objects it has; blocks and objects in this slot alone, if there is one."""
+        """Returns how many slots, frames, blocks or objects it has; if there is a slot, only its blocks and objects."""
         if noun == 'slots':
             return len(self.slots)
         if noun == 'frames':
@@ -74,7 +74,7 @@ class Tenant:
         return len(bag) if slot is None else sum(key >> shift == slot for key in bag.keys)
 
     def of_a_slab(self):
-        """The objects in a slab of the cache that was made last."""
+        """Returns the number of objects in a slab of the cache that was made last."""
         return self.caches.get(self.last_cache, Cache()).objects
 
 
@@ -84,10 +84,10 @@ class World:
         self.tenants = [Tenant() for _ in range(sizes.tenants)]
         self.refused = collections.Counter()
         self.offsets = collections.deque(maxlen=LAST)           # of bytes in superblocks that somebody wrote
-        self.most = collections.Counter()                       # what one tenant had at a time
+        self.most = collections.Counter()                       # the most that one tenant had at a time
 
     def owed(self, line):
-        """How many lines the reply to a line has."""
+        """Returns how many lines the reply to a line has."""
         words = line.rstrip('\r').split() if len(line) <= 255 else ['long']
         if not words or words[0][0] == '#':
             return 0
@@ -98,7 +98,7 @@ class World:
         return 1
 
     def note(self, line, replies):
-        """Learns from the reply to a line. A program may answer anything: nothing is learned from another form."""
+        """Learns from the reply to a line. A program may answer anything: nothing is learned from a reply of another form."""
         words, told = line.split(), told_in(replies)
         if 'refused' in told[:1] or replies and replies[0].startswith('!> refused'):
             self.refused[replies[0].split()[-1]] += 1
