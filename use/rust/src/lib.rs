@@ -52,7 +52,7 @@
 //! - Any number of handles may be lent at once, beside `alloc`, `take`, `lend` and `report`, which need `&Machine`.
 //! - `free` and `give` consume their handle, so nobody has its bytes. Others may be lent.
 //! - `move_slot`, `reset` and the drop of the machine require that nothing is lent. Handles stay through a move, and can be lent
-//! again. A lend compares two numbers. It calls the library after a move, until a `lend_mut` has found the new address.
+//!   again. A lend compares two numbers. It calls the library after a move, until a `lend_mut` has found the new address.
 //! - Handles can lie beside the machine in one struct. Typed values and what a heap allocates borrow their [`Client`], and cannot.
 //! - A handle that is dropped leaves its bytes allocated until a reset. After a reset and on another machine it is
 //!   [`Error::Stale`].
@@ -139,17 +139,14 @@
 //! numbers. These are left to you:
 //!
 //! - *Flows.* Do not store for one tenant what was loaded for another, and do not show it to that tenant. Do not store an
-//! address, such as the
-//!   `as_ptr` of a lend, in lent bytes, or show it to a tenant. Values with references, and collections, are full of addresses:
-//!   such a tenant may learn of others, as `partmem_heap.h` says.
+//!   address, such as the `as_ptr` of a lend, in lent bytes, or show it to a tenant. Values with references, and collections, are
+//!   full of addresses: such a tenant may learn of others, as `partmem_heap.h` says.
 //! - *Users.* Whoever has the machine acts for any tenant, and `lend_at` reaches every live object. Give them to no tenant's
-//! user. A
-//!   [`Client`] acts for its tenant alone.
+//!   user. A [`Client`] acts for its tenant alone.
 //! - *After the end.* The memory goes back to the allocator with the tenants' bytes in it. Overwrite secrets before.
 //! - *Booting.* The crate boots one machine at a time. C code in the same program must not boot another beside it.
 //! - *Other code.* Make no call from a signal handler, nor from the forked child of a process with threads. The compiler sees no
-//! page
-//!   tables and no devices: unmap and stop them before a free, reset, move or end.
+//!   page tables and no devices: unmap and stop them before a free, reset, move or end.
 #![no_std]
 #![cfg_attr(feature = "allocator_api", feature(allocator_api))]
 #![deny(missing_debug_implementations, unsafe_op_in_unsafe_fn, clippy::undocumented_unsafe_blocks)]
