@@ -35,11 +35,13 @@
  *
  * RUNS. Without them nothing in the heap depends on superblocks or addresses. With them (has_runs) a request larger than a
  * superblock takes superblocks, from the first free one on, until enough lie in a row; the others are freed again. So the slots
- * of the tenant have to lie in RAM one behind another, as grants to it in a row, at the start, make them, and partmem_heap_init
- * refuses other slots. Slots that are granted later become part of no run. From then on move no slot of the tenant, and take none
- * back. [A run with that slot leads to memory that others own by then, and which requests are refused depends on superblocks.]
+ * of the tenant have to lie one after another in RAM. They do if all are granted in a row at the start. partmem_heap_init refuses
+ * other slots. Slots that are granted later become part of no run. From then on move no slot of the tenant, and take none back.
+ * [Otherwise a run with that slot leads to memory that others own by then, and which requests are refused depends on
+ * superblocks.]
  *
- * ADDRESSES. Duty 6 of partmem.h forbids storing addresses in lent bytes. Each program that calls malloc does that. If it may,
+ * ADDRESSES. Duty 6 of partmem.h forbids storing addresses in lent bytes. Each program that calls malloc does that. If a tenant
+ * may do so,
  * - no slot of the tenant is moved as long as an address is in use. [Stored addresses lead to what others own by then.]
  * - what the program computes from the numbers in addresses, such as their order, a hash or a printed pointer, depends on who
  *   holds which superblock. So the tenant may learn of grants to others, and of their moves, resets and take-backs.
@@ -81,16 +83,16 @@ typedef struct partmem_heap_config {
  * free of NULL returns DONE. */
 typedef struct partmem_heap {
     partmem_tenant tenant;
-    unsigned char *base; /* with runs: the address of place 0, and how many slots lie in sequence; else NULL and 0 */
+    unsigned char *base; /* with runs, the address of place 0, and below it the number of slots in sequence; else NULL and 0 */
     uint32_t slots;
     uint32_t order; /* of a superblock */
     uint32_t classes;
     uint16_t size[PARTMEM_HEAP_MOST_CLASSES];                      /* of the objects of a class, in bytes */
     uint16_t align[PARTMEM_HEAP_MOST_CLASSES];                     /* of the objects of a class */
-    uint8_t cache_of[PARTMEM_HEAP_MOST_CLASSES];                   /* the cache of a class plus 1; 0 without one */
-    uint8_t class_in[PARTMEM_MOST_CACHES];                         /* the last class that had this cache plus 1, or 0 */
+    uint8_t cache_of[PARTMEM_HEAP_MOST_CLASSES];                   /* the cache of a class, plus 1; 0 without one */
+    uint8_t class_in[PARTMEM_MOST_CACHES];                         /* the last class that had this cache, plus 1; or 0 */
     uint8_t class_of[PARTMEM_FRAME_BYTES / PARTMEM_HEAP_STEP + 1]; /* of a request, in steps; `classes` if it has none */
-    uint16_t run[PARTMEM_MOST_SUPERBLOCKS];                        /* a run's superblocks from its first on; 0xffff inside; 0 */
+    uint16_t run[PARTMEM_MOST_SUPERBLOCKS];                        /* by slot: superblocks of a run that begins there; 0xffff */
 } partmem_heap;
 
 /* Initialises the heap of a tenant. `config` is NULL for the default classes and no runs. Returns BAD_CONFIG, and with runs

@@ -61,7 +61,7 @@ def parser_of(description):
     add('--without', action='append', default=[], metavar='COMMAND', choices=OF_TENANT,
         help=f'leave out a command of tenants: {", ".join(OF_TENANT)}; can be given more than once')
     add('--exact', action='store_true', help='compare the replies with those of partmem too, byte for byte')
-    nouns = 'of this order', 'with so many superblocks', 'with so many tenants'
+    nouns = 'of this order', 'with this number of superblocks', 'with this number of tenants'
     for name, (least, most), noun in zip(Sizes._fields, LIMITS, nouns):
         add(f'--{name}', type=number(int, least, most), metavar='N', help=f'only machines {noun}, {least} to {most}')
     add_loads(add)

@@ -39,7 +39,7 @@ class Plan(NamedTuple):
 
 
 def granting(sizes, tenants):
-    """Some of the lines name a tenant that does not exist."""
+    """Returns a phase that grants all superblocks. Some of its lines name a tenant that does not exist."""
     return Phase(sizes.superblocks * 9 // 8 + 40, GRANTS, tenants, [0], until='full')
 
 
@@ -60,8 +60,7 @@ class Planner:
         return Sizes(*(drawn if fixed is None else fixed for fixed, drawn in zip(self.fixed, drawn)))
 
     def in_turn(self, choices, each):
-        """Returns one of the choices, by turns in the loads of a kind, of which there is one in `each` loads. Seeds begin
-        elsewhere."""
+        """Returns one of the choices in turn, if one in `each` loads is of this kind. The first one depends on the seed."""
         shuffled = random.Random(f'{self.seed}').sample(choices, len(choices))
         return shuffled[self.number // each % len(choices)]
 
@@ -85,7 +84,7 @@ class Planner:
         return Plan(sizes, [Phase(200, ALL, everyone, self.orders(sizes)), *self.phases(sizes, everyone, 800)])
 
     def life(self, lines=5000):
-        """One process that lives long."""
+        """Returns a plan in which one process lives long."""
         sizes = self.machine([3, 3, 4, 5, 6], [2, 3, 4, 6, 12], [1, 2, 3, 4])
         return Plan(sizes, self.phases(sizes, list(range(sizes.tenants)), lines))
 
@@ -104,7 +103,8 @@ class Planner:
         return phases
 
     def alone(self):
-        """One tenant holds everything: counts of frames, blocks and superblocks cross 2^8, and of frames 2^16."""
+        """Returns a plan in which one tenant holds everything: its frames, blocks and superblocks cross 2^8, and its frames
+        2^16."""
         order, superblocks = self.in_turn(ALONE, 6)
         sizes = self.machine([order], [superblocks], [1, 2, 3])
         least = max(sizes.order - (10 - (sizes.superblocks - 1).bit_length()), 0)
@@ -114,7 +114,8 @@ class Planner:
         return Plan(sizes, self.whole(sizes, owner, order, FILL_PAGES, self.around(EDGES_OF_COUNTS, noun, owner, order)))
 
     def whole(self, sizes, owner, order, fill, edges):
-        """Phases of a tenant that gets all superblocks, goes through edges, fills them, and gives all back."""
+        """Returns the phases of a tenant that gets all superblocks, goes through `edges`, fills the superblocks, and gives all
+        back."""
         blocks, every = sizes.superblocks << sizes.order - order, list(range(sizes.order + 1))
         most = 2 * blocks + 40
         reset = [Phase(1, 'reset 1', owner, every, is_plain=True), granting(sizes, owner)]
@@ -126,8 +127,7 @@ class Planner:
                 Phase(2 * sizes.superblocks + 20, DRAIN, owner, every, until='empty'), Phase(60, RETURNS, owner, every)]
 
     def around(self, counts, noun, owner, order=0):
-        """Exactly these counts, one after the other and back to the first. At each, commands that are refused or change
-        nothing."""
+        """Returns phases that reach exactly these counts, up and down again. At each, commands are refused or change nothing."""
         up, down = (TAKE, GIVE) if noun == 'objects' else (ALLOC, FREE)
         # blocks as large as possible, then single frames
         orders = sorted({order, 0}, reverse=True) if noun == 'frames' else [order]
@@ -149,14 +149,14 @@ class Planner:
                             Phase(300, DRAIN, everyone, [0], until='empty'), Phase(100, RETURNS, everyone, [0])])
 
     def objects(self):
-        """Counts of objects cross 2^8; all caches that a tenant can have."""
+        """Returns a plan in which the number of objects crosses 2^8, and a tenant has all caches that it can have."""
         sizes = self.machine([3, 4, 6, 8], [1, 2, 4, 8], [1, 2])
         owner = [self.rng.randrange(sizes.tenants)]
         few = [self.rng.choice([1, 8, 16, 24, 64, self.rng.choice(OBJECTS)])]
         return self.of_caches(sizes, owner, [self.cache(owner, few)] * 4, self.around(EDGES_OF_COUNTS, 'objects', owner))
 
     def one_cache(self):
-        """Objects of one slab, or slabs of one cache if each has four objects, cross 2^8."""
+        """Returns a plan in which the objects of one slab, or the slabs of one cache with four objects each, cross 2^8."""
         size = self.in_turn([8, 16, 4096, 4096], 12)
         sizes = self.machine(*([8], [8]) if size == 4096 else ([3, 4, 6, 8], [2, 4, 8]), [1, 2])
         owner = [self.rng.randrange(sizes.tenants)]
@@ -177,7 +177,7 @@ class Planner:
                             Phase(40, PROBE, owner, every), Phase(100, ALL, owner, every), Phase(40, RETURNS, owner, every)])
 
     def slabs(self):
-        """Slabs are filled exactly, and to one object less and more."""
+        """Returns a plan in which slabs are filled exactly, and with one object less and one more."""
         sizes = self.machine([3, 3, 4, 5, 6, 8], [1, 2, 3, 4, 8], [1, 2])
         owner, every = [self.rng.randrange(sizes.tenants)], list(range(sizes.order + 1))
         phases = [granting_all_but_one(sizes, owner)]
@@ -191,7 +191,7 @@ class Planner:
         return Plan(sizes, phases)
 
     def slots(self):
-        """All slots are full but one low and one high, which blocks or slabs fill and leave again."""
+        """Returns a plan in which all slots are full except a low and a high one, which blocks or slabs fill and leave again."""
         sizes = self.machine([3, 3, 3, 4, 5], [64, 65, 66, 66, 96, 129, 255, MOST_SUPERBLOCKS], [1, 1, 2, 64])
         owner, every = [self.rng.randrange(sizes.tenants)], list(range(sizes.order + 1))
         fill = Phase(2 * sizes.superblocks, ALLOC, owner, [sizes.order], until='full', is_plain=True)
@@ -214,7 +214,7 @@ class Planner:
         return Plan(sizes, phases)
 
     def longest(self):
-        """100,000 lines, and 2^16 objects or blocks."""
+        """Returns a plan of 100,000 lines, with 2^16 objects or blocks."""
         sizes = self.machine([MOST_ORDER], [MOST_SUPERBLOCKS], [1, 2, 3])
         owner = [self.rng.randrange(sizes.tenants)]
         if self.with_caches and self.rng.random() < 0.5:
