@@ -1,5 +1,5 @@
-/* The calls of partmem. Each is printed as the line of a trace, with its reply in the form of the program `partmem`: so that
- * program can be run on the whole output. */
+/* The calls of partmem. Each is printed as the line of a trace, with its reply in the form of the program `partmem`, so that
+ * partmem can be run on the whole output. */
 #include "kernel.h"
 
 enum planted planted;
@@ -34,7 +34,7 @@ void end_memory(void)
 
 enum { ADMIN = TENANTS };
 
-/* Prints a refusal, of a tenant or of the administrator, and returns true if there is one. An error of the caller ends the
+/* Prints a refusal to a tenant or the administrator, and returns true if there is one. A mistake of the caller ends the
  * kernel. */
 static bool is_refused(unsigned who, partmem_status status)
 {
@@ -51,8 +51,7 @@ static bool is_refused(unsigned who, partmem_status status)
 
 /* ---- Page blocks -------------------------------------------------------------------------------------------------------- */
 
-/* Maps a block as partmem_alloc or partmem_lend_block returned it, and so no slab, no free frame, and no other superblock (duty
- * 11). */
+/* Maps a block as partmem_alloc or partmem_lend_block returned it, so no slab, free frame or other superblock (duty 11). */
 static void map_block(unsigned t, partmem_lent block)
 {
     uint8_t *at = block.at;

@@ -24,7 +24,7 @@ struct state {
 partmem_status partmem_boot_kernel(partmem_machine *machine, const partmem_config *config);
 partmem_status partmem_end_kernel(partmem_machine *machine);
 
-/* ---- The functions that the kernel allocates by ------------------------------------------------------------------------- */
+/* ---- The functions by which the kernel allocates ------------------------------------------------------------------------ */
 
 struct allocation {
     bool is_done;
@@ -34,8 +34,8 @@ struct allocation {
 /* The machine that is booting, or NULL: outside of boot every allocation is refused. */
 static struct state *booting;
 
-/* Returns the state of a machine that is booted. Only what is used of it is loaded. memcpy would be a call, since -ffreestanding
- * makes one of each. */
+/* Returns the state of a machine that is booted. Only the parts that are used are loaded. A plain memcpy would be a call, since
+ * -ffreestanding makes a call of each. */
 static inline struct state state_of(const partmem_machine *machine)
 {
     struct state state;
