@@ -8,7 +8,7 @@ class Fault(NamedTuple):
     kind: str
     name: str
     promises: str                                               # any of these finds it, or `Failed`
-    changes: list                                               # what is there once, and what instead
+    changes: list                                               # a text that occurs once, and its replacement
     most: int = FEW                                             # lines that the shortened load may have
 
 

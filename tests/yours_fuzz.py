@@ -1,4 +1,4 @@
-"""Replies and traces that somebody turned: yours/check finds something or says what is wrong, and never fails itself."""
+"""Replies and traces that were changed: yours/check finds something or says what is wrong, and never fails itself."""
 import os
 import random
 import resource
@@ -8,7 +8,7 @@ import sys
 from checking import judge, report, runs, talk, traces
 from checking.words import Sizes
 
-# KiB that this process may have had at most.
+# The most KiB that this process may have had.
 MOST_MEMORY = 200_000
 SIZES = Sizes(3, 2, 2)
 TRACE = ['admin grant 0', 'admin grant 1', '0 cache 24 8 a5', '0 take 0', '0 alloc 1', '0 write 8192 a5', '0 read 8192 2',
@@ -17,7 +17,7 @@ TRACE = ['admin grant 0', 'admin grant 1', '0 cache 24 8 a5', '0 take 0', '0 all
 
 
 def mutated(rng, text):
-    """Bits turned, a part cut or doubled or put elsewhere, a long word, NUL, bytes that are no UTF-8."""
+    """Returns the text with bits flipped, a part cut, doubled or moved, a long word, NUL, or bytes that are not UTF-8."""
     text = bytearray(text)
     for _ in range(rng.choice([1, 1, 2, 5])):
         at = rng.randrange(len(text) + 1)
@@ -42,7 +42,8 @@ def mutated(rng, text):
 
 
 def shown(case, name):
-    """What is printed of a case, which is ASCII without long lines; and what is saved of it, which can be read."""
+    """Checks what is printed of a case, which has to be ASCII without long lines, and what is saved of it, which has to be
+    readable."""
     said = '\n'.join(report.report_of(name, case))
     if not said.isascii() or max(map(len, said.split('\n'))) > 4000:
         sys.exit(f'yours: fuzz: {said!r} is printed')
@@ -52,7 +53,7 @@ def shown(case, name):
 
 
 def fuzz_replies(work, options, rng, count):
-    """Programs that give turned replies."""
+    """Tests programs that give changed replies."""
     told = subprocess.run([options.partmem, *(f'--{name}={size}' for name, size in zip(SIZES._fields, SIZES))],
                           input='\n'.join(TRACE).encode(), capture_output=True).stdout
     name, found = os.path.join(work, 'turned replies'), 0
@@ -70,7 +71,7 @@ def fuzz_replies(work, options, rng, count):
 
 
 def fuzz_traces(work, options, rng, count):
-    """Kept traces that are turned, read alone, and some of them run."""
+    """Reads kept traces that were changed, and runs some of them."""
     name, wrong = os.path.join(work, 'turned trace'), 0
     lines = ''.join(f'{line}\n#> 0> frame {at}\n' for at, line in enumerate(TRACE))
     plain = f'# machine: --order 3 --superblocks 2 --tenants 2\n{lines}'
@@ -89,7 +90,7 @@ def fuzz_traces(work, options, rng, count):
 
 
 def fuzz(work, options, count):
-    """Returns how many of so many turned inputs were found wrong."""
+    """Returns how many of this number of changed inputs were found wrong."""
     rng = random.Random(5)
     found = fuzz_replies(work, options, rng, count // 2)
     wrong = fuzz_traces(work, options, rng, count // 2)

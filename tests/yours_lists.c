@@ -1,4 +1,4 @@
-/* A buddy allocator as Linux has it, behind yours/adapter.h, of which tests/yours makes wrong copies: a tenant has a list of free
+/* A buddy allocator like that of Linux, behind yours/adapter.h. tests/yours makes wrong copies of it. A tenant has a list of free
  * blocks for each order, last in first out, and blocks are joined when they are freed. There are no caches. */
 #include "adapter.h"
 #include <stdlib.h>
@@ -6,7 +6,7 @@
 
 enum kind { INSIDE, FREE, TAKEN };
 
-/* A frame of a tenant; the first of a block has the block's kind, order and neighbours in its list. */
+/* A frame of a tenant. The first frame of a block has the block's kind, order and neighbours in its list. */
 struct page {
     uint8_t kind, order;
     uint32_t next, before;
@@ -171,7 +171,7 @@ enum reply release(unsigned tenant, uint32_t frame, unsigned *order) {
     return DONE;
 }
 
-/* The first of the bytes, where one block has them all. */
+/* Returns the address of the first of the bytes, if one block has them all. */
 static uint8_t *reach(struct tenant *of, uint32_t place, uint32_t length) {
     uint32_t at = place / FRAME_BYTES, slot = at / frames;
     if (!holds(of, slot))

@@ -1,4 +1,4 @@
-/* A buddy allocator with caches behind yours/adapter.h, of which tests/yours makes wrong copies. Each slot has a tree with the
+/* A buddy allocator with caches behind yours/adapter.h. tests/yours makes wrong copies of it. Each slot has a tree with the
  * greatest free order below each node; a block is taken in the first slot that has one. A cache keeps its empty slabs until
  * frames are short. Their records are outside the frames. */
 #include "adapter.h"
@@ -24,7 +24,7 @@ struct cache {
 
 struct tenant {
     unsigned *superblocks;    /* by slot */
-    uint8_t (*trees)[NODES];  /* by slot: 1 and the greatest free order, or 0 */
+    uint8_t (*trees)[NODES];  /* by slot: the greatest free order plus 1, or 0 */
     uint8_t *orders, *kinds;  /* of the block that begins at a frame */
     struct cache caches[MOST_CACHES];
 };
@@ -128,10 +128,10 @@ enum reply move(unsigned tenant, uint32_t slot, unsigned *superblock) {
     return DONE;
 }
 
-/* The node of a block in its tree. */
+/* Returns the node of a block in its tree. */
 static unsigned node_of(uint32_t frame, unsigned order) { return (1u << (top - order)) + (frame % frames >> order); }
 
-/* Sets what is free in a block, and what its parents have then. */
+/* Sets what is free in a block, and then in its parents. */
 static void set_free(uint8_t *tree, unsigned node, unsigned order, uint8_t free_order) {
     tree[node] = free_order;
     for (node /= 2; node > 0; node /= 2) {
@@ -190,7 +190,7 @@ static void drop_all_empty(unsigned tenant, unsigned *freed) {
         *freed += drop_empty(of, cache);
 }
 
-/* Whether there is a block of this order if all empty slabs are dropped. */
+/* Returns whether there is a block of this order once all empty slabs are freed. */
 static bool would_fit(struct tenant *of, unsigned order) {
     bool fits = false;
     uint8_t (*before)[NODES] = malloc(count * sizeof *before);
@@ -233,7 +233,7 @@ enum reply release(unsigned tenant, uint32_t frame, unsigned *order) {
     return DONE;
 }
 
-/* The slab of a cache that has the place, or NULL. */
+/* Returns the slab of a cache that has the place, or NULL. */
 static struct slab *slab_at(struct cache *cache, uint32_t place) {
     for (struct slab *slab = cache->slabs; slab < cache->slabs + cache->count; slab++)
         if (place / FRAME_BYTES >= slab->first && place / FRAME_BYTES < slab->first + (1u << cache->order))
@@ -326,7 +326,7 @@ static enum reply destroy(unsigned tenant, uint32_t number, unsigned *freed) {
     return DONE;
 }
 
-/* A partial slab, else an empty one, else a new one. */
+/* Returns a partial slab, else an empty one, else a new one. */
 static struct slab *slab_with_room(unsigned tenant, struct cache *cache) {
     struct slab *best = NULL;
     uint32_t first;
