@@ -4,7 +4,7 @@ import re
 import subprocess
 
 COMMANDS = 'alloc free take give read write cache destroy reap report grant take_back move reset'.split()
-# Direct calls that are no events.
+# Direct calls that are not events.
 CALLS = 'lend lend_object lend_block find_object'.split()
 ROUNDS = 100
 # The C library has a memcpy and a memset for each kind of processor. With these settings it uses the same ones on all.

@@ -37,7 +37,7 @@ class Tenant:
         return start + draw.randrange(max(1, room - count + 1))
 
     def words(self, draw):
-        """The next command."""
+        """Returns the words of the next command."""
         if draw.random() < 1 / 60:
             self.is_filling = not self.is_filling
         weights = FILLING if self.is_filling else EMPTYING

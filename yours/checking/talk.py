@@ -41,7 +41,7 @@ class CannotRun(Exception):
 
 
 def on_this_machine(seconds):
-    """The seconds that are waited: more in proportion to the processes that want to run on each processor."""
+    """Returns the seconds that are waited: more in proportion to the processes that want to run on each processor."""
     return round(seconds * max(1, os.getloadavg()[0] / (os.cpu_count() or 1)), 1)
 
 

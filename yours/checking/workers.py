@@ -37,7 +37,7 @@ class Workers:
             pipe.close()
 
     def serve(self, pipe):
-        """What a worker does until it is ended. Signals of a terminal come to all workers; the first process ends them."""
+        """Does tasks until this worker is ended. Signals of a terminal come to all workers; the first process ends them."""
         def end(*_):
             children.kill_all()
             os._exit(0)
