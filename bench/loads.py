@@ -58,7 +58,7 @@ def give(draw, tenant):
 
 
 def pages(draw, tenants):
-    """Blocks of order 0 to 3, mostly small, about half of each tenant's frames, freed in any order."""
+    """Allocates and frees blocks of order 0 to 3, mostly small, in any order. They fill about half of each tenant's frames."""
     for tenant in draw.choices(tenants, k=BATCH):
         if draw.random() < (.6 if tenant.used < tenant.frames // 2 else .4) or not tenant.blocks:
             yield alloc(draw, tenant)
@@ -67,7 +67,7 @@ def pages(draw, tenants):
 
 
 def objects(draw, tenants):
-    """Objects of all sizes, some tens of each tenant live at a time: slabs come and go."""
+    """Takes and gives objects of all sizes. Some tens of each tenant are live at a time, so slabs come and go."""
     for tenant in draw.choices(tenants, k=BATCH):
         if draw.random() < .0005:
             yield tenant, f'{tenant.number} reap', None
@@ -78,7 +78,7 @@ def objects(draw, tenants):
 
 
 def scattered(draw, tenants):
-    """Small objects that use most frames, given back all over them: each cache has hundreds of partial slabs."""
+    """Takes small objects until they use most frames, and gives back any of them, so each cache has hundreds of partial slabs."""
     for tenant in draw.choices(tenants, k=BATCH):
         if draw.random() < (.9 if len(tenant.objects) < tenant.frames * 5 else .5) or not tenant.objects:
             yield take(tenant, draw.choice((4, 5, 6)))
@@ -87,7 +87,7 @@ def scattered(draw, tenants):
 
 
 def transfers(draw, tenants):
-    """1 to 64 bytes read or written in live objects and blocks, as often as not the least or the greatest number of them."""
+    """Reads or writes 1 to 64 bytes in live objects and blocks. In two of three lines the number is 1 or 64."""
     for tenant in draw.choices(tenants, k=BATCH):
         if len(tenant.objects) < 20:
             yield take(tenant, draw.randrange(len(SIZES)))
@@ -104,7 +104,7 @@ def transfers(draw, tenants):
 
 
 def mixed(draw, tenants):
-    """Blocks and objects in turn, three in ten of the objects of a whole frame: the slabs of these are full or empty."""
+    """Mixes blocks and objects. Three in ten of the objects fill a frame, so their slabs are full or empty."""
     for tenant in draw.choices(tenants, k=BATCH):
         few = len(tenant.objects) + tenant.used < tenant.frames // 2
         if draw.random() < (.55 if few else .4) or not tenant.objects or not tenant.blocks:
@@ -122,7 +122,7 @@ FAULTS = ('frobnicate 1', '{} alloc', '{} allot 1', '{} free x', '{} write 0 0',
 
 
 def faulty(draw, tenants):
-    """Half of the lines are no commands, or refused."""
+    """Follows each line on blocks by one that is no command, or is refused."""
     for line in pages(draw, tenants):
         yield line
         tenant = draw.choice(tenants)
@@ -130,7 +130,7 @@ def faulty(draw, tenants):
 
 
 def administered(draw, tenants):
-    """Every eighth line puts another superblock under a tenant's slot, as it lies."""
+    """Moves a slot of a tenant in every eighth line."""
     holders = [tenant for tenant in tenants if tenant.slots]
     for at, line in enumerate(pages(draw, tenants)):
         yield line

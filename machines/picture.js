@@ -107,7 +107,7 @@ function moveCursor(place) {
 
 const middleOf = (column) => (facts.edges[column] + facts.edges[column + 1]) / 2
 
-/** Returns the least number of the form 1, 2 or 5 times a power of ten of which a length has few enough. */
+/** Returns the least number of the form 1, 2 or 5 times a power of ten that fits at most MOST_TICKS times into a length. */
 function stepOf(length) {
   const power = 10 ** Math.floor(Math.log10(length / MOST_TICKS))
   return [1, 2, 5, 10].map((round) => round * power).find((step) => length <= MOST_TICKS * step)

@@ -1,7 +1,7 @@
 /* Boots machines of each order with each number of superblocks, with each number of tenants, and with every tenth number of
- * superblocks together with every third number of tenants. Sizes beside these are refused. Checks what each machine reports of
- * itself, and every byte that a call may write and those around it. The partmem_machine is zeroes after its end. Also refuses
- * each allocation of a boot in turn, so it is linked with library_memory.c. */
+ * superblocks together with every third number of tenants. Sizes just outside of the ranges are refused. Checks what each machine
+ * reports of itself, and every byte that a call may write and those around it. The partmem_machine is zeroes after its end. Also
+ * refuses each allocation of a boot in turn, so it is linked with library_memory.c. */
 #include <stdbool.h>
 #include <stdio.h>
 #include <stdlib.h>

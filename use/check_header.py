@@ -1,7 +1,7 @@
 """Compares crates/partmem_c/partmem.h, and two functions that memory.c declares, with the exports, structs and constants of the
 crate's source. All of both is compared.
 
-A word of the header that belongs to nothing that is compared is refused, and so is an export or a struct that was not read."""
+A word of the header that is not compared is refused, and so is an export or a struct that was not read."""
 import glob
 import re
 import sys

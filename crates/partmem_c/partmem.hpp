@@ -12,10 +12,10 @@
  * ERRORS. There are two forms, and both work with and without exceptions:
  * - A function returns a status, or a result<T>, which has a value or a status. It throws only what a constructor of T throws.
  * - A constructor with arguments of a machine, tenant, cache or heap, result<T>::value() and partmem::check() throw a
- *   partmem::error, which is a std::system_error. Each such constructor has a function of the same arguments, boot() or open(),
- *   that returns a status instead.
- * Compiled with -fno-exceptions, what would throw calls std::abort. So does a std::pmr container: only a heap's try_allocate and
- * make return at exhaustion.
+ *   partmem::error, which is a std::system_error. For each such constructor there is a function with the same arguments, boot()
+ *   or open(), that returns a status instead.
+ * With -fno-exceptions, what would throw calls std::abort. At exhaustion a std::pmr container does so too, and only a heap's
+ * try_allocate and make return.
  *
  * ORDER. Declare a machine before its tenants, a tenant before its caches and heaps, and these before what is made in them:
  * destructors run the other way round. Before tenant::reset() destroy what was made for the tenant, its containers too, or a
@@ -220,8 +220,8 @@ private:
     std::uint32_t bytes_; /* 0 if another has the block */
 };
 
-/* A tenant of a machine. Its destructor resets it. Only one tenant at a time has a number. If it is no tenant (default, moved
- * from, or after a refused open()), call only open(), reset() and get(). */
+/* A tenant of a machine. Its destructor resets it. A number has only one tenant at a time. On an object that is no tenant
+ * (default, moved from, or after a refused open()), call only open(), reset() and get(). */
 class tenant {
 public:
     constexpr tenant() noexcept = default;

@@ -2,8 +2,10 @@
 # `world`. So two worlds of one seed and order have the same own list of tenant 0, whatever their other numbers are.
 #
 #   awk -v seed=1 -v world=1 -v lines=1000000 -v order=3 -v superblocks=256 -v tenants=64 -v broken=10 -f tests/soak/traces.awk
+#
 # `lines` counts the lines of tenant 0 in both worlds; `others` lines come between them on average; `broken` in a hundred of those
 # are no command, or one with numbers that nobody has.
+#
 # Tenant 0 never holds more than 4 superblocks, and others never more than all but 4, so that no grant to it is refused. There
 # have to be more than 4.
 

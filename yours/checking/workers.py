@@ -7,7 +7,7 @@ import traceback
 
 from . import children
 
-# Tasks for each worker that are started before the first of all has ended.
+# How many tasks for each worker are started before the first task of all has ended.
 AHEAD = 16
 
 
