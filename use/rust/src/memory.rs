@@ -118,7 +118,7 @@ impl Region {
     }
 
     /// # Safety
-    /// It is from `allocate` with the same config, and not used again.
+    /// The region is from `allocate` with the same config, and is not used again.
     pub(crate) unsafe fn free(self, config: Config) {
         for (part, layout) in [self.ram, self.tables].into_iter().zip(Region::layouts(config)) {
             // SAFETY: as said above.
@@ -172,7 +172,7 @@ impl<const RAM: usize, const TABLES: usize> fmt::Debug for StaticMemory<RAM, TAB
     }
 }
 
-/// Boots are one at a time in a program.
+/// A program makes one boot at a time.
 static IS_BOOTING: AtomicBool = AtomicBool::new(false);
 
 /// Runs a boot while no other one runs.
