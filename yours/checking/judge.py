@@ -100,7 +100,7 @@ class Judge:
         pairs = zip(run.told(tenant) + ['nothing'], other.told(tenant) + ['nothing'])
         for at, (one, two) in enumerate(pairs, 1):
             if one != two:
-                words = f"reply line {at} is '{visible(one)}' here, and '{visible(two)}' where its own list is run {where}"
+                words = f"reply line {at} is '{visible(one)}' here, and '{visible(two)}' when its own list is run {where}"
                 return Case(run, Breach('Alone', words, tenant, line_of_reply(run, tenant, at)))
         return None
 

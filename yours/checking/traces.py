@@ -8,8 +8,8 @@ from .runs import replayed
 from .talk import Programs
 from .words import Sizes, words_of
 
-# What begins a line with the machine, and one with a line of a reply; of these so many bytes are kept, since a longer remark is a
-# faulty line.
+# The beginnings of a line with the machine and of one with a line of a reply; and how many bytes of these lines are kept, since a
+# longer remark is a faulty line.
 MACHINE, REPLY, MOST_REMARK = '# machine: ', '#> ', 250
 LIMITS = Sizes((3, 8), (1, 256), (1, 64))
 
