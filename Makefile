@@ -37,7 +37,7 @@ release: ## makes a release of what the gate has passed
 	./release
 bench: ## measures the proved program
 	bench/run
-soak: ## random pairs of worlds, for ten minutes
+soak: ## runs random pairs of worlds for ten minutes
 	tests/soak/run
 
 tools: ; @tests/missing-tools
