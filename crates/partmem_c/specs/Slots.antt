@@ -1,14 +1,14 @@
 -- What the place of a machine owns.
 use Rattle.std.specs.Prelude.{Option, Some, None}
-use base.Fml.{Fml, ftrue, fex}
-use denote.RawPtr.{Ptr}
+use base.Fml.{Fml, feq, fex}
+use denote.RawPtr.{Ptr, null_ptr}
 use Rattle.std.specs.declared.alloc.Global.{Global}
 use Rattle.std.specs.contracts.impls.GlobalAllocator.TheImpl.{ghosts}
 use Rattle.std_alloc.specs.Box.Ownership.{box_owns}
 use Rattle.kernel_core.specs.Content.{KernelContent}
 use Rattle.kernel_core.specs.contracts.kernel.Kernel.{the_row}
 
--- nothing, or the kernel at the pointer and the right to free its block
+-- Nothing without a machine, and the pointer is null. Else the kernel at the pointer, and the right to free its block.
 abbrev pub slot_owns : Ptr → Option KernelContent → Fml
-slot_owns p None = ftrue
+slot_owns p None = feq Ptr p null_ptr
 slot_owns p (Some k) = fex Global (λ heap. box_owns (ghosts.dealloc_token heap) the_row p k)
