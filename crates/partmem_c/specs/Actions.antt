@@ -18,7 +18,8 @@ pub data Done : Type 0 where
   Line : List ℕ → List ℕ → Done
   -- an event was run by `partmem_event`: its numbers and bytes, the numbers of its reply, and the buffer before and after
   Event : RequestNumbers → List ℕ → ReplyNumbers → List ℕ → List ℕ → Done
-  -- a direct call ran an event: the reply, from which all that the call returned follows, and its status
+  -- a direct call ran an event: the reply, from which all numbers follow that the call returned but the address and the size of
+  -- what it lent, and its status
   Call : events.Event → Reply → ℕ → Done
   -- a call of the kernel itself, a store or a load
   Direct : Action → Done
