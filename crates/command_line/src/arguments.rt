@@ -1,6 +1,6 @@
 //! The arguments that programs have in common.
 
-ghost use Rattle.std.specs.Prelude.{◌≡◌, ◌≢◌, ◌≤◌, ◌<◌, ℕ, true, false, IfOk, IfErr, map, option_map};
+ghost use Rattle.std.specs.Prelude.{◌≡◌, ◌≢◌, ◌≤◌, ◌<◌, ℕ, true, false, None, Ok, IfOk, IfErr, map, option_map};
 ghost use Rattle.std.specs.String.{string_bytes};
 ghost use Rattle.clap.specs.Words.{HasMatchesOf, app_of, fault_of, first_value, found_of, is_simple_and_free, one_text};
 ghost use Rattle.clap.specs.Words.{rule_of, takes};
@@ -132,9 +132,9 @@ pub(crate) fn number_of(matches: &ArgMatches<'_>, name: &str) -> u32
     number_written(matches, name).unwrap_or(0)
 }
 
-/// Returns the path under this name, as it was written.
+/// Returns the path under this name, as it was written, or `None` if there is none.
 ///
-/// Refused with `NoMemory`.
+/// Refused with `NoMemory` if there is no memory for the path.
 pub fn path_of(
     alloc: Global,
     matches: &ArgMatches<'_>,
@@ -142,6 +142,8 @@ pub fn path_of(
 ) -> Result<Option<String>, Outcome>
     ensures path { IfOk result (λ path. option_map (λ bytes. string_bytes bytes) path ≡ first_value (found_of matches.now) name.now) }
     ensures refused { IfErr result (λ outcome. outcome ≡ Outcome.NoMemory) }
+    // Nothing is allocated if no path was given.
+    ensures none { first_value (found_of matches.now) name.now ≡ None → result ≡ Ok None }
 {
     match matches.get_str(name) {
         None => Ok(None),
