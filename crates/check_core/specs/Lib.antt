@@ -7,3 +7,4 @@ pub mod Reading
 pub mod Finding
 pub mod Checking
 pub mod Laws
+pub mod Taken

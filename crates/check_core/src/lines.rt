@@ -13,14 +13,14 @@ use crate::shown::MOST_PART_BYTES;
 use streams::Feed;
 use words_core::{Event, LineFault, read_line};
 
-/// Returns what the next line of a trace says. `None` at the end of the trace.
+/// Returns what the next line of a trace says, and gathers the line. `None` at the end of the trace.
 pub fn next_reading<F: Feed>(
     trace: &mut LineReader<F>,
     line: &mut Gathered<MOST_PART_BYTES>,
 ) -> Result<Option<Result<Option<Event>, LineFault>>, Unchecked>
     requires fine { trace.old.failed ≡ false }
     ensures reading { (part : List ℕ) × HasGiven trace.old trace.new part
-        × IfOk result (λ reading. IsNextReading reading part trace.new) }
+        × IfOk result (λ reading. IsNextReading reading part trace.new) × Gathers MOST_PART_BYTES part line.new }
     ensures less { IfOk result (λ reading. IfSome reading (λ _. trace.new.room < trace.old.room)) }
     ensures end { IsEndedBy result trace.new.failed false ⊥ }
 {

@@ -94,12 +94,13 @@ impl<F: Feed> LineReader<F> {
         }
     }
 
-    /// Reads the next line of a trace in place and returns its event. Returns `None` and reads nothing if the line is not a quick
-    /// request.
+    /// Reads the next line of a trace behind what was gathered, and returns its event. Returns `None` and reads nothing if the line
+    /// is not a quick request.
     #[inline(always)]
     pub fn next_event<const N: usize>(&mut self, into: &mut Gathered<N>) -> Option<Event>
         ensures reading { IfSome result (λ event. (part : List ℕ) × HasGiven self.old self.new part
-            × IsNextReading (Some (Ok (Some event))) part self.new) }
+            × IsNextReading (Some (Ok (Some event))) part self.new
+            × ((front : List ℕ) → Gathers N front into.old → Gathers N (front ++ part) into.new)) }
         ensures less { IfSome result (λ _. self.new.room < self.old.room) }
         ensures failed { self.new.failed ≡ self.old.failed }
         ensures none { IfNone result ((self.new ≡ self.old) × (into.new ≡ into.old)) }

@@ -1,5 +1,8 @@
 //! The line that is being checked, and its reply.
 
+ghost use Rattle.std.specs.Prelude.{◌≡◌, ℕ, List, [], None};
+ghost use Rattle.check_core.specs.Gathered.{Gathers};
+
 use crate::answer::read_answer;
 use crate::gathered::Gathered;
 use crate::lines::reading;
@@ -23,8 +26,14 @@ pub struct Shown {
 }
 
 impl Shown {
+    ghost use Rattle.check_core.specs.Taken.{IsNoted};
+
     /// Shows no line yet.
-    pub fn new() -> Self {
+    pub fn new() -> Self
+        ensures line { Gathers MOST_PART_BYTES [] result.line }
+        ensures reply { Gathers MOST_TEXT_BYTES [] result.reply }
+        ensures taken { result.taken ≡ None }
+    {
         Shown {
             line: Gathered::new(),
             reply: Gathered::new(),
@@ -33,7 +42,12 @@ impl Shown {
     }
 
     /// Looks for what is in the way, on the machine that the line was judged on.
-    pub fn look_for_taken(&mut self, machine: &Machine) {
+    pub fn look_for_taken(&mut self, machine: &Machine)
+        ensures line { self.new.line ≡ self.old.line }
+        ensures reply { self.new.reply ≡ self.old.reply }
+        ensures taken { (asked told : List ℕ) → Gathers MOST_PART_BYTES asked self.old.line → Gathers MOST_TEXT_BYTES told self.old.reply
+            → IsNoted asked told machine.now self.old.taken self.new.taken }
+    {
         let Ok(Some(event)) = reading(&self.line) else {
             return;
         };

@@ -1,8 +1,13 @@
 //! What is in the way of a page block that a reply gives.
 
-ghost use Rattle.std.specs.Prelude.{◌≡◌, option_map};
+ghost use Rattle.std.specs.Prelude.{◌≡◌, ℕ, IfSome, option_map};
+ghost use Rattle.model_core.specs.Vocabulary.{block};
 ghost use Rattle.words_core.specs.Requests.{body_of_answer};
+ghost use Rattle.words_core.specs.declared.event.Command.{Command};
+ghost use Rattle.words_core.specs.declared.event.Event.{Event};
+ghost use Rattle.words_core.specs.declared.reply.Body.{Body};
 ghost use Rattle.check_core.specs.Finding.{page_in_way};
+ghost use Rattle.check_core.specs.Taken.{IsFirstShared};
 
 use judge::Machine;
 use judge_core::FrameBlock;
@@ -21,7 +26,10 @@ pub struct TakenFrame {
 /// Returns what is in the way of the page block that this answer gives: the tenant's first live page block that shares a frame
 /// with it. `None` if there is none, or if the answer is another.
 pub fn taken_frame(machine: &Machine, event: &Event, answer: &Answer<'_>) -> Option<TakenFrame>
-    ensures { option_map (λ taken. taken.page) result ≡ page_in_way machine.now event.now (body_of_answer answer.now) }
+    ensures page { option_map (λ taken. taken.page) result ≡ page_in_way machine.now event.now (body_of_answer answer.now) }
+    // The frame is the first that both blocks have.
+    ensures frame { (t k f : ℕ) → event.now ≡ Event.Tenant t (Command.Alloc k) → body_of_answer answer.now ≡ Body.Frame f
+        → IfSome result (λ taken. IsFirstShared (block f k) taken.page taken.frame) }
 {
     match (event, answer) {
         (Event::Tenant(tenant, Command::Alloc { order }), Answer::Frame(frame)) => {

@@ -1,5 +1,6 @@
-use Rattle.std.proofs.Common.{◌≡◌, ℕ, ◌+◌, ◌-◌, List, Some, Ok, take, sym, ap, subst, ◌∙◌, arith}
+use Rattle.std.proofs.Common.{◌≡◌, ℕ, ◌+◌, ◌-◌, List, ◌++◌, Some, Ok, take, sym, ap, subst, ◌∙◌, arith}
 use Rattle.words_core.specs.Grammar.{reading_of}
+use Rattle.check_core.specs.Gathered.{Gathers}
 use Rattle.check_core.specs.Reading.{HasGiven, IsNextReading}
 use Rattle.check_core.proofs.ReadingLemmas.{next_line}
 use Rattle.check_core.proofs.HeldLemmas.{held_source, line_given}
@@ -23,5 +24,10 @@ returns-clause-reading g c =
     let said : reading_of (take at mid) ≡ Ok (Some c.event_of.result) = reads.reading ∙ ap (λ event. Ok (Some event)) (sym c.event_of.ensures) in
     let at_new = λ (n : ℕ). held_source piece (start + n) end (g.F.Feed.remaining feed) (g.F.Feed.room_left feed) (g.F.Feed.has_ended feed) (g.F.Feed.has_failed feed) in
     rw (← c.self.view_is) (subst (λ n. (part : List ℕ) × HasGiven (held_source piece start end (g.F.Feed.remaining feed) (g.F.Feed.room_left feed) (g.F.Feed.has_ended feed) (g.F.Feed.has_failed feed)) (at_new n) part
-    × IsNextReading (Some (Ok (Some c.event_of.result))) part (at_new n)) e
-    (part, is.given, subst (λ reading. IsNextReading (Some reading) part (at_new (at + 1))) said (next_line part (take at mid) (at_new (at + 1)) is.line is.with_end)))
+    × IsNextReading (Some (Ok (Some c.event_of.result))) part (at_new n)
+    × ((front : List ℕ) → Gathers g.row.N front c.args.into.now → Gathers g.row.N (front ++ part) c.add.new.self)) e (
+      part,
+      is.given,
+      subst (λ reading. IsNextReading (Some reading) part (at_new (at + 1))) said (next_line part (take at mid) (at_new (at + 1)) is.line is.with_end),
+      λ front gathers. subst (λ (n : ℕ). Gathers g.row.N (front ++ take n mid) c.add.new.self) (sym e) (c.add.ensures front gathers),
+    ))
