@@ -4,3 +4,4 @@ pub mod Fitting
 pub mod Lending
 pub mod Reaching
 pub mod Taking
+pub mod Giving
