@@ -15,8 +15,6 @@ impl Slabs {
     /// Gives the object of cache `c` of tenant `t` back that begins at a place. Its bytes stay as they are.
     ///
     /// `NoCache` where the tenant has no such cache, else `NotAnObject` where no live object of the cache begins there.
-    // Inlined, so that a give of the kernel is one call.
-    #[inline(always)]
     pub fn give(
         &mut self,
         space: &mut Space,
@@ -42,11 +40,9 @@ impl Slabs {
             kept: &kept,
         };
         let object = self
-            .locate(space, cache, place)
+            .find(space, cache, place)
             .ok_or(GiveRefusal::NotAnObject)?;
-        if !self.clear_bit(space, cache, object) {
-            return Err(GiveRefusal::NotAnObject);
-        }
+        self.turn_bit(space, cache, object);
         self.recount(cache, object, false);
         Ok(())
     }
