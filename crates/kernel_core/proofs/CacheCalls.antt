@@ -18,6 +18,8 @@ use Rattle.buddy_core.specs.Content as buddies
 use Rattle.slab_tables.specs.Content as tables
 use Rattle.machine_changes.specs.Shows.{Agree}
 use Rattle.machine_changes.specs.Keeps.{Keeps, Spares}
+use Rattle.slab_core.specs.declared.taking.Taken.{Taken}
+use Rattle.slab_core.specs.Taking.{place_taken}
 use Rattle.kernel_core.specs.Content.{KernelContent, content_of}
 use Rattle.kernel_core.specs.Shows.{ShowsMachine}
 use Rattle.kernel_core.specs.Steps.{StepsMachine}
@@ -38,6 +40,11 @@ taken r r' b b' s s' t agree spares number told answer shows refused =
     (λ m shown. answer m shown ∙ ap (λ top. (take_step top number m).answer) order)
     (λ m shown. subst (λ top. ShowsMachine (content_of r' b' s') t (take_step top number m).machine) order (shows m shown))
     (by_err take_body told (λ place. refl) refused)
+
+-- what a refused take leaves is so of its answer
+pub untaken : (P : Type 0) (told : Result Taken TakeRefusal) → OnErr told P → OnErr (place_taken told) P
+untaken P (Ok it) left = left
+untaken P (Err refusal) left = left
 
 -- A cache made: what a size and an alignment give is a layout, or the limit that they miss
 

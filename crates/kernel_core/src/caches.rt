@@ -4,6 +4,7 @@ ghost use Rattle.std.specs.Prelude.{◌≡◌, ◌<◌, IfOk, true, false};
 ghost use Rattle.model_core.specs.Layouts.{is_pattern};
 ghost use Rattle.machine_changes.specs.Changes.{Found};
 ghost use Rattle.machine_changes.specs.Objects.{IsLiveObject};
+ghost use Rattle.slab_core.specs.Taking.{IsTakenObject};
 ghost use Rattle.words_core.specs.Requests.{body_of_answer, HasFewBytes, has_bytes};
 ghost use Rattle.words_core.specs.declared.event.Command.TheVariants as Command;
 ghost use Rattle.words_core.specs.declared.reply.Body.TheVariants.{Destroyed, Object, Given, Reaped};
@@ -11,6 +12,7 @@ ghost use Rattle.kernel_core.specs.Steps.{StepsMachine, body_of};
 
 use crate::Kernel;
 use layout_core::{Layout, LayoutRefusal, Pattern};
+use slab_core::Taken;
 use words_core::{Answer, Refusal};
 
 impl Kernel {
@@ -67,6 +69,20 @@ impl Kernel {
         ensures object { IfOk result (λ place. (o : Found) × IsLiveObject self.new.space self.new.slabs t cache place o) }
     {
         Ok(self.slabs.take(&mut self.space, &mut self.buddy, t, cache)?)
+    }
+
+    /// The same as [`Kernel::take`], with all that a caller needs to lend the object.
+    // Inlined: what it returns is then kept in registers, and not written to memory and read again.
+    #[inline(always)]
+    pub(crate) fn take_object(&mut self, t: u8, cache: u32) -> Result<Taken, Refusal>
+        requires { t < self.old.tenants }
+        ensures steps { StepsMachine self.old t (Command.Take cache) self.new (body_of (λ taken. Object taken.place) result) }
+        ensures object { IfOk result (IsTakenObject self.new.space self.new.slabs t cache) }
+    {
+        Ok(
+            self.slabs
+                .take_object(&mut self.space, &mut self.buddy, t, cache)?,
+        )
     }
 
     /// Gives an object back to its cache.

@@ -163,6 +163,7 @@ impl Kernel {
     /// Takes an object of a cache for a tenant, and returns the span of all its bytes.
     ///
     /// Refuses with `NoTenant`, and as a `take` does.
+    #[inline(always)]
     pub fn take_span(&mut self, tenant: u32, cache: u32) -> Result<Span, Refusal>
         ensures steps { Steps self.old (Event.Tenant tenant (Command.Take cache)) self.new
             (reply_for self.old tenant (body_of (λ span. Object span.place) result)) }
@@ -174,16 +175,13 @@ impl Kernel {
             return Err(Refusal::NoTenant);
         };
         self.laws();
-        let place = self.take(t, cache)?;
+        let taken = self.take_object(t, cache)?;
         self.laws();
-        let slot = place / FRAME_BYTES >> self.order();
-        let superblock = self.space.machine_of(t, slot).unwrap();
-        let bytes = self.slabs.object_size(t, cache);
         Ok(Span {
             tenant: t,
-            place,
-            bytes,
-            superblock,
+            place: taken.place,
+            bytes: taken.size,
+            superblock: taken.superblock,
         })
     }
 }

@@ -4,12 +4,11 @@ ghost use Rattle.std.specs.Prelude.{◌≡◌};
 ghost use Rattle.std.specs.Borrow.{sem};
 ghost use Rattle.std.specs.Ptr.{as_mut_ptr};
 ghost use Rattle.kernel_core.specs.Lending.{IsLive, IsLent, LendsSpan};
-ghost use Rattle.partmem_c.specs.Finding.{LooksUp};
+ghost use Rattle.partmem_c.specs.Finding.{LooksUp, Returns};
 ghost use Rattle.partmem_c.specs.Lends.{no_lent, IsLentAt, FindsRange, FindsWholeBlock, FindsObject};
 
-use crate::lookups::put;
 use crate::machine::Machine;
-use crate::status::NO_MACHINE;
+use crate::status::{DONE, NO_MACHINE};
 use kernel_core::{Kernel, Span};
 use std::alloc::Global;
 use std::ptr::null_mut;
@@ -34,6 +33,25 @@ impl Lent {
             at: null_mut(),
             place: 0,
             bytes: 0,
+        }
+    }
+}
+
+/// Stores what is lent in `to`, or the value for no bytes if the call is refused, and returns the status.
+///
+/// `to` is written once: zeroes stored before the call would be overwritten by each call that succeeds.
+#[inline(always)]
+pub(crate) fn put_lent(outcome: Result<Lent, Refusal>, to: &mut Lent) -> u32
+    ensures { Returns no_lent outcome result to.new }
+{
+    match outcome {
+        Ok(lent) => {
+            *to = lent;
+            DONE
+        }
+        Err(refusal) => {
+            *to = Lent::none();
+            u32::from(refusal.number())
         }
     }
 }
@@ -92,14 +110,14 @@ pub extern "C" fn partmem_lend(
     ensures lends { LooksUp no_lent machine.old.slot.held (λ k outcome. FindsRange k tenant place bytes outcome) result lent.new }
     ensures kept { machine.new.slot.held ≡ machine.old.slot.held }
 {
-    *lent = Lent::none();
     if !machine.is_booted() {
+        *lent = Lent::none();
         return NO_MACHINE;
     }
     let mut kernel = machine.take_out(alloc);
     let outcome = lend(&mut kernel, tenant, place, bytes);
     machine.put_in(kernel);
-    put(outcome, lent)
+    put_lent(outcome, lent)
 }
 
 #[inline(always)]
@@ -125,14 +143,14 @@ pub extern "C" fn partmem_lend_block(
     ensures lends { LooksUp no_lent machine.old.slot.held (λ k outcome. FindsWholeBlock k tenant place outcome) result block.new }
     ensures kept { machine.new.slot.held ≡ machine.old.slot.held }
 {
-    *block = Lent::none();
     if !machine.is_booted() {
+        *block = Lent::none();
         return NO_MACHINE;
     }
     let mut kernel = machine.take_out(alloc);
     let outcome = lend_block(&mut kernel, tenant, place);
     machine.put_in(kernel);
-    put(outcome, block)
+    put_lent(outcome, block)
 }
 
 #[inline(always)]
@@ -160,14 +178,14 @@ pub extern "C" fn partmem_lend_object(
         result object.new }
     ensures kept { machine.new.slot.held ≡ machine.old.slot.held }
 {
-    *object = Lent::none();
     if !machine.is_booted() {
+        *object = Lent::none();
         return NO_MACHINE;
     }
     let mut kernel = machine.take_out(alloc);
     let outcome = lend_object(&mut kernel, tenant, cache, place);
     machine.put_in(kernel);
-    put(outcome, object)
+    put_lent(outcome, object)
 }
 
 #[inline(always)]

@@ -10,8 +10,7 @@ ghost use Rattle.partmem_c.specs.Lends.{IsObjectLent, IsObjectOf, TakeLends};
 use crate::calls::{block_bytes, call_status, run_command};
 use crate::events::status_of_none;
 use crate::kinds::{MADE, REAPED};
-use crate::lends::{Lent, lent_of};
-use crate::lookups::put;
+use crate::lends::{Lent, lent_of, put_lent};
 use crate::machine::Machine;
 use crate::status::NO_MACHINE;
 use crate::telling::ReplyNumbers;
@@ -106,14 +105,14 @@ pub extern "C" fn partmem_take(
         (λ reply. (result ≡ call_status (numbers_in_reply reply)) × IsObjectLent (numbers_in_reply reply) object.new) }
     ensures object { IfSome machine.new.slot.held (λ k. IsObjectOf k tenant cache object.new) }
 {
-    *object = Lent::none();
     if !machine.is_booted() {
+        *object = Lent::none();
         return NO_MACHINE;
     }
     let mut kernel = machine.take_out(alloc);
     let outcome = take_object(&mut kernel, tenant, cache);
     machine.put_in(kernel);
-    put(outcome, object)
+    put_lent(outcome, object)
 }
 
 #[inline(always)]

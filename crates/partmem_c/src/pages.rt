@@ -7,8 +7,7 @@ ghost use Rattle.partmem_c.specs.Calls.{RunsCall, numbers_in_reply, call_status,
 ghost use Rattle.partmem_c.specs.Lends.{IsBlockLent, AllocLends};
 
 use crate::calls::{call_status, run_command};
-use crate::lends::{Lent, lent_of};
-use crate::lookups::put;
+use crate::lends::{Lent, lent_of, put_lent};
 use crate::machine::Machine;
 use crate::status::NO_MACHINE;
 use kernel_core::Kernel;
@@ -33,14 +32,14 @@ pub extern "C" fn partmem_alloc(
     ensures { RunsCall machine.old.slot.held (Tenant tenant (Alloc order)) machine.new.slot.held
         (λ reply. (result ≡ call_status (numbers_in_reply reply)) × IsBlockLent order (numbers_in_reply reply) block.new) }
 {
-    *block = Lent::none();
     if !machine.is_booted() {
+        *block = Lent::none();
         return NO_MACHINE;
     }
     let mut kernel = machine.take_out(alloc);
     let outcome = alloc_block(&mut kernel, tenant, order);
     machine.put_in(kernel);
-    put(outcome, block)
+    put_lent(outcome, block)
 }
 
 #[inline(always)]

@@ -8,6 +8,7 @@ pub mod ReturnMany
 pub mod ReturnFrames
 pub mod ReturnCache
 pub mod GrowOne
+pub mod GiveKept
 pub mod GrowNeed
 pub mod ObjectPlaces
 pub mod ObjectSlabs

@@ -1,6 +1,6 @@
 -- A bit turned in a control record, where the record stands in the frame and where it is kept outside.
-use Rattle.std.proofs.Common.{◌≡◌, ◌≢◌, ℕ, ◌+◌, ◌-◌, ◌*◌, ◌/◌, ◌%◌, ◌^◌, ◌<◌, true, false, not, cond, Option, Some, length, get_or, refl, sym, ap, ◌∙◌, subst, ◌⊎◌, inl, inr, arith}
-use Rattle.std.specs.Prelude.{IsSome, ◌==◌, if◌then◌else◌}
+use Rattle.std.proofs.Common.{◌≡◌, ◌≢◌, ℕ, ◌+◌, ◌-◌, ◌*◌, ◌/◌, ◌%◌, ◌^◌, ◌<◌, true, false, not, cond, Some, length, get_or, refl, sym, ap, ◌∙◌, subst, ◌⊎◌, inl, inr, arith}
+use Rattle.std.specs.Prelude.{List, IsSome, ◌==◌, if◌then◌else◌, slice_index, slice_set}
 use Rattle.std.specs.Int.Bits.{bit_xor}
 use Rattle.std.proofs.lemmas.Bool.{cases_eq, cases_lt, eq-eqb, ne_eqb}
 use Rattle.std.proofs.lemmas.List.{length-set, get_or-set_same, get_or-set_other}
@@ -8,7 +8,7 @@ use Rattle.std.proofs.lemmas.Nat.{one_shl}
 use Rattle.model_core.specs.Layouts.{is_small}
 use Rattle.space_core.specs.Content as spaces
 use Rattle.space_core.specs.Laws.{SpaceLaws, IsSameFor, SpareStays, AreBytesAt}
-use Rattle.space_core.specs.Windows.{byte_at, with_byte, home_of, with_window}
+use Rattle.space_core.specs.Windows.{byte_at, home_of, window_of, with_window}
 use Rattle.slab_tables.specs.declared.cache.Cache as own
 use Rattle.slab_tables.specs.declared.cache.Kept.{Kept}
 use Rattle.slab_tables.specs.Content.{Content, blank, kept_at, layout_numbers}
@@ -79,29 +79,22 @@ module _ (r : spaces.Content) (s : Content) (t : ℕ) (o : Found) where
       live = refl;
     }
 
-  module _ (laws : SpaceLaws r) (few : o.index < 256) (small : is_small (layout_numbers o.cache).chunk ≡ true) (place byte word : ℕ)
-      (at : place ≡ 4096 * o.first + 4064 + o.index / 8) (reads : byte_at r t place ≡ Some byte) (is : word ≡ bit_xor byte (1 * 2 ^ (o.index % 8) % 256)) where
-    pub turned_inside : IsTurned r (with_byte r t place word) s s t o
-    turned_inside =
-        turned_by (with_byte r t place word) few small place byte word at reads
-        (is ∙ ap (bit_xor byte) (one_shl (o.index % 8) 8 (omega arith)))
-        (laws.own_bytes.byte t place word (subst (λ (x : Option ℕ). IsSome x) (sym reads) refl)) refl
-        (λ u other. laws.others.byte t place word u other) (laws.spare.byte t place word)
-
-  -- .. where the whole record was lent
+  -- the whole record was lent
   module _ (after : spaces.Content) (laws : SpaceLaws r) (few : o.index < 256) (small : is_small (layout_numbers o.cache).chunk ≡ true) (place : ℕ)
-      (at : place ≡ 4096 * o.first + 4064) (home : IsSome (home_of r t place 32)) (k : IsRecordRaised r after t place o.index) where
-    read : AreBytesAt r t place 32 k.before
-    read = laws.own_bytes.read t place 32 k.before k.read
+      (at : place ≡ 4096 * o.first + 4064) (home : IsSome (home_of r t place 32)) (before changed : List ℕ) (is_read : window_of r t place 32 ≡ Some before)
+      (is_turned : changed ≡ slice_set before (o.index / 8) (bit_xor (slice_index before (o.index / 8)) (2 ^ (o.index % 8))))
+      (written : after ≡ with_window r t place 32 changed) where
+    read : AreBytesAt r t place 32 before
+    read = laws.own_bytes.read t place 32 before is_read
 
     abbrev byte : ℕ
-    byte = get_or k.before (o.index / 8) 0
+    byte = get_or before (o.index / 8) 0
 
     abbrev word : ℕ
     word = bit_xor byte (2 ^ (o.index % 8))
 
-    long : length k.after ≡ 32
-    long = ap length k.raised.turned ∙ length-set k.before (o.index / 8) word ∙ read.count
+    long : length changed ≡ 32
+    long = ap length is_turned ∙ length-set before (o.index / 8) word ∙ read.count
 
     abbrev bit_place : ℕ
     bit_place = place + o.index / 8
@@ -109,39 +102,44 @@ module _ (r : spaces.Content) (s : Content) (t : ℕ) (o : Found) where
     index_of : (p j : ℕ) → p ≡ place + j → p - place ≡ j
     index_of p j e = omega arith
 
-    turned_there : get_or k.after (o.index / 8) 0 ≡ word
-    turned_there = ap (λ bytes. get_or bytes (o.index / 8) 0) k.raised.turned ∙ get_or-set_same k.before (o.index / 8) word 0 (omega (arith, read.count))
+    turned_there : get_or changed (o.index / 8) 0 ≡ word
+    turned_there = ap (λ bytes. get_or bytes (o.index / 8) 0) is_turned ∙ get_or-set_same before (o.index / 8) word 0 (omega (arith, read.count))
 
-    stays_there : (j : ℕ) → j ≢ o.index / 8 → get_or k.after j 0 ≡ get_or k.before j 0
-    stays_there j differ = ap (λ bytes. get_or bytes j 0) k.raised.turned ∙ get_or-set_other k.before (o.index / 8) j word 0 differ
+    stays_there : (j : ℕ) → j ≢ o.index / 8 → get_or changed j 0 ≡ get_or before j 0
+    stays_there j differ = ap (λ bytes. get_or bytes j 0) is_turned ∙ get_or-set_other before (o.index / 8) j word 0 differ
 
-    other : (p : ℕ) → p ≢ bit_place → byte_at (with_window r t place 32 k.after) t p ≡ byte_at r t p
+    other : (p : ℕ) → p ≢ bit_place → byte_at (with_window r t place 32 changed) t p ≡ byte_at r t p
     other p differ = elim (cases_lt p place) [
-      | inl before ↦ out_of_range r t place 32 k.after laws.own_bytes home long p (λ low high. omega arith)
+      | inl before ↦ out_of_range r t place 32 changed laws.own_bytes home long p (λ low high. omega arith)
       | inr low ↦ elim (cases_lt p (place + 32)) [
         | inl high ↦
             let whole : place + (p - place) ≡ p = omega arith in
-            in_range r t place 32 k.after laws.own_bytes home long p low high
+            in_range r t place 32 changed laws.own_bytes home long p low high
             ∙ ap (λ (x : ℕ). Some x) (stays_there (p - place) (λ e. differ (omega arith)))
             ∙ sym (ap (byte_at r t) (sym whole) ∙ read.each (p - place) (omega arith))
-        | inr past ↦ out_of_range r t place 32 k.after laws.own_bytes home long p (λ low high. omega arith)
+        | inr past ↦ out_of_range r t place 32 changed laws.own_bytes home long p (λ low high. omega arith)
       ]
     ]
 
-    after_now : (p : ℕ) → byte_at (with_window r t place 32 k.after) t p ≡ (if p == bit_place then Some word else byte_at r t p)
+    after_now : (p : ℕ) → byte_at (with_window r t place 32 changed) t p ≡ (if p == bit_place then Some word else byte_at r t p)
     after_now p = elim (cases_eq p bit_place) [
       | inl same ↦
-          in_range r t place 32 k.after laws.own_bytes home long p (omega arith) (omega arith)
-          ∙ ap (λ (x : ℕ). Some x) (ap (λ j. get_or k.after j 0) (index_of p (o.index / 8) same) ∙ turned_there)
+          in_range r t place 32 changed laws.own_bytes home long p (omega arith) (omega arith)
+          ∙ ap (λ (x : ℕ). Some x) (ap (λ j. get_or changed j 0) (index_of p (o.index / 8) same) ∙ turned_there)
           ∙ sym (ap (λ b. cond b (Some word) (byte_at r t p)) (eq-eqb p bit_place same))
       | inr differ ↦ other p differ ∙ sym (ap (λ b. cond b (Some word) (byte_at r t p)) (ne_eqb p bit_place differ))
     ]
 
-    pub turned_window : IsTurned r after s s t o
-    turned_window =
-        subst (λ (x : spaces.Content). IsTurned r x s s t o) (sym k.written)
-        (turned_by (with_window r t place 32 k.after) few small bit_place byte word (omega (arith, at)) (read.each (o.index / 8) (omega arith)) refl
-        after_now refl (λ u other. laws.others.window t place 32 k.after u other) (laws.spare.window t place 32 k.after))
+    pub turned_record : IsTurned r after s s t o
+    turned_record =
+        subst (λ (x : spaces.Content). IsTurned r x s s t o) (sym written)
+        (turned_by (with_window r t place 32 changed) few small bit_place byte word (omega (arith, at)) (read.each (o.index / 8) (omega arith)) refl
+        after_now refl (λ u other. laws.others.window t place 32 changed u other) (laws.spare.window t place 32 changed))
+
+  -- .. by the least bit that was 0
+  pub turned_window : (after : spaces.Content) → SpaceLaws r → o.index < 256 → is_small (layout_numbers o.cache).chunk ≡ true → (place : ℕ)
+      → place ≡ 4096 * o.first + 4064 → IsSome (home_of r t place 32) → IsRecordRaised r after t place o.index → IsTurned r after s s t o
+  turned_window after laws few small place at home k = turned_record after laws few small place at home k.before k.after k.read k.raised.turned k.written
 
   module _ (large : is_small (layout_numbers o.cache).chunk ≡ false) (few : o.index < 16) (within : o.machine_frame < length s.kept) (word : ℕ)
       (is : word ≡ bit_xor (kept_at s.kept o.machine_frame).outside (1 * 2 ^ o.index % 65536)) where

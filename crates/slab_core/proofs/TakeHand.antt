@@ -1,13 +1,19 @@
 -- The least object of a slab that is not live, handed out.
-use Rattle.std.proofs.Common.{◌≡◌, ℕ, suc, ◌+◌, ◌*◌, ◌^◌, ◌<◌, ◌≤◌, Bool, true, false, not, List, [], ◌∷◌, Some, Ok, length, get_or, refl, sym, ap, ◌∙◌, subst, arith}
+use Rattle.std.proofs.Common.{◌≡◌, ℕ, suc, ◌+◌, ◌*◌, ◌/◌, ◌%◌, ◌^◌, ◌<◌, ◌≤◌, Bool, true, false, not, if◌then◌else◌, List, [], ◌∷◌, Option, Some, None, IsSome, Ok, length, get_or, refl, sym, ap, ◌∙◌, subst, arith}
 use Rattle.std.specs.List.{position_or_len}
-use Rattle.std.proofs.Math.Nat.{pow-le-pow_right}
+use Rattle.std.proofs.lemmas.Bool.{false≢true}
+use Rattle.std.proofs.lemmas.Nat.{row_fits}
+use Rattle.std.proofs.Math.Nat.{pow-le-pow_right, div-div-eq-div-mul}
+use Rattle.model_core.specs.Blocks.{block, HasFrame}
+use Rattle.model_core.proofs.BlocksByNumber.{number_of_frame, same_slot}
 use Rattle.model_core.specs.Layouts.{IsFit, object_offset, object_place}
 use Rattle.model_core.specs.Machine as machines
 use Rattle.model_core.specs.Machine.{Machine}
 use Rattle.model_core.specs.Slabs.{cache_of, slab_of, next_object}
 use Rattle.model_core.specs.CacheOperations.{hand_out}
 use Rattle.space_core.specs.Content as spaces
+use Rattle.space_core.specs.Windows.{is_in_slot, home_of}
+use Rattle.space_core.proofs.Ranges.{range_held}
 use Rattle.buddy_core.specs.Content as buddies
 use Rattle.slab_tables.specs.declared.cache.Cache as own
 use Rattle.slab_tables.specs.Content.{Content, kept_at, layout_numbers}
@@ -17,9 +23,9 @@ use Rattle.machine_changes.specs.Slots.{HoldTogether}
 use Rattle.machine_changes.specs.Steady.{IsSteady}
 use Rattle.machine_changes.proofs.Lookups.{some_same}
 use Rattle.machine_changes.proofs.Flags.{length_flags, flag_at}
-use Rattle.machine_changes.proofs.Facts.{shown, slab_shown, cache_shown}
+use Rattle.machine_changes.proofs.Facts.{under_is, superblock_of_machine_frame, shown, slab_shown, cache_shown}
 use Rattle.slab_core.proofs.ObjectSlabs.{IsHeld, held}
-use Rattle.slab_core.proofs.ObjectFinding.{object_within}
+use Rattle.slab_core.proofs.ObjectFinding.{in_frame, object_within}
 
 -- where not all flags are up, the first that is not is found
 pub record IsDown (xs : List Bool) (i : ℕ) : Type 0 where
@@ -70,6 +76,48 @@ module _ {r : spaces.Content} {b : buddies.Content} {s : Content} {t c f n i : �
       let within = object_within (layout_numbers cache) (kept_at s.kept n).colour i fit object_below in
       let frames : 2 ^ (layout_numbers cache).order ≤ 2 ^ 3 = pow-le-pow_right {n = 2} (omega arith) h.layout.order in
       omega arith
+
+  -- all its bytes lie in the superblock of its slab
+  module _ (place size : ℕ) (at : place ≡ 4096 * f + object_offset (layout_numbers cache) (kept_at s.kept n).colour i) (sized : size ≡ cache.layout.size) where
+    under : (m : ℕ) × (spaces.superblock_at r.slots t (f / 2 ^ s.top) ≡ Some m) × (n ≡ m * 2 ^ s.top + f % 2 ^ s.top)
+    under = under_is s.top f n (spaces.superblock_at r.slots t (f / 2 ^ s.top)) o.slab.under
+
+    superblock_is : n / 2 ^ s.top ≡ under.0
+    superblock_is = ap (λ x. x / 2 ^ s.top) under.2 ∙ superblock_of_machine_frame s.top under.0 f
+
+    ends : place + size ≤ 4096 * (f + 2 ^ (layout_numbers cache).order)
+    ends =
+        let l = layout_numbers cache in
+        let fit : IsFit l (kept_at s.kept n).colour = subst (λ x. IsFit l x) (sym h.listed.colour.1) (h.layout.fits h.listed.colour.0) in
+        let row : i * l.chunk + l.chunk ≤ l.count * l.chunk = row_fits i l.chunk l.count l.chunk object_below (omega arith) in
+        let inside = fit.inside in
+        let within : l.room ≤ 4096 * 2 ^ l.order = fit.within in
+        let chunked = h.layout.chunked in
+        omega arith
+
+    -- the slot of its first place is that of the slab
+    slot_is : place / r.unit ≡ f / 2 ^ s.top
+    slot_is =
+        let k = (layout_numbers cache).order in
+        let placed = o.steady.sound.placed f k h.taken in
+        let some = h.layout.sized in
+        let off : ℕ = object_offset (layout_numbers cache) (kept_at s.kept n).colour i in
+        let frame : HasFrame (block f k) (place / 4096) = subst (λ p. HasFrame (block f k) (p / 4096)) (sym at) (in_frame f k off (omega (arith, ends))) in
+        ap (λ u. place / u) o.parts.agree.unit
+        ∙ (sym (div-div-eq-div-mul place 4096 (2 ^ s.top)) ∙ same_slot s.top k (place / 4096) f placed.0.0 (number_of_frame f k (place / 4096) placed.0.1 frame))
+
+    pub home_is : home_of r t place size ≡ Some (n / 2 ^ s.top)
+    home_is =
+        let k = (layout_numbers cache).order in
+        let placed = o.steady.sound.placed f k h.taken in
+        let some = h.layout.sized in
+        let held = range_held r t s.top f k place size o.parts.agree.unit placed.0.0 placed.0.1 placed.1 (omega arith) (omega arith) ends in
+        go (is_in_slot r.unit place size) (spaces.superblock_at r.slots t (place / r.unit)) held
+        (ap (spaces.superblock_at r.slots t) slot_is ∙ (under.1 ∙ ap (λ x. Some x) (sym superblock_is)))
+      where
+        go : (v : Bool) (found : Option ℕ) → IsSome (if v then found else None) → found ≡ Some (n / 2 ^ s.top) → (if v then found else None) ≡ Some (n / 2 ^ s.top)
+        go true found some is = is
+        go false found none is = absurd (false≢true none)
 
   module _ (m : Machine) (x : machines.Cache) (y : machines.Slab) (g : ShowsMachine r b s t m) (ex : cache_of m c ≡ Some x) (ey : slab_of x f ≡ Some y) where
     slab_is : y ≡ shown r s t c cache o.slab.cached f n

@@ -3,3 +3,5 @@ pub mod Objects
 pub mod Fitting
 pub mod Lending
 pub mod Reaching
+pub mod Taking
+pub mod Giving

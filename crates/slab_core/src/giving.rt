@@ -15,6 +15,8 @@ impl Slabs {
     /// Gives the object of cache `c` of tenant `t` back that begins at a place. Its bytes stay as they are.
     ///
     /// `NoCache` where the tenant has no such cache, else `NotAnObject` where no live object of the cache begins there.
+    // Inlined, so that a give of the kernel is one call.
+    #[inline(always)]
     pub fn give(
         &mut self,
         space: &mut Space,
@@ -40,9 +42,11 @@ impl Slabs {
             kept: &kept,
         };
         let object = self
-            .find(space, cache, place)
+            .locate(space, cache, place)
             .ok_or(GiveRefusal::NotAnObject)?;
-        self.turn_bit(space, cache, object);
+        if !self.clear_bit(space, cache, object) {
+            return Err(GiveRefusal::NotAnObject);
+        }
         self.recount(cache, object, false);
         Ok(())
     }

@@ -55,6 +55,7 @@ pub use reaching::ObjectSpan;
 use slab_tables::Tables;
 use std::alloc::{AllocError, Global};
 use std::marker::Model;
+pub use taking::Taken;
 
 /// The caches and slabs of all tenants.
 #[derive(Debug, Drop)]

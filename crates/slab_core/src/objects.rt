@@ -1,13 +1,16 @@
 //! Objects of slabs: which one begins at a place, and whether it is live.
 
-ghost use Rattle.std.specs.Prelude.{◌≡◌, ℕ, ◌*◌, ◌+◌, ◌/◌, ◌%◌, ◌^◌, ◌<◌, ◌≤◌, Some, length, IfSome, MatchOption, not};
+ghost use Rattle.std.specs.Prelude.{◌≡◌, ℕ, ◌*◌, ◌+◌, ◌/◌, ◌%◌, ◌^◌, ◌<◌, ◌≤◌, Some, length, IfSome, MatchOption, not, true, false};
 ghost use Rattle.model_core.specs.declared.limits.TheConstants.{FRAME_BYTES, RECORD_OFFSET, MOST_CACHES};
 ghost use Rattle.model_core.specs.Vocabulary.{around};
 ghost use Rattle.slab_tables.specs.Content.{Content, IsSlabs, kept_at, cache_at, index_of_cache, layout_numbers};
+ghost use Rattle.machine_changes.specs.Records.{is_set};
 ghost use Rattle.machine_changes.specs.Shows.{machine_frame_of, has_slab, is_of_cache, is_live, IsSlab};
 ghost use Rattle.machine_changes.specs.Objects.{IsLiveObject, IsNoObject};
 ghost use Rattle.buddy_core.specs.Content as buddies;
+ghost use Rattle.space_core.specs.Windows.{home_of};
 ghost use Rattle.slab_core.specs.Objects.{found_in, IsTurned, IsToCount, IsRecounted};
+ghost use Rattle.slab_core.specs.Giving.{BeginsAt, IsLowered, IsRecordLowered};
 ghost use Rattle.machine_changes.specs.Slots.{HoldTogether};
 ghost use Rattle.space_core.specs.Content as spaces;
 ghost use Rattle.space_core.specs.Laws.{SpaceLaws};
@@ -47,6 +50,39 @@ pub(crate) fn record_place(frame: u32, index: u32) -> u32
     ensures { result ≡ FRAME_BYTES * frame + RECORD_OFFSET + index / 8 }
 {
     FRAME_BYTES * frame + RECORD_OFFSET + index / 8
+}
+
+/// Returns true if the bit is 1 in these bits of a control record.
+#[inline(always)]
+fn is_bit_set(bits: u32, bit: u32) -> bool
+    requires { bit < 16 }
+    ensures { result ≡ is_set bits bit }
+{
+    bits >> bit & 1 == 1
+}
+
+/// Clears a bit of a control record, counted through all its bytes, and returns true if it was set.
+#[inline(always)]
+fn lower(bytes: &mut [u8], bit: u32) -> bool
+    requires whole { length bytes.old ≡ 32 }
+    requires bit { bit < 256 }
+    ensures { IsLowered bytes.old bytes.new bit result }
+{
+    if !is_bit_set(u32::from(bytes[bit as usize / 8]), bit % 8) {
+        return false;
+    }
+    bytes[bit as usize / 8] ^= 1 << (bit % 8);
+    true
+}
+
+/// Clears a bit of the control record at a place of tenant `t`, in this superblock, and returns true if it was set.
+#[inline(always)]
+fn lower_in_record(space: &mut Space, superblock: u16, t: u8, place: u32, bit: u32) -> bool
+    requires home { home_of space.old t place 32 ≡ Some superblock }
+    requires bit { bit < 256 }
+    ensures { IsRecordLowered space.old space.new t place bit result }
+{
+    lower(space.window_in(superblock, t, place, 32), bit)
 }
 
 /// The first frame of the aligned block of `2^order` frames that has the place.
@@ -156,15 +192,15 @@ impl Slabs {
         }
     }
 
-    /// The live object of the cache that begins at a place, if one does. Inlined, since a give takes a third more instructions
-    /// if it is a call.
+    /// Returns the object of the cache that begins at a place, live or not, if one does. Inlined, since a give takes a third more
+    /// instructions if it is a call.
     #[inline(always)]
-    pub(crate) fn find(&self, space: &Space, cache: TenantCache<'_>, place: u32) -> Option<Object>
+    pub(crate) fn locate(&self, space: &Space, cache: TenantCache<'_>, place: u32) -> Option<Object>
         requires tenant { cache.tenant < length space.now.slots }
         requires parts { (b : buddies.Content) × HoldTogether space.now b self.now }
         requires cache { cache_at self.now cache.tenant cache.number ≡ Some cache.kept.now }
         ensures { MatchOption result (IsNoObject space.now self.now cache.entry.tenant cache.entry.number place)
-            (λ o. IsLiveObject space.now self.now cache.entry.tenant cache.entry.number place (found_in cache.entry.kept.now o)) }
+            (λ o. BeginsAt space.now self.now cache.entry.tenant cache.entry.number place (found_in cache.entry.kept.now o)) }
     {
         let order = cache.kept.layout.order();
         let first = block_around(place, order);
@@ -181,7 +217,19 @@ impl Slabs {
             .kept
             .layout
             .index_of(colour, place - FRAME_BYTES * first)?;
-        let object = Object { slab, index };
+        Some(Object { slab, index })
+    }
+
+    /// The live object of the cache that begins at a place, if one does.
+    #[inline(always)]
+    pub(crate) fn find(&self, space: &Space, cache: TenantCache<'_>, place: u32) -> Option<Object>
+        requires tenant { cache.tenant < length space.now.slots }
+        requires parts { (b : buddies.Content) × HoldTogether space.now b self.now }
+        requires cache { cache_at self.now cache.tenant cache.number ≡ Some cache.kept.now }
+        ensures { MatchOption result (IsNoObject space.now self.now cache.entry.tenant cache.entry.number place)
+            (λ o. IsLiveObject space.now self.now cache.entry.tenant cache.entry.number place (found_in cache.entry.kept.now o)) }
+    {
+        let object = self.locate(space, cache, place)?;
         if self.is_live_object(space, cache, object) {
             Some(object)
         } else {
@@ -189,26 +237,41 @@ impl Slabs {
         }
     }
 
-    /// Turns the bit of an object in the record of its slab.
+    /// Clears the bit of an object in the record of its slab, and returns true if it was set. If it was not, nothing changes.
+    ///
+    /// A give reads the bit and clears it by this one call, since two calls would look the byte up twice.
     #[inline(always)]
-    pub(crate) fn turn_bit(&mut self, space: &mut Space, cache: TenantCache<'_>, object: Object)
+    pub(crate) fn clear_bit(
+        &mut self,
+        space: &mut Space,
+        cache: TenantCache<'_>,
+        object: Object,
+    ) -> bool
         requires tenant { cache.tenant < length space.old.slots }
         requires laws { SpaceLaws space.old }
         requires tables { IsSlabs self.old }
         requires unit { space.old.unit ≡ FRAME_BYTES * 2 ^ self.old.top }
         requires slab { IsSlab space.old self.old cache.tenant cache.number object.slab.first object.slab.machine_frame cache.kept.now }
         requires index { object.index < (layout_numbers cache.kept.now).count }
-        ensures { IsTurned space.old space.new self.old self.new cache.entry.tenant (found_in cache.entry.kept.now object) }
+        ensures live { result ≡ is_live space.old cache.entry.tenant cache.entry.kept.now
+            (kept_at self.old.kept object.slab.machine_frame) object.slab.first object.index }
+        ensures turned { result ≡ true
+            → IsTurned space.old space.new self.old self.new cache.entry.tenant (found_in cache.entry.kept.now object) }
+        ensures kept { result ≡ false → (space.new ≡ space.old) × (self.new ≡ self.old) }
     {
         let machine_frame = object.slab.machine_frame;
         if cache.kept.layout.in_page() {
             let superblock = self.superblock(machine_frame);
-            let place = record_place(object.slab.first, object.index);
-            let byte = space.byte_in(superblock, cache.tenant, place) ^ 1 << (object.index % 8);
-            space.set_byte_in(superblock, cache.tenant, place, byte);
+            let place = record_place(object.slab.first, 0);
+            lower_in_record(space, superblock, cache.tenant, place, object.index)
         } else {
-            let outside = self.tables.kept_of(machine_frame).outside ^ 1 << object.index;
-            self.tables.set_outside(machine_frame, outside);
+            let outside = self.tables.kept_of(machine_frame).outside;
+            if !is_bit_set(u32::from(outside), object.index) {
+                return false;
+            }
+            self.tables
+                .set_outside(machine_frame, outside ^ 1 << object.index);
+            true
         }
     }
 

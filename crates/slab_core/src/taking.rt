@@ -16,6 +16,7 @@ ghost use Rattle.machine_changes.specs.Changes.{Found, found};
 ghost use Rattle.space_core.specs.Laws.{SpaceLaws};
 ghost use Rattle.space_core.specs.Windows.{home_of, window_of};
 ghost use Rattle.slab_core.specs.Objects.{standing, HasClear, IsRaised, IsRecordRaised, IsTurned};
+ghost use Rattle.slab_core.specs.Taking.{place_taken, IsTakenObject};
 
 use crate::Slabs;
 use crate::objects::{Object, Slab, TenantCache, record_place};
@@ -83,6 +84,17 @@ fn raise_in_record(space: &mut Space, superblock: u16, t: u8, place: u32) -> u32
     raise(space.window_in(superblock, t, place, 32))
 }
 
+/// An object that a take has handed out: what a caller needs to lend its bytes.
+#[derive(Clone, Copy, Debug, PartialEq, Eq)]
+pub struct Taken {
+    /// Its first place.
+    pub place: u32,
+    /// Its size in bytes.
+    pub size: u32,
+    /// The superblock that it lies in.
+    pub superblock: u16,
+}
+
 impl Slabs {
     /// Takes an object of cache `c` of tenant `t`, and answers its first place: the least object that is not live of the first
     /// partial slab, else of the first empty one, else of a new slab. The tenant's empty slabs are given back for a new slab
@@ -107,6 +119,33 @@ impl Slabs {
         ensures agree { Agree space.new buddy.new self.new }
         ensures refused { OnErr result ((space.new ≡ space.old) × ((buddy.new ≡ buddy.old) × (self.new ≡ self.old))) }
     {
+        match self.take_object(space, buddy, t, c) {
+            Ok(taken) => Ok(taken.place),
+            Err(refusal) => Err(refusal),
+        }
+    }
+
+    /// The same as [`Slabs::take`]. It also returns the size of the object and its superblock, which the take has looked up: a
+    /// caller that lends the bytes needs no second look-up of the cache and of the slot.
+    #[inline(always)]
+    pub fn take_object(
+        &mut self,
+        space: &mut Space,
+        buddy: &mut Buddy,
+        t: u8,
+        c: u32,
+    ) -> Result<Taken, TakeRefusal>
+        requires tenant { t < length space.old.slots }
+        requires agree { Agree space.old buddy.old self.old }
+        ensures answer { (m : Machine) → ShowsMachine space.old buddy.old self.old t m
+            → place_taken result ≡ (take_step self.old.top c m).answer }
+        ensures shows { (m : Machine) → ShowsMachine space.old buddy.old self.old t m
+            → ShowsMachine space.new buddy.new self.new t (take_step self.old.top c m).machine }
+        ensures object { IfOk result (IsTakenObject space.new self.new t c) }
+        ensures spares { Spares t space.old space.new buddy.old buddy.new self.old self.new }
+        ensures agree { Agree space.new buddy.new self.new }
+        ensures refused { OnErr result ((space.new ≡ space.old) × ((buddy.new ≡ buddy.old) × (self.new ≡ self.old))) }
+    {
         self.laws_with(space, buddy, t);
         let kept = *self.tables.cache(t, c).ok_or(TakeRefusal::NoCache)?;
         let cache = TenantCache {
@@ -120,9 +159,9 @@ impl Slabs {
         self.take_new(space, buddy, t, c)
     }
 
-    /// As [`Slabs::take`], where every slab of the cache is full: out of a new slab.
+    /// The same as [`Slabs::take_object`] where every slab of the cache is full: out of a new slab.
     ///
-    /// It stands apart since it lends the cache to a call: so `take` keeps no copy of it in memory.
+    /// It stands apart since it lends the cache to a call: so `take_object` keeps no copy of it in memory.
     #[cold]
     #[inline(never)]
     fn take_new(
@@ -131,14 +170,15 @@ impl Slabs {
         buddy: &mut Buddy,
         t: u8,
         c: u32,
-    ) -> Result<u32, TakeRefusal>
+    ) -> Result<Taken, TakeRefusal>
         requires tenant { t < length space.old.slots }
         requires agree { Agree space.old buddy.old self.old }
         requires full { IsAllFull self.old t c }
-        ensures answer { (m : Machine) → ShowsMachine space.old buddy.old self.old t m → result ≡ (take_step self.old.top c m).answer }
+        ensures answer { (m : Machine) → ShowsMachine space.old buddy.old self.old t m
+            → place_taken result ≡ (take_step self.old.top c m).answer }
         ensures shows { (m : Machine) → ShowsMachine space.old buddy.old self.old t m
             → ShowsMachine space.new buddy.new self.new t (take_step self.old.top c m).machine }
-        ensures object { IfOk result (λ place. (o : Found) × IsLiveObject space.new self.new t c place o) }
+        ensures object { IfOk result (IsTakenObject space.new self.new t c) }
         ensures spares { Spares t space.old space.new buddy.old buddy.new self.old self.new }
         ensures agree { Agree space.new buddy.new self.new }
         ensures refused { OnErr result ((space.new ≡ space.old) × ((buddy.new ≡ buddy.old) × (self.new ≡ self.old))) }
@@ -211,7 +251,7 @@ impl Slabs {
         }
     }
 
-    /// Hands out the least object of a slab that is not live, and answers its first place.
+    /// Hands out the least object of a slab that is not live, and returns what a caller needs to lend it.
     #[inline(always)]
     fn hand_out(
         &mut self,
@@ -219,26 +259,32 @@ impl Slabs {
         buddy: &Buddy,
         cache: TenantCache<'_>,
         slab: Slab,
-    ) -> u32
+    ) -> Taken
         requires tenant { cache.tenant < length space.old.slots }
         requires agree { Agree space.old buddy.now self.old }
         requires slab { IsSlab space.old self.old cache.tenant cache.number slab.first slab.machine_frame cache.kept.now }
         requires free { (kept_at self.old.kept slab.machine_frame).live < (layout_numbers cache.kept.now).count }
         ensures answer { (m : Machine) (x : machines.Cache) (y : machines.Slab)
             → ShowsMachine space.old buddy.now self.old cache.entry.tenant m
-            → cache_of m cache.entry.number ≡ Some x → slab_of x slab.first ≡ Some y → Ok result ≡ (hand_out x y m).answer }
+            → cache_of m cache.entry.number ≡ Some x → slab_of x slab.first ≡ Some y → Ok result.place ≡ (hand_out x y m).answer }
         ensures shows { (m : Machine) (x : machines.Cache) (y : machines.Slab)
             → ShowsMachine space.old buddy.now self.old cache.entry.tenant m
             → cache_of m cache.entry.number ≡ Some x → slab_of x slab.first ≡ Some y
             → ShowsMachine space.new buddy.now self.new cache.entry.tenant (hand_out x y m).machine }
-        ensures object { (o : Found) × IsLiveObject space.new self.new cache.entry.tenant cache.entry.number result o }
+        ensures object { IsTakenObject space.new self.new cache.entry.tenant cache.entry.number result }
         ensures spares { Spares cache.entry.tenant space.old space.new buddy.now buddy.now self.old self.new }
         ensures agree { Agree space.new buddy.now self.new }
     {
         self.laws_with(space, buddy, cache.tenant);
-        let colour = u32::from(self.tables.kept_of(slab.machine_frame).colour);
+        let superblock = self.superblock(slab.machine_frame);
         let index = self.mark_least_free(space, cache, slab);
+        // Here, beside the count that `recount` reads: what is read before the mark has its address worked out twice.
+        let colour = u32::from(self.tables.kept_of(slab.machine_frame).colour);
         self.recount(cache, Object { slab, index }, true);
-        FRAME_BYTES * slab.first + cache.kept.layout.offset(colour, index)
+        Taken {
+            place: FRAME_BYTES * slab.first + cache.kept.layout.offset(colour, index),
+            size: cache.kept.layout.size(),
+            superblock,
+        }
     }
 }

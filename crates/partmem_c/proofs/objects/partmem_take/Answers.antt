@@ -3,8 +3,6 @@ use Rattle.words_core.specs.declared.event.Event.TheVariants.{Tenant}
 use Rattle.words_core.specs.declared.event.Command.TheVariants.{Take}
 use Rattle.kernel_core.specs.Content.{KernelContent}
 use Rattle.kernel_core.specs.Steps.{Steps}
-use Rattle.partmem_c.specs.declared.lends.Lent.{Lent}
-use Rattle.partmem_c.specs.Finding.{Returns}
 use Rattle.partmem_c.specs.Lends.{take_reply}
 use Rattle.partmem_c.proofs.LendLemmas.{object_returned}
 use Rattle.partmem_c.proofs.objects.partmem_take.Goals as goal
@@ -21,6 +19,5 @@ returns-clause-runs c =
         is = c.put_in.ensures;
         steps = subst (λ (k : KernelContent). Steps k (Tenant t (Take cache)) new reply) c.deref_mut.ensures.value did.steps;
       };
-      returns = object_returned old t outcome c.put.result c.put.new.to
-          (subst (λ (none : Lent). Returns none outcome c.put.result c.put.new.to) c.none.ensures c.put.ensures) did.lent;
+      returns = object_returned old t outcome c.put_lent.result c.put_lent.new.to c.put_lent.ensures did.lent;
     }

@@ -3,8 +3,6 @@ use Rattle.words_core.specs.declared.event.Event.TheVariants.{Tenant}
 use Rattle.words_core.specs.declared.event.Command.TheVariants.{Alloc}
 use Rattle.kernel_core.specs.Content.{KernelContent}
 use Rattle.kernel_core.specs.Steps.{Steps}
-use Rattle.partmem_c.specs.declared.lends.Lent.{Lent}
-use Rattle.partmem_c.specs.Finding.{Returns}
 use Rattle.partmem_c.specs.Lends.{alloc_reply}
 use Rattle.partmem_c.proofs.LendLemmas.{block_returned}
 use Rattle.partmem_c.proofs.pages.partmem_alloc.Goals as goal
@@ -21,6 +19,5 @@ returns c =
         is = c.put_in.ensures;
         steps = subst (λ (k : KernelContent). Steps k (Tenant t (Alloc order)) new reply) c.deref_mut.ensures.value did.steps;
       };
-      returns = block_returned old t order outcome c.put.result c.put.new.to
-          (subst (λ (none : Lent). Returns none outcome c.put.result c.put.new.to) c.none.ensures c.put.ensures) did.block;
+      returns = block_returned old t order outcome c.put_lent.result c.put_lent.new.to c.put_lent.ensures did.block;
     }

@@ -1,20 +1,24 @@
-use Rattle.std.proofs.Common.{◌≡◌, false, Some, None, refl, sym, ap, ◌∙◌, subst, rules}
+use Rattle.std.proofs.Common.{◌≡◌, true, false, Some, None, refl, sym, ap, ◌∙◌, subst, rules}
 use Rattle.std.specs.Prelude.{option_map, MatchOption}
 use Rattle.model_core.specs.Machine.{Machine}
 use Rattle.model_core.specs.CacheOperations.{give_step}
 use Rattle.model_core.specs.Operations.{refuse}
 use Rattle.model_core.specs.declared.refusals.GiveRefusal.TheVariants.{NoCache, NotAnObject}
 use Rattle.slab_tables.specs.Content.{Content, cache_at}
-use Rattle.machine_changes.specs.Shows.{ShowsMachine}
+use Rattle.machine_changes.specs.Shows.{Agree, ShowsMachine}
+use Rattle.machine_changes.specs.Keeps.{Spares}
 use Rattle.machine_changes.specs.Changes.{Found}
 use Rattle.machine_changes.specs.Objects.{IsLiveObject, IsNoObject}
 use Rattle.machine_changes.specs.Laws.{GivesObject}
 use Rattle.slab_core.specs.Objects.{found_in, IsToCount, IsRecounted}
+use Rattle.slab_core.specs.Giving.{BeginsAt}
+use Rattle.slab_core.proofs.GrowNeed.{unmoved}
 use Rattle.slab_core.proofs.ObjectGiven.{give_refused}
+use Rattle.slab_core.proofs.ReturnMany.{spares_none}
 use Rattle.machine_changes.proofs.Marked.{marked_shows}
 use Rattle.machine_changes.proofs.Objects.{found_gives, not_found_refuses}
 use Rattle.slab_core.proofs.Slabs.give.Goals as goal
-use Rattle.slab_core.proofs.Slabs.give.Goals.{After-from_residual, In_ok-kept, After-from_residual-in_err-object, After-turn_bit, After-recount}
+use Rattle.slab_core.proofs.Slabs.give.Goals.{After-from_residual, In_ok-kept, After-from_residual-in_err-object, After-clear_bit, After-recount}
 
 no_cache : (c : After-from_residual) → cache_at c.args.self.now c.args.t c.args.c ≡ None
 no_cache c =
@@ -36,8 +40,8 @@ cached c =
     sym (ap (λ (s : Content). cache_at s c.args.t c.args.c) c.self.view_is)
     ∙ (sym c.cache.ensures ∙ ap (option_map (λ x. x.now)) c.in_ok-kept.ensures.ok_part)
 
-pub find-requires-clause-parts : goal.find-requires-clause-parts
-find-requires-clause-parts c = (c.args.buddy.now, c.laws_with.ensures.parts)
+pub locate-requires-clause-parts : goal.locate-requires-clause-parts
+locate-requires-clause-parts c = (c.args.buddy.now, c.laws_with.ensures.parts)
 
 -- no object of it begins at the place
 not_found : (c : After-from_residual-in_err-object) (m : Machine) → ShowsMachine c.args.space.now c.args.buddy.now c.args.self.now c.args.t m
@@ -45,8 +49,8 @@ not_found : (c : After-from_residual-in_err-object) (m : Machine) → ShowsMachi
 not_found c m h =
     let none : IsNoObject c.args.space.now c.args.self.now c.args.t c.args.c c.args.place =
     subst (λ o. MatchOption o (IsNoObject c.args.space.now c.args.self.now c.args.t c.args.c c.args.place)
-    (λ o. IsLiveObject c.args.space.now c.args.self.now c.args.t c.args.c c.args.place (found_in c.in_ok-kept.field-0.now o)))
-    c.in_err-object.ensures.ok_part c.find.ensures in
+    (λ o. BeginsAt c.args.space.now c.args.self.now c.args.t c.args.c c.args.place (found_in c.in_ok-kept.field-0.now o)))
+    c.in_err-object.ensures.ok_part c.locate.ensures in
     not_found_refuses c.args.space.now c.args.buddy.now c.args.self.now c.args.t c.args.c c.args.place c.in_ok-kept.field-0.now m c.laws_with.ensures.steady h
     (cached (goal.at.returns-in_err-object-clause-shows c).In_ok-kept) none
 
@@ -56,23 +60,73 @@ returns-in_err-object-clause-answer c = λ m h. let e = not_found c m h in rw e 
 pub returns-in_err-object-clause-shows : goal.returns-in_err-object-clause-shows
 returns-in_err-object-clause-shows c = λ m h. rw (not_found c m h) h
 
-abbrev object : After-turn_bit → Found
+abbrev object : After-clear_bit → Found
 object c = found_in c.in_ok-kept.field-0.now c.in_ok-object.object
 
-is_object : (c : After-turn_bit) → IsLiveObject c.args.space.now c.args.self.now c.args.t c.args.c c.args.place (object c)
-is_object c =
+begins : (c : After-clear_bit) → BeginsAt c.args.space.now c.args.self.now c.args.t c.args.c c.args.place (object c)
+begins c =
     subst (λ o. MatchOption o (IsNoObject c.args.space.now c.args.self.now c.args.t c.args.c c.args.place)
-    (λ o. IsLiveObject c.args.space.now c.args.self.now c.args.t c.args.c c.args.place (found_in c.in_ok-kept.field-0.now o)))
-    c.in_ok-object.ensures.ok_part c.find.ensures
+    (λ o. BeginsAt c.args.space.now c.args.self.now c.args.t c.args.c c.args.place (found_in c.in_ok-kept.field-0.now o)))
+    c.in_ok-object.ensures.ok_part c.locate.ensures
 
-gives : (c : After-turn_bit) (m : Machine) → ShowsMachine c.args.space.now c.args.buddy.now c.args.self.now c.args.t m
+pub clear_bit-requires-clause-slab : goal.clear_bit-requires-clause-slab
+clear_bit-requires-clause-slab c =
+    (subst (λ o. MatchOption o (IsNoObject c.args.space.now c.args.self.now c.args.t c.args.c c.args.place)
+    (λ o. BeginsAt c.args.space.now c.args.self.now c.args.t c.args.c c.args.place (found_in c.in_ok-kept.field-0.now o)))
+    c.in_ok-object.ensures.ok_part c.locate.ensures).slab
+
+pub clear_bit-requires-clause-index : goal.clear_bit-requires-clause-index
+clear_bit-requires-clause-index c =
+    (subst (λ o. MatchOption o (IsNoObject c.args.space.now c.args.self.now c.args.t c.args.c c.args.place)
+    (λ o. BeginsAt c.args.space.now c.args.self.now c.args.t c.args.c c.args.place (found_in c.in_ok-kept.field-0.now o)))
+    c.in_ok-object.ensures.ok_part c.locate.ensures).index
+
+-- the object that begins there is not live
+
+dead : (c : After-clear_bit) → c.clear_bit.result ≡ false → (m : Machine) → ShowsMachine c.args.space.now c.args.buddy.now c.args.self.now c.args.t m
+    → give_step c.args.c c.args.place m ≡ refuse NotAnObject m
+dead c is m h =
+    not_found_refuses c.args.space.now c.args.buddy.now c.args.self.now c.args.t c.args.c c.args.place c.in_ok-kept.field-0.now m c.laws_with.ensures.steady h
+    (begins c).slab.cached ((begins c).dead (sym c.clear_bit.ensures.live ∙ is))
+
+still : (c : After-clear_bit) → c.clear_bit.result ≡ false
+    → (c.args.space.now ≡ c.clear_bit.new.space) × ((c.args.buddy.now ≡ c.args.buddy.now) × (c.args.self.now ≡ c.clear_bit.new.self))
+still c is = let same = c.clear_bit.ensures.kept is in (sym same.0, (refl, sym same.1))
+
+pub returns-then-not-clear_bit-clause-answer : goal.returns-then-not-clear_bit-clause-answer
+returns-then-not-clear_bit-clause-answer c = λ m h.
+    let e = dead (goal.at.returns-then-not-clear_bit-clause-answer c).After-clear_bit c.if-not-clear_bit.true m h in rw e (search rules)
+
+pub returns-then-not-clear_bit-clause-shows : goal.returns-then-not-clear_bit-clause-shows
+returns-then-not-clear_bit-clause-shows c = λ m h.
+    let a = (goal.at.returns-then-not-clear_bit-clause-shows c).After-clear_bit in
+    rw (dead a c.if-not-clear_bit.true m h) (unmoved (λ r b s. ShowsMachine r b s c.args.t m) (still a c.if-not-clear_bit.true) h)
+
+pub returns-then-not-clear_bit-clause-spares : goal.returns-then-not-clear_bit-clause-spares
+returns-then-not-clear_bit-clause-spares c =
+    let a = (goal.at.returns-then-not-clear_bit-clause-spares c).After-clear_bit in
+    unmoved (λ r b s. Spares c.args.t c.args.space.now r c.args.buddy.now b c.args.self.now s) (still a c.if-not-clear_bit.true)
+    (spares_none c.args.space.now c.args.buddy.now c.args.self.now c.args.t)
+
+pub returns-then-not-clear_bit-clause-agree : goal.returns-then-not-clear_bit-clause-agree
+returns-then-not-clear_bit-clause-agree c =
+    unmoved (λ r b s. Agree r b s) (still (goal.at.returns-then-not-clear_bit-clause-agree c).After-clear_bit c.if-not-clear_bit.true) c.requires.agree
+
+-- it is live
+
+is_object : (c : After-clear_bit) → c.clear_bit.result ≡ true → IsLiveObject c.args.space.now c.args.self.now c.args.t c.args.c c.args.place (object c)
+is_object c is =
+    let o = begins c in record { slab = o.slab; index = o.index; live = sym c.clear_bit.ensures.live ∙ is; begins = o.begins }
+
+gives : (c : After-clear_bit) → c.clear_bit.result ≡ true → (m : Machine) → ShowsMachine c.args.space.now c.args.buddy.now c.args.self.now c.args.t m
     → GivesObject m c.args.c c.args.place c.in_ok-object.object.index c.in_ok-object.object.slab.first
-gives c m h = found_gives c.args.space.now c.args.buddy.now c.args.self.now c.args.t c.args.c c.args.place (object c) m c.laws_with.ensures.steady h (is_object c)
+gives c is m h =
+    found_gives c.args.space.now c.args.buddy.now c.args.self.now c.args.t c.args.c c.args.place (object c) m c.laws_with.ensures.steady h (is_object c is)
 
-to_count : (c : After-turn_bit)
-    → IsToCount c.args.space.now c.turn_bit.new.space c.args.buddy.now c.args.self.now c.turn_bit.new.self c.args.t c.args.c (object c) false
-to_count c =
-    let o = is_object c in record {
+to_count : (c : After-clear_bit) → c.clear_bit.result ≡ true
+    → IsToCount c.args.space.now c.clear_bit.new.space c.args.buddy.now c.args.self.now c.clear_bit.new.self c.args.t c.args.c (object c) false
+to_count c is =
+    let o = is_object c is in record {
       tenant = c.requires.tenant;
       laws = c.laws_with.ensures.parts.space;
       slabs = c.laws_with.ensures.parts.slabs;
@@ -80,15 +134,15 @@ to_count c =
       slab = o.slab;
       index = o.index;
       was = o.live;
-      turned = c.turn_bit.ensures;
+      turned = c.clear_bit.ensures.turned is;
     }
 
 pub recount-requires : goal.recount-requires
-recount-requires c = (_, _, c.args.buddy.now, c.args.self.now, to_count (goal.at.recount-requires c).After-turn_bit)
+recount-requires c = (_, _, c.args.buddy.now, c.args.self.now, to_count (goal.at.recount-requires c).After-clear_bit c.if-not-clear_bit.false)
 
-counted : (c : After-recount) → IsRecounted c.args.space.now c.turn_bit.new.space c.args.buddy.now c.args.self.now c.recount.new.self c.args.t c.args.c
-    (object (goal.at.returns-clause-shows c).After-turn_bit) false
-counted c = c.recount.ensures _ _ _ _ (to_count (goal.at.returns-clause-shows c).After-turn_bit)
+counted : (c : After-recount) → IsRecounted c.args.space.now c.clear_bit.new.space c.args.buddy.now c.args.self.now c.recount.new.self c.args.t c.args.c
+    (object (goal.at.returns-clause-shows c).After-clear_bit) false
+counted c = c.recount.ensures _ _ _ _ (to_count (goal.at.returns-clause-shows c).After-clear_bit c.if-not-clear_bit.false)
 
 pub returns-clause-spares : goal.returns-clause-spares
 returns-clause-spares c = (counted c).spares
@@ -97,13 +151,13 @@ pub returns-clause-agree : goal.returns-clause-agree
 returns-clause-agree c = (counted c).agree
 
 pub returns-clause-answer : goal.returns-clause-answer
-returns-clause-answer c = λ m h. rw (gives (goal.at.returns-clause-answer c).After-turn_bit m h).step refl
+returns-clause-answer c = λ m h. rw (gives (goal.at.returns-clause-answer c).After-clear_bit c.if-not-clear_bit.false m h).step refl
 
 pub returns-clause-shows : goal.returns-clause-shows
 returns-clause-shows c = λ m h.
-    let a = (goal.at.returns-clause-shows c).After-turn_bit in
-    let g = gives a m h in
-    let o = is_object a in
+    let a = (goal.at.returns-clause-shows c).After-clear_bit in
+    let g = gives a c.if-not-clear_bit.false m h in
+    let o = is_object a c.if-not-clear_bit.false in
     rw g.step
-    (marked_shows c.args.space.now c.turn_bit.new.space c.args.buddy.now c.args.self.now c.recount.new.self c.args.t c.args.c (object a) false m g.cache g.slab
+    (marked_shows c.args.space.now c.clear_bit.new.space c.args.buddy.now c.args.self.now c.recount.new.self c.args.t c.args.c (object a) false m g.cache g.slab
     (counted c).marked c.laws_with.ensures.steady o.slab o.index g.cached g.standing h)

@@ -1,22 +1,31 @@
-use Rattle.std.proofs.Common.{◌≡◌, ℕ, ◌+◌, ◌*◌, ◌<◌, true, not, refl, sym, ap, ◌∙◌, subst, rules, arith}
+use Rattle.std.proofs.Common.{◌≡◌, ℕ, ◌+◌, ◌*◌, ◌/◌, ◌^◌, ◌<◌, true, not, Some, length, refl, sym, ap, ◌∙◌, subst, rules, arith}
 use Rattle.std.specs.List.{position_or_len}
 use Rattle.model_core.specs.Layouts.{object_offset}
 use Rattle.layout_core.specs.Objects.{IsColour}
 use Rattle.model_core.specs.Slabs.{with_cache, with_slab, with_live}
+use Rattle.space_core.specs.Content as spaces
+use Rattle.space_core.specs.Windows.{home_of}
 use Rattle.slab_tables.specs.declared.cache.Kept.{Kept}
 use Rattle.slab_tables.specs.Content.{Content, kept_at, layout_numbers}
 use Rattle.machine_changes.specs.Shows.{live_of, ShowsMachine}
 use Rattle.machine_changes.specs.Changes.{Found, found}
 use Rattle.slab_core.specs.Objects.{IsToCount, IsRecounted}
-use Rattle.slab_core.proofs.TakeHand.{IsLeastFree, object_below, not_live, first_few, offset_few, next_is, answered}
+use Rattle.slab_core.proofs.ObjectSlabs.{machine_frame_within}
+use Rattle.slab_core.proofs.TakeHand.{IsLeastFree, object_below, not_live, first_few, offset_few, home_is, next_is, answered}
 use Rattle.machine_changes.proofs.Marked.{marked_shows}
 use Rattle.slab_core.proofs.ObjectTaken.{marked_object}
 use Rattle.slab_core.proofs.Slabs.hand_out.Goals as goal
-use Rattle.slab_core.proofs.Slabs.hand_out.Goals.{After-mark_least_free-index, After-offset}
+use Rattle.slab_core.proofs.Slabs.hand_out.Goals.{After-mark_least_free-index, After-from-colour, After-offset}
 
-colour_is : (c : After-mark_least_free-index) → c.from-colour.result ≡ (kept_at c.args.self.now.kept c.args.slab.machine_frame).colour
+pub kept_of-requires : goal.kept_of-requires
+kept_of-requires c =
+    subst (λ (s : Content). c.args.slab.machine_frame < length s.lists.places)
+    (sym (c.self.view_is ∙ c.mark_least_free-index.ensures.turned.tables)) (machine_frame_within c.requires.slab)
+
+colour_is : (c : After-from-colour) → c.from-colour.result ≡ (kept_at c.args.self.now.kept c.args.slab.machine_frame).colour
 colour_is c =
-    c.from-colour.ensures ∙ ap (λ (k : Kept). k.colour) c.kept_of.ensures ∙ ap (λ (s : Content). (kept_at s.kept c.args.slab.machine_frame).colour) c.self.view_is
+    c.from-colour.ensures ∙ (ap (λ (k : Kept). k.colour) c.kept_of.ensures
+    ∙ (ap (λ (s : Content). (kept_at s.kept c.args.slab.machine_frame).colour) c.self.view_is ∙ c.mark_least_free-index.ensures.turned.colour))
 
 -- some object is not live
 pub mark_least_free-index-requires-clause-free : goal.mark_least_free-index-requires-clause-free
@@ -64,7 +73,7 @@ offset-requires-clause-object c = object_below (next (goal.at.offset-requires-cl
 
 pub offset-requires-clause-colour : goal.offset-requires-clause-colour
 offset-requires-clause-colour c =
-    subst (IsColour c.args.cache.kept.now.layout) (sym (colour_is (goal.at.offset-requires-clause-colour c).After-mark_least_free-index))
+    subst (IsColour c.args.cache.kept.now.layout) (sym (colour_is (goal.at.offset-requires-clause-colour c).After-from-colour))
     (c.laws_with.ensures.steady.stands _ _ _ _ c.requires.slab).colour
 
 offset_is : (c : After-offset)
@@ -72,7 +81,7 @@ offset_is : (c : After-offset)
 offset_is c =
     c.offset.ensures
     ∙ ap (λ (n : ℕ). object_offset (layout_numbers c.args.cache.kept.now) n c.mark_least_free-index.result)
-    (colour_is (goal.at.overflow_add-result c).After-mark_least_free-index)
+    (colour_is (goal.at.overflow_add-result c).After-from-colour)
 
 pub overflow_add-result : goal.overflow_add-result
 overflow_add-result c =
@@ -101,14 +110,25 @@ returns-clause-shows c = λ m y z h ey ez.
     (marked_shows _ _ x.buddy.now _ _ _ _ (object a) true m y z (counted (goal.at.returns-clause-shows c).After-offset).marked
     c.laws_with.ensures.steady c.requires.slab (object_below (next a)) ey ez h)
 
+-- no slot has changed
+space_is : (c : After-offset) → c.mark_least_free-index.new.space ≡ record c.args.space.now { banks = c.mark_least_free-index.new.space.banks }
+space_is c = c.mark_least_free-index.ensures.turned.space
+
+superblock_is : (c : After-offset) → c.superblock-superblock.result ≡ c.args.slab.machine_frame / 2 ^ c.args.self.now.top
+superblock_is c = c.superblock-superblock.ensures
+
 pub returns-clause-object : goal.returns-clause-object
 returns-clause-object c =
     let a = (goal.at.returns-clause-object c).After-mark_least_free-index in
-    let o = (goal.at.returns-clause-object c).After-offset in (
-      object a,
-      marked_object (counted o).marked c.laws_with.ensures.steady c.requires.slab (object_below (next a))
-          (sym (ap (λ (n : ℕ). 4096 * c.args.slab.first + n) (offset_is o))),
-    )
+    let o = (goal.at.returns-clause-object c).After-offset in
+    let at = ap (λ (n : ℕ). 4096 * c.args.slab.first + n) (offset_is o) in record {
+      object = object a;
+      live = marked_object (counted o).marked c.laws_with.ensures.steady c.requires.slab (object_below (next a)) (sym at);
+      size = c.size.ensures;
+      home = subst (λ (r : spaces.Content). home_of r c.args.cache.tenant (4096 * c.args.slab.first + c.offset.result) c.size.result ≡ Some c.superblock-superblock.result)
+          (sym (space_is o))
+          (home_is (next a) _ _ at c.size.ensures ∙ ap (λ x. Some x) (sym (superblock_is o)));
+    }
 
 pub returns-clause-spares : goal.returns-clause-spares
 returns-clause-spares c = (counted (goal.at.returns-clause-spares c).After-offset).spares

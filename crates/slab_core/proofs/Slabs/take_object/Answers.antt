@@ -8,8 +8,8 @@ use Rattle.slab_tables.specs.Content.{Content, cache_at}
 use Rattle.machine_changes.specs.Shows.{ShowsMachine}
 use Rattle.slab_core.specs.Objects.{standing}
 use Rattle.slab_core.proofs.TakeStep.{no_cache_step, IsUsed, used}
-use Rattle.slab_core.proofs.Slabs.take.Goals as goal
-use Rattle.slab_core.proofs.Slabs.take.Goals.{After-from_residual, In_ok-kept, After-hand_out}
+use Rattle.slab_core.proofs.Slabs.take_object.Goals as goal
+use Rattle.slab_core.proofs.Slabs.take_object.Goals.{After-from_residual, In_ok-kept, After-hand_out}
 
 refused : (c : After-from_residual) (m : Machine) → ShowsMachine c.args.space.now c.args.buddy.now c.args.self.now c.args.t m
     → take_step c.args.self.now.top c.args.c m ≡ refuse NoCache m
