@@ -2,7 +2,8 @@
 -- blocks. Free blocks are not part of it: they follow from the held slots and the taken blocks.
 use Rattle.std.specs.Prelude.{ℕ, ◌≡◌, ◌*◌, ◌^◌, ◌<◌, ◌≤◌, ◌==◌, Bool, false, Option, Some, None, is_some, List, [], length, replicate, slice_index_or, slice_set, count_by}
 use Rattle.model_core.specs.declared.limits.TheConstants.{MOST_ORDER, MOST_SUPERBLOCKS, MOST_TENANTS}
-use Rattle.model_core.specs.Vocabulary.{Taken, block, IsSound, is_free, count_below}
+use Rattle.model_core.specs.Blocks.{Taken, block, IsSound}
+use Rattle.model_core.specs.Choice.{is_free, count_below}
 
 -- one tenant: the superblock under each slot, and at each frame the order of the taken block that begins there
 pub record Holding : Type 0 where

@@ -1,7 +1,8 @@
 -- What always holds of the stored superblocks and tenants.
 use Rattle.std.specs.Prelude.{◌≡◌, ℕ, ◌+◌, ◌*◌, ◌^◌, ◌<◌, ◌≤◌, Bool, Some, List, length, slice_index}
 use Rattle.model_core.specs.declared.limits.TheConstants.{MOST_ORDER, MOST_SUPERBLOCKS, MOST_TENANTS}
-use Rattle.model_core.specs.Vocabulary.{block, IsSound, is_available, is_free, count_below}
+use Rattle.model_core.specs.Blocks.{block, IsSound}
+use Rattle.model_core.specs.Choice.{is_available, is_free, count_below}
 use Rattle.buddy_core.specs.Content.{taken_block_count}
 use Rattle.buddy_core.specs.Tree.{Shows}
 use Rattle.buddy_core.specs.Stored.{StoredSuperblock, StoredTenant, bare_superblock, superblock_of, stored_tenant, superblock_at, held_by, taken_by, holding_shown}

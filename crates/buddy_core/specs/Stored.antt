@@ -2,7 +2,7 @@
 use Rattle.std.specs.Prelude.{◌≡◌, ℕ, ◌+◌, ◌-◌, ◌*◌, ◌/◌, ◌%◌, ◌^◌, ◌≤◌, Bool, Option, Some, None, is_some, List, [], length, map, replicate, slice_index_or}
 use Rattle.std.specs.List.{range_with_len}
 use Rattle.model_core.specs.declared.limits.TheConstants.{MOST_ORDER}
-use Rattle.model_core.specs.Vocabulary.{Taken}
+use Rattle.model_core.specs.Blocks.{Taken}
 use Rattle.buddy_core.specs.Content.{Holding, Content}
 
 -- the tree of orders of a superblock of 2 ^ order frames, a word for each node

@@ -4,9 +4,12 @@ use Rattle.std.specs.Prelude.{find, nat_lt}
 use Rattle.std.specs.Option.{option_map_or}
 use Rattle.std.proofs.lemmas.Bool.{and_parts, ltb-true}
 use Rattle.std.proofs.lemmas.Nat.{pow_pos}
-use Rattle.model_core.specs.Vocabulary.{Block, overlaps}
+use Rattle.model_core.specs.Blocks.{Block}
+use Rattle.model_core.specs.Operations.{overlaps}
 use Rattle.model_core.proofs.Lists.{find_in}
-use Rattle.world_core.specs.Vocabulary.{Body, Command, Event}
+use Rattle.words_core.specs.declared.reply.Body.{Body}
+use Rattle.words_core.specs.declared.event.Command.{Command}
+use Rattle.words_core.specs.declared.event.Event.{Event}
 use Rattle.judge.specs.Seen.{Seen}
 use Rattle.check_core.specs.Taken.{IsFirstShared}
 

@@ -1,8 +1,11 @@
 -- Verdicts on the replies to the lines of a trace, in turn, how a check ends, and where memory runs out.
 use Rattle.std.specs.Prelude.{◌≡◌, ℕ, suc, Bool, true, false, List, [], ◌∷◌, ◌++◌, Option, Some, None, Result, Ok, Err, ◌⊎◌}
 use Rattle.promise_core.specs.declared.promise.Promise.{Promise}
-use Rattle.world_core.specs.Vocabulary.{Event, LineFault, Reply}
-use Rattle.promise_core.specs.Vocabulary.{allowed, Known}
+use Rattle.words_core.specs.declared.event.Event.{Event}
+use Rattle.words_core.specs.declared.event.LineFault.{LineFault}
+use Rattle.words_core.specs.declared.reply.Reply.{Reply}
+use Rattle.promise_core.specs.Promises.{allowed}
+use Rattle.promise_core.specs.State.{Known}
 use Rattle.judge.specs.Adding.{is_addition}
 use Rattle.judge.specs.Machine.{SeenMachine, ShowsKnown, IsVerdict}
 use Rattle.check_core.specs.declared.finding.Finding.{Finding}

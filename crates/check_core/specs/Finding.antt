@@ -3,11 +3,21 @@ use Rattle.std.specs.Prelude.{ℕ, zero, suc, ◌+◌, ◌==◌, Bool, false, if
 use Rattle.std.specs.Option.{option_map_or}
 use Rattle.std.specs.Result.{result_err}
 use Rattle.std.specs.Str.{bytes_eq}
-use Rattle.world_core.specs.Vocabulary.{Addressee, AdminCommand, Body, Command, Event, LineFault, Refusal, Reply, MOST_ORDER}
-use Rattle.model_core.specs.Vocabulary.{Block, block, overlaps}
+use Rattle.words_core.specs.declared.reply.Addressee.{Addressee}
+use Rattle.words_core.specs.declared.event.AdminCommand.{AdminCommand}
+use Rattle.words_core.specs.declared.reply.Body.{Body}
+use Rattle.words_core.specs.declared.event.Command.{Command}
+use Rattle.words_core.specs.declared.event.Event.{Event}
+use Rattle.words_core.specs.declared.event.LineFault.{LineFault}
+use Rattle.words_core.specs.declared.reply.Refusal.{Refusal}
+use Rattle.words_core.specs.declared.reply.Reply.{Reply}
+use Rattle.model_core.specs.declared.limits.TheConstants.{MOST_ORDER}
+use Rattle.model_core.specs.Blocks.{Block, block}
+use Rattle.model_core.specs.Operations.{overlaps}
 use Rattle.promise_core.specs.declared.promise.Promise.{Promise}
 use Rattle.words_core.specs.Texts.{text_of}
-use Rattle.promise_core.specs.Vocabulary.{Known, allowed}
+use Rattle.promise_core.specs.State.{Known}
+use Rattle.promise_core.specs.Promises.{allowed}
 use Rattle.judge.specs.Machine.{SeenMachine}
 use Rattle.check_core.specs.Tables.{reply_of_text}
 use Rattle.check_core.specs.declared.finding.Finding.{Finding}

@@ -3,8 +3,11 @@ use Rattle.std.specs.Prelude.{◌≡◌, ℕ, ◌+◌, ◌==◌, List, [], ◌�
 use Rattle.words_core.specs.Cutting.{lines_of_trace}
 use Rattle.words_core.specs.Grammar.{reading_of}
 use Rattle.words_core.specs.Texts.{text_of}
-use Rattle.world_core.specs.Vocabulary.{Event, LineFault, Reply}
-use Rattle.promise_core.specs.Vocabulary.{allowed, Known, opening}
+use Rattle.words_core.specs.declared.event.Event.{Event}
+use Rattle.words_core.specs.declared.event.LineFault.{LineFault}
+use Rattle.words_core.specs.declared.reply.Reply.{Reply}
+use Rattle.promise_core.specs.Promises.{allowed}
+use Rattle.promise_core.specs.State.{Known, opening}
 use Rattle.promise_kept.specs.Written.{IsAllowedText}
 use Rattle.check_core.specs.declared.finding.Breach.{Breach}
 use Rattle.check_core.specs.declared.finding.Finding.TheVariants.{Kept, Broken}

@@ -1,7 +1,14 @@
 -- What the types of a reply have room for.
 use Rattle.std.specs.Prelude.{◌^◌, ◌<◌, ◌≤◌, length, Option, IfSome}
 use Rattle.std.specs.List.{AllByRecursion}
-use Rattle.world_core.specs.Vocabulary.{Owner, OrderRow, CacheRow, Addressee, Body, Reply, Report, MOST_BYTES}
+use Rattle.model_core.specs.declared.owner.Owner.{Owner}
+use Rattle.model_core.specs.declared.report.OrderRow.{OrderRow}
+use Rattle.model_core.specs.declared.report.CacheRow.{CacheRow}
+use Rattle.words_core.specs.declared.reply.Addressee.{Addressee}
+use Rattle.words_core.specs.declared.reply.Body.{Body}
+use Rattle.words_core.specs.declared.reply.Reply.{Reply}
+use Rattle.words_core.specs.declared.report.Report.{Report}
+use Rattle.model_core.specs.declared.limits.TheConstants.{MOST_BYTES}
 use Rattle.words_core.specs.declared.reply.TheConstants.{OWNERS}
 use Rattle.words_core.specs.declared.report.TheConstants.{ORDERS, CACHES}
 

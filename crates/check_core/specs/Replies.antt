@@ -3,7 +3,12 @@ use Rattle.std.specs.Prelude.{ℕ, ◌*◌, ◌^◌, ◌==◌, ◌&&◌, List, [
 use Rattle.std.specs.Str.{bytes_eq}
 use Rattle.hex.specs.Hex.{decode_of, encode_lower}
 use Rattle.hex.specs.declared.error.FromHexError.{FromHexError}
-use Rattle.world_core.specs.Vocabulary.{Addressee, Body, LineFault, Refusal, Reply, MOST_BYTES}
+use Rattle.words_core.specs.declared.reply.Addressee.{Addressee}
+use Rattle.words_core.specs.declared.reply.Body.{Body}
+use Rattle.words_core.specs.declared.event.LineFault.{LineFault}
+use Rattle.words_core.specs.declared.reply.Refusal.{Refusal}
+use Rattle.words_core.specs.declared.reply.Reply.{Reply}
+use Rattle.model_core.specs.declared.limits.TheConstants.{MOST_BYTES}
 use Rattle.words_core.specs.Texts.{number_of_refusal, name_of_refusal, name_of_fault}
 use Rattle.words_core.specs.declared.reply.TheConstants.{REFUSALS}
 use Rattle.check_core.specs.Forms.{◌>>=◌, form_at}

@@ -1,7 +1,12 @@
 -- Reading a report and the table of owners: a line at the head, and then rows, each begun as that line.
 use Rattle.std.specs.Prelude.{ℕ, true, zero, suc, ◌+◌, ◌-◌, ◌^◌, ◌==◌, ◌&&◌, List, [], ◌∷◌, codes, length, take, drop, slice_index, nat_lt, count_by, is_none, if◌then◌else◌, Option, Some, None}
 use Rattle.std.specs.Str.{bytes_eq}
-use Rattle.world_core.specs.Vocabulary.{Owner, OrderRow, CacheRow, Body, Reply, Report}
+use Rattle.model_core.specs.declared.owner.Owner.{Owner}
+use Rattle.model_core.specs.declared.report.OrderRow.{OrderRow}
+use Rattle.model_core.specs.declared.report.CacheRow.{CacheRow}
+use Rattle.words_core.specs.declared.reply.Body.{Body}
+use Rattle.words_core.specs.declared.reply.Reply.{Reply}
+use Rattle.words_core.specs.declared.report.Report.{Report}
 use Rattle.words_core.specs.declared.report.TheConstants.{ORDERS, CACHES}
 use Rattle.words_core.specs.declared.reply.TheConstants.{OWNERS}
 use Rattle.check_core.specs.Forms.{◌>>=◌, form_at}

@@ -1,7 +1,11 @@
 -- What is noted of a reply that gives a page block which is taken.
 use Rattle.std.specs.Prelude.{◌≡◌, ℕ, ◌≤◌, List, Option, Some, None, Result, Ok, Err, MatchOption, IfSome, option_map}
-use Rattle.world_core.specs.Vocabulary.{Body, Command, Event, LineFault, Reply}
-use Rattle.model_core.specs.Vocabulary.{Block, HasFrame, block}
+use Rattle.words_core.specs.declared.reply.Body.{Body}
+use Rattle.words_core.specs.declared.event.Command.{Command}
+use Rattle.words_core.specs.declared.event.Event.{Event}
+use Rattle.words_core.specs.declared.event.LineFault.{LineFault}
+use Rattle.words_core.specs.declared.reply.Reply.{Reply}
+use Rattle.model_core.specs.Blocks.{Block, HasFrame, block}
 use Rattle.words_core.specs.Grammar.{reading_of}
 use Rattle.judge.specs.Machine.{SeenMachine}
 use Rattle.check_core.specs.Finding.{page_in_way}

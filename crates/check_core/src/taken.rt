@@ -1,7 +1,7 @@
 //! What is in the way of a page block that a reply gives.
 
 ghost use Rattle.std.specs.Prelude.{◌≡◌, ℕ, IfSome, option_map};
-ghost use Rattle.model_core.specs.Vocabulary.{block};
+ghost use Rattle.model_core.specs.Blocks.{block};
 ghost use Rattle.words_core.specs.Requests.{body_of_answer};
 ghost use Rattle.words_core.specs.declared.event.Command.{Command};
 ghost use Rattle.words_core.specs.declared.event.Event.{Event};

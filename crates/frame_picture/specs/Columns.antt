@@ -1,10 +1,15 @@
 -- What a column shows of a machine.
 use Rattle.std.specs.Prelude.{slice_index, ◌≡◌, ℕ, ◌+◌, ◌*◌, ◌^◌, ◌<◌, List, Option, Some, slice_get}
 use Rattle.kernel_core.specs.declared.frames.FrameKind.{FrameKind}
-use Rattle.world_core.specs.Vocabulary.{OrderRow, Owner, World}
-use Rattle.model_core.specs.Vocabulary.{Machine, frames_held, frames_taken, order_rows}
+use Rattle.model_core.specs.declared.report.OrderRow.{OrderRow}
+use Rattle.model_core.specs.declared.owner.Owner.{Owner}
+use Rattle.world_core.specs.World.{World}
+use Rattle.model_core.specs.Machine.{Machine}
+use Rattle.model_core.specs.Reports.{frames_held, frames_taken, order_rows}
 use Rattle.space_core.specs.Content.{owner_at}
-use Rattle.kernel_core.specs.Vocabulary.{KernelContent, Shows, IsFrame}
+use Rattle.kernel_core.specs.Content.{KernelContent}
+use Rattle.kernel_core.specs.Shows.{Shows}
+use Rattle.kernel_core.specs.Frames.{IsFrame}
 use Rattle.frame_picture.specs.declared.history.Sheet.{Sheet}
 use Rattle.frame_picture.specs.declared.history.Figures.{Figures}
 use Rattle.frame_picture.specs.declared.history.Column.{Column}

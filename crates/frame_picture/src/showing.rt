@@ -1,10 +1,13 @@
 //! Stores the state of a kernel.
 
 ghost use Rattle.std.specs.Prelude.{◌≡◌, ℕ, ◌+◌, ◌*◌, ◌^◌, ◌<◌, ◌≤◌, Some, length, slice_get, slice_index};
-ghost use Rattle.world_core.specs.Vocabulary.{Owner, OrderRow, World};
-ghost use Rattle.model_core.specs.Vocabulary.{Machine};
+ghost use Rattle.model_core.specs.declared.owner.Owner.{Owner};
+ghost use Rattle.model_core.specs.declared.report.OrderRow.{OrderRow};
+ghost use Rattle.world_core.specs.World.{World};
+ghost use Rattle.model_core.specs.Machine.{Machine};
 ghost use Rattle.space_core.specs.Content.{owner_at};
-ghost use Rattle.kernel_core.specs.Vocabulary.{Shows, ShowsMachine, IsFrame};
+ghost use Rattle.kernel_core.specs.Shows.{Shows, ShowsMachine};
+ghost use Rattle.kernel_core.specs.Frames.{IsFrame};
 ghost use Rattle.frame_picture.specs.Columns.{AreCells, AreFigures};
 ghost use Rattle.frame_picture.specs.declared.history.Sheet.{Sheet};
 ghost use Rattle.frame_picture.specs.declared.history.Figures.{Figures};

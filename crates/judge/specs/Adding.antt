@@ -1,7 +1,10 @@
 -- What is judged where memory runs out.
 use Rattle.std.specs.Prelude.{◌≡◌, Bool, true, false, Ok}
-use Rattle.world_core.specs.Vocabulary.{Body, Event, Reply}
-use Rattle.promise_core.specs.Vocabulary.{Known, allowed}
+use Rattle.words_core.specs.declared.reply.Body.{Body}
+use Rattle.words_core.specs.declared.event.Event.{Event}
+use Rattle.words_core.specs.declared.reply.Reply.{Reply}
+use Rattle.promise_core.specs.State.{Known}
+use Rattle.promise_core.specs.Promises.{allowed}
 use Rattle.judge.specs.Machine.{SeenMachine, ShowsKnown}
 
 -- a reply of this body adds something to what is kept: a slot, a page block, a cache or an object

@@ -1,10 +1,18 @@
 -- Verdicts on the reply to one event, and what is kept after it.
 use Rattle.std.specs.Prelude.{◌≡◌, ℕ, Bool, true, not, List, [], ◌∷◌, drop, Option, Some, None, Result, Ok, Err, is_some, if◌then◌else◌, ◌||◌}
 use Rattle.std.specs.Option.{option_map_or}
-use Rattle.world_core.specs.Vocabulary.{Owner, Addressee, Answer, Body, Event, Refusal, Reply, MOST_CACHES}
+use Rattle.model_core.specs.declared.owner.Owner.{Owner}
+use Rattle.words_core.specs.declared.reply.Addressee.{Addressee}
+use Rattle.words_core.specs.declared.answer.Answer.{Answer}
+use Rattle.words_core.specs.declared.reply.Body.{Body}
+use Rattle.words_core.specs.declared.event.Event.{Event}
+use Rattle.words_core.specs.declared.reply.Refusal.{Refusal}
+use Rattle.words_core.specs.declared.reply.Reply.{Reply}
+use Rattle.model_core.specs.declared.limits.TheConstants.{MOST_CACHES}
 use Rattle.promise_core.specs.declared.promise.Promise.{Promise}
 use Rattle.words_core.specs.Requests.{body_of_answer}
-use Rattle.promise_core.specs.Vocabulary.{allowed, is_one, kept, State, Known, state_after, owners_after}
+use Rattle.promise_core.specs.Promises.{allowed, is_one, kept}
+use Rattle.promise_core.specs.State.{State, Known, state_after, owners_after}
 use Rattle.judge.specs.declared.verdict.Failure.{Failure}
 use Rattle.judge.specs.Seen.{Seen, state_of}
 use Rattle.judge.specs.Machine.{SeenMachine, KeepsSizes, known_of}

@@ -1,8 +1,9 @@
 -- What is kept of a machine, its sizes, what is known of it, and the verdict on a reply.
 use Rattle.std.specs.Prelude.{◌≡◌, ℕ, ◌≤◌, List, Option, Some, Result, Ok, Err, length, map, slice_get}
-use Rattle.world_core.specs.Vocabulary.{Owner, MOST_CACHES, MOST_ORDER, MOST_SUPERBLOCKS}
+use Rattle.model_core.specs.declared.owner.Owner.{Owner}
+use Rattle.model_core.specs.declared.limits.TheConstants.{MOST_CACHES, MOST_ORDER, MOST_SUPERBLOCKS}
 use Rattle.promise_core.specs.declared.promise.Promise.{Promise}
-use Rattle.promise_core.specs.Vocabulary.{Known}
+use Rattle.promise_core.specs.State.{Known}
 use Rattle.judge.specs.Seen.{Seen, state_of}
 
 -- what is kept: by superblock who owns it, by tenant what it has; slots have 2 ^ order frames

@@ -2,8 +2,11 @@
 use Rattle.std.specs.Prelude.{◌≡◌, ℕ, ◌<◌, ◌≤◌, ◌==◌, Bool, false, List, Option, slice_index_or}
 use Rattle.std.specs.List.{list_any}
 use Rattle.model_core.specs.Elements.{IsIn}
-use Rattle.world_core.specs.Vocabulary.{Report, MOST_CACHES, MOST_ORDER}
-use Rattle.promise_core.specs.Vocabulary.{IsLaid, AllGridded, KnownCache, Holdings, has_slot, State, opening_state}
+use Rattle.words_core.specs.declared.report.Report.{Report}
+use Rattle.model_core.specs.declared.limits.TheConstants.{MOST_CACHES, MOST_ORDER}
+use Rattle.promise_core.specs.Lying.{IsLaid, AllGridded}
+use Rattle.promise_core.specs.Holdings.{KnownCache, Holdings, has_slot}
+use Rattle.promise_core.specs.State.{State, opening_state}
 use Rattle.shadow_memory.specs.Left.{Left, left_at, left_slots}
 
 -- what is kept of a tenant

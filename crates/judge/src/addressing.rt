@@ -2,7 +2,7 @@
 
 ghost use Rattle.std.specs.Prelude.{◌≡◌, [], ◌∷◌, false};
 ghost use Rattle.promise_core.specs.declared.promise.Promise.{Promise};
-ghost use Rattle.promise_core.specs.Vocabulary.{is_for, is_no_tenant, named};
+ghost use Rattle.promise_core.specs.Promises.{is_for, is_no_tenant, named};
 ghost use Rattle.words_core.specs.Requests.{body_of_answer};
 ghost use Rattle.judge.specs.Judged.{broken};
 

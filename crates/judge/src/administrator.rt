@@ -7,7 +7,9 @@ ghost use Rattle.words_core.specs.Requests.{body_of_answer};
 ghost use Rattle.words_core.specs.declared.event.Event.TheVariants as On;
 ghost use Rattle.words_core.specs.declared.event.AdminCommand.TheVariants as Do;
 ghost use Rattle.words_core.specs.declared.reply.Body.TheVariants as Say;
-ghost use Rattle.promise_core.specs.Vocabulary.{has_slot, State, Known, due};
+ghost use Rattle.promise_core.specs.Holdings.{has_slot};
+ghost use Rattle.promise_core.specs.State.{State, Known};
+ghost use Rattle.promise_core.specs.Promises.{due};
 ghost use Rattle.judge.specs.Judged.{IsUnfit, IsVerdictFor, AreOwnersAfter, known_at};
 ghost use Rattle.judge.specs.Seen.{state_of};
 

@@ -4,7 +4,8 @@ ghost use Rattle.std.specs.Prelude.{◌≡◌, ◌≤◌, ◌<◌, ◌&&◌, nat
 ghost use Rattle.words_core.specs.declared.event.Event.TheVariants as On;
 ghost use Rattle.words_core.specs.declared.event.Command.TheVariants as Command;
 ghost use Rattle.words_core.specs.declared.reply.Body.TheVariants as Say;
-ghost use Rattle.promise_core.specs.Vocabulary.{holder_of, Known};
+ghost use Rattle.promise_core.specs.Bytes.{holder_of};
+ghost use Rattle.promise_core.specs.State.{Known};
 ghost use Rattle.judge_core.specs.Holders.{shown_holder};
 ghost use Rattle.judge.specs.Judged.{IsVerdictFor, tenant_verdict, only_verdict};
 

@@ -4,12 +4,14 @@ ghost use Rattle.std.specs.Prelude.{◌≡◌, ℕ, ◌+◌, ◌*◌, ◌%◌, �
 ghost use Rattle.std.specs.List.{list_any};
 ghost use Rattle.std.specs.Option.{option_map_or};
 ghost use Rattle.model_core.specs.declared.limits.TheConstants.{MOST_CACHES};
-ghost use Rattle.model_core.specs.Vocabulary.{is_size, is_alignment};
+ghost use Rattle.model_core.specs.Layouts.{is_size, is_alignment};
 ghost use Rattle.arrayvec.specs.ArrayVec.{ArrayVec as Pattern};
 ghost use Rattle.words_core.specs.declared.event.Event.TheVariants as On;
 ghost use Rattle.words_core.specs.declared.event.Command.TheVariants as Command;
 ghost use Rattle.words_core.specs.declared.reply.Body.TheVariants as Say;
-ghost use Rattle.promise_core.specs.Vocabulary.{known_cache, Known, due, can_come_back, empty_frames};
+ghost use Rattle.promise_core.specs.Holdings.{known_cache};
+ghost use Rattle.promise_core.specs.State.{Known};
+ghost use Rattle.promise_core.specs.Promises.{due, can_come_back, empty_frames};
 ghost use Rattle.judge.specs.Judged.{IsVerdictFor, known_at, tenant_verdict};
 ghost use Rattle.judge.specs.Seen.{state_of};
 

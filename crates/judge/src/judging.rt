@@ -3,7 +3,8 @@
 ghost use Rattle.std.specs.Prelude.{◌≡◌, None, Ok, Err, true, IfOk, OnErr};
 ghost use Rattle.words_core.specs.Requests.{is_table, reply_to};
 ghost use Rattle.promise_core.specs.declared.promise.Promise.{Promise};
-ghost use Rattle.promise_core.specs.Vocabulary.{Known, allowed, named};
+ghost use Rattle.promise_core.specs.State.{Known};
+ghost use Rattle.promise_core.specs.Promises.{allowed, named};
 ghost use Rattle.judge.specs.Adding.{IsAllowedAddition};
 ghost use Rattle.judge.specs.Judged.{IsJudged, failing};
 ghost use Rattle.judge.specs.Machine.{ShowsKnown, IsVerdict, KeepsSizes};

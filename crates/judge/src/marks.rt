@@ -2,7 +2,8 @@
 
 ghost use Rattle.std.specs.Prelude.{◌≡◌, ◌<◌, ◌==◌, ◌&&◌, ◌||◌, ℕ, false, not, nat_lt, slice_index_or};
 ghost use Rattle.model_core.specs.declared.limits.TheConstants.{MOST_CACHES};
-ghost use Rattle.promise_core.specs.Vocabulary.{known_cache, is_in_use};
+ghost use Rattle.promise_core.specs.Holdings.{known_cache};
+ghost use Rattle.promise_core.specs.State.{is_in_use};
 
 use judge_core::Held;
 use words_core::CACHES;

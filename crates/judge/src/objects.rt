@@ -4,7 +4,9 @@ ghost use Rattle.std.specs.Prelude.{◌≡◌, ◌≤◌, ◌<◌, ℕ, Some, If
 ghost use Rattle.words_core.specs.declared.event.Event.TheVariants as On;
 ghost use Rattle.words_core.specs.declared.event.Command.TheVariants as Command;
 ghost use Rattle.words_core.specs.declared.reply.Body.TheVariants as Say;
-ghost use Rattle.promise_core.specs.Vocabulary.{known_cache, Known, due};
+ghost use Rattle.promise_core.specs.Holdings.{known_cache};
+ghost use Rattle.promise_core.specs.State.{Known};
+ghost use Rattle.promise_core.specs.Promises.{due};
 ghost use Rattle.judge.specs.Judged.{IsVerdictFor, known_at, tenant_verdict, only_verdict};
 ghost use Rattle.judge.specs.Seen.{state_of};
 

@@ -5,7 +5,9 @@ ghost use Rattle.words_core.specs.Requests.{body_of_answer};
 ghost use Rattle.words_core.specs.declared.event.Event.TheVariants as On;
 ghost use Rattle.words_core.specs.declared.reply.Body.TheVariants as Say;
 ghost use Rattle.words_core.specs.declared.reply.Refusal.{Refusal as Told};
-ghost use Rattle.promise_core.specs.Vocabulary.{holder_of, State, Known, due, first_due, is_used_up, room};
+ghost use Rattle.promise_core.specs.Bytes.{holder_of};
+ghost use Rattle.promise_core.specs.State.{State, Known};
+ghost use Rattle.promise_core.specs.Promises.{due, first_due, is_used_up, room};
 ghost use Rattle.judge.specs.Judged.{IsUnfit, IsVerdictFor, known_at};
 ghost use Rattle.judge.specs.Seen.{state_of};
 

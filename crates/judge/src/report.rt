@@ -5,11 +5,13 @@ ghost use Rattle.std.specs.Prelude.{◌≡◌, ℕ, ◌+◌, ◌*◌, ◌^◌, �
 ghost use Rattle.std.specs.List.{list_all, range_with_len, zip};
 ghost use Rattle.std.specs.Option.{option_copied, option_map_or, option_eq};
 ghost use Rattle.model_core.specs.declared.limits.TheConstants.{MOST_ORDER};
-ghost use Rattle.model_core.specs.Vocabulary.{greatest, split_share};
+ghost use Rattle.model_core.specs.Reports.{greatest, split_share};
 ghost use Rattle.words_core.specs.declared.event.Event.TheVariants as On;
 ghost use Rattle.words_core.specs.declared.event.Command.TheVariants as Asked;
 ghost use Rattle.words_core.specs.declared.reply.Body.TheVariants as Say;
-ghost use Rattle.promise_core.specs.Vocabulary.{vacant_blocks, State, Known, report, frames_of_counts, known_count};
+ghost use Rattle.promise_core.specs.Holdings.{vacant_blocks};
+ghost use Rattle.promise_core.specs.State.{State, Known};
+ghost use Rattle.promise_core.specs.Promises.{report, frames_of_counts, known_count};
 ghost use Rattle.judge.specs.Judged.{IsVerdictFor, failing};
 
 use crate::counts::{count_at, counts_of, frames_from, frames_of_counts, greatest, split_share};

@@ -2,7 +2,8 @@
 
 ghost use Rattle.std.specs.Prelude.{◌≡◌, ℕ, ◌+◌, ◌*◌, ◌^◌, ◌≤◌, ◌<◌, ◌==◌, ◌&&◌, ◌||◌, not, length, filter, slice_index, slice_index_or, false};
 ghost use Rattle.std.specs.List.{list_all, zip};
-ghost use Rattle.promise_core.specs.Vocabulary.{slab_around, live_beside, is_slab_full, count_slabs, is_row};
+ghost use Rattle.promise_core.specs.Holdings.{slab_around, live_beside, is_slab_full};
+ghost use Rattle.promise_core.specs.Promises.{count_slabs, is_row};
 
 use judge_core::{HeldCache, is_marked};
 use model_core::report::CacheRow;

@@ -2,7 +2,7 @@
 
 ghost use Rattle.std.specs.Prelude.{◌≡◌, ◌≤◌, ℕ, IfOk, None, find, length};
 ghost use Rattle.model_core.specs.declared.limits.TheConstants.{MOST_ORDER, MOST_SUPERBLOCKS};
-ghost use Rattle.model_core.specs.Vocabulary.{overlaps};
+ghost use Rattle.model_core.specs.Operations.{overlaps};
 ghost use Rattle.words_core.specs.Requests.{body_of_answer};
 ghost use Rattle.words_core.specs.declared.event.Event.TheVariants as On;
 ghost use Rattle.promise_core.specs.State.{Known};

@@ -3,7 +3,9 @@ use Rattle.std.specs.Prelude.{◌≡◌, ℕ, ◌+◌, ◌-◌, ◌*◌, ◌%◌
 use Rattle.std.specs.List.{All}
 use Rattle.std.specs.List.Sorted.{IsNonDecreasingBy}
 use Rattle.model_core.specs.declared.limits.TheConstants.{FRAME_BYTES, MOST_SIZE, MOST_ORDER}
-use Rattle.model_core.specs.Vocabulary.{Block, is_alignment, RisesFrom}
+use Rattle.model_core.specs.Blocks.{Block}
+use Rattle.model_core.specs.Layouts.{is_alignment}
+use Rattle.model_core.specs.WellFormed.{RisesFrom}
 use Rattle.promise_core.specs.Holdings.{KnownCache, slab_around}
 
 -- the numbers of a cache: size, alignment, chunk, order of a slab, objects of a slab

@@ -2,7 +2,9 @@
 
 ghost use Rattle.std.specs.Prelude.{◌≡◌, ◌+◌, ◌*◌, ◌^◌, ◌≤◌, ◌<◌};
 ghost use Rattle.model_core.specs.declared.limits.TheConstants.{FRAME_BYTES, MOST_ORDER};
-ghost use Rattle.model_core.specs.Vocabulary.{block, around, slot_block, overlaps, within_block};
+ghost use Rattle.model_core.specs.Blocks.{block, around, slot_block};
+ghost use Rattle.model_core.specs.Operations.{overlaps};
+ghost use Rattle.model_core.specs.Reach.{within_block};
 
 use model_core::limits::FRAME_BYTES;
 use std::marker::Model;

@@ -1,10 +1,13 @@
 //! A cache of a tenant, as it was asked for and as its reply reported it.
 
-ghost use Rattle.std.specs.Prelude.{◌≡◌, ℕ, ◌+◌, ◌-◌, ◌*◌, ◌/◌, ◌%◌, ◌^◌, ◌<◌, ◌≤◌, nat_le, nat_lt, ◌==◌, ◌&&◌, not};
-ghost use Rattle.std.specs.Prelude.{find, filter, length, [], IfOk, OnErr};
+ghost use Rattle.std.specs.Prelude.{◌≡◌, ℕ, ◌+◌, ◌-◌, ◌*◌, ◌/◌, ◌%◌, ◌^◌, ◌<◌, ◌≤◌, nat_le, nat_lt, ◌==◌, ◌&&◌, not, find, filter, length, [], IfOk, OnErr};
 ghost use Rattle.std.specs.List.{list_any, list_all};
 ghost use Rattle.model_core.specs.declared.limits.TheConstants.{FRAME_BYTES, MOST_ORDER, MOST_SIZE};
-ghost use Rattle.model_core.specs.Vocabulary.{is_any_below, overlaps, pattern_byte, is_within, put_rising};
+ghost use Rattle.model_core.specs.Choice.{is_any_below};
+ghost use Rattle.model_core.specs.Operations.{overlaps};
+ghost use Rattle.model_core.specs.Layouts.{pattern_byte};
+ghost use Rattle.model_core.specs.Reach.{is_within};
+ghost use Rattle.model_core.specs.Machine.{put_rising};
 ghost use Rattle.promise_core.specs.Holdings.{slab_around, live_beside, is_slab_full, are_apart, is_grid};
 ghost use Rattle.judge_core.specs.Inside.{IsKnownLayout, IsObjectAt};
 

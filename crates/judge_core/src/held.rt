@@ -4,7 +4,10 @@ ghost use Rattle.std.specs.Prelude.{◌≡◌, ℕ, ◌+◌, ◌-◌, ◌*◌, �
 ghost use Rattle.std.specs.List.{list_any, list_all, range_with_len};
 ghost use Rattle.std.specs.Option.{option_copied};
 ghost use Rattle.model_core.specs.declared.limits.TheConstants.{MOST_ORDER, MOST_CACHES};
-ghost use Rattle.model_core.specs.Vocabulary.{order_in, Block, block, overlaps, within_block};
+ghost use Rattle.model_core.specs.Machine.{order_in};
+ghost use Rattle.model_core.specs.Blocks.{Block, block};
+ghost use Rattle.model_core.specs.Operations.{overlaps};
+ghost use Rattle.model_core.specs.Reach.{within_block};
 ghost use Rattle.promise_core.specs.Bytes.{holder_of, object_with};
 ghost use Rattle.judge_core.specs.Holders.{shown_holder};
 ghost use Rattle.promise_core.specs.Holdings.{blocks_of_slot, vacant_blocks, has_vacant_block, can_be_taken, slab_around, has_slot, known_cache, is_vacant, can_stand, is_slot_busy};

@@ -2,7 +2,7 @@
 
 ghost use Rattle.std.specs.Prelude.{◌≡◌, ◌≤◌, ◌==◌, not, filter, [], None, IfOk, OnErr};
 ghost use Rattle.model_core.specs.declared.limits.TheConstants.{MOST_ORDER, MOST_SUPERBLOCKS};
-ghost use Rattle.model_core.specs.Vocabulary.{put_rising};
+ghost use Rattle.model_core.specs.Machine.{put_rising};
 ghost use Rattle.promise_core.specs.Holdings.{known_cache, with_live_places};
 
 use crate::block::FrameBlock;

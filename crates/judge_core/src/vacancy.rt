@@ -4,7 +4,8 @@ ghost use Rattle.std.specs.Prelude.{◌≡◌, ℕ, ◌+◌, ◌*◌, ◌^◌, �
 ghost use Rattle.std.specs.List.{list_any, prefix_len};
 ghost use Rattle.std.specs.List.Sorted.{IsNonDecreasing};
 ghost use Rattle.model_core.specs.declared.limits.TheConstants.{FRAME_BYTES, MOST_ORDER};
-ghost use Rattle.model_core.specs.Vocabulary.{block, overlaps};
+ghost use Rattle.model_core.specs.Blocks.{block};
+ghost use Rattle.model_core.specs.Operations.{overlaps};
 ghost use Rattle.promise_core.specs.Holdings.{is_vacant, slab_around, blocks_of_slot, vacant_blocks};
 
 use crate::block::FrameBlock;

@@ -1,7 +1,14 @@
 -- What is done with a kernel from outside, one thing after another, and what a tenant sees of it.
 use Rattle.std.specs.Prelude.{◌≡◌, ℕ, ◌<◌, ◌==◌, List, [], ◌∷◌, ◌++◌, Option, Some, map, if◌then◌else◌}
-use Rattle.model_core.specs.Vocabulary.{Machine, empty_machine, write_step}
-use Rattle.world_core.specs.Vocabulary.{Body, Event, Reply, cache_limit, Entry, private_step, opening_world, own_entries, if_for}
+use Rattle.model_core.specs.Machine.{Machine, empty_machine}
+use Rattle.model_core.specs.Operations.{write_step}
+use Rattle.words_core.specs.declared.reply.Body.{Body}
+use Rattle.words_core.specs.declared.event.Event.{Event}
+use Rattle.words_core.specs.declared.reply.Reply.{Reply}
+use Rattle.world_core.specs.Limits.{cache_limit}
+use Rattle.world_core.specs.PrivateStep.{Entry, private_step}
+use Rattle.world_core.specs.World.{opening_world}
+use Rattle.world_core.specs.OwnList.{own_entries, if_for}
 use Rattle.kernel_core.specs.Content.{KernelContent}
 use Rattle.kernel_core.specs.Shows.{ShowsMachine, Shows}
 use Rattle.kernel_core.specs.Steps.{Steps}

@@ -3,8 +3,14 @@ use Rattle.std.specs.Prelude.{◌≡◌, ℕ, Option, MatchOption}
 use Rattle.std.specs.Borrow.{Fml, MutBor}
 use Rattle.std.specs.Io.BufRead.{Rests}
 use Rattle.words_core.specs.Requests.{command_of, body_of_answer, reply_of_answer}
-use Rattle.world_core.specs.Vocabulary.{Addressee, Answer, Body, Event, Refusal, Request}
-use Rattle.kernel_core.specs.Vocabulary.{KernelContent, PartsAgree, Steps, StepsMachine}
+use Rattle.words_core.specs.declared.reply.Addressee.{Addressee}
+use Rattle.words_core.specs.declared.answer.Answer.{Answer}
+use Rattle.words_core.specs.declared.reply.Body.{Body}
+use Rattle.words_core.specs.declared.event.Event.{Event}
+use Rattle.words_core.specs.declared.reply.Refusal.{Refusal}
+use Rattle.words_core.specs.declared.event.Request.{Request}
+use Rattle.kernel_core.specs.Content.{KernelContent, PartsAgree}
+use Rattle.kernel_core.specs.Steps.{Steps, StepsMachine}
 use Rattle.kernel_core.specs.contracts.kernel.Kernel.{the_row}
 
 -- the request was a step of the tenant's machine, with this answer, and the parts agree as before

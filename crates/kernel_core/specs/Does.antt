@@ -1,7 +1,9 @@
 -- What a call for one tenant does to the parts.
 use Rattle.std.specs.Prelude.{◌≡◌, ◌≢◌, ℕ, List, Option, Some, None, slice_set}
-use Rattle.world_core.specs.Vocabulary.{Owner}
-use Rattle.model_core.specs.Vocabulary.{Machine, empty_machine, Step, next_slot, after_grant, owned_by}
+use Rattle.model_core.specs.declared.owner.Owner.{Owner}
+use Rattle.model_core.specs.Machine.{Machine, empty_machine}
+use Rattle.model_core.specs.Operations.{Step, next_slot, after_grant}
+use Rattle.model_core.specs.Owners.{owned_by}
 use Rattle.space_core.specs.Laws.{SpareStays}
 use Rattle.kernel_core.specs.Content.{KernelContent, SameSizes, MarksFollow, Keeps, superblock_at}
 use Rattle.kernel_core.specs.Shows.{ShowsMachine}

@@ -1,6 +1,8 @@
 -- What a frame of a private machine is.
 use Rattle.std.specs.Prelude.{◌≡◌, ℕ, ◌+◌, ◌/◌, ◌^◌, ◌<◌, ◌≤◌, Bool, true, false, Some}
-use Rattle.model_core.specs.Vocabulary.{HasFrame, IsTaken, Taken, Slab, Cache, Machine, holds, order_in, taken_in, slab_block, cache_of, slab_of, is_full, is_partial, is_empty}
+use Rattle.model_core.specs.Blocks.{HasFrame, IsTaken, Taken}
+use Rattle.model_core.specs.Machine.{Slab, Cache, Machine, holds, order_in, taken_in, slab_block}
+use Rattle.model_core.specs.Slabs.{cache_of, slab_of, is_full, is_partial, is_empty}
 use Rattle.kernel_core.specs.declared.frames.FrameKind.{FrameKind}
 
 -- frame f lies in a slab that passes the test

@@ -1,7 +1,7 @@
 -- All superblocks of one tenant taken back.
 use Rattle.std.specs.Prelude.{◌≡◌, ◌≢◌, ℕ, Option, None, length, map, count_by, if◌then◌else◌}
-use Rattle.world_core.specs.Vocabulary.{Owner}
-use Rattle.model_core.specs.Vocabulary.{is_of}
+use Rattle.model_core.specs.declared.owner.Owner.{Owner}
+use Rattle.model_core.specs.Owners.{is_of}
 use Rattle.space_core.specs.Content.{Content, superblock_at}
 use Rattle.space_core.specs.Laws.{IsSameFor}
 use Rattle.kernel_core.specs.Content.{MarksFollow}

@@ -1,7 +1,7 @@
 -- The live object or page block that a byte lies in.
 use Rattle.std.specs.Prelude.{ℕ, ◌+◌, ◌<◌, ◌≤◌, MatchOption}
 use Rattle.model_core.specs.declared.limits.TheConstants.{MOST_CACHES}
-use Rattle.model_core.specs.Vocabulary.{Machine}
+use Rattle.model_core.specs.Machine.{Machine}
 use Rattle.slab_core.specs.Lending.{HasObject}
 use Rattle.kernel_core.specs.Lending.{HasBlock}
 use Rattle.kernel_core.specs.declared.holders.Holder.{Holder}

@@ -1,13 +1,20 @@
 -- Bytes lent where they lie: what a caller finds there, and what becomes of the parts when it hands them back.
 use Rattle.std.specs.Prelude.{◌⊎◌, ◌≤◌, if◌then◌else◌, nat_lt, ◌≡◌, ℕ, ◌+◌, ◌*◌, ◌/◌, ◌^◌, ◌<◌, ◌++◌, true, List, [], Some, length, take, drop, unwrap_or, slice_index}
 use Rattle.std.specs.Borrow.{Lends, MutBor, Fml, Array, u8}
-use Rattle.world_core.specs.Vocabulary.{Addressee, Body, Refusal, Reply, FRAME_BYTES}
-use Rattle.model_core.specs.Vocabulary.{block, HasFrame, Machine, order_in, in_reach}
+use Rattle.words_core.specs.declared.reply.Addressee.{Addressee}
+use Rattle.words_core.specs.declared.reply.Body.{Body}
+use Rattle.words_core.specs.declared.reply.Refusal.{Refusal}
+use Rattle.words_core.specs.declared.reply.Reply.{Reply}
+use Rattle.model_core.specs.declared.limits.TheConstants.{FRAME_BYTES}
+use Rattle.model_core.specs.Blocks.{block, HasFrame}
+use Rattle.model_core.specs.Machine.{Machine, order_in}
+use Rattle.model_core.specs.Reach.{in_reach}
 use Rattle.space_core.specs.Content.{Content}
 use Rattle.space_core.specs.Windows.{home_of, window_of, with_window}
 use Rattle.space_core.specs.contracts.Space as spaces
 use Rattle.machine_changes.specs.Pages.{IsInReach, stored}
-use Rattle.kernel_core.specs.Vocabulary.{KernelContent, ShowsMachine}
+use Rattle.kernel_core.specs.Content.{KernelContent}
+use Rattle.kernel_core.specs.Shows.{ShowsMachine}
 use Rattle.kernel_core.specs.declared.lending.Span.{Span}
 use Rattle.kernel_core.specs.contracts.kernel.Kernel.{the_row}
 

@@ -1,4 +1,3 @@
-pub mod Vocabulary
 pub mod Content
 pub mod Shows
 pub mod Does

@@ -1,9 +1,12 @@
 -- Control records inside the frames.
 use Rattle.std.specs.Prelude.{◌≡◌, ℕ, ◌+◌, ◌*◌, ◌/◌, ◌%◌, ◌^◌, ◌<◌, true, false, Some, slice_index, slice_index_or}
 use Rattle.model_core.specs.declared.limits.TheConstants.{FRAME_BYTES, RECORD_OFFSET}
-use Rattle.model_core.specs.Vocabulary.{is_small, Slab, Cache, Machine, layout, cache_of, slab_of}
+use Rattle.model_core.specs.Layouts.{is_small}
+use Rattle.model_core.specs.Machine.{Slab, Cache, Machine, layout}
+use Rattle.model_core.specs.Slabs.{cache_of, slab_of}
 use Rattle.machine_changes.specs.Records.{is_set}
-use Rattle.kernel_core.specs.Vocabulary.{KernelContent, superblock_at, superblock_bytes, ShowsMachine}
+use Rattle.kernel_core.specs.Content.{KernelContent, superblock_at, superblock_bytes}
+use Rattle.kernel_core.specs.Shows.{ShowsMachine}
 
 -- The last 32 bytes of frame f of tenant t, in the superblock under its slot, have these flags: bit j of byte i is the flag of
 -- number 8 i + j, and all bits behind the flags are 0.

@@ -1,6 +1,17 @@
 -- What one event does to a kernel, and what one command of a tenant does to what that tenant has.
 use Rattle.std.specs.Prelude.{◌≡◌, ℕ, ◌==◌, Bool, true, false, Result, Ok, Err}
-use Rattle.world_core.specs.Vocabulary.{Addressee, AdminCommand, Answer, Body, Command, Event, Refusal, Reply, cache_limit, command_step, World, world_step, is_refused}
+use Rattle.words_core.specs.declared.reply.Addressee.{Addressee}
+use Rattle.words_core.specs.declared.event.AdminCommand.{AdminCommand}
+use Rattle.words_core.specs.declared.answer.Answer.{Answer}
+use Rattle.words_core.specs.declared.reply.Body.{Body}
+use Rattle.words_core.specs.declared.event.Command.{Command}
+use Rattle.words_core.specs.declared.event.Event.{Event}
+use Rattle.words_core.specs.declared.reply.Refusal.{Refusal}
+use Rattle.words_core.specs.declared.reply.Reply.{Reply}
+use Rattle.world_core.specs.Limits.{cache_limit}
+use Rattle.world_core.specs.PrivateStep.{command_step}
+use Rattle.world_core.specs.World.{World, world_step}
+use Rattle.world_core.specs.OwnList.{is_refused}
 use Rattle.words_core.specs.Requests.{AsksPattern, body_of_answer}
 use Rattle.space_core.specs.Laws.{SpareStays}
 use Rattle.kernel_core.specs.Content.{KernelContent, SameSizes, MarksFollow, Keeps}

@@ -1,7 +1,11 @@
 -- What is done without a call to the bytes of a live page block or a live object: they are stored and loaded where they lie.
 use Rattle.std.specs.Prelude.{◌≡◌, ℕ, ◌<◌, List, Some, length, slice_get}
 use Rattle.model_core.specs.Machine.{Machine}
-use Rattle.world_core.specs.Vocabulary.{Addressee, Body, Command, Event, World}
+use Rattle.words_core.specs.declared.reply.Addressee.{Addressee}
+use Rattle.words_core.specs.declared.reply.Body.{Body}
+use Rattle.words_core.specs.declared.event.Command.{Command}
+use Rattle.words_core.specs.declared.event.Event.{Event}
+use Rattle.world_core.specs.World.{World}
 use Rattle.space_core.specs.Windows.{byte_at}
 use Rattle.machine_changes.specs.Slots.{HoldTogether}
 use Rattle.machine_changes.specs.Pages.{IsInReach, stored}

@@ -7,7 +7,8 @@ ghost use Rattle.words_core.specs.declared.event.AdminCommand.TheVariants as Adm
 ghost use Rattle.words_core.specs.declared.reply.Addressee.TheVariants.{Admin};
 ghost use Rattle.words_core.specs.declared.reply.Body.TheVariants as Body;
 ghost use Rattle.model_core.specs.declared.limits.TheConstants.{MOST_SUPERBLOCKS};
-ghost use Rattle.kernel_core.specs.Vocabulary.{PartsAgree, Steps, to_admin};
+ghost use Rattle.kernel_core.specs.Content.{PartsAgree};
+ghost use Rattle.kernel_core.specs.Steps.{Steps, to_admin};
 ghost use Rattle.kernel_core.specs.GivenUp.{GivesUp};
 
 use crate::Kernel;

@@ -1,11 +1,14 @@
 //! The kinds of a tenant's frames.
 
 ghost use Rattle.std.specs.Prelude.{◌≡◌, ℕ, ◌<◌, ◌≤◌, ◌+◌, ◌*◌, ◌/◌, ◌%◌, ◌^◌, false, is_some, MatchOption, IfSome, Some, length, slice_get};
-ghost use Rattle.model_core.specs.Vocabulary.{block, HasFrame, Machine};
+ghost use Rattle.model_core.specs.Blocks.{block, HasFrame};
+ghost use Rattle.model_core.specs.Machine.{Machine};
 ghost use Rattle.buddy_core.specs.Content.{holding_of, taken_of};
 ghost use Rattle.klist_core.specs.Places.{place_at};
 ghost use Rattle.machine_changes.specs.Shows.{machine_frame_of, has_slab};
-ghost use Rattle.kernel_core.specs.Vocabulary.{superblock_at, ShowsMachine, IsFrame, IsInSlab, AreEndedBefore};
+ghost use Rattle.kernel_core.specs.Content.{superblock_at};
+ghost use Rattle.kernel_core.specs.Shows.{ShowsMachine};
+ghost use Rattle.kernel_core.specs.Frames.{IsFrame, IsInSlab, AreEndedBefore};
 ghost use Rattle.kernel_core.specs.declared.frames.FrameKind.TheVariants.{Free};
 ghost use Rattle.machine_changes.specs.Laws.{is_kind};
 

@@ -1,7 +1,8 @@
 //! The live object or page block that a byte lies in.
 
 ghost use Rattle.std.specs.Prelude.{◌≡◌, ◌<◌, false, MatchOption, IfOk, IfErr};
-ghost use Rattle.model_core.specs.Vocabulary.{Machine, in_reach};
+ghost use Rattle.model_core.specs.Machine.{Machine};
+ghost use Rattle.model_core.specs.Reach.{in_reach};
 ghost use Rattle.words_core.specs.declared.reply.Refusal.TheVariants.{OutOfReach};
 
 use crate::Kernel;

@@ -3,7 +3,8 @@
 ghost use Rattle.std.specs.Prelude.{◌≡◌, ◌↔◌, ℕ, ◌<◌, ◌≤◌, IfOk, IfSome, true, false};
 ghost use Rattle.model_core.specs.declared.limits.TheConstants.{MOST_ORDER, MOST_SUPERBLOCKS, MOST_TENANTS};
 ghost use Rattle.words_core.specs.declared.event.Command.TheVariants as Command;
-ghost use Rattle.world_core.specs.Vocabulary.{cache_limit, World, opening_world, world_step};
+ghost use Rattle.world_core.specs.Limits.{cache_limit};
+ghost use Rattle.world_core.specs.World.{World, opening_world, world_step};
 
 use buddy_core::Buddy;
 use model_core::config::Config;

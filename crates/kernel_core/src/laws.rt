@@ -1,7 +1,8 @@
 //! The laws of whole runs, and of the world that a kernel shows. Each is the contract of an empty function, to be called where a
 //! proof needs the law.
 
-ghost use Rattle.kernel_core.specs.Vocabulary.{OwnSights, SameSights, OneWorld};
+ghost use Rattle.kernel_core.specs.Actions.{OwnSights, SameSights};
+ghost use Rattle.kernel_core.specs.Shows.{OneWorld};
 ghost use Rattle.kernel_core.specs.Stores.{IsKernel, StoresAreWrites, LoadsAreOwn};
 
 use crate::kernel::Kernel;

@@ -3,7 +3,10 @@
 ghost use Rattle.std.specs.Prelude.{◌≡◌, ◌/◌, false, Some, IfOk, IfErr};
 ghost use Rattle.std.specs.Borrow.{sem};
 ghost use Rattle.model_core.specs.declared.limits.TheConstants.{FRAME_BYTES};
-ghost use Rattle.model_core.specs.Vocabulary.{IsTaken, Machine, order_in, in_reach, give_step};
+ghost use Rattle.model_core.specs.Blocks.{IsTaken};
+ghost use Rattle.model_core.specs.Machine.{Machine, order_in};
+ghost use Rattle.model_core.specs.Reach.{in_reach};
+ghost use Rattle.model_core.specs.CacheOperations.{give_step};
 ghost use Rattle.space_core.specs.Windows.{home_of, window_of};
 ghost use Rattle.slab_core.specs.Lending.{HasObject};
 ghost use Rattle.words_core.specs.declared.event.Event.TheVariants as Event;

@@ -2,7 +2,7 @@
 
 ghost use Rattle.std.specs.Prelude.{◌≡◌, ◌↔◌, ℕ, ◌*◌, ◌^◌, ◌<◌, ◌≤◌, length, MatchOption, Some};
 ghost use Rattle.model_core.specs.declared.limits.TheConstants.{FRAME_BYTES};
-ghost use Rattle.model_core.specs.Vocabulary.{owned_by};
+ghost use Rattle.model_core.specs.Owners.{owned_by};
 ghost use Rattle.space_core.specs.Content.{mark_at, owner_at};
 ghost use Rattle.machine_changes.specs.Slots.{HoldTogether};
 ghost use Rattle.kernel_core.specs.Content.{PartsAgree, superblock_at, superblock_bytes};

@@ -8,7 +8,8 @@ ghost use Rattle.machine_changes.specs.Slots.{HoldTogether};
 ghost use Rattle.slab_core.specs.Lending.{IsPageAt};
 ghost use Rattle.words_core.specs.declared.event.Command.TheVariants as Command;
 ghost use Rattle.words_core.specs.declared.reply.Body.TheVariants.{Frame, Freed, Bytes, Written};
-ghost use Rattle.kernel_core.specs.Vocabulary.{superblock_at, StepsMachine, body_of};
+ghost use Rattle.kernel_core.specs.Content.{superblock_at};
+ghost use Rattle.kernel_core.specs.Steps.{StepsMachine, body_of};
 
 use crate::Kernel;
 use model_core::limits::{FRAME_BYTES, MOST_BYTES};

@@ -6,7 +6,8 @@ ghost use Rattle.model_core.specs.Reports.{frames_held, frames_taken, free_count
 ghost use Rattle.buddy_core.specs.Content.{holding_of};
 ghost use Rattle.machine_changes.specs.Figures.{HasFigures, AreWithin, frames_below};
 ghost use Rattle.world_core.specs.PrivateStep.{figures_of};
-ghost use Rattle.kernel_core.specs.Vocabulary.{ShowsMachine, Steps};
+ghost use Rattle.kernel_core.specs.Shows.{ShowsMachine};
+ghost use Rattle.kernel_core.specs.Steps.{Steps};
 ghost use Rattle.words_core.specs.declared.event.Event.TheVariants.{Tenant};
 ghost use Rattle.words_core.specs.declared.event.Command.TheVariants as Command;
 ghost use Rattle.words_core.specs.declared.reply.Addressee.TheVariants as To;

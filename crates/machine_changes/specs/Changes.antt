@@ -1,7 +1,10 @@
 -- What the calls do to one tenant's part of the memory, the buddy systems and the tables, frame by frame.
 use Rattle.std.specs.Prelude.{◌≡◌, ◌≢◌, ℕ, ◌+◌, ◌-◌, ◌*◌, ◌%◌, ◌<◌, Bool, true, false, not, if◌then◌else◌, List, Some, None, map, filter, flat_map, slice_set}
 use Rattle.model_core.specs.declared.limits.TheConstants.{FRAME_BYTES, RECORD_BYTES, RECORD_OFFSET}
-use Rattle.model_core.specs.Vocabulary.{Block, with_taken, is_small, in_object, pattern_byte, Cache, Machine, slab_block, zeroed}
+use Rattle.model_core.specs.Blocks.{Block, with_taken}
+use Rattle.model_core.specs.Layouts.{is_small, in_object, pattern_byte}
+use Rattle.model_core.specs.Machine.{Cache, Machine, slab_block}
+use Rattle.model_core.specs.Slabs.{zeroed}
 use Rattle.klist_core.specs.Places.{place_at}
 use Rattle.space_core.specs.Content as spaces
 use Rattle.space_core.specs.Windows.{byte_at}

@@ -1,6 +1,7 @@
 -- How the figures of a report are read off the parts.
 use Rattle.std.specs.Prelude.{◌≡◌, ℕ, zero, suc, ◌+◌, ◌*◌, ◌^◌, ◌<◌, ◌≤◌, length}
-use Rattle.model_core.specs.Vocabulary.{Machine, frames_held, frames_taken, free_count, taken_count}
+use Rattle.model_core.specs.Machine.{Machine}
+use Rattle.model_core.specs.Reports.{frames_held, frames_taken, free_count, taken_count}
 use Rattle.space_core.specs.Content as spaces
 use Rattle.buddy_core.specs.Content as buddies
 use Rattle.slab_tables.specs.Content.{Content}

@@ -1,6 +1,11 @@
 -- The laws of the object layer: what the changes of the parts are to the private machine that they show.
 use Rattle.std.specs.Prelude.{◌≡◌, ◌↔◌, ℕ, ◌<◌, ◌≤◌, ◌==◌, Bool, true, false, if◌then◌else◌, Some, None, Ok, is_some, map, filter, find, length}
-use Rattle.model_core.specs.Vocabulary.{block, HasFrame, with_taken, IsLayout, Slab, Cache, Machine, taken_in, choice, cache_of, slab_of, with_cache, with_slab, with_live, is_full, is_partial, is_empty, grown, reaped, slab_to_use, give_step, refuse, with_block}
+use Rattle.model_core.specs.Blocks.{block, HasFrame, with_taken}
+use Rattle.model_core.specs.Layouts.{IsLayout}
+use Rattle.model_core.specs.Machine.{Slab, Cache, Machine, taken_in, choice}
+use Rattle.model_core.specs.Slabs.{cache_of, slab_of, with_cache, with_slab, with_live, is_full, is_partial, is_empty, grown, reaped, slab_to_use}
+use Rattle.model_core.specs.CacheOperations.{give_step}
+use Rattle.model_core.specs.Operations.{refuse, with_block}
 use Rattle.model_core.specs.declared.refusals.GiveRefusal.TheVariants.{NotAnObject}
 use Rattle.klist_core.specs.Places.{ArePlaces}
 use Rattle.klist_core.specs.Lists.{keys_of}

@@ -2,7 +2,12 @@
 use Rattle.std.specs.Prelude.{◌≡◌, ◌↔◌, ◌⊎◌, ℕ, ◌+◌, ◌*◌, ◌/◌, ◌%◌, ◌^◌, ◌<◌, ◌≤◌, true, false, List, Some, IsSome, length, filter_map, slice_index, slice_index_or}
 use Rattle.std.specs.List.{range_with_len}
 use Rattle.model_core.specs.declared.limits.TheConstants.{FRAME_BYTES, RECORD_OFFSET}
-use Rattle.model_core.specs.Vocabulary.{block, HasFrame, IsTaken, is_small, Slab, Cache, Machine, cache_of, slab_of, without_block, written, in_reach}
+use Rattle.model_core.specs.Blocks.{block, HasFrame, IsTaken}
+use Rattle.model_core.specs.Layouts.{is_small}
+use Rattle.model_core.specs.Machine.{Slab, Cache, Machine}
+use Rattle.model_core.specs.Slabs.{cache_of, slab_of}
+use Rattle.model_core.specs.Operations.{without_block, written}
+use Rattle.model_core.specs.Reach.{in_reach}
 use Rattle.space_core.specs.Content as spaces
 use Rattle.space_core.specs.Windows.{home_of, with_window, byte_at}
 use Rattle.space_core.specs.Laws.{AreBytesAt, SpaceLaws}

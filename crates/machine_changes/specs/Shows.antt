@@ -1,7 +1,11 @@
 -- Which private machine the memory, the buddy systems and the tables of caches show for a tenant, and when the three agree.
 use Rattle.std.specs.Prelude.{◌≡◌, ℕ, ◌+◌, ◌-◌, ◌*◌, ◌/◌, ◌%◌, ◌^◌, ◌<◌, ◌≤◌, ◌==◌, ◌&&◌, Bool, true, false, if◌then◌else◌, List, [], map, Option, Some, None, is_some, unwrap_or, option_map, length}
 use Rattle.model_core.specs.declared.limits.TheConstants.{FRAME_BYTES, RECORD_OFFSET, MOST_CACHES}
-use Rattle.model_core.specs.Vocabulary.{block, is_small, in_object, RisesFrom, Slab, Cache, Machine, holds, slot_of, order_in, in_block, cache_of, slab_of}
+use Rattle.model_core.specs.Blocks.{block}
+use Rattle.model_core.specs.Layouts.{is_small, in_object}
+use Rattle.model_core.specs.WellFormed.{RisesFrom}
+use Rattle.model_core.specs.Machine.{Slab, Cache, Machine, holds, slot_of, order_in, in_block}
+use Rattle.model_core.specs.Slabs.{cache_of, slab_of}
 use Rattle.klist_core.specs.Places.{place_at}
 use Rattle.space_core.specs.Content as spaces
 use Rattle.space_core.specs.Windows.{byte_at}

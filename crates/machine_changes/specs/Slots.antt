@@ -1,7 +1,9 @@
 -- What becomes of the parts, and of the private machines that they show, where the slots of a tenant change.
 use Rattle.std.specs.Prelude.{◌≡◌, ◌≢◌, ◌↔◌, ℕ, ◌+◌, ◌*◌, ◌^◌, ◌<◌, true, Some, None, length}
 use Rattle.model_core.specs.declared.limits.TheConstants.{FRAME_BYTES}
-use Rattle.model_core.specs.Vocabulary.{slot_block, HasTaken, Machine, empty_machine, next_slot, after_grant, is_busy, after_take_back}
+use Rattle.model_core.specs.Blocks.{slot_block, HasTaken}
+use Rattle.model_core.specs.Machine.{Machine, empty_machine}
+use Rattle.model_core.specs.Operations.{next_slot, after_grant, is_busy, after_take_back}
 use Rattle.klist_core.specs.Places.{place_at}
 use Rattle.space_core.specs.Content as spaces
 use Rattle.space_core.specs.Changes.{IsLeastSlot, with_grant, with_take_back, with_move}

@@ -1,6 +1,7 @@
 -- What parts that agree lend of one tenant: the premise of the laws.
 use Rattle.std.specs.Prelude.{◌≡◌, ℕ, ◌<◌, Some, is_some}
-use Rattle.model_core.specs.Vocabulary.{IsSound, IsLayout}
+use Rattle.model_core.specs.Blocks.{IsSound}
+use Rattle.model_core.specs.Layouts.{IsLayout}
 use Rattle.layout_core.specs.Objects.{IsColour}
 use Rattle.klist_core.specs.Places.{place_at}
 use Rattle.space_core.specs.Content as spaces

@@ -1,6 +1,7 @@
 -- The laws of blocks. Each is the contract of a function of the module `block_laws`.
 use Rattle.std.specs.Prelude.{◌≡◌, ◌⊎◌, ◌↔◌, ℕ, ◌+◌, ◌/◌, ◌^◌, ◌<◌, ◌≤◌, Bool, true, Some, MatchOption}
-use Rattle.model_core.specs.Vocabulary.{Block, block, HasFrame, IsAligned, buddy, around, slot_block, Taken, with_taken, without_taken, IsTaken, HasTaken, IsFree, IsChoice, IsWithout, IsSound, is_free, choose}
+use Rattle.model_core.specs.Blocks.{Block, block, HasFrame, IsAligned, buddy, around, slot_block, Taken, with_taken, without_taken, IsTaken, HasTaken, IsFree, IsChoice, IsWithout, IsSound}
+use Rattle.model_core.specs.Choice.{is_free, choose}
 
 -- each frame of a held slot that is not taken lies in exactly one free block
 abbrev pub EachFrameInOne : Type 0

@@ -1,6 +1,11 @@
 -- The laws of bytes: what changes the byte at a place, and what leaves it.
 use Rattle.std.specs.Prelude.{◌≡◌, ℕ, ◌+◌, Bool, true, false, List, [], ◌∷◌, length, Some, None, nat_le, nat_lt, ◌&&◌, ⊤}
-use Rattle.model_core.specs.Vocabulary.{Machine, holds, slot_of, choice, in_reach, alloc_step, free_step, take_step, give_step, Operation, ArePossible, after, run, in_slab, IsWellFormed}
+use Rattle.model_core.specs.Machine.{Machine, holds, slot_of, choice}
+use Rattle.model_core.specs.Reach.{in_reach}
+use Rattle.model_core.specs.Operations.{alloc_step, free_step}
+use Rattle.model_core.specs.CacheOperations.{take_step, give_step}
+use Rattle.model_core.specs.Runs.{Operation, ArePossible, after, run}
+use Rattle.model_core.specs.WellFormed.{in_slab, IsWellFormed}
 use Rattle.model_core.specs.Laws.{made_block, makes_slab_at}
 
 -- a page block that is taken where one is found at once changes no byte ..

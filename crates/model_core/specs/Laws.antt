@@ -5,7 +5,14 @@ use Rattle.std.specs.Result.{result_ok}
 use Rattle.model_core.specs.declared.limits.TheConstants.{FRAME_BYTES, RECORD_OFFSET}
 use Rattle.model_core.specs.declared.refusals.AllocRefusal.{AllocRefusal}
 use Rattle.model_core.specs.declared.refusals.TakeRefusal.{TakeRefusal}
-use Rattle.model_core.specs.Vocabulary.{Block, block, HasFrame, IsAligned, Taken, with_taken, without_taken, IsTaken, IsChoice, IsWithout, IsSound, is_small, object_place, pattern_byte, Slab, Cache, Machine, empty_machine, holds, in_block, layout, taken_blocks, order_in, taken_in, choice, is_partial, is_empty, cache_of, new_slab, grown_cache, grown, slab_to_use, empty_blocks, reaped, by_need, choice_by_need, Step, refuse, with_block, alloc_step, free_step, hand_out, take_step, Operation, IsPossible, ArePossible, after, run, IsApart, IsWellFormed}
+use Rattle.model_core.specs.Blocks.{Block, block, HasFrame, IsAligned, Taken, with_taken, without_taken, IsTaken, IsChoice, IsWithout, IsSound}
+use Rattle.model_core.specs.Layouts.{is_small, object_place, pattern_byte}
+use Rattle.model_core.specs.Machine.{Slab, Cache, Machine, empty_machine, holds, in_block, layout, taken_blocks, order_in, taken_in, choice}
+use Rattle.model_core.specs.Slabs.{is_partial, is_empty, cache_of, new_slab, grown_cache, grown, slab_to_use, empty_blocks, reaped, by_need, choice_by_need}
+use Rattle.model_core.specs.Operations.{Step, refuse, with_block, alloc_step, free_step}
+use Rattle.model_core.specs.CacheOperations.{hand_out, take_step}
+use Rattle.model_core.specs.Runs.{Operation, IsPossible, ArePossible, after, run}
+use Rattle.model_core.specs.WellFormed.{IsApart, IsWellFormed}
 
 -- the block that a request gets is aligned, and all its frames lie in held slots and are not taken
 abbrev pub ChoiceIsUntaken : Type 0

@@ -1,4 +1,3 @@
-pub mod Vocabulary
 pub mod Elements
 pub mod Blocks
 pub mod Numbered

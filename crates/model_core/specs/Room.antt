@@ -1,6 +1,11 @@
 -- The room that a machine has for a block, however its taken blocks lie.
 use Rattle.std.specs.Prelude.{◌≡◌, ℕ, ◌-◌, ◌*◌, ◌^◌, ◌<◌, ◌≤◌, length, Some, Ok}
-use Rattle.model_core.specs.Vocabulary.{Cache, Machine, layout, cache_of, reaped, choice_by_need, alloc_step, take_step, frames_taken, IsWellFormed}
+use Rattle.model_core.specs.Machine.{Cache, Machine, layout}
+use Rattle.model_core.specs.Slabs.{cache_of, reaped, choice_by_need}
+use Rattle.model_core.specs.Operations.{alloc_step}
+use Rattle.model_core.specs.CacheOperations.{take_step}
+use Rattle.model_core.specs.Reports.{frames_taken}
+use Rattle.model_core.specs.WellFormed.{IsWellFormed}
 
 -- Fewer frames are taken, empty slabs not counted, than the held slots have aligned blocks of order k; slots have
 -- 2 ^ order frames.

@@ -2,8 +2,11 @@
 use Rattle.std.specs.Prelude.{◌≡◌, ℕ, Bool, true, false, List, [], ◌∷◌, ◌++◌, Result, Ok, Err}
 use Rattle.words_core.specs.Cutting.{lines_of_trace}
 use Rattle.words_core.specs.Grammar.{reading_of}
-use Rattle.kernel_core.specs.Vocabulary.{KernelContent, SameSizes, Shows}
-use Rattle.world_core.specs.Vocabulary.{cache_limit, World, world_after, event_in, ended_lines}
+use Rattle.kernel_core.specs.Content.{KernelContent, SameSizes}
+use Rattle.kernel_core.specs.Shows.{Shows}
+use Rattle.world_core.specs.Limits.{cache_limit}
+use Rattle.world_core.specs.World.{World, world_after}
+use Rattle.world_core.specs.Output.{event_in, ended_lines}
 use Rattle.replay_core.specs.Runs.{StandsAfter, IsCutIn, HasCome}
 use Rattle.own_trace.specs.declared.keeping.KeepError.{KeepError}
 use Rattle.own_trace.specs.declared.keeping.OwnLines.{OwnLines}

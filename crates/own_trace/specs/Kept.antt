@@ -2,7 +2,10 @@
 use Rattle.std.specs.Prelude.{ℕ, Bool, true, false, List, [], ◌∷◌, map, filter}
 use Rattle.words_core.specs.Cutting.{lines_of_trace}
 use Rattle.words_core.specs.Grammar.{reading_of}
-use Rattle.world_core.specs.Vocabulary.{Entry, World, Exchange, opening_world, history, world_after, own_list, event_in, with_line_feeds}
+use Rattle.world_core.specs.PrivateStep.{Entry}
+use Rattle.world_core.specs.World.{World, Exchange, opening_world, history, world_after}
+use Rattle.world_core.specs.OwnList.{own_list}
+use Rattle.world_core.specs.Output.{event_in, with_line_feeds}
 
 -- a line, with the event that it was and its reply; with none where it is blank, a comment or faulty
 pub record RunLine : Type 0 where

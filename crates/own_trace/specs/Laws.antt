@@ -2,7 +2,10 @@
 use Rattle.std.specs.Prelude.{◌≡◌, ℕ, ◌*◌, ◌^◌, ◌<◌, ◌≤◌, List, filter}
 use Rattle.std.specs.List.{flat_map}
 use Rattle.words_core.specs.Cutting.{lines_of_trace}
-use Rattle.world_core.specs.Vocabulary.{opening_world, own_list, events_of, lines_for, output_of, opening_history}
+use Rattle.world_core.specs.World.{opening_world}
+use Rattle.world_core.specs.OwnList.{own_list}
+use Rattle.world_core.specs.Output.{events_of, lines_for, output_of}
+use Rattle.world_core.specs.Laws.{opening_history}
 use Rattle.own_trace.specs.Kept.{run_lines, is_own_line, own_trace}
 
 -- The entries of the lines that are kept are the tenant's own list of the trace, in their order.

@@ -4,8 +4,12 @@ ghost use Rattle.std.specs.Prelude.{◌≡◌, ℕ, ◌+◌, true, false, List, 
 ghost use Rattle.std.specs.Io.KnownBytes.{Consumes, Appends, IsAtEnd};
 ghost use Rattle.words_core.specs.Grammar.{reading_of};
 ghost use Rattle.words_core.specs.Requests.{body_of_answer};
-ghost use Rattle.world_core.specs.Vocabulary.{Body, Reply, is_refused, own_entries, line_feed};
-ghost use Rattle.kernel_core.specs.Vocabulary.{KernelContent, Steps};
+ghost use Rattle.words_core.specs.declared.reply.Body.{Body};
+ghost use Rattle.words_core.specs.declared.reply.Reply.{Reply};
+ghost use Rattle.world_core.specs.OwnList.{is_refused, own_entries};
+ghost use Rattle.world_core.specs.Output.{line_feed};
+ghost use Rattle.kernel_core.specs.Content.{KernelContent};
+ghost use Rattle.kernel_core.specs.Steps.{Steps};
 ghost use Rattle.replay_core.specs.Doing.{HasDone};
 ghost use Rattle.replay_core.specs.Pushes.{HasPushed};
 ghost use Rattle.own_trace.specs.Kept.{has_entry};

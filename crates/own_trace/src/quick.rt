@@ -4,8 +4,12 @@ ghost use Rattle.std.specs.Prelude.{◌≡◌, ◌≤◌, false, Some, Ok, lengt
 ghost use Rattle.words_core.specs.Grammar.{reading_of};
 ghost use Rattle.words_core.specs.Requests.{command_of, IsAskable};
 ghost use Rattle.words_core.specs.declared.event.Event.TheVariants.{Tenant};
-ghost use Rattle.kernel_core.specs.Vocabulary.{SameSizes, Shows};
-ghost use Rattle.world_core.specs.Vocabulary.{cache_limit, World, history, world_after, own_list, event_in};
+ghost use Rattle.kernel_core.specs.Content.{SameSizes};
+ghost use Rattle.kernel_core.specs.Shows.{Shows};
+ghost use Rattle.world_core.specs.Limits.{cache_limit};
+ghost use Rattle.world_core.specs.World.{World, history, world_after};
+ghost use Rattle.world_core.specs.OwnList.{own_list};
+ghost use Rattle.world_core.specs.Output.{event_in};
 ghost use Rattle.replay_core.specs.Doing.{HasDone, HasGone, HasStopped};
 ghost use Rattle.own_trace.specs.declared.keeping.OwnLines.{OwnLines};
 ghost use Rattle.own_trace.specs.Kept.{has_entry};

@@ -1,6 +1,7 @@
 -- How a check ends, and what its finding says of two texts.
 use Rattle.std.specs.Prelude.{◌≡◌, ℕ, List, None}
-use Rattle.world_core.specs.Vocabulary.{Config, MOST_CACHES}
+use Rattle.model_core.specs.declared.config.Config.{Config}
+use Rattle.model_core.specs.declared.limits.TheConstants.{MOST_CACHES}
 use Rattle.words_core.specs.Cutting.{lines_of_trace}
 use Rattle.promise_core.specs.State.{Known, opening}
 use Rattle.promise_kept.specs.Written.{IsAllowedText}

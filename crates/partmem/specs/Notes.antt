@@ -2,7 +2,9 @@
 use Rattle.std.specs.Prelude.{◌≡◌, ◌⊎◌, ℕ, suc, Bool, List, [], ◌++◌, length, take}
 use Rattle.words_core.specs.Cutting.{lines_of_trace}
 use Rattle.words_core.specs.Grammar.{reading_of}
-use Rattle.world_core.specs.Vocabulary.{cache_limit, opening_world, ended_lines, with_line_feeds}
+use Rattle.world_core.specs.Limits.{cache_limit}
+use Rattle.world_core.specs.World.{opening_world}
+use Rattle.world_core.specs.Output.{ended_lines, with_line_feeds}
 use Rattle.replay_core.specs.Noting.{Noting, noted_fault, noted_lines}
 use Rattle.replay_core.specs.Runs.{HasCome}
 use Rattle.command_line.specs.declared.outcome.Outcome.{Outcome}

@@ -2,7 +2,9 @@
 use Rattle.std.specs.Prelude.{◌≡◌, ℕ, List, []}
 use Rattle.words_core.specs.Cutting.{lines_of_trace}
 use Rattle.model_core.specs.declared.config.Config.{Config}
-use Rattle.world_core.specs.Vocabulary.{cache_limit, opening_world, ended_lines}
+use Rattle.world_core.specs.Limits.{cache_limit}
+use Rattle.world_core.specs.World.{opening_world}
+use Rattle.world_core.specs.Output.{ended_lines}
 use Rattle.own_trace.specs.Kept.{own_text, own_trace}
 use Rattle.command_line.specs.declared.outcome.Outcome.{Outcome}
 use Rattle.partmem.specs.Run.{IsBeginning}

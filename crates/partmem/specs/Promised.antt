@@ -2,7 +2,8 @@
 -- block, which object, which frames are given back.
 use Rattle.std.specs.Prelude.{◌≡◌, ℕ, List, [], ◌++◌}
 use Rattle.words_core.specs.Cutting.{lines_of_trace}
-use Rattle.world_core.specs.Vocabulary.{cache_limit, ended_lines}
+use Rattle.world_core.specs.Limits.{cache_limit}
+use Rattle.world_core.specs.Output.{ended_lines}
 use Rattle.promise_kept.specs.Written.{IsAllowedText}
 use Rattle.command_line.specs.declared.outcome.Outcome.{Outcome}
 use Rattle.command_line.specs.declared.machine.Machine.{Machine}

@@ -3,7 +3,10 @@ use Rattle.std.specs.Prelude.{◌≡◌, ◌⊎◌, ℕ, ◌-◌, ◌<◌, Bool,
 use Rattle.std.specs.Io.KnownBytes.{Appends, append_known}
 use Rattle.words_core.specs.Cutting.{lines_of_trace}
 use Rattle.model_core.specs.declared.config.Config.{Config}
-use Rattle.world_core.specs.Vocabulary.{cache_limit, opening_world, shown_lines, ended_lines, lines_for, with_line_feeds, private_lines}
+use Rattle.world_core.specs.Limits.{cache_limit}
+use Rattle.world_core.specs.World.{opening_world}
+use Rattle.world_core.specs.Output.{shown_lines, ended_lines, lines_for, with_line_feeds}
+use Rattle.world_core.specs.Laws.{private_lines}
 use Rattle.streams.specs.declared.tally.Tally.{Tally}
 use Rattle.replay_core.specs.Runs.{Counts, HasCome, IsCutIn}
 use Rattle.command_line.specs.declared.outcome.Outcome.{Outcome}

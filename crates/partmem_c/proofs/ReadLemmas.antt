@@ -3,7 +3,7 @@ use Rattle.std.proofs.Common.{◌≡◌, ◌≢◌, ℕ, ◌≤◌, min, List, [
 use Rattle.std.proofs.Math.Nat.{zero-min, min-le_left}
 use Rattle.std.proofs.lemmas.List.{length-take-le}
 use Rattle.std.proofs.lemmas.Slice.{drop-append-drop}
-use Rattle.world_core.specs.Vocabulary.{Body}
+use Rattle.words_core.specs.declared.reply.Body.{Body}
 use Rattle.partmem_c.specs.declared.status.TheConstants.{DONE}
 use Rattle.partmem_c.specs.Events.{numbers_of_body, answered_bytes}
 use Rattle.partmem_c.specs.Calls.{read_over, call_status}

@@ -2,10 +2,15 @@
 use Rattle.std.specs.Prelude.{◌≡◌, ℕ, ◌<◌, List, [], ◌∷◌, ◌++◌, length, drop, Option, Some, None, Result, Ok, Err}
 use Rattle.model_core.specs.Machine.{empty_machine}
 use Rattle.words_core.specs.declared.event.Event as events
-use Rattle.world_core.specs.Vocabulary.{Addressee, Body, LineFault, Reply, cache_limit}
+use Rattle.words_core.specs.declared.reply.Addressee.{Addressee}
+use Rattle.words_core.specs.declared.reply.Body.{Body}
+use Rattle.words_core.specs.declared.event.LineFault.{LineFault}
+use Rattle.words_core.specs.declared.reply.Reply.{Reply}
+use Rattle.world_core.specs.Limits.{cache_limit}
 use Rattle.words_core.specs.Grammar.{reading_of}
 use Rattle.words_core.specs.Texts.{text_of}
-use Rattle.kernel_core.specs.Vocabulary.{KernelContent, Action, Runs, Acts, AllAct, sights_of, own_actions, own_seen, IsBooted}
+use Rattle.kernel_core.specs.Content.{KernelContent}
+use Rattle.kernel_core.specs.Actions.{Action, Runs, Acts, AllAct, sights_of, own_actions, own_seen, IsBooted}
 use Rattle.kernel_core.specs.Stores.{IsKernel}
 use Rattle.partmem_c.specs.declared.events.RequestNumbers.{RequestNumbers}
 use Rattle.partmem_c.specs.declared.telling.ReplyNumbers.{ReplyNumbers}

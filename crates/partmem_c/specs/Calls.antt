@@ -1,7 +1,17 @@
 -- Direct calls: each is an event, and what it returns follows from the numbers of the reply.
 use Rattle.std.specs.Prelude.{◌≡◌, ◌<◌, ◌≤◌, ℕ, ◌+◌, ◌-◌, ◌*◌, ◌/◌, ◌%◌, ◌^◌, ◌==◌, nat_le, min, ◌&&◌, Bool, if◌then◌else◌, List, [], ◌++◌, length, take, drop, Option, Some, None, is_some}
-use Rattle.world_core.specs.Vocabulary.{Addressee, Body, Command, Event, Refusal, Reply, FRAME_BYTES, MOST_ORDER, MOST_BYTES, cache_limit, World, world_step}
-use Rattle.kernel_core.specs.Vocabulary.{KernelContent, Shows, Steps}
+use Rattle.words_core.specs.declared.reply.Addressee.{Addressee}
+use Rattle.words_core.specs.declared.reply.Body.{Body}
+use Rattle.words_core.specs.declared.event.Command.{Command}
+use Rattle.words_core.specs.declared.event.Event.{Event}
+use Rattle.words_core.specs.declared.reply.Refusal.{Refusal}
+use Rattle.words_core.specs.declared.reply.Reply.{Reply}
+use Rattle.model_core.specs.declared.limits.TheConstants.{FRAME_BYTES, MOST_ORDER, MOST_BYTES}
+use Rattle.world_core.specs.Limits.{cache_limit}
+use Rattle.world_core.specs.World.{World, world_step}
+use Rattle.kernel_core.specs.Content.{KernelContent}
+use Rattle.kernel_core.specs.Shows.{Shows}
+use Rattle.kernel_core.specs.Steps.{Steps}
 use Rattle.kernel_core.specs.Stores.{IsKernel}
 use Rattle.partmem_c.specs.declared.status.TheConstants.{DONE, NO_MACHINE, NOT_AN_EVENT}
 use Rattle.partmem_c.specs.declared.kinds.TheConstants.{REFUSED, MADE, REAPED}

@@ -1,9 +1,15 @@
 -- An event as numbers, and its answer as numbers.
 use Rattle.std.specs.Prelude.{◌≡◌, ℕ, ◌+◌, ◌==◌, nat_lt, nat_le, Bool, not, ◌&&◌, ◌||◌, List, [], ◌++◌, length, drop, if◌then◌else◌, Option, Some, None, is_some, is_none, option_map}
 use Rattle.arrayvec.specs.ArrayVec.{ArrayVec}
-use Rattle.world_core.specs.Vocabulary.{AdminCommand, Body, Command, Event, Reply, MOST_BYTES, MOST_PATTERN}
+use Rattle.words_core.specs.declared.event.AdminCommand.{AdminCommand}
+use Rattle.words_core.specs.declared.reply.Body.{Body}
+use Rattle.words_core.specs.declared.event.Command.{Command}
+use Rattle.words_core.specs.declared.event.Event.{Event}
+use Rattle.words_core.specs.declared.reply.Reply.{Reply}
+use Rattle.model_core.specs.declared.limits.TheConstants.{MOST_BYTES, MOST_PATTERN}
 use Rattle.words_core.specs.Texts.{number_of_refusal}
-use Rattle.kernel_core.specs.Vocabulary.{KernelContent, Steps}
+use Rattle.kernel_core.specs.Content.{KernelContent}
+use Rattle.kernel_core.specs.Steps.{Steps}
 use Rattle.partmem_c.specs.declared.status.TheConstants.{DONE, NO_MACHINE, NOT_AN_EVENT, BUFFER_TOO_SMALL}
 use Rattle.partmem_c.specs.declared.events.TheConstants as request
 use Rattle.partmem_c.specs.declared.kinds.TheConstants as kind

@@ -1,9 +1,15 @@
 -- A report as figures.
 use Rattle.std.specs.Prelude.{◌≡◌, ℕ, List, ◌++◌, length, map, drop, replicate, Option, Some, None}
-use Rattle.world_core.specs.Vocabulary.{OrderRow, CacheRow, Body, Command, Event, Reply}
+use Rattle.model_core.specs.declared.report.OrderRow.{OrderRow}
+use Rattle.model_core.specs.declared.report.CacheRow.{CacheRow}
+use Rattle.words_core.specs.declared.reply.Body.{Body}
+use Rattle.words_core.specs.declared.event.Command.{Command}
+use Rattle.words_core.specs.declared.event.Event.{Event}
+use Rattle.words_core.specs.declared.reply.Reply.{Reply}
 use Rattle.words_core.specs.declared.report.Report as words
 use Rattle.words_core.specs.declared.report.TheConstants.{ORDERS, CACHES}
-use Rattle.kernel_core.specs.Vocabulary.{KernelContent, Steps}
+use Rattle.kernel_core.specs.Content.{KernelContent}
+use Rattle.kernel_core.specs.Steps.{Steps}
 use Rattle.partmem_c.specs.Events.{numbers_of_body}
 use Rattle.partmem_c.specs.Calls.{block_bytes, call_status}
 use Rattle.partmem_c.specs.declared.figures.OrderFigures.{OrderFigures}

@@ -1,11 +1,15 @@
 -- What lies under a slot, and at a place.
 use Rattle.std.specs.Prelude.{◌≡◌, ℕ, ◌*◌, ◌/◌, ◌^◌, ◌<◌, ◌≤◌, nat_lt, if◌then◌else◌, Option, Some, None, Result, Ok, Err, MatchOption, unwrap_or}
-use Rattle.world_core.specs.Vocabulary.{Refusal, FRAME_BYTES}
-use Rattle.model_core.specs.Vocabulary.{block, HasFrame, IsTaken, Machine}
+use Rattle.words_core.specs.declared.reply.Refusal.{Refusal}
+use Rattle.model_core.specs.declared.limits.TheConstants.{FRAME_BYTES}
+use Rattle.model_core.specs.Blocks.{block, HasFrame, IsTaken}
+use Rattle.model_core.specs.Machine.{Machine}
 use Rattle.buddy_core.specs.Content.{holding_of, taken_of}
 use Rattle.words_core.specs.Texts.{number_of_refusal}
 use Rattle.kernel_core.specs.declared.frames.FrameKind.{FrameKind}
-use Rattle.kernel_core.specs.Vocabulary.{KernelContent, superblock_at, ShowsMachine, IsFrame}
+use Rattle.kernel_core.specs.Content.{KernelContent, superblock_at}
+use Rattle.kernel_core.specs.Shows.{ShowsMachine}
+use Rattle.kernel_core.specs.Frames.{IsFrame}
 use Rattle.partmem_c.specs.declared.status.TheConstants.{DONE, NO_MACHINE}
 use Rattle.partmem_c.specs.declared.lookups.TheConstants.{NO_SUCH_SLOT, FREE_FRAME, PAGE_BLOCK, SLAB}
 use Rattle.partmem_c.specs.declared.lookups.Block.{Block}

@@ -1,8 +1,10 @@
 -- Which live object or page block a place lies in.
 use Rattle.std.specs.Prelude.{◌≡◌, ℕ, ◌<◌, ◌⊎◌, false, Option, Some, None, Result, Ok, Err}
-use Rattle.model_core.specs.Vocabulary.{Machine, in_reach}
-use Rattle.world_core.specs.Vocabulary.{Refusal}
-use Rattle.kernel_core.specs.Vocabulary.{KernelContent, ShowsMachine}
+use Rattle.model_core.specs.Machine.{Machine}
+use Rattle.model_core.specs.Reach.{in_reach}
+use Rattle.words_core.specs.declared.reply.Refusal.{Refusal}
+use Rattle.kernel_core.specs.Content.{KernelContent}
+use Rattle.kernel_core.specs.Shows.{ShowsMachine}
 use Rattle.kernel_core.specs.Lending.{HasBlock, IsNotLent}
 use Rattle.kernel_core.specs.Holders.{HasObjectAround}
 use Rattle.partmem_c.specs.declared.holders.TheConstants.{OF_NO_CACHE}

@@ -3,8 +3,12 @@ use Rattle.std.specs.Prelude.{◌≡◌, ℕ, ◌<◌, List, [], ◌∷◌, map}
 use Rattle.std.specs.List.{concat}
 use Rattle.std.specs.Thread.{IsSend}
 use Rattle.words_core.specs.Grammar.{reading_of}
-use Rattle.world_core.specs.Vocabulary.{cache_limit, World, opening_world, world_after, events_of, lines_for, with_line_feeds, HaveSameOwnList, private_lines}
-use Rattle.kernel_core.specs.Vocabulary.{KernelContent, Shows}
+use Rattle.world_core.specs.Limits.{cache_limit}
+use Rattle.world_core.specs.World.{World, opening_world, world_after}
+use Rattle.world_core.specs.Output.{events_of, lines_for, with_line_feeds}
+use Rattle.world_core.specs.Laws.{HaveSameOwnList, private_lines}
+use Rattle.kernel_core.specs.Content.{KernelContent}
+use Rattle.kernel_core.specs.Shows.{Shows}
 use Rattle.streams.specs.Lines.{IsOneLine}
 use Rattle.partmem_c.specs.Lines.{AnswersLine}
 use Rattle.partmem_c.specs.contracts.machine.Machine.{the_row}

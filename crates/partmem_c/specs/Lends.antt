@@ -1,11 +1,22 @@
 -- Lends as direct calls.
 use Rattle.std.specs.Prelude.{◌≡◌, ◌≢◌, ℕ, ◌*◌, ◌/◌, ◌^◌, ◌<◌, ◌==◌, Bool, true, false, Option, Some, None, Result, Ok, Err, IfOk}
 use denote.RawPtr.{null_ptr}
-use Rattle.world_core.specs.Vocabulary.{Body, Command, Event, Refusal, Reply, FRAME_BYTES, give_body}
-use Rattle.model_core.specs.Vocabulary.{IsTaken, give_step, Machine, order_in, in_reach}
+use Rattle.words_core.specs.declared.reply.Body.{Body}
+use Rattle.words_core.specs.declared.event.Command.{Command}
+use Rattle.words_core.specs.declared.event.Event.{Event}
+use Rattle.words_core.specs.declared.reply.Refusal.{Refusal}
+use Rattle.words_core.specs.declared.reply.Reply.{Reply}
+use Rattle.model_core.specs.declared.limits.TheConstants.{FRAME_BYTES}
+use Rattle.world_core.specs.PrivateStep.{give_body}
+use Rattle.model_core.specs.Blocks.{IsTaken}
+use Rattle.model_core.specs.CacheOperations.{give_step}
+use Rattle.model_core.specs.Machine.{Machine, order_in}
+use Rattle.model_core.specs.Reach.{in_reach}
 use Rattle.machine_changes.specs.Pages.{IsInReach}
 use Rattle.slab_core.specs.Lending.{HasObject}
-use Rattle.kernel_core.specs.Vocabulary.{KernelContent, ShowsMachine, Steps, body_of}
+use Rattle.kernel_core.specs.Content.{KernelContent}
+use Rattle.kernel_core.specs.Shows.{ShowsMachine}
+use Rattle.kernel_core.specs.Steps.{Steps, body_of}
 use Rattle.kernel_core.specs.Lending.{HasBlock, IsNotLent, reply_for}
 use Rattle.partmem_c.specs.declared.kinds.TheConstants.{FRAME, OBJECT}
 use Rattle.partmem_c.specs.declared.lends.Lent.{Lent}

@@ -1,10 +1,16 @@
 -- A line run on the kernel that is held.
 use Rattle.std.specs.Prelude.{◌≡◌, ℕ, ◌==◌, ◌≤◌, nat_lt, Bool, true, false, not, List, [], ◌++◌, length, drop, if◌then◌else◌, Option, Some, None, is_some, MatchOption, Result, Ok, Err}
 use Rattle.std.specs.List.{list_any}
-use Rattle.world_core.specs.Vocabulary.{Addressee, Body, Event, LineFault, Reply, line_feed}
+use Rattle.words_core.specs.declared.reply.Addressee.{Addressee}
+use Rattle.words_core.specs.declared.reply.Body.{Body}
+use Rattle.words_core.specs.declared.event.Event.{Event}
+use Rattle.words_core.specs.declared.event.LineFault.{LineFault}
+use Rattle.words_core.specs.declared.reply.Reply.{Reply}
+use Rattle.world_core.specs.Output.{line_feed}
 use Rattle.words_core.specs.Grammar.{reading_of}
 use Rattle.words_core.specs.Texts.{text_of}
-use Rattle.kernel_core.specs.Vocabulary.{KernelContent, Steps}
+use Rattle.kernel_core.specs.Content.{KernelContent}
+use Rattle.kernel_core.specs.Steps.{Steps}
 use Rattle.replay_core.specs.Pushes.{most_reply_bytes}
 use Rattle.streams.specs.Lines.{IsOneLine}
 use Rattle.partmem_c.specs.declared.status.TheConstants.{DONE, NO_MACHINE, NOT_A_LINE, BUFFER_TOO_SMALL}

@@ -2,7 +2,8 @@
 
 ghost use Rattle.std.specs.Prelude.{◌≡◌, ◌≢◌, ◌↔◌, false, IsSome, IfSome, Some, None};
 ghost use Rattle.model_core.specs.Booting.{is_bootable};
-ghost use Rattle.kernel_core.specs.Vocabulary.{opening_content, Shows};
+ghost use Rattle.kernel_core.specs.Content.{opening_content};
+ghost use Rattle.kernel_core.specs.Shows.{Shows};
 ghost use Rattle.world_core.specs.World.{opening_world};
 ghost use Rattle.partmem_c.specs.Events.{machine_status};
 ghost use Rattle.partmem_c.specs.Booting.{config_of};

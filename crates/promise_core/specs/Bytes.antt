@@ -3,7 +3,8 @@
 use Rattle.std.specs.Prelude.{ℕ, ◌+◌, ◌-◌, Bool, true, false, not, List, [], ◌∷◌, find, length, slice_index, Option, Some, None, option_map, nat_le, nat_lt, if◌then◌else◌, ◌&&◌, ◌||◌, ◌==◌}
 use Rattle.std.specs.List.{list_any}
 use Rattle.std.specs.Option.{option_and_then, option_map_or}
-use Rattle.model_core.specs.Vocabulary.{pattern_byte, is_within, within_block}
+use Rattle.model_core.specs.Layouts.{pattern_byte}
+use Rattle.model_core.specs.Reach.{is_within, within_block}
 use Rattle.promise_core.specs.Holdings.{KnownCache, Holdings, known_cache}
 
 -- what has a byte: a page block, or the object of this cache and this first place, live or not

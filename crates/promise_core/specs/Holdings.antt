@@ -2,7 +2,9 @@
 use Rattle.std.specs.Prelude.{ℕ, ◌+◌, ◌-◌, ◌*◌, ◌/◌, ◌%◌, ◌^◌, Bool, not, List, ◌++◌, map, filter, find, flat_map, length, Option, nat_le, nat_lt, if◌then◌else◌, ◌&&◌, ◌||◌, ◌==◌}
 use Rattle.std.specs.List.{list_any, list_all, range_with_len}
 use Rattle.model_core.specs.declared.limits.TheConstants.{FRAME_BYTES}
-use Rattle.model_core.specs.Vocabulary.{Block, block, around, slot_block, is_any_below, overlaps}
+use Rattle.model_core.specs.Blocks.{Block, block, around, slot_block}
+use Rattle.model_core.specs.Choice.{is_any_below}
+use Rattle.model_core.specs.Operations.{overlaps}
 
 -- a cache, as it was asked for and as its reply told it: a slab has 2 ^ order frames and `count` objects, from the first byte of
 -- one to that of the next are `chunk` bytes; `live` are the first places of its live objects, rising

@@ -2,9 +2,20 @@
 use Rattle.std.specs.Prelude.{◌≡◌, ◌≤◌, is_ok, ℕ, ◌+◌, ◌-◌, ◌/◌, ◌^◌, Bool, true, false, not, List, [], ◌∷◌, length, Contains, Option, Some, None, Ok, slice_get, slice_index, nat_le, nat_lt, ◌&&◌, ◌||◌, ◌==◌}
 use Rattle.std.specs.List.{list_any}
 use Rattle.arrayvec.specs.ArrayVec.{ArrayVec}
-use Rattle.model_core.specs.Vocabulary.{Block, HasFrame, IsAligned, slot_of}
-use Rattle.world_core.specs.Vocabulary.{Addressee, AdminCommand, Body, Command, Event, Refusal, Reply, Exchange}
-use Rattle.promise_core.specs.Vocabulary.{KnownCache, Holdings, has_slot, known_cache, slab_around, AreOfHeld, State, Known, opening, allowed, all_allowed}
+use Rattle.model_core.specs.Blocks.{Block, HasFrame, IsAligned}
+use Rattle.model_core.specs.Machine.{slot_of}
+use Rattle.words_core.specs.declared.reply.Addressee.{Addressee}
+use Rattle.words_core.specs.declared.event.AdminCommand.{AdminCommand}
+use Rattle.words_core.specs.declared.reply.Body.{Body}
+use Rattle.words_core.specs.declared.event.Command.{Command}
+use Rattle.words_core.specs.declared.event.Event.{Event}
+use Rattle.words_core.specs.declared.reply.Refusal.{Refusal}
+use Rattle.words_core.specs.declared.reply.Reply.{Reply}
+use Rattle.world_core.specs.World.{Exchange}
+use Rattle.promise_core.specs.Holdings.{KnownCache, Holdings, has_slot, known_cache, slab_around}
+use Rattle.promise_core.specs.Lying.{AreOfHeld}
+use Rattle.promise_core.specs.State.{State, Known, opening}
+use Rattle.promise_core.specs.Promises.{allowed, all_allowed}
 
 -- the tenant asks for a cache whose pattern has the byte
 abbrev pub gives_pattern : ℕ → ℕ → Event → Bool

@@ -1,4 +1,3 @@
-pub mod Vocabulary
 pub mod Names
 pub mod Holdings
 pub mod Lying

@@ -1,7 +1,9 @@
 -- What lies where among what a tenant has: live blocks and slabs share no frame, live objects lie on a grid of their slab, and
 -- what was left is in held slots. Every run of allowed replies keeps this.
 use Rattle.std.specs.Prelude.{◌≡◌, ℕ, ◌+◌, ◌-◌, ◌*◌, ◌/◌, ◌%◌, ◌^◌, ◌<◌, ◌≤◌, true, List, length, filter, Option, Some, None, ◌==◌}
-use Rattle.model_core.specs.Vocabulary.{Block, HasFrame, IsAligned, is_alignment, slot_of}
+use Rattle.model_core.specs.Blocks.{Block, HasFrame, IsAligned}
+use Rattle.model_core.specs.Layouts.{is_alignment}
+use Rattle.model_core.specs.Machine.{slot_of}
 use Rattle.model_core.specs.Elements.{IsIn}
 use Rattle.promise_core.specs.Holdings.{KnownCache, Holdings, has_slot, slab_around}
 use Rattle.promise_core.specs.Bytes.{Cell, Cells}

@@ -2,8 +2,23 @@
 use Rattle.std.specs.Prelude.{ℕ, ◌+◌, ◌-◌, ◌*◌, ◌%◌, ◌^◌, Bool, true, false, not, List, [], ◌∷◌, map, filter, drop, length, Option, Some, None, Result, Ok, Err, is_some, is_none, slice_get, slice_index, slice_set, unwrap_or, count_by, sum_by, nat_le, nat_lt, if◌then◌else◌, ◌&&◌, ◌||◌, ◌==◌}
 use Rattle.std.specs.List.{list_any, list_all, zip, range_with_len}
 use Rattle.std.specs.Option.{option_map_or, option_eq}
-use Rattle.world_core.specs.Vocabulary.{Owner, CacheRow, Addressee, AdminCommand, Body, Command, Event, Refusal, Reply, Report, MOST_BYTES, FRAME_BYTES, Exchange}
-use Rattle.model_core.specs.Vocabulary.{block, is_size, is_alignment, order_in, is_of, is_owner, greatest, split_share}
+use Rattle.model_core.specs.declared.owner.Owner.{Owner}
+use Rattle.model_core.specs.declared.report.CacheRow.{CacheRow}
+use Rattle.words_core.specs.declared.reply.Addressee.{Addressee}
+use Rattle.words_core.specs.declared.event.AdminCommand.{AdminCommand}
+use Rattle.words_core.specs.declared.reply.Body.{Body}
+use Rattle.words_core.specs.declared.event.Command.{Command}
+use Rattle.words_core.specs.declared.event.Event.{Event}
+use Rattle.words_core.specs.declared.reply.Refusal.{Refusal}
+use Rattle.words_core.specs.declared.reply.Reply.{Reply}
+use Rattle.words_core.specs.declared.report.Report.{Report}
+use Rattle.model_core.specs.declared.limits.TheConstants.{MOST_BYTES, FRAME_BYTES}
+use Rattle.world_core.specs.World.{Exchange}
+use Rattle.model_core.specs.Blocks.{block}
+use Rattle.model_core.specs.Layouts.{is_size, is_alignment}
+use Rattle.model_core.specs.Machine.{order_in}
+use Rattle.model_core.specs.Owners.{is_of, is_owner}
+use Rattle.model_core.specs.Reports.{greatest, split_share}
 use Rattle.words_core.specs.Texts.{number_of_refusal}
 use Rattle.promise_core.specs.declared.promise.Promise.{Promise}
 use Rattle.promise_core.specs.Holdings.{KnownCache, Holdings, has_slot, known_cache, can_stand, vacant_blocks, has_vacant_block, is_slot_busy, live_beside, is_slab_full, can_be_taken}

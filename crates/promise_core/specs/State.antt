@@ -2,8 +2,16 @@
 use Rattle.std.specs.Prelude.{ℕ, Bool, false, not, List, [], map, filter, length, Option, Some, None, slice_set, replicate, nat_lt, ◌&&◌, ◌||◌, ◌==◌}
 use Rattle.std.specs.List.{list_any}
 use Rattle.std.specs.Option.{option_map_or}
-use Rattle.world_core.specs.Vocabulary.{Owner, AdminCommand, Body, Command, Event, Report, given_up}
-use Rattle.model_core.specs.Vocabulary.{block, in_block, slot_of, put_rising, owned_by, is_of, is_owner}
+use Rattle.model_core.specs.declared.owner.Owner.{Owner}
+use Rattle.words_core.specs.declared.event.AdminCommand.{AdminCommand}
+use Rattle.words_core.specs.declared.reply.Body.{Body}
+use Rattle.words_core.specs.declared.event.Command.{Command}
+use Rattle.words_core.specs.declared.event.Event.{Event}
+use Rattle.words_core.specs.declared.report.Report.{Report}
+use Rattle.world_core.specs.World.{given_up}
+use Rattle.model_core.specs.Blocks.{block}
+use Rattle.model_core.specs.Machine.{in_block, slot_of, put_rising}
+use Rattle.model_core.specs.Owners.{owned_by, is_of, is_owner}
 use Rattle.promise_core.specs.Holdings.{KnownCache, Holdings, known_cache, with_live_places, slab_around, are_apart}
 use Rattle.promise_core.specs.Bytes.{Holder, is_object, is_same, Cells, with_bytes, doubted, without, holder_of}
 

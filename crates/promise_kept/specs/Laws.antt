@@ -1,7 +1,8 @@
 -- That the private machine keeps the promises, a command at a time. Each is the contract of a function of `laws` or `object_laws`.
 use Rattle.std.specs.Prelude.{ℕ, ◌≤◌}
 use Rattle.arrayvec.specs.ArrayVec.{ArrayVec}
-use Rattle.model_core.specs.Vocabulary.{Machine, IsWellFormed}
+use Rattle.model_core.specs.Machine.{Machine}
+use Rattle.model_core.specs.WellFormed.{IsWellFormed}
 use Rattle.words_core.specs.declared.event.Command.TheVariants as Command
 use Rattle.promise_core.specs.State.{State}
 use Rattle.promise_kept.specs.Meets.{Meets, IsPromiseKept}

@@ -1,10 +1,23 @@
 -- What the promises see of a private machine, and what it is to keep them.
 use Rattle.std.specs.Prelude.{◌≡◌, ℕ, ◌+◌, ◌<◌, ◌==◌, ◌&&◌, Bool, true, false, List, map, Option, Some, Contains}
 use Rattle.std.specs.List.{list_any, list_all}
-use Rattle.world_core.specs.Vocabulary.{Owner, Addressee, Body, Command, Event, Report, command_step}
-use Rattle.model_core.specs.Vocabulary.{pattern_byte, Slab, Cache, Machine, layout, in_block, live_objects, in_slab, rows_of_caches, order_rows}
+use Rattle.model_core.specs.declared.owner.Owner.{Owner}
+use Rattle.words_core.specs.declared.reply.Addressee.{Addressee}
+use Rattle.words_core.specs.declared.reply.Body.{Body}
+use Rattle.words_core.specs.declared.event.Command.{Command}
+use Rattle.words_core.specs.declared.event.Event.{Event}
+use Rattle.words_core.specs.declared.report.Report.{Report}
+use Rattle.world_core.specs.PrivateStep.{command_step}
+use Rattle.model_core.specs.Layouts.{pattern_byte}
+use Rattle.model_core.specs.Machine.{Slab, Cache, Machine, layout, in_block}
+use Rattle.model_core.specs.Slabs.{live_objects}
+use Rattle.model_core.specs.WellFormed.{in_slab}
+use Rattle.model_core.specs.Reports.{rows_of_caches, order_rows}
 use Rattle.model_core.specs.Laws.{Object, IsObject, place_of}
-use Rattle.promise_core.specs.Vocabulary.{KnownCache, Holdings, Holder, Cell, may_be, State, state_after, kept}
+use Rattle.promise_core.specs.Holdings.{KnownCache, Holdings}
+use Rattle.promise_core.specs.Bytes.{Holder, Cell, may_be}
+use Rattle.promise_core.specs.State.{State, state_after}
+use Rattle.promise_core.specs.Promises.{kept}
 
 abbrev pub cache_as_known : Cache → KnownCache
 cache_as_known c = record {

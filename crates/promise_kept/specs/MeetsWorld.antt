@@ -1,10 +1,13 @@
 -- What is known of the world of the definitions, and what it is that its reply to an event is allowed.
 use Rattle.std.specs.Prelude.{◌≡◌, ◌≢◌, ℕ, ◌*◌, ◌^◌, ◌≤◌, length, Some, Ok, slice_get}
 use Rattle.std.specs.List.{list_any}
-use Rattle.model_core.specs.Vocabulary.{Machine, holds, is_owner, IsWellFormed}
+use Rattle.model_core.specs.Machine.{Machine, holds}
+use Rattle.model_core.specs.Owners.{is_owner}
+use Rattle.model_core.specs.WellFormed.{IsWellFormed}
 use Rattle.words_core.specs.declared.event.Event.{Event}
 use Rattle.world_core.specs.World.{World, WorldStep, world_step}
-use Rattle.promise_core.specs.Vocabulary.{State, Known, named, allowed}
+use Rattle.promise_core.specs.State.{State, Known}
+use Rattle.promise_core.specs.Promises.{named, allowed}
 use Rattle.promise_kept.specs.Meets.{Meets}
 
 -- What is known of a world is so; `limit` is on a tenant's caches, slots have 2 ^ order frames.

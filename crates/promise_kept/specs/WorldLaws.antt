@@ -3,10 +3,16 @@
 use Rattle.std.specs.Prelude.{◌≡◌, ℕ, ◌*◌, ◌^◌, ◌≤◌, List, length, Some, Ok, ⊤}
 use Rattle.std.specs.List.{AllByRecursion}
 use Rattle.model_core.specs.Runs.{ArePossible}
-use Rattle.world_core.specs.Vocabulary.{AdminCommand, Event, Entry, World, opening_world, world_step, world_after, events_of, opening_history}
+use Rattle.words_core.specs.declared.event.AdminCommand.{AdminCommand}
+use Rattle.words_core.specs.declared.event.Event.{Event}
+use Rattle.world_core.specs.PrivateStep.{Entry}
+use Rattle.world_core.specs.World.{World, opening_world, world_step, world_after}
+use Rattle.world_core.specs.Output.{events_of}
+use Rattle.world_core.specs.Laws.{opening_history}
 use Rattle.words_core.specs.Cutting.{lines_of_trace}
 use Rattle.world_core.specs.Reached.{operations_in}
-use Rattle.promise_core.specs.Vocabulary.{Known, opening, named, allowed, all_allowed}
+use Rattle.promise_core.specs.State.{Known, opening}
+use Rattle.promise_core.specs.Promises.{named, allowed, all_allowed}
 use Rattle.promise_kept.specs.MeetsWorld.{MeetsWorld, IsEventKept}
 
 -- a superblock granted, or refused where none is free

@@ -1,8 +1,14 @@
 -- What it is that a written text keeps the promises.
 use Rattle.std.specs.Prelude.{◌≡◌, ℕ, List, [], ◌∷◌, ◌++◌, map, Option, Some, None, Result, Ok, Err}
-use Rattle.world_core.specs.Vocabulary.{Addressee, Body, Event, LineFault, Exchange, events_of, shown_text}
+use Rattle.words_core.specs.declared.reply.Addressee.{Addressee}
+use Rattle.words_core.specs.declared.reply.Body.{Body}
+use Rattle.words_core.specs.declared.event.Event.{Event}
+use Rattle.words_core.specs.declared.event.LineFault.{LineFault}
+use Rattle.world_core.specs.World.{Exchange}
+use Rattle.world_core.specs.Output.{events_of, shown_text}
 use Rattle.words_core.specs.Grammar.{reading_of}
-use Rattle.promise_core.specs.Vocabulary.{Known, opening, all_allowed}
+use Rattle.promise_core.specs.State.{Known, opening}
+use Rattle.promise_core.specs.Promises.{all_allowed}
 
 -- What lines tell that read like this, where the exchanges are their events with the replies: a line with an event its reply, a
 -- faulty one its fault, to nobody, a blank one or a comment nothing. With `only` a tenant its replies alone are shown.

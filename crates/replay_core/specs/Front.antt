@@ -1,6 +1,7 @@
 -- A line at the front of some bytes.
 use Rattle.std.specs.Prelude.{◌≡◌, ℕ, Bool, false, List, [], Option, Some, None, Ok}
-use Rattle.world_core.specs.Vocabulary.{Command, Event}
+use Rattle.words_core.specs.declared.event.Command.{Command}
+use Rattle.words_core.specs.declared.event.Event.{Event}
 use Rattle.quick_core.specs.Lines.{ReadsAs}
 use Rattle.kernel_core.specs.Content.{KernelContent}
 use Rattle.replay_core.specs.declared.run.Run.{Run}

@@ -1,6 +1,12 @@
 -- What is noted beside the replies of a replay: the refusals that are shown, and the faulty lines.
 use Rattle.std.specs.Prelude.{◌≡◌, ℕ, suc, List, [], ◌∷◌, take, Option, Some, None, Result, Ok, Err, if◌then◌else◌}
-use Rattle.world_core.specs.Vocabulary.{Body, Event, LineFault, Refusal, Reply, World, world_step, world_after, event_in, is_shown}
+use Rattle.words_core.specs.declared.reply.Body.{Body}
+use Rattle.words_core.specs.declared.event.Event.{Event}
+use Rattle.words_core.specs.declared.event.LineFault.{LineFault}
+use Rattle.words_core.specs.declared.reply.Refusal.{Refusal}
+use Rattle.words_core.specs.declared.reply.Reply.{Reply}
+use Rattle.world_core.specs.World.{World, world_step, world_after}
+use Rattle.world_core.specs.Output.{event_in, is_shown}
 use Rattle.words_core.specs.Grammar.{reading_of}
 
 -- what a refusal adds to notes, and what a faulty line adds: its number, its fault and its first 256 bytes

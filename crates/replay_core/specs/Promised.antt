@@ -2,8 +2,11 @@
 -- object, which frames are given back.
 use Rattle.std.specs.Prelude.{ℕ, ◌≤◌, Bool, List, ◌++◌, Option, Result, Ok, Err}
 use Rattle.words_core.specs.Cutting.{lines_of_trace}
-use Rattle.kernel_core.specs.Vocabulary.{KernelContent, Shows}
-use Rattle.world_core.specs.Vocabulary.{cache_limit, opening_world, ended_lines}
+use Rattle.kernel_core.specs.Content.{KernelContent}
+use Rattle.kernel_core.specs.Shows.{Shows}
+use Rattle.world_core.specs.Limits.{cache_limit}
+use Rattle.world_core.specs.World.{opening_world}
+use Rattle.world_core.specs.Output.{ended_lines}
 use Rattle.promise_kept.specs.Written.{IsAllowedText}
 use Rattle.streams.specs.declared.tally.Tally.{Tally}
 use Rattle.streams.specs.declared.tally.ReplayError.{ReplayError}

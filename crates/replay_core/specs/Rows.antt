@@ -1,5 +1,7 @@
 -- Replies of several lines.
-use Rattle.world_core.specs.Vocabulary.{AdminCommand, Command, Event}
+use Rattle.words_core.specs.declared.event.AdminCommand.{AdminCommand}
+use Rattle.words_core.specs.declared.event.Command.{Command}
+use Rattle.words_core.specs.declared.event.Event.{Event}
 
 -- the event is a request for a report or for the table of owners
 abbrev pub HasRows : Event → Type 0

@@ -1,9 +1,15 @@
 -- What was run, shown and counted while bytes were given and taken.
 use Rattle.std.specs.Prelude.{◌≡◌, ◌⊎◌, ℕ, suc, ◌+◌, ◌<◌, Bool, List, [], ◌∷◌, ◌++◌, length, take, Option, Some, None, Result, Ok, Err}
-use Rattle.world_core.specs.Vocabulary.{Event, LineFault, cache_limit, World, opening_world, world_after, shown_lines, ended_lines, events_of, lines_for, with_line_feeds, private_lines}
+use Rattle.words_core.specs.declared.event.Event.{Event}
+use Rattle.words_core.specs.declared.event.LineFault.{LineFault}
+use Rattle.world_core.specs.Limits.{cache_limit}
+use Rattle.world_core.specs.World.{World, opening_world, world_after}
+use Rattle.world_core.specs.Output.{shown_lines, ended_lines, events_of, lines_for, with_line_feeds}
+use Rattle.world_core.specs.Laws.{private_lines}
 use Rattle.words_core.specs.Cutting.{lines_of_trace}
 use Rattle.words_core.specs.Grammar.{reading_of}
-use Rattle.kernel_core.specs.Vocabulary.{KernelContent, SameSizes, Shows}
+use Rattle.kernel_core.specs.Content.{KernelContent, SameSizes}
+use Rattle.kernel_core.specs.Shows.{Shows}
 use Rattle.streams.specs.declared.tally.Tally.{Tally}
 use Rattle.streams.specs.declared.tally.ReplayError.{ReplayError}
 use Rattle.replay_core.specs.Noting.{Noting, noted_fault, noted_lines}

@@ -1,8 +1,14 @@
 -- What one line does in a replay.
 use Rattle.std.specs.Prelude.{◌≡◌, ℕ, ◌+◌, ◌^◌, ◌<◌, Bool, false, List, [], ◌∷◌, ◌++◌, length, take, Option, Some, None, Result, Ok, Err}
-use Rattle.world_core.specs.Vocabulary.{Event, LineFault, cache_limit, World, world_after, event_in, shown_reading}
+use Rattle.words_core.specs.declared.event.Event.{Event}
+use Rattle.words_core.specs.declared.event.LineFault.{LineFault}
+use Rattle.world_core.specs.Limits.{cache_limit}
+use Rattle.world_core.specs.World.{World, world_after}
+use Rattle.world_core.specs.Output.{event_in, shown_reading}
 use Rattle.words_core.specs.Grammar.{reading_of}
-use Rattle.kernel_core.specs.Vocabulary.{KernelContent, SameSizes, Shows, HasPattern}
+use Rattle.kernel_core.specs.Content.{KernelContent, SameSizes}
+use Rattle.kernel_core.specs.Shows.{Shows}
+use Rattle.kernel_core.specs.Steps.{HasPattern}
 use Rattle.streams.specs.Lines.{IsOneLine}
 use Rattle.streams.specs.declared.tally.Tally.{Tally}
 use Rattle.replay_core.specs.declared.run.Run.{Run}

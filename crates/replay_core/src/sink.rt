@@ -1,10 +1,10 @@
 //! Receivers of the lines of a trace.
 
-ghost use Rattle.std.specs.Prelude.{◌≡◌, ℕ, ◌+◌, ◌<◌, ◌≤◌, false, List, length, is_err};
-ghost use Rattle.std.specs.Prelude.{Option, Some, None, Ok, Err, IfOk, MatchResult};
+ghost use Rattle.std.specs.Prelude.{◌≡◌, ℕ, ◌+◌, ◌<◌, ◌≤◌, false, List, length, is_err, Option, Some, None, Ok, Err, IfOk, MatchResult};
 ghost use Rattle.words_core.specs.Grammar.{reading_of};
 ghost use Rattle.words_core.specs.Requests.{reply_to, HasFewBytes};
-ghost use Rattle.kernel_core.specs.Vocabulary.{KernelContent, Steps};
+ghost use Rattle.kernel_core.specs.Content.{KernelContent};
+ghost use Rattle.kernel_core.specs.Steps.{Steps};
 ghost use Rattle.replay_core.specs.Doing.{HasDone, HasGone, HasStopped};
 ghost use Rattle.replay_core.specs.Pending.{IsFrontOf};
 ghost use Rattle.replay_core.specs.Rows.{HasRows};

@@ -3,7 +3,8 @@ use Rattle.std.specs.Prelude.{◌≡◌, ℕ, ◌+◌, ◌-◌, ◌++◌, ◌*�
 use Rattle.std.specs.List.{list_any, AllByRecursion}
 use Rattle.std.specs.Option.{option_and_then}
 use Rattle.model_core.specs.Machine.{slot_of}
-use Rattle.promise_core.specs.Vocabulary.{Holder, Cell, KnownCache, Holdings, known_cache}
+use Rattle.promise_core.specs.Bytes.{Holder, Cell}
+use Rattle.promise_core.specs.Holdings.{KnownCache, Holdings, known_cache}
 use Rattle.shadow_memory.specs.Left.{LeftSlot, Left, left_in, slots_in, slot_places}
 use Rattle.shadow_memory.specs.declared.kept.KeptByte.{KeptByte}
 

@@ -2,7 +2,7 @@
 use Rattle.std.specs.Prelude.{◌≡◌, ℕ, ◌-◌, ◌*◌, ◌^◌, Bool, List, [], ◌∷◌, map, Option, None, slice_index_or, if◌then◌else◌, ◌==◌}
 use Rattle.std.specs.List.{list_any}
 use Rattle.model_core.specs.declared.limits.TheConstants.{FRAME_BYTES}
-use Rattle.model_core.specs.Vocabulary.{slot_of}
+use Rattle.model_core.specs.Machine.{slot_of}
 use Rattle.promise_core.specs.Bytes.{Cell, Cells}
 
 -- a slot, and what was left at each of its places

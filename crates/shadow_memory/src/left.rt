@@ -3,9 +3,10 @@
 ghost use Rattle.std.specs.Prelude.{◌≡◌, ℕ, ◌+◌, ◌*◌, ◌^◌, ◌<◌, ◌≤◌, ◌==◌, ◌&&◌, not, filter, length, [], ◌∷◌, Some, true, false, OnOk, OnErr, option_map, slice_index};
 ghost use Rattle.std.specs.List.{list_any};
 ghost use Rattle.model_core.specs.declared.limits.TheConstants.{FRAME_BYTES, MOST_ORDER};
-ghost use Rattle.model_core.specs.Vocabulary.{in_block, slot_of};
-ghost use Rattle.promise_core.specs.Vocabulary.{KnownCache, slab_around, Holder, is_object, is_same, with_bytes, doubted};
-ghost use Rattle.promise_core.specs.Vocabulary.{without, with_object, is_in_no_slab};
+ghost use Rattle.model_core.specs.Machine.{in_block, slot_of};
+ghost use Rattle.promise_core.specs.Holdings.{KnownCache, slab_around};
+ghost use Rattle.promise_core.specs.Bytes.{Holder, is_object, is_same, with_bytes, doubted, without};
+ghost use Rattle.promise_core.specs.State.{with_object, is_in_no_slab};
 ghost use Rattle.judge_core.specs.Holders.{shown_holder, shown_cell};
 ghost use Rattle.shadow_memory.specs.Left.{left_slots, left_at, has_place, Becomes};
 ghost use Rattle.shadow_memory.specs.Inside.{StaysNear, AreFrom, AreStepped, within};

@@ -2,7 +2,8 @@
 
 ghost use Rattle.std.specs.Prelude.{◌≡◌, ℕ, ◌+◌, ◌^◌, ◌<◌, ◌≤◌, true, length, option_map};
 ghost use Rattle.std.specs.Option.{option_copied};
-ghost use Rattle.promise_core.specs.Vocabulary.{Holdings, may_all_be, may_be, known_fresh_byte};
+ghost use Rattle.promise_core.specs.Holdings.{Holdings};
+ghost use Rattle.promise_core.specs.Bytes.{may_all_be, may_be, known_fresh_byte};
 ghost use Rattle.judge_core.specs.Holders.{shown_holder, shown_cell};
 ghost use Rattle.shadow_memory.specs.Left.{left_at, has_place};
 ghost use Rattle.shadow_memory.specs.Inside.{AreFrom, cache_of};

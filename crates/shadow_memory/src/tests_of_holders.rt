@@ -3,7 +3,9 @@
 ghost use Rattle.std.specs.Prelude.{◌≡◌, ℕ, Bool, true, false, not, IfSome, ◌==◌, ◌&&◌, ◌||◌, nat_le, ◌+◌};
 ghost use Rattle.std.specs.List.{list_any};
 ghost use Rattle.model_core.specs.Machine.{in_block};
-ghost use Rattle.promise_core.specs.Vocabulary.{slab_around, Holder, is_same, is_object, is_in_no_slab};
+ghost use Rattle.promise_core.specs.Holdings.{slab_around};
+ghost use Rattle.promise_core.specs.Bytes.{Holder, is_same, is_object};
+ghost use Rattle.promise_core.specs.State.{is_in_no_slab};
 ghost use Rattle.judge_core.specs.Holders.{shown_holder};
 ghost use Rattle.shadow_memory.specs.Summaries.{MayOwn};
 

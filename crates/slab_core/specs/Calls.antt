@@ -1,6 +1,9 @@
 -- What the steps of the calls do, for the calls above them.
 use Rattle.std.specs.Prelude.{◌≡◌, ◌≢◌, ℕ, ◌+◌, ◌/◌, ◌<◌, ◌==◌, ◌&&◌, Bool, true, false, Option, Some, None, List, length, slice_index}
-use Rattle.model_core.specs.Vocabulary.{is_small, object_place, pattern_byte, Cache, empty_blocks, frames_of}
+use Rattle.model_core.specs.Layouts.{is_small, object_place, pattern_byte}
+use Rattle.model_core.specs.Machine.{Cache}
+use Rattle.model_core.specs.Slabs.{empty_blocks}
+use Rattle.model_core.specs.CacheOperations.{frames_of}
 use Rattle.space_core.specs.Content as spaces
 use Rattle.space_core.specs.Laws.{IsSameFor, SpareStays}
 use Rattle.space_core.specs.Windows.{byte_at, with_window}

@@ -2,7 +2,7 @@
 use Rattle.std.specs.Prelude.{◌≡◌, ℕ, ◌+◌, ◌*◌, ◌/◌, ◌%◌, ◌^◌, ◌<◌, ◌≤◌, ◌==◌, Bool, true, List, Some, IsSome, slice_index}
 use Rattle.std.specs.Int.{bit_at}
 use Rattle.model_core.specs.declared.limits.TheConstants.{MOST_CACHES}
-use Rattle.model_core.specs.Vocabulary.{Block, block, HasFrame, IsAligned, around, IsTaken, IsFree}
+use Rattle.model_core.specs.Blocks.{Block, block, HasFrame, IsAligned, around, IsTaken, IsFree}
 use Rattle.klist_core.specs.Places.{place_at}
 use Rattle.space_core.specs.Content as spaces
 use Rattle.buddy_core.specs.Content as buddies

@@ -1,7 +1,7 @@
 -- What the steps of giving an object back do.
 use Rattle.std.specs.Prelude.{◌≡◌, ℕ, ◌/◌, ◌%◌, ◌^◌, ◌<◌, Bool, true, false, List, Some, slice_index, slice_set}
 use Rattle.std.specs.Int.Bits.{bit_xor}
-use Rattle.model_core.specs.Vocabulary.{object_place}
+use Rattle.model_core.specs.Layouts.{object_place}
 use Rattle.space_core.specs.Content as spaces
 use Rattle.space_core.specs.Windows.{window_of, with_window}
 use Rattle.slab_tables.specs.Content.{Content, kept_at, layout_numbers}

@@ -1,6 +1,8 @@
 -- What a caller knows of an object whose bytes it lends.
 use Rattle.std.specs.Prelude.{◌≡◌, ℕ, false, Some, Ok}
-use Rattle.model_core.specs.Vocabulary.{Cache, Machine, cache_of, give_step}
+use Rattle.model_core.specs.Machine.{Cache, Machine}
+use Rattle.model_core.specs.Slabs.{cache_of}
+use Rattle.model_core.specs.CacheOperations.{give_step}
 use Rattle.space_core.specs.Content as spaces
 use Rattle.buddy_core.specs.Content as buddies
 use Rattle.slab_tables.specs.Content.{Content}

@@ -2,7 +2,7 @@
 use Rattle.std.specs.Prelude.{◌≡◌, ◌≢◌, ℕ, ◌+◌, ◌*◌, ◌/◌, ◌%◌, ◌^◌, ◌<◌, Bool, not, true, false, List, Some, length, slice_index, slice_set}
 use Rattle.std.specs.Int.Bits.{bit_xor}
 use Rattle.model_core.specs.declared.limits.TheConstants.{FRAME_BYTES, RECORD_BYTES, RECORD_OFFSET}
-use Rattle.model_core.specs.Vocabulary.{is_small}
+use Rattle.model_core.specs.Layouts.{is_small}
 use Rattle.space_core.specs.Content as spaces
 use Rattle.space_core.specs.Laws.{SpaceLaws, IsSameFor, SpareStays}
 use Rattle.space_core.specs.Windows.{byte_at, window_of, with_window}

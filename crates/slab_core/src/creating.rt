@@ -1,7 +1,8 @@
 //! Makes caches.
 
 ghost use Rattle.std.specs.Prelude.{◌≡◌, ◌≢◌, ℕ, IfNone};
-ghost use Rattle.model_core.specs.Vocabulary.{Machine, create_step};
+ghost use Rattle.model_core.specs.Machine.{Machine};
+ghost use Rattle.model_core.specs.CacheOperations.{create_step};
 ghost use Rattle.space_core.specs.Content as spaces;
 ghost use Rattle.buddy_core.specs.Content as buddies;
 ghost use Rattle.slab_tables.specs.Content.{IsTenant};

@@ -2,7 +2,8 @@
 
 ghost use Rattle.std.specs.Prelude.{◌≡◌, ◌↔◌, ℕ, ◌-◌, ◌*◌, ◌^◌, ◌<◌, ◌≤◌, true, false, is_some, length, MatchOption};
 ghost use Rattle.model_core.specs.declared.limits.TheConstants.{MOST_CACHES, MOST_ORDER};
-ghost use Rattle.model_core.specs.Vocabulary.{Machine, choice, reaped};
+ghost use Rattle.model_core.specs.Machine.{Machine, choice};
+ghost use Rattle.model_core.specs.Slabs.{reaped};
 ghost use Rattle.machine_changes.specs.Fitting.{WouldFit};
 ghost use Rattle.machine_changes.specs.Shows.{ShowsMachine, Agree};
 ghost use Rattle.machine_changes.specs.Slots.{HoldTogether};

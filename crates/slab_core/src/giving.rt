@@ -1,7 +1,8 @@
 //! Giving an object back.
 
 ghost use Rattle.std.specs.Prelude.{◌≡◌, ◌<◌, length, OnErr};
-ghost use Rattle.model_core.specs.Vocabulary.{Machine, give_step};
+ghost use Rattle.model_core.specs.Machine.{Machine};
+ghost use Rattle.model_core.specs.CacheOperations.{give_step};
 ghost use Rattle.machine_changes.specs.Shows.{Agree, ShowsMachine};
 ghost use Rattle.machine_changes.specs.Keeps.{Spares};
 

@@ -1,7 +1,9 @@
 //! Makes a block a slab: clears its control record and constructs each of its objects.
 
 ghost use Rattle.std.specs.Prelude.{◌≡◌, ◌↔◌, ℕ, ◌+◌, ◌*◌, ◌^◌, ◌<◌, length, option_map, Some, IsSome, IfSome, IfNone};
-ghost use Rattle.model_core.specs.Vocabulary.{IsLayout, Machine, choice, cache_of, grown, by_need, choice_by_need};
+ghost use Rattle.model_core.specs.Layouts.{IsLayout};
+ghost use Rattle.model_core.specs.Machine.{Machine, choice};
+ghost use Rattle.model_core.specs.Slabs.{cache_of, grown, by_need, choice_by_need};
 ghost use Rattle.model_core.specs.Machine as machines;
 ghost use Rattle.slab_tables.specs.Content.{cache_at, layout_numbers};
 ghost use Rattle.machine_changes.specs.Shows.{ShowsMachine, Agree};

@@ -1,7 +1,8 @@
 //! Finds the live object that begins at a place, for a caller that lends its bytes.
 
 ghost use Rattle.std.specs.Prelude.{◌≡◌, ◌<◌, length, Err, IsSome, IfSome, IfOk, IfErr};
-ghost use Rattle.model_core.specs.Vocabulary.{Machine, give_step};
+ghost use Rattle.model_core.specs.Machine.{Machine};
+ghost use Rattle.model_core.specs.CacheOperations.{give_step};
 ghost use Rattle.slab_tables.specs.Content.{IsTenant, cache_at};
 ghost use Rattle.machine_changes.specs.Shows.{Agree, ShowsMachine};
 ghost use Rattle.machine_changes.specs.Changes.{Found};

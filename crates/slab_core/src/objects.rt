@@ -2,7 +2,7 @@
 
 ghost use Rattle.std.specs.Prelude.{◌≡◌, ℕ, ◌*◌, ◌+◌, ◌/◌, ◌%◌, ◌^◌, ◌<◌, ◌≤◌, Some, length, IfSome, MatchOption, not, true, false};
 ghost use Rattle.model_core.specs.declared.limits.TheConstants.{FRAME_BYTES, RECORD_OFFSET, MOST_CACHES};
-ghost use Rattle.model_core.specs.Vocabulary.{around};
+ghost use Rattle.model_core.specs.Blocks.{around};
 ghost use Rattle.slab_tables.specs.Content.{Content, IsSlabs, kept_at, cache_at, index_of_cache, layout_numbers};
 ghost use Rattle.machine_changes.specs.Records.{is_set};
 ghost use Rattle.machine_changes.specs.Shows.{machine_frame_of, has_slab, is_of_cache, is_live, IsSlab};

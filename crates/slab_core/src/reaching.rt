@@ -2,7 +2,7 @@
 
 ghost use Rattle.std.specs.Prelude.{◌≡◌, ◌↔◌, true, ◌/◌, ◌<◌, false, Some, length, MatchOption};
 ghost use Rattle.model_core.specs.declared.limits.TheConstants.{FRAME_BYTES};
-ghost use Rattle.model_core.specs.Vocabulary.{block, HasFrame};
+ghost use Rattle.model_core.specs.Blocks.{block, HasFrame};
 ghost use Rattle.buddy_core.specs.Content as buddies;
 ghost use Rattle.buddy_core.specs.Content.{holding_of, taken_of};
 ghost use Rattle.slab_tables.specs.declared.cache.Cache as own;

@@ -1,7 +1,10 @@
 //! Allocates page blocks beside slabs, on demand out of the frames of empty slabs.
 
 ghost use Rattle.std.specs.Prelude.{◌≡◌, ◌≤◌, ◌<◌, ◌↔◌, length, IsSome, IfSome, IfNone};
-ghost use Rattle.model_core.specs.Vocabulary.{block, Machine, choice, choice_by_need, with_block, alloc_step};
+ghost use Rattle.model_core.specs.Blocks.{block};
+ghost use Rattle.model_core.specs.Machine.{Machine, choice};
+ghost use Rattle.model_core.specs.Slabs.{choice_by_need};
+ghost use Rattle.model_core.specs.Operations.{with_block, alloc_step};
 ghost use Rattle.machine_changes.specs.Shows.{ShowsMachine, Agree};
 ghost use Rattle.machine_changes.specs.Keeps.{Spares};
 ghost use Rattle.machine_changes.specs.Fitting.{WouldFit};

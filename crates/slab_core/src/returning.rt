@@ -2,7 +2,9 @@
 
 ghost use Rattle.std.specs.Prelude.{◌≡◌, ℕ, ◌<◌, ◌≤◌, ◌^◌, ◌==◌, ◌↔◌, length, flat_map, Some, true, false, OnErr};
 ghost use Rattle.model_core.specs.declared.limits.TheConstants.{MOST_CACHES};
-ghost use Rattle.model_core.specs.Vocabulary.{Machine, cache_of, empty_blocks, frames_of, reap_step, destroy_step};
+ghost use Rattle.model_core.specs.Machine.{Machine};
+ghost use Rattle.model_core.specs.Slabs.{cache_of, empty_blocks};
+ghost use Rattle.model_core.specs.CacheOperations.{frames_of, reap_step, destroy_step};
 ghost use Rattle.slab_tables.specs.Changes.{without_slab};
 ghost use Rattle.klist_core.specs.Places.{IsEmpty};
 ghost use Rattle.slab_tables.specs.Content.{IsTenant, IsSlabs, kept_at, cache_at, index_of_cache, head_of};

@@ -4,7 +4,9 @@ ghost use Rattle.std.specs.Prelude.{◌≡◌, ℕ, ◌+◌, ◌*◌, ◌/◌, �
 ghost use Rattle.std.specs.List.{position_or_len, slice_range};
 ghost use Rattle.std.specs.Int.{w64, to_le_bytes};
 ghost use Rattle.model_core.specs.declared.limits.TheConstants.{FRAME_BYTES};
-ghost use Rattle.model_core.specs.Vocabulary.{Machine, cache_of, slab_of, hand_out, take_step};
+ghost use Rattle.model_core.specs.Machine.{Machine};
+ghost use Rattle.model_core.specs.Slabs.{cache_of, slab_of};
+ghost use Rattle.model_core.specs.CacheOperations.{hand_out, take_step};
 ghost use Rattle.slab_tables.specs.Content.{IsSlabs, kept_at, cache_at, layout_numbers};
 ghost use Rattle.machine_changes.specs.Records.{is_set};
 ghost use Rattle.machine_changes.specs.Shows.{live_of, IsSlab, Agree, ShowsMachine};

@@ -1,7 +1,7 @@
 -- What the calls do to the tables.
 use Rattle.std.specs.Prelude.{◌≡◌, ℕ, ◌+◌, ◌-◌, ◌*◌, ◌/◌, ◌%◌, ◌^◌, ◌<◌, ◌==◌, Bool, List, Option, Some, None, length, slice_index, slice_set, if◌then◌else◌, IsSome}
 use Rattle.model_core.specs.declared.limits.TheConstants.{MOST_CACHES}
-use Rattle.model_core.specs.Vocabulary.{colour_offset}
+use Rattle.model_core.specs.Layouts.{colour_offset}
 use Rattle.layout_core.specs.Cut.{Cut}
 use Rattle.klist_core.specs.Places.{Placed, place_at, is_in, inserted, removed, replaced}
 use Rattle.slab_tables.specs.declared.cache.Cache.{Cache}

@@ -1,7 +1,7 @@
 -- The tables of all tenants' caches. A slab is named by the machine frame at which it begins.
 use Rattle.std.specs.Prelude.{◌≡◌, ℕ, ◌+◌, ◌*◌, ◌/◌, ◌%◌, ◌^◌, ◌<◌, ◌≤◌, ◌==◌, Bool, true, false, nat_lt, if◌then◌else◌, List, [], ◌∷◌, Option, Some, None, length, replicate, slice_index, slice_index_or}
 use Rattle.model_core.specs.declared.limits.TheConstants.{MOST_CACHES, MOST_ORDER}
-use Rattle.model_core.specs.Vocabulary.{Layout, IsLayout, is_size, is_alignment, is_pattern}
+use Rattle.model_core.specs.Layouts.{Layout, IsLayout, is_size, is_alignment, is_pattern}
 use Rattle.layout_core.specs.Cut.{numbers_of}
 use Rattle.layout_core.specs.Objects.{IsColour}
 use Rattle.klist_core.specs.Places.{Placed, place_at}

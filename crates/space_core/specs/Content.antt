@@ -2,7 +2,7 @@
 use Rattle.std.specs.Prelude.{◌≡◌, ℕ, ◌*◌, ◌<◌, ◌≤◌, ◌^◌, ◌↔◌, Bool, false, List, [], Option, Some, None, is_some, length, count_by, replicate, slice_index_or}
 use Rattle.model_core.specs.declared.limits.TheConstants.{FRAME_BYTES, MOST_ORDER, MOST_SUPERBLOCKS, MOST_TENANTS}
 use Rattle.model_core.specs.declared.owner.Owner.{Owner}
-use Rattle.model_core.specs.Vocabulary.{owned_by, is_of}
+use Rattle.model_core.specs.Owners.{owned_by, is_of}
 
 -- unit: bytes of a superblock. owners: by superblock, the tenant that has it and the slot that it is there.
 -- slots: by tenant and slot, the superblock. banks: by superblock, its bytes.

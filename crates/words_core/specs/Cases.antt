@@ -7,7 +7,8 @@ use Rattle.words_core.specs.Numbers.{number_of}
 use Rattle.words_core.specs.Words.{HasWords}
 use Rattle.words_core.specs.Commands.{Form, Given, Maker, CommandRow, read_as, Actor, administrator, tenant, CommandOf, command_rows, event_by, nobody_fault}
 use Rattle.words_core.specs.declared.line.TheConstants.{MOST_LINE_BYTES}
-use Rattle.words_core.specs.Vocabulary.{Event, LineFault}
+use Rattle.words_core.specs.declared.event.Event.{Event}
+use Rattle.words_core.specs.declared.event.LineFault.{LineFault}
 
 -- the word begins with `#`
 abbrev pub IsComment : List ℕ → Type 0

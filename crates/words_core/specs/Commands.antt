@@ -6,7 +6,10 @@ use Rattle.hex.specs.Hex.{decode_of}
 use Rattle.hex.specs.declared.error.FromHexError.{FromHexError}
 use Rattle.model_core.specs.declared.limits.TheConstants.{MOST_BYTES, MOST_PATTERN}
 use Rattle.words_core.specs.Numbers.{number_of}
-use Rattle.words_core.specs.Vocabulary.{AdminCommand, Command, Event, LineFault}
+use Rattle.words_core.specs.declared.event.AdminCommand.{AdminCommand}
+use Rattle.words_core.specs.declared.event.Command.{Command}
+use Rattle.words_core.specs.declared.event.Event.{Event}
+use Rattle.words_core.specs.declared.event.LineFault.{LineFault}
 
 -- the number that was found, or else this fault
 abbrev pub or_fault : Option ℕ → LineFault → Result ℕ LineFault

@@ -8,7 +8,16 @@ use Rattle.words_core.specs.Words.{words_of}
 use Rattle.words_core.specs.Grammar.{event_of, reading_of_words, reading_of}
 use Rattle.words_core.specs.Texts.{text_of}
 use Rattle.words_core.specs.Requests.{reply_of_answer}
-use Rattle.words_core.specs.Vocabulary.{Addressee, AdminCommand, Answer, Body, Command, Event, LineFault, Refusal, Reply, Report as Figures}
+use Rattle.words_core.specs.declared.reply.Addressee.{Addressee}
+use Rattle.words_core.specs.declared.event.AdminCommand.{AdminCommand}
+use Rattle.words_core.specs.declared.answer.Answer.{Answer}
+use Rattle.words_core.specs.declared.reply.Body.{Body}
+use Rattle.words_core.specs.declared.event.Command.{Command}
+use Rattle.words_core.specs.declared.event.Event.{Event}
+use Rattle.words_core.specs.declared.event.LineFault.{LineFault}
+use Rattle.words_core.specs.declared.reply.Refusal.{Refusal}
+use Rattle.words_core.specs.declared.reply.Reply.{Reply}
+use Rattle.words_core.specs.declared.report.Report.{Report as Figures}
 
 cuts : map lines_of_trace (codes "a\n\nb" ∷ codes "a\n" ∷ []) ≡ (codes "a" ∷ [] ∷ codes "b" ∷ []) ∷ (codes "a" ∷ []) ∷ []
 cuts = refl

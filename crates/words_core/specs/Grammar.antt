@@ -7,7 +7,8 @@ use Rattle.words_core.specs.declared.line.TheConstants.{MOST_LINE_BYTES}
 use Rattle.words_core.specs.Numbers.{number_of}
 use Rattle.words_core.specs.Commands.{or_fault, Form, Maker, CommandRow, read_as, Actor, administrator, tenant, command_rows, event_by, nobody_fault}
 use Rattle.words_core.specs.Words.{words_of}
-use Rattle.words_core.specs.Vocabulary.{Event, LineFault}
+use Rattle.words_core.specs.declared.event.Event.{Event}
+use Rattle.words_core.specs.declared.event.LineFault.{LineFault}
 
 -- the ? of the logic: the second step, if the first found no fault
 infixl 10 ◌>>=◌

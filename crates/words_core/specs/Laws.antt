@@ -1,6 +1,7 @@
 -- The law of lines.
 use Rattle.std.specs.Prelude.{◌≡◌, ℕ, List, Option, Result}
-use Rattle.words_core.specs.Vocabulary.{Event, LineFault}
+use Rattle.words_core.specs.declared.event.Event.{Event}
+use Rattle.words_core.specs.declared.event.LineFault.{LineFault}
 use Rattle.words_core.specs.Cases.{Case}
 use Rattle.words_core.specs.Grammar.{reading_of}
 

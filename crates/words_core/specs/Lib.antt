@@ -1,4 +1,3 @@
-pub mod Vocabulary
 pub mod Cutting
 pub mod Words
 pub mod Numbers

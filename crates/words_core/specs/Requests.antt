@@ -1,9 +1,15 @@
 -- The small forms of commands and answers, as the values that they are.
 use Rattle.std.specs.Prelude.{◌≡◌, ℕ, ◌≤◌, Bool, true, false, if◌then◌else◌, length}
 use Rattle.model_core.specs.declared.limits.TheConstants.{MOST_BYTES, MOST_SUPERBLOCKS}
-use Rattle.model_core.specs.Vocabulary.{is_pattern}
+use Rattle.model_core.specs.Layouts.{is_pattern}
 use Rattle.words_core.specs.declared.answer.TheConstants.{MOST_ANSWER_BYTES, SHORT_ANSWER_BYTES}
-use Rattle.words_core.specs.Vocabulary.{Addressee, Answer, Body, Command, Reply, Request, Table}
+use Rattle.words_core.specs.declared.reply.Addressee.{Addressee}
+use Rattle.words_core.specs.declared.answer.Answer.{Answer}
+use Rattle.words_core.specs.declared.reply.Body.{Body}
+use Rattle.words_core.specs.declared.event.Command.{Command}
+use Rattle.words_core.specs.declared.reply.Reply.{Reply}
+use Rattle.words_core.specs.declared.event.Request.{Request}
+use Rattle.words_core.specs.declared.text.Table.{Table}
 
 abbrev pub command_of : Request → Command
 command_of (Request.Alloc order) = Command.Alloc order

@@ -4,7 +4,11 @@ use Rattle.std.specs.List.{concat}
 use Rattle.hex.specs.Hex.{encode_lower}
 use Rattle.model_core.specs.declared.owner.Owner.{Owner}
 use Rattle.words_core.specs.ReportTexts.{report_texts}
-use Rattle.words_core.specs.Vocabulary.{Addressee, Body, LineFault, Refusal, Reply}
+use Rattle.words_core.specs.declared.reply.Addressee.{Addressee}
+use Rattle.words_core.specs.declared.reply.Body.{Body}
+use Rattle.words_core.specs.declared.event.LineFault.{LineFault}
+use Rattle.words_core.specs.declared.reply.Refusal.{Refusal}
+use Rattle.words_core.specs.declared.reply.Reply.{Reply}
 
 abbrev pub number_of_refusal : Refusal → ℕ
 number_of_refusal Refusal.NoFrames = 1

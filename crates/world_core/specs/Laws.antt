@@ -1,7 +1,9 @@
 -- The laws of whole runs, over the definitions alone.
 use Rattle.std.specs.Prelude.{◌≡◌, ℕ, ◌^◌, ◌<◌, ◌≤◌, List, ◌++◌, length, Option, Some, None, Contains, slice_get}
 use Rattle.model_core.specs.Machine.{Machine, empty_machine}
-use Rattle.world_core.specs.Values.{Body, Event, Refusal}
+use Rattle.words_core.specs.declared.reply.Body.{Body}
+use Rattle.words_core.specs.declared.event.Event.{Event}
+use Rattle.words_core.specs.declared.reply.Refusal.{Refusal}
 use Rattle.world_core.specs.PrivateStep.{Entry}
 use Rattle.world_core.specs.PrivateRun.{private_run}
 use Rattle.world_core.specs.World.{World, Exchange, opening_world, history, world_after}

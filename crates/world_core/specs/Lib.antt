@@ -1,5 +1,3 @@
-pub mod Values
-pub mod Vocabulary
 pub mod Limits
 pub mod PrivateStep
 pub mod PrivateRun

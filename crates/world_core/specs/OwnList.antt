@@ -1,6 +1,9 @@
 -- What of a run concerns one tenant: the entries for its machine, and the replies addressed to it.
 use Rattle.std.specs.Prelude.{ℕ, ◌==◌, List, [], ◌∷◌, ◌++◌, Bool, true, false, if◌then◌else◌}
-use Rattle.world_core.specs.Values.{Addressee, AdminCommand, Body, Event}
+use Rattle.words_core.specs.declared.reply.Addressee.{Addressee}
+use Rattle.words_core.specs.declared.event.AdminCommand.{AdminCommand}
+use Rattle.words_core.specs.declared.reply.Body.{Body}
+use Rattle.words_core.specs.declared.event.Event.{Event}
 use Rattle.world_core.specs.PrivateStep.{Entry, Ask, Grant, TakeBack, Reset}
 use Rattle.world_core.specs.World.{Exchange}
 

@@ -1,7 +1,19 @@
 -- The private machine of one tenant, a step at a time.
 use Rattle.std.specs.Prelude.{ℕ, ◌+◌, List, [], ◌∷◌, Option, Some, None, Result, Ok, Err}
-use Rattle.world_core.specs.Values.{AllocRefusal, ReadRefusal, CacheRefusal, DestroyRefusal, TakeRefusal, GiveRefusal, Body, Command, Refusal}
-use Rattle.model_core.specs.Vocabulary.{Layout, layout_of, Machine, empty_machine, Step, alloc_step, free_step, read_step, write_step, after_grant, take_back_step, cache_step, destroy_step, take_step, give_step, reap_step, frames_held, frames_taken, frames_free, greatest_free, split_share, order_rows, rows_of_caches}
+use Rattle.model_core.specs.declared.refusals.AllocRefusal.{AllocRefusal}
+use Rattle.model_core.specs.declared.refusals.ReadRefusal.{ReadRefusal}
+use Rattle.model_core.specs.declared.refusals.CacheRefusal.{CacheRefusal}
+use Rattle.model_core.specs.declared.refusals.DestroyRefusal.{DestroyRefusal}
+use Rattle.model_core.specs.declared.refusals.TakeRefusal.{TakeRefusal}
+use Rattle.model_core.specs.declared.refusals.GiveRefusal.{GiveRefusal}
+use Rattle.words_core.specs.declared.reply.Body.{Body}
+use Rattle.words_core.specs.declared.event.Command.{Command}
+use Rattle.words_core.specs.declared.reply.Refusal.{Refusal}
+use Rattle.model_core.specs.Layouts.{Layout, layout_of}
+use Rattle.model_core.specs.Machine.{Machine, empty_machine}
+use Rattle.model_core.specs.Operations.{Step, alloc_step, free_step, read_step, write_step, after_grant, take_back_step}
+use Rattle.model_core.specs.CacheOperations.{cache_step, destroy_step, take_step, give_step, reap_step}
+use Rattle.model_core.specs.Reports.{frames_held, frames_taken, frames_free, greatest_free, split_share, order_rows, rows_of_caches}
 use Rattle.words_core.specs.declared.report.Report as figures
 use Rattle.words_core.specs.Refusals.{alloc_refusal, read_refusal, cache_refusal, destroy_refusal, take_refusal, give_refusal}
 

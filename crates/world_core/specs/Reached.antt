@@ -1,13 +1,27 @@
 -- The machines that private runs leave, and what the model's laws say of them.
 use Rattle.std.specs.Prelude.{◌≡◌, ◌↔◌, ℕ, ◌+◌, ◌*◌, ◌/◌, ◌^◌, ◌<◌, ◌≤◌, true, List, [], ◌∷◌, ◌++◌, Some, Ok, slice_get}
 use Rattle.std.specs.List.{flat_map}
-use Rattle.world_core.specs.Values.{Addressee, Body, Command, Event, FRAME_BYTES, RECORD_OFFSET}
-use Rattle.model_core.specs.Vocabulary.{Block, block, HasFrame, IsTaken, IsFree, IsChoice, IsSound, is_small, pattern_byte, Cache, Machine, empty_machine, holds, taken_in, layout, cache_of, by_need, alloc_step, free_step, Operation, ArePossible, run, IsWellFormed}
+use Rattle.words_core.specs.declared.reply.Addressee.{Addressee}
+use Rattle.words_core.specs.declared.reply.Body.{Body}
+use Rattle.words_core.specs.declared.event.Command.{Command}
+use Rattle.words_core.specs.declared.event.Event.{Event}
+use Rattle.model_core.specs.declared.limits.TheConstants.{FRAME_BYTES, RECORD_OFFSET}
+use Rattle.model_core.specs.Blocks.{Block, block, HasFrame, IsTaken, IsFree, IsChoice, IsSound}
+use Rattle.model_core.specs.Layouts.{is_small, pattern_byte}
+use Rattle.model_core.specs.Machine.{Cache, Machine, empty_machine, holds, taken_in, layout}
+use Rattle.model_core.specs.Slabs.{cache_of, by_need}
+use Rattle.model_core.specs.Operations.{alloc_step, free_step}
+use Rattle.model_core.specs.Runs.{Operation, ArePossible, run}
+use Rattle.model_core.specs.WellFormed.{IsWellFormed}
 use Rattle.model_core.specs.BlockLaws.{IsFreeOnceSplit, JoinsTo, IsFreeOnceJoined}
 use Rattle.model_core.specs.Laws.{Object, IsObject, place_of, HasByte, hand_outs}
 use Rattle.model_core.specs.Room.{IsAmple}
 use Rattle.words_core.specs.Cutting.{lines_of_trace}
-use Rattle.world_core.specs.Vocabulary.{Entry, command_step, opening_world, world_step, world_after, own_list, events_of, opening_history}
+use Rattle.world_core.specs.PrivateStep.{Entry, command_step}
+use Rattle.world_core.specs.World.{opening_world, world_step, world_after}
+use Rattle.world_core.specs.OwnList.{own_list}
+use Rattle.world_core.specs.Output.{events_of}
+use Rattle.world_core.specs.Laws.{opening_history}
 use Rattle.world_core.specs.PrivateRun.{private_run}
 
 -- what an entry is to the model: an operation, or nothing if it only reads

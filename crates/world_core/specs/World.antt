@@ -1,8 +1,18 @@
 -- The world of all tenants: who owns each superblock, and a private machine for each tenant.
 use Rattle.std.specs.Prelude.{ℕ, Bool, List, [], ◌∷◌, Option, Some, None, Result, Ok, Err, if◌then◌else◌, not, is_none, map, count_by, position, slice_get, slice_set, replicate}
 use Rattle.std.specs.List.{position_or_len}
-use Rattle.world_core.specs.Values.{Owner, TakeBackRefusal, Addressee, AdminCommand, Body, Command, Event, Refusal, Reply}
-use Rattle.model_core.specs.Vocabulary.{Machine, empty_machine, holds, owned_by, is_of, is_owner, next_slot, after_grant, take_back_step}
+use Rattle.model_core.specs.declared.owner.Owner.{Owner}
+use Rattle.model_core.specs.declared.refusals.TakeBackRefusal.{TakeBackRefusal}
+use Rattle.words_core.specs.declared.reply.Addressee.{Addressee}
+use Rattle.words_core.specs.declared.event.AdminCommand.{AdminCommand}
+use Rattle.words_core.specs.declared.reply.Body.{Body}
+use Rattle.words_core.specs.declared.event.Command.{Command}
+use Rattle.words_core.specs.declared.event.Event.{Event}
+use Rattle.words_core.specs.declared.reply.Refusal.{Refusal}
+use Rattle.words_core.specs.declared.reply.Reply.{Reply}
+use Rattle.model_core.specs.Machine.{Machine, empty_machine, holds}
+use Rattle.model_core.specs.Owners.{owned_by, is_of, is_owner}
+use Rattle.model_core.specs.Operations.{next_slot, after_grant, take_back_step}
 use Rattle.words_core.specs.Refusals.{take_back_refusal}
 use Rattle.world_core.specs.PrivateStep.{command_step}
 

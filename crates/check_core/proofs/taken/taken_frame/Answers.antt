@@ -1,9 +1,12 @@
 use Rattle.std.proofs.Common.{◌≡◌, ◌∙◌, Some, None, max, ap, rules, subst, sym}
 use Rattle.std.specs.Prelude.{find, slice_get}
 use Rattle.std.specs.Option.{option_map_or}
-use Rattle.model_core.specs.Vocabulary.{block, overlaps}
+use Rattle.model_core.specs.Blocks.{block}
+use Rattle.model_core.specs.Operations.{overlaps}
 use Rattle.words_core.specs.Requests.{body_of_answer}
-use Rattle.world_core.specs.Vocabulary.{Body, Command, Event}
+use Rattle.words_core.specs.declared.reply.Body.{Body}
+use Rattle.words_core.specs.declared.event.Command.{Command}
+use Rattle.words_core.specs.declared.event.Event.{Event}
 use Rattle.check_core.specs.Taken.{IsFirstShared}
 use Rattle.check_core.proofs.TakenLemmas.{same_alloc, same_frame, way_first}
 use Rattle.check_core.proofs.taken.taken_frame.Goals as goal
