@@ -2,10 +2,10 @@
 
 ghost use Rattle.std.specs.Prelude.{◌≡◌, ◌<◌, ◌≤◌, false, length, IfOk};
 ghost use Rattle.words_core.specs.Requests.{body_of_answer, HasFewBytes, has_bytes};
-ghost use Rattle.words_core.specs.declared.event.Event.TheVariants as Event;
-ghost use Rattle.words_core.specs.declared.event.AdminCommand.TheVariants as AdminCommand;
+ghost use Rattle.words_core.specs.declared.event.Event.TheVariants as On;
+ghost use Rattle.words_core.specs.declared.event.AdminCommand.TheVariants as Do;
 ghost use Rattle.words_core.specs.declared.reply.Addressee.TheVariants.{Admin};
-ghost use Rattle.words_core.specs.declared.reply.Body.TheVariants as Body;
+ghost use Rattle.words_core.specs.declared.reply.Body.TheVariants as Say;
 ghost use Rattle.model_core.specs.declared.limits.TheConstants.{MOST_SUPERBLOCKS};
 ghost use Rattle.kernel_core.specs.Content.{PartsAgree};
 ghost use Rattle.kernel_core.specs.Steps.{Steps, to_admin};
@@ -23,7 +23,7 @@ impl Kernel {
     /// Refused with `NoTenant`, then with `PoolEmpty` if every superblock has an owner.
     pub(crate) fn grant(&mut self, tenant: u32) -> Result<Answer<'static>, Refusal>
         ensures steps { PartsAgree self.new
-            → Steps self.old (Event.Admin (AdminCommand.Grant tenant)) self.new (to_admin result) }
+            → Steps self.old (On.Admin (Do.Grant tenant)) self.new (to_admin result) }
         ensures few { IfOk result (λ answer. HasFewBytes answer) }
         ensures bytes { IfOk result (λ answer. has_bytes answer ≡ false) }
     {
@@ -48,7 +48,7 @@ impl Kernel {
     /// taken by a page block or by a slab, even an empty one.
     pub(crate) fn take_back(&mut self, tenant: u32, slot: u32) -> Result<Answer<'static>, Refusal>
         ensures steps { PartsAgree self.new
-            → Steps self.old (Event.Admin (AdminCommand.TakeBack tenant slot)) self.new (to_admin result) }
+            → Steps self.old (On.Admin (Do.TakeBack tenant slot)) self.new (to_admin result) }
         ensures few { IfOk result (λ answer. HasFewBytes answer) }
         ensures bytes { IfOk result (λ answer. has_bytes answer ≡ false) }
     {
@@ -72,7 +72,7 @@ impl Kernel {
     /// `NoTenant`.
     pub(crate) fn reset(&mut self, tenant: u32) -> Result<Answer<'static>, Refusal>
         ensures steps { PartsAgree self.new
-            → Steps self.old (Event.Admin (AdminCommand.Reset tenant)) self.new (to_admin result) }
+            → Steps self.old (On.Admin (Do.Reset tenant)) self.new (to_admin result) }
         ensures few { IfOk result (λ answer. HasFewBytes answer) }
         ensures bytes { IfOk result (λ answer. has_bytes answer ≡ false) }
     {
@@ -94,7 +94,7 @@ impl Kernel {
     /// Refused with `NoTenant`, then with `NoSlot`, then with `PoolEmpty`.
     pub(crate) fn move_slot(&mut self, tenant: u32, slot: u32) -> Result<Answer<'static>, Refusal>
         ensures steps { PartsAgree self.new
-            → Steps self.old (Event.Admin (AdminCommand.Move tenant slot)) self.new (to_admin result) }
+            → Steps self.old (On.Admin (Do.Move tenant slot)) self.new (to_admin result) }
         ensures few { IfOk result (λ answer. HasFewBytes answer) }
         ensures bytes { IfOk result (λ answer. has_bytes answer ≡ false) }
     {
@@ -120,7 +120,7 @@ impl Kernel {
     #[cold]
     #[inline(never)]
     pub fn pool(&self) -> Reply
-        ensures { Steps self.now (Event.Admin AdminCommand.Pool) self.now result }
+        ensures { Steps self.now (On.Admin Do.Pool) self.now result }
     {
         Reply {
             addressee: Addressee::Admin,
@@ -130,8 +130,8 @@ impl Kernel {
 
     /// Borrows the owners of all superblocks, in ascending order: the contents of the reply of [`Kernel::pool`].
     pub fn owners(&self) -> &[Option<Owner>]
-        ensures steps { Steps self.now (Event.Admin AdminCommand.Pool) self.now
-            (record { addressee = Admin; body = Body.Owners (record { items = result.now }) }) }
+        ensures steps { Steps self.now (On.Admin Do.Pool) self.now
+            (record { addressee = Admin; body = Say.Owners (record { items = result.now }) }) }
         ensures few { length result.now ≤ MOST_SUPERBLOCKS }
     {
         self.space.laws();

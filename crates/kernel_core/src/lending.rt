@@ -9,7 +9,7 @@ ghost use Rattle.model_core.specs.Reach.{in_reach};
 ghost use Rattle.model_core.specs.CacheOperations.{give_step};
 ghost use Rattle.space_core.specs.Windows.{home_of, window_of};
 ghost use Rattle.slab_core.specs.Lending.{HasObject};
-ghost use Rattle.words_core.specs.declared.event.Event.TheVariants as Event;
+ghost use Rattle.words_core.specs.declared.event.Event.TheVariants as On;
 ghost use Rattle.words_core.specs.declared.event.Command.TheVariants as Command;
 ghost use Rattle.words_core.specs.declared.reply.Body.TheVariants.{Frame, Object, Refused};
 ghost use Rattle.words_core.specs.declared.reply.Refusal.TheVariants.{OutOfReach};
@@ -143,7 +143,7 @@ impl Kernel {
     ///
     /// Refuses with `NoTenant`, and as an `alloc` does.
     pub fn alloc_span(&mut self, tenant: u32, order: u32) -> Result<Span, Refusal>
-        ensures steps { Steps self.old (Event.Tenant tenant (Command.Alloc order)) self.new
+        ensures steps { Steps self.old (On.Tenant tenant (Command.Alloc order)) self.new
             (reply_for self.old tenant (body_of (λ span. Frame (span.place / FRAME_BYTES)) result)) }
         ensures block { IfOk result (λ span. IsBlockSpan span tenant (span.place / FRAME_BYTES) order) }
         ensures live { IfOk result (λ span. IsLive self.new span) }
@@ -168,7 +168,7 @@ impl Kernel {
     /// Refuses with `NoTenant`, and as a `take` does.
     #[inline(always)]
     pub fn take_span(&mut self, tenant: u32, cache: u32) -> Result<Span, Refusal>
-        ensures steps { Steps self.old (Event.Tenant tenant (Command.Take cache)) self.new
+        ensures steps { Steps self.old (On.Tenant tenant (Command.Take cache)) self.new
             (reply_for self.old tenant (body_of (λ span. Object span.place) result)) }
         ensures object { IfOk result (λ span. (span.tenant ≡ tenant)
             × ((m : Machine) → ShowsMachine self.new tenant m → HasObject m cache span.place span.bytes)) }

@@ -11,7 +11,7 @@ ghost use Rattle.kernel_core.specs.Steps.{Steps};
 ghost use Rattle.words_core.specs.declared.event.Event.TheVariants.{Tenant};
 ghost use Rattle.words_core.specs.declared.event.Command.TheVariants as Command;
 ghost use Rattle.words_core.specs.declared.reply.Addressee.TheVariants as To;
-ghost use Rattle.words_core.specs.declared.reply.Body.TheVariants as Body;
+ghost use Rattle.words_core.specs.declared.reply.Body.TheVariants as Say;
 
 use crate::Kernel;
 use arrayvec::ArrayVec;
@@ -65,7 +65,7 @@ impl Kernel {
     pub fn figures(&self, t: u8) -> Report
         requires { t < self.now.tenants }
         ensures machine { (m : Machine) → ShowsMachine self.now t m → result ≡ figures_of self.now.order m }
-        ensures steps { Steps self.now (Tenant t Command.Report) self.now (record { addressee = To.Tenant t; body = Body.Report result }) }
+        ensures steps { Steps self.now (Tenant t Command.Report) self.now (record { addressee = To.Tenant t; body = Say.Report result }) }
     {
         self.laws();
         let buddy = self.buddy();

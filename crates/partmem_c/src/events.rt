@@ -2,10 +2,10 @@
 
 ghost use Rattle.std.specs.Prelude.{◌≡◌, ◌≢◌, ◌<◌, ◌≤◌, ◌^◌, ℕ, true, false, List, length, Some, IfSome, is_some, if◌then◌else◌};
 ghost use Rattle.words_core.specs.Requests.{command_of, IsAskable, asks_bytes};
-ghost use Rattle.words_core.specs.declared.event.Event.TheVariants as Event;
+ghost use Rattle.words_core.specs.declared.event.Event.TheVariants as On;
 ghost use Rattle.words_core.specs.declared.event.Event.TheVariants.{Tenant};
 ghost use Rattle.words_core.specs.declared.event.Command.TheVariants.{Report};
-ghost use Rattle.words_core.specs.declared.event.AdminCommand.TheVariants as AdminCommand;
+ghost use Rattle.words_core.specs.declared.event.AdminCommand.TheVariants as Do;
 ghost use Rattle.kernel_core.specs.Steps.{HasPattern};
 ghost use Rattle.partmem_c.specs.Events.{requested_event, machine_status, status_of_event, event_status, AnswersEvent, RunsEvent};
 ghost use Rattle.partmem_c.specs.Events.{RunsApart, IsNothingDone, ChangesNothing};
@@ -111,7 +111,7 @@ fn admin_command_of(request: &RequestNumbers) -> Option<AdminCommand>
 
 fn command_of(request: &RequestNumbers, bytes: &[u8]) -> Option<Command>
     ensures says { result ≡ requested_command request.now bytes.now }
-    ensures pattern { IfSome result (λ command. HasPattern (Event.Tenant request.now.tenant command)) }
+    ensures pattern { IfSome result (λ command. HasPattern (On.Tenant request.now.tenant command)) }
 {
     let first = request.first;
     let second = request.second;
@@ -491,7 +491,7 @@ fn step(kernel: &mut Kernel, event: &Event, buffer: &mut [u8]) -> ReplyNumbers
 
 /// Returns the number of superblocks as the reply for the table of owners, which is not written.
 fn pool(kernel: &Kernel) -> ReplyNumbers
-    ensures { (buffer : List ℕ) → AnswersEvent kernel.now (Event.Admin AdminCommand.Pool) kernel.now result buffer buffer }
+    ensures { (buffer : List ℕ) → AnswersEvent kernel.now (On.Admin Do.Pool) kernel.now result buffer buffer }
 {
     numbers_of_owners(kernel.owners())
 }

@@ -8,8 +8,8 @@ ghost use Rattle.words_core.specs.Requests.{command_of, reply_of_answer, reply_o
 ghost use Rattle.words_core.specs.declared.event.Event.TheVariants.{Tenant, Admin};
 ghost use Rattle.words_core.specs.declared.event.AdminCommand.TheVariants.{Pool};
 ghost use Rattle.words_core.specs.declared.event.Command.TheVariants.{Report};
-ghost use Rattle.words_core.specs.declared.reply.Addressee.TheVariants as Addressee;
-ghost use Rattle.words_core.specs.declared.reply.Body.TheVariants as Body;
+ghost use Rattle.words_core.specs.declared.reply.Addressee.TheVariants as To;
+ghost use Rattle.words_core.specs.declared.reply.Body.TheVariants as Say;
 ghost use Rattle.words_core.specs.declared.reply.Refusal.TheVariants.{NoTenant};
 ghost use Rattle.replay_core.specs.Standing.{IsRunnable};
 ghost use Rattle.partmem_c.specs.Lines.{has_line_feed, line_status, IsWide, IsTextWritten, PutsAnswer};
@@ -280,7 +280,7 @@ fn put_long_answer(addressee: Addressee, answer: Answer<'_>, buffer: &mut [u8]) 
 #[inline(never)]
 fn put_no_tenant(buffer: &mut [u8]) -> usize
     requires { IsWide buffer.old }
-    ensures { IsTextWritten (text_of (record { addressee = Addressee.Nobody; body = Body.Refused NoTenant }))
+    ensures { IsTextWritten (text_of (record { addressee = To.Nobody; body = Say.Refused NoTenant }))
         buffer.old buffer.new result }
 {
     let answer = Answer::Refused(Refusal::NoTenant);
@@ -348,7 +348,7 @@ fn put_pool(kernel: &Kernel, buffer: &mut [u8]) -> usize
 #[inline(never)]
 fn put_fault(fault: LineFault, buffer: &mut [u8]) -> usize
     requires { IsWide buffer.old }
-    ensures { IsTextWritten (text_of (record { addressee = Addressee.Nobody; body = Body.Fault fault }))
+    ensures { IsTextWritten (text_of (record { addressee = To.Nobody; body = Say.Fault fault }))
         buffer.old buffer.new result }
 {
     put_long_answer(Addressee::Nobody, Answer::Fault(fault), buffer)

@@ -2,7 +2,7 @@
 
 ghost use Rattle.std.specs.Prelude.{◌≡◌, ◌≤◌, length};
 ghost use Rattle.words_core.specs.Requests.{body_of_answer, HasFewBytes};
-ghost use Rattle.words_core.specs.declared.reply.Body.TheVariants as Body;
+ghost use Rattle.words_core.specs.declared.reply.Body.TheVariants as Say;
 ghost use Rattle.partmem_c.specs.Events.{numbers_of_body, answered_bytes, reply_numbers, top_number};
 
 use crate::kinds::{
@@ -28,14 +28,14 @@ pub struct ReplyNumbers {
 /// Returns the table of owners as numbers.
 pub fn numbers_of_owners(owners: &[Option<Owner>]) -> ReplyNumbers
     requires { length owners.now ≤ MOST_SUPERBLOCKS }
-    ensures { result ≡ numbers_of_body (Body.Owners (record { items = owners.now })) }
+    ensures { result ≡ numbers_of_body (Say.Owners (record { items = owners.now })) }
 {
     one(OWNERS, owners.len() as u32)
 }
 
 /// Returns a report as numbers.
 pub fn numbers_of_report(report: &Report) -> ReplyNumbers
-    ensures { result ≡ numbers_of_body (Body.Report report.now) }
+    ensures { result ≡ numbers_of_body (Say.Report report.now) }
 {
     ReplyNumbers {
         kind: FIGURES,

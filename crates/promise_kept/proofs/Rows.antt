@@ -18,7 +18,7 @@ use Rattle.model_core.specs.WellFormed.{RisesFrom, IsWellFormed}
 use Rattle.model_core.proofs.Counting.{bit}
 use Rattle.model_core.specs.Elements.{IsIn}
 use Rattle.promise_core.specs.Holdings.{KnownCache, live_beside}
-use Rattle.promise_core.specs.Holdings as told
+use Rattle.promise_core.specs.Holdings as holdings
 use Rattle.promise_core.specs.Promises.{count_slabs, is_row, known_count}
 use Rattle.promise_kept.specs.Meets.{cache_as_known, holdings_of}
 use Rattle.promise_kept.proofs.Live.{slabs_rise}
@@ -78,7 +78,7 @@ module _ {limit : ℕ} (order : ℕ) (c : Cache) (m : Machine) (w : IsWellFormed
       ap (λ x. live_beside (cache_as_known c) x) b.at ∙ beside_is order c m w in_c s b.index i (subst (λ n. b.index < n) (is_slab order c m w in_c s i).count b.index_in)
 
   -- by the place of a live object its slab is told full or not
-  full_told : (s : Slab) (p : ℕ) → IsIn s c.slabs → IsIn p (places_in c s) → told.is_slab_full (cache_as_known c) p ≡ is_full s
+  full_told : (s : Slab) (p : ℕ) → IsIn s c.slabs → IsIn p (places_in c s) → holdings.is_slab_full (cache_as_known c) p ≡ is_full s
   full_told s p i j = ap (λ ps. eqb (length ps) (layout c).count) (beside_there s p i j) ∙ go (is_full s) refl (is_slab order c m w in_c s i).count
     where
       go : (full : Bool) → is_full s ≡ full → length s.live ≡ (layout c).count → eqb (length (places_in c s)) (layout c).count ≡ full
@@ -128,15 +128,15 @@ module _ {limit : ℕ} (order : ℕ) (c : Cache) (m : Machine) (w : IsWellFormed
     pub counted : count_slabs test (cache_as_known c) ≡ length (filter kind c.slabs)
     counted = all_slabs c.slabs (λ s i. i)
 
-  full_counted : count_slabs (told.is_slab_full (cache_as_known c)) (cache_as_known c) ≡ length (filter is_full c.slabs)
-  full_counted = counted (told.is_slab_full (cache_as_known c)) is_full full_told (λ s i e. go (is_full s) (full_some s i) e)
+  full_counted : count_slabs (holdings.is_slab_full (cache_as_known c)) (cache_as_known c) ≡ length (filter is_full c.slabs)
+  full_counted = counted (holdings.is_slab_full (cache_as_known c)) is_full full_told (λ s i e. go (is_full s) (full_some s i) e)
     where
       go : {some : Bool} (b : Bool) → (b ≡ true → some ≡ true) → some ≡ false → b ≡ false
       go true f e = absurd (false≢true (sym e ∙ f refl))
       go false f e = refl
 
-  partial_counted : count_slabs (λ p. not (told.is_slab_full (cache_as_known c) p)) (cache_as_known c) ≡ length (filter is_partial c.slabs)
-  partial_counted = counted (λ p. not (told.is_slab_full (cache_as_known c) p)) is_partial
+  partial_counted : count_slabs (λ p. not (holdings.is_slab_full (cache_as_known c) p)) (cache_as_known c) ≡ length (filter is_partial c.slabs)
+  partial_counted = counted (λ p. not (holdings.is_slab_full (cache_as_known c) p)) is_partial
       (λ s p i j. ap not (full_told s p i j) ∙ go (is_full s) (list_any (λ live. live) s.live) (place_some s p j))
       (λ s i e. off (is_full s) (list_any (λ live. live) s.live) e)
     where
@@ -164,8 +164,8 @@ module _ {limit : ℕ} (order : ℕ) (c : Cache) (m : Machine) (w : IsWellFormed
   pub row_seen : (may_have_empty : ℕ → Bool) → ((s : Slab) → IsIn s c.slabs → may_have_empty c.number ≡ true) → is_row may_have_empty (cache_as_known c, row_of_cache c) ≡ true
   row_seen may_have_empty may = and_from _ _
       (and_from _ _ (and_from _ _ (eq-eqb c.number c.number refl) (eq-eqb (length (live_objects c)) (length (map (λ o. o.place) (live_objects c))) (sym (length-map (live_objects c) (λ o. o.place))))) (hidden c.slabs may))
-      (and_from _ _ (eq-eqb (length (filter is_full c.slabs)) (count_slabs (told.is_slab_full (cache_as_known c)) (cache_as_known c)) (sym full_counted))
-      (eq-eqb (length (filter is_partial c.slabs)) (count_slabs (λ p. not (told.is_slab_full (cache_as_known c) p)) (cache_as_known c)) (sym partial_counted)))
+      (and_from _ _ (eq-eqb (length (filter is_full c.slabs)) (count_slabs (holdings.is_slab_full (cache_as_known c)) (cache_as_known c)) (sym full_counted))
+      (eq-eqb (length (filter is_partial c.slabs)) (count_slabs (λ p. not (holdings.is_slab_full (cache_as_known c) p)) (cache_as_known c)) (sym partial_counted)))
     where
       hidden : (ss : List Slab) → ((s : Slab) → IsIn s ss → may_have_empty c.number ≡ true) → (eqb (length (filter is_empty ss)) 0 || may_have_empty c.number) ≡ true
       hidden [] may = refl

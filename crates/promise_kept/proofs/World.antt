@@ -27,7 +27,7 @@ use Rattle.world_core.specs.PrivateStep.{command_step}
 use Rattle.world_core.specs.World.{World, given_up}
 use Rattle.world_core.proofs.MachineLists.{slice_get-set_same, slice_get-set_other, slice_set-same, get_within}
 use Rattle.promise_core.specs.declared.promise.Promise.{Promise}
-use Rattle.promise_core.specs.Holdings as seen
+use Rattle.promise_core.specs.Holdings as holdings
 use Rattle.promise_core.specs.State.{State, Known, opening_state, state_after, owners_after}
 use Rattle.promise_core.specs.Promises.{is_for, first_due, due, is_one, named, known_after, verdict, kept, is_no_tenant, judged, allowed}
 use Rattle.promise_kept.specs.Meets.{holdings_of, Meets, IsPromiseKept}
@@ -95,7 +95,7 @@ slots_after order t command body s next e = absurd (cc)
 
 slots_stay : (order : ℕ) (m after : Machine) (s next : State) → Meets order s m → Meets order next after → s.has.slots ≡ next.has.slots → after.slots ≡ m.slots
 unfolding holdings_of
-slots_stay order m after s next met later e = sym (ap (λ (x : seen.Holdings). x.slots) later.has) ∙ (sym e ∙ ap (λ (x : seen.Holdings). x.slots) met.has)
+slots_stay order m after s next met later e = sym (ap (λ (x : holdings.Holdings). x.slots) later.has) ∙ (sym e ∙ ap (λ (x : holdings.Holdings). x.slots) met.has)
 
 -- The world
 
@@ -202,7 +202,7 @@ module _ (limit order : ℕ) (w : World) (states : List State) where
           let next : next_slot m + 1 ≤ length w.owners = omega (arith, fewer) in
           let le : (next_slot m + 1) * 2 ^ order ≤ length w.owners * 2 ^ order = mul-le-mul_right (2 ^ order) next in
           let below : (next_slot m + 1) * 2 ^ order * 4096 ≤ 2 ^ 32 = omega (arith, le, h.ram) in
-          let unheld : not (seen.has_slot s.has (next_slot m)) ≡ true = ap (λ (x : seen.Holdings). not (seen.has_slot x (next_slot m))) met.has ∙ not_held in
+          let unheld : not (holdings.has_slot s.has (next_slot m)) ≡ true = ap (λ (x : holdings.Holdings). not (holdings.has_slot x (next_slot m))) met.has ∙ not_held in
           record {
             after = record { limit = limit; order = order; owners = slice_set w.owners j (Some (owned_by t (next_slot m))); states = slice_set states t (granted (next_slot m) s) };
             is_allowed = allowed_if (On.Admin (Do.Grant t)) (told (Say.Granted t (next_slot m) j)) now t s (granted (next_slot m) s) refl (state_of t m is).1
@@ -217,33 +217,33 @@ module _ (limit order : ℕ) (w : World) (states : List State) where
             others = others_stay (On.Admin (Do.Grant t)) t (granted (next_slot m) s) refl;
           }
         where
-          not_held : not (seen.has_slot (holdings_of m) (next_slot m)) ≡ true
+          not_held : not (holdings.has_slot (holdings_of m) (next_slot m)) ≡ true
           not_held = ap not (next_unheld order m formed)
 
       -- Slots taken back
 
-      unheld_slot : (u : ℕ) → holds m u ≡ false → not (seen.has_slot s.has u) ≡ true
+      unheld_slot : (u : ℕ) → holds m u ≡ false → not (holdings.has_slot s.has u) ≡ true
       unfolding holdings_of
-      unheld_slot u e = ap (λ (x : seen.Holdings). not (seen.has_slot x u)) met.has ∙ ap not e
+      unheld_slot u e = ap (λ (x : holdings.Holdings). not (holdings.has_slot x u)) met.has ∙ ap not e
 
-      held_slot : (u : ℕ) → holds m u ≡ true → not (seen.has_slot s.has u) ≡ false
+      held_slot : (u : ℕ) → holds m u ≡ true → not (holdings.has_slot s.has u) ≡ false
       unfolding holdings_of
-      held_slot u e = ap (λ (x : seen.Holdings). not (seen.has_slot x u)) met.has ∙ ap not e
+      held_slot u e = ap (λ (x : holdings.Holdings). not (holdings.has_slot x u)) met.has ∙ ap not e
 
       pub no_slot : (u : ℕ) → holds m u ≡ false → IsKeptIn limit order (On.Admin (Do.TakeBack t u)) now (record { reply = told (Say.Refused Refusal.NoSlot); world = w })
       unfolding due state_after owners_after
-      no_slot u e = let off : not (seen.has_slot s.has u) ≡ true = unheld_slot u e in
+      no_slot u e = let off : not (holdings.has_slot s.has u) ≡ true = unheld_slot u e in
           unchanged (On.Admin (Do.TakeBack t u)) (told (Say.Refused Refusal.NoSlot)) t m s refl is (state_of t m is).1
           (all_kept (On.Admin (Do.TakeBack t u)) (told (Say.Refused Refusal.NoSlot)) now s refl
-          (ap (λ b. option_map_or (is_one Refusal.NoSlot) (first_due ((b, Refusal.NoSlot) ∷ (seen.is_slot_busy order s.has u, Refusal.SlotBusy) ∷ [])) (is_one Refusal.NoSlot Refusal.NoFrames || is_one Refusal.NoSlot Refusal.SlotBusy)) off)
+          (ap (λ b. option_map_or (is_one Refusal.NoSlot) (first_due ((b, Refusal.NoSlot) ∷ (holdings.is_slot_busy order s.has u, Refusal.SlotBusy) ∷ [])) (is_one Refusal.NoSlot Refusal.NoFrames || is_one Refusal.NoSlot Refusal.SlotBusy)) off)
           refl refl refl refl refl refl refl refl refl refl) refl refl
 
       pub slot_busy : (u : ℕ) → holds m u ≡ true → is_busy order m u ≡ true → IsKeptIn limit order (On.Admin (Do.TakeBack t u)) now (record { reply = told (Say.Refused Refusal.SlotBusy); world = w })
       unfolding due state_after owners_after
       slot_busy u e busy = unchanged (On.Admin (Do.TakeBack t u)) (told (Say.Refused Refusal.SlotBusy)) t m s refl is (state_of t m is).1
           (all_kept (On.Admin (Do.TakeBack t u)) (told (Say.Refused Refusal.SlotBusy)) now s refl
-          (ap (λ b. option_map_or (is_one Refusal.SlotBusy) (first_due ((b, Refusal.NoSlot) ∷ (seen.is_slot_busy order s.has u, Refusal.SlotBusy) ∷ [])) true) (held_slot u e) ∙ either (seen.is_slot_busy order s.has u))
-          refl (ap (λ (x : seen.Holdings). seen.is_slot_busy order x u || list_any (λ c. s.may_have_empty c.number) x.caches) met.has ∙ busy_may order m s formed met u busy)
+          (ap (λ b. option_map_or (is_one Refusal.SlotBusy) (first_due ((b, Refusal.NoSlot) ∷ (holdings.is_slot_busy order s.has u, Refusal.SlotBusy) ∷ [])) true) (held_slot u e) ∙ either (holdings.is_slot_busy order s.has u))
+          refl (ap (λ (x : holdings.Holdings). holdings.is_slot_busy order x u || list_any (λ c. s.may_have_empty c.number) x.caches) met.has ∙ busy_may order m s formed met u busy)
           refl refl refl refl refl refl refl refl) refl refl
         where
           either : (b : Bool) → option_map_or (is_one Refusal.SlotBusy) (first_due ((b, Refusal.SlotBusy) ∷ [])) true ≡ true
@@ -267,12 +267,12 @@ module _ (limit order : ℕ) (w : World) (states : List State) where
       })
       unfolding due state_after owners_after
       back_done u e free =
-          let idle : seen.is_slot_busy order s.has u ≡ false = ap (λ (x : seen.Holdings). seen.is_slot_busy order x u) met.has ∙ busy_seen order m s formed met u free in
+          let idle : holdings.is_slot_busy order s.has u ≡ false = ap (λ (x : holdings.Holdings). holdings.is_slot_busy order x u) met.has ∙ busy_seen order m s formed met u free in
           record {
             after = record { limit = limit; order = order; owners = map (given_up (is_owner t u)) w.owners; states = slice_set states t (taken_back order u s) };
             is_allowed = allowed_if (On.Admin (Do.TakeBack t u)) (told (Say.TakenBack (position_or_len (is_owner t u) w.owners))) now t s (taken_back order u s) refl (state_of t m is).1
                 (all_kept (On.Admin (Do.TakeBack t u)) (told (Say.TakenBack (position_or_len (is_owner t u) w.owners))) now s refl
-                (ap (λ b. is_none (first_due ((b, Refusal.NoSlot) ∷ (seen.is_slot_busy order s.has u, Refusal.SlotBusy) ∷ []))) (held_slot u e)
+                (ap (λ b. is_none (first_due ((b, Refusal.NoSlot) ∷ (holdings.is_slot_busy order s.has u, Refusal.SlotBusy) ∷ []))) (held_slot u e)
                 ∙ ap (λ b. is_none (first_due ((b, Refusal.SlotBusy) ∷ []))) idle)
                 refl refl refl refl refl refl (first_passes (is_owner t u) w.owners (sym (h.held t u m is) ∙ e)) refl refl refl) refl;
             meets = step_meets t (taken_back order u s) m (after_take_back order u m) (map (given_up (is_owner t u)) w.owners) is (take_back_meets order m s formed met u)
@@ -305,7 +305,7 @@ module _ (limit order : ℕ) (w : World) (states : List State) where
 
       pub move_no_slot : (u : ℕ) → holds m u ≡ false → IsKeptIn limit order (On.Admin (Do.Move t u)) now (record { reply = told (Say.Refused Refusal.NoSlot); world = w })
       unfolding due state_after owners_after
-      move_no_slot u e = let off : not (seen.has_slot s.has u) ≡ true = unheld_slot u e in
+      move_no_slot u e = let off : not (holdings.has_slot s.has u) ≡ true = unheld_slot u e in
           unchanged (On.Admin (Do.Move t u)) (told (Say.Refused Refusal.NoSlot)) t m s refl is (state_of t m is).1
           (all_kept (On.Admin (Do.Move t u)) (told (Say.Refused Refusal.NoSlot)) now s refl
           (ap (λ b. option_map_or (is_one Refusal.NoSlot) (first_due ((b, Refusal.NoSlot) ∷ (list_all is_some w.owners, Refusal.PoolEmpty) ∷ [])) (is_one Refusal.NoSlot Refusal.NoFrames || is_one Refusal.NoSlot Refusal.SlotBusy)) off)

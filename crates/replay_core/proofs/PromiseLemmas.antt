@@ -10,7 +10,7 @@ use Rattle.promise_kept.proofs.Written.{ram_is_small, shown_is_allowed}
 use Rattle.kernel_core.specs.Content.{KernelContent}
 use Rattle.kernel_core.specs.Shows.{Shows}
 use Rattle.streams.specs.declared.tally.Tally.{Tally}
-use Rattle.streams.specs.declared.tally.ReplayError.TheVariants as Of
+use Rattle.streams.specs.declared.tally.ReplayError.TheVariants as Failed
 use Rattle.replay_core.specs.Runs.{Counts, HasRun, IsCutShort, Replays}
 use Rattle.replay_core.specs.Promised.{IsAllowedOutput, BeginsAllowed, TakesAllowed}
 
@@ -48,6 +48,6 @@ all_promised only before after lines taken tally ran = (ran.counted, answered_in
 
 -- where the drain failed
 pub part_promised : (ended : Bool) (only : Option ℕ) (before after : KernelContent) (given taken : List ℕ) (tally : Tally)
-    → Replays ended only before after given taken (Err (Of.Drain tally)) → TakesAllowed ended only before given taken (Err (Of.Drain tally))
+    → Replays ended only before after given taken (Err (Failed.Drain tally)) → TakesAllowed ended only before given taken (Err (Failed.Drain tally))
 part_promised ended only before after given taken tally (done, line, come, cut) =
     (done ++ line ∷ [], come, cut.counted, answered_in_part only before after done line taken tally cut)

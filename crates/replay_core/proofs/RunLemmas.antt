@@ -5,7 +5,7 @@ use Rattle.words_core.specs.declared.event.Event.{Event}
 use Rattle.words_core.specs.declared.event.LineFault.{LineFault}
 use Rattle.words_core.specs.declared.reply.Reply.{Reply}
 use Rattle.words_core.specs.declared.reply.Addressee.TheVariants as To
-use Rattle.words_core.specs.declared.reply.Body.TheVariants as Said
+use Rattle.words_core.specs.declared.reply.Body.TheVariants as Say
 use Rattle.words_core.specs.Grammar.{reading_of, reading_of_words}
 use Rattle.words_core.specs.Words.{words_of}
 use Rattle.world_core.specs.Limits.{cache_limit}
@@ -301,17 +301,17 @@ module _ {N : Type 0} (noting : Noting N) where
       (λ w shows. noted ∙ ap (λ r. noted_reply noting run.replies.only r run.notes) (steps.answer w shows))
 
   -- no refusal is in the reply to a fault
-  noted_nobody : (only : Option ℕ) (fault : LineFault) (n : N) → noted_reply noting only (record { addressee = To.Nobody; body = Said.Fault fault }) n ≡ n
+  noted_nobody : (only : Option ℕ) (fault : LineFault) (n : N) → noted_reply noting only (record { addressee = To.Nobody; body = Say.Fault fault }) n ≡ n
   noted_nobody None fault n = refl
   noted_nobody (Some t) fault n = refl
 
   -- a fault is answered to nobody
   pub fault_done : (k : KernelContent) (run run' : Run N) (notes : N) (fault : LineFault) (line front : List ℕ) (old new : Option (List ℕ)) (failing : Bool) (result : Result (Unit {0}) Stopped)
       → reading_of line ≡ Err fault → take 256 front ≡ take 256 line
-      → HasShown old new failing (shown_text run.replies.only (record { addressee = To.Nobody; body = Said.Fault fault })) run.replies run'.replies result
+      → HasShown old new failing (shown_text run.replies.only (record { addressee = To.Nobody; body = Say.Fault fault })) run.replies run'.replies result
       → run'.lines ≡ run.lines + 1 → run'.events ≡ run.events → run'.faults ≡ run.faults + 1
       → notes ≡ noting.faulty run.notes (run.lines + 1) fault (take 256 front)
-      → run'.notes ≡ noted_reply noting run.replies.only (record { addressee = To.Nobody; body = Said.Fault fault }) notes
+      → run'.notes ≡ noted_reply noting run.replies.only (record { addressee = To.Nobody; body = Say.Fault fault }) notes
       → HasDone (answers noting) (run, k) line old new result (run', k)
   fault_done k run run' notes fault line front old new failing result read same shown lines events faults faulty noted =
       text_done (run, k) (run', k) line _ (Err fault) old new failing result read (same_sizes k) (λ w shows. shows) (λ w shows. refl) shown lines (omega (arith, events)) faults

@@ -3,7 +3,7 @@
 ghost use Rattle.std.specs.Prelude.{◌≡◌, ◌+◌, ◌^◌, ◌<◌, ◌≤◌, false, true, [], Some, Ok, length};
 ghost use Rattle.words_core.specs.Requests.{command_of, IsAskable};
 ghost use Rattle.words_core.specs.declared.event.Event.TheVariants.{Tenant};
-ghost use Rattle.words_core.specs.declared.reply.Addressee.TheVariants as Addressee;
+ghost use Rattle.words_core.specs.declared.reply.Addressee.TheVariants as To;
 ghost use Rattle.world_core.specs.Output.{is_shown};
 ghost use Rattle.replay_core.specs.Doing.{HasDone, HasGone};
 ghost use Rattle.replay_core.specs.Front.{HasAnsweredLine};
@@ -98,7 +98,7 @@ impl<N: Notes> Run<N> {
     )
         requires askable { IsAskable request }
         requires tenant { tenant < kernel.old.tenants }
-        requires shown { is_shown self.old.replies.only (Addressee.Tenant tenant) ≡ true }
+        requires shown { is_shown self.old.replies.only (To.Tenant tenant) ≡ true }
         requires ready { IsReady (D.has_failed drain.old) self.old 1 }
         requires space { D.is_roomy drain.old ≡ true }
         ensures done { HasDone (AnswersRead N.noting []) (self.old, kernel.old) (Ok (Some (Tenant tenant (command_of request.entry))))
@@ -156,7 +156,7 @@ impl<N: Notes> Run<N> {
     )
         requires askable { IsAskable request }
         requires tenant { tenant < kernel.old.tenants }
-        requires shown { is_shown self.old.replies.only (Addressee.Tenant tenant) ≡ true }
+        requires shown { is_shown self.old.replies.only (To.Tenant tenant) ≡ true }
         requires ready { IsReady (D.has_failed drain.old) self.old 1 }
         requires space { D.is_roomy drain.old ≡ true }
         ensures done { HasDone (AnswersRead N.noting []) (self.old, kernel.old) (Ok (Some (Tenant tenant (command_of request.entry))))
@@ -182,7 +182,7 @@ impl<N: Notes> Run<N> {
     )
         requires askable { IsAskable request }
         requires tenant { tenant < kernel.old.tenants }
-        requires shown { is_shown self.old.replies.only (Addressee.Tenant tenant) ≡ true }
+        requires shown { is_shown self.old.replies.only (To.Tenant tenant) ≡ true }
         requires ready { IsReady (D.has_failed drain.old) self.old 1 }
         requires space { D.is_roomy drain.old ≡ true }
         ensures done { HasDone (AnswersRead N.noting []) (self.old, kernel.old) (Ok (Some (Tenant tenant (command_of request.entry))))

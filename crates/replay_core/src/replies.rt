@@ -1,7 +1,7 @@
 //! Pushes the replies of a replay into a drain.
 
 ghost use Rattle.std.specs.Prelude.{◌≡◌, ◌+◌, ◌≤◌, true, Ok, length};
-ghost use Rattle.words_core.specs.declared.reply.Addressee.TheVariants as Addressee;
+ghost use Rattle.words_core.specs.declared.reply.Addressee.TheVariants as To;
 ghost use Rattle.words_core.specs.Requests.{reply_of_answer, reply_to, HasFewBytes};
 ghost use Rattle.world_core.specs.Output.{is_shown, shown_text};
 ghost use Rattle.replay_core.specs.Pushes.{CanWrite, HasPushed, most_reply_bytes};
@@ -48,7 +48,7 @@ impl Replies {
     #[inline(always)]
     pub fn show_in_place<D: Drain>(&mut self, tenant: u8, answer: Answer<'_>, drain: &mut D)
         requires few { HasFewBytes answer }
-        requires shown { is_shown self.old.only (Addressee.Tenant tenant) ≡ true }
+        requires shown { is_shown self.old.only (To.Tenant tenant) ≡ true }
         requires space { D.is_roomy drain.old ≡ true }
         requires can_write { CanWrite (D.has_failed drain.old) self.old.written most_reply_bytes }
         ensures { HasShown (D.contents drain.old) (D.contents drain.new) (D.has_failed drain.new)

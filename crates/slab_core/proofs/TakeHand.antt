@@ -7,7 +7,7 @@ use Rattle.std.proofs.Math.Nat.{pow-le-pow_right, div-div-eq-div-mul}
 use Rattle.model_core.specs.Blocks.{block, HasFrame}
 use Rattle.model_core.proofs.BlocksByNumber.{number_of_frame, same_slot}
 use Rattle.model_core.specs.Layouts.{IsFit, object_offset, object_place}
-use Rattle.model_core.specs.Machine as machines
+use Rattle.model_core.specs.Machine as model
 use Rattle.model_core.specs.Machine.{Machine}
 use Rattle.model_core.specs.Slabs.{cache_of, slab_of, next_object}
 use Rattle.model_core.specs.CacheOperations.{hand_out}
@@ -119,14 +119,14 @@ module _ {r : spaces.Content} {b : buddies.Content} {s : Content} {t c f n i : �
         go true found some is = is
         go false found none is = absurd (false≢true none)
 
-  module _ (m : Machine) (x : machines.Cache) (y : machines.Slab) (g : ShowsMachine r b s t m) (ex : cache_of m c ≡ Some x) (ey : slab_of x f ≡ Some y) where
+  module _ (m : Machine) (x : model.Cache) (y : model.Slab) (g : ShowsMachine r b s t m) (ex : cache_of m c ≡ Some x) (ey : slab_of x f ≡ Some y) where
     slab_is : y ≡ shown r s t c cache o.slab.cached f n
     slab_is = some_same (sym ey ∙ (g.slabs c f x cache ex o.slab.cached ∙ slab_shown r s t c cache o.slab.cached f n o.slab))
 
-    layout_is : machines.layout x ≡ layout_numbers cache
+    layout_is : model.layout x ≡ layout_numbers cache
     layout_is =
         let there = cache_shown r b s t m g c cache o.slab.cached in
-        ap machines.layout (some_same (sym ex ∙ there.cached)) ∙ there.layout
+        ap model.layout (some_same (sym ex ∙ there.cached)) ∙ there.layout
 
     pub next_is : next_object y ≡ i
     next_is = ap next_object slab_is ∙ sym o.is
@@ -134,5 +134,5 @@ module _ {r : spaces.Content} {b : buddies.Content} {s : Content} {t c f n i : �
     pub answered : (place : ℕ) → place ≡ 4096 * f + object_offset (layout_numbers cache) (kept_at s.kept n).colour i → Ok place ≡ (hand_out x y m).answer
     answered place e =
         ap (λ (p : ℕ). Ok p)
-        (e ∙ sym (ap (λ j. object_place (machines.layout x) y.first y.colour j) next_is
-        ∙ (ap (λ z. object_place (machines.layout x) z.first z.colour i) slab_is ∙ ap (λ l. object_place l f (kept_at s.kept n).colour i) layout_is)))
+        (e ∙ sym (ap (λ j. object_place (model.layout x) y.first y.colour j) next_is
+        ∙ (ap (λ z. object_place (model.layout x) z.first z.colour i) slab_is ∙ ap (λ l. object_place l f (kept_at s.kept n).colour i) layout_is)))

@@ -4,7 +4,7 @@ ghost use Rattle.std.specs.Prelude.{◌≡◌, ◌↔◌, ℕ, ◌+◌, ◌*◌,
 ghost use Rattle.model_core.specs.Layouts.{IsLayout};
 ghost use Rattle.model_core.specs.Machine.{Machine, choice};
 ghost use Rattle.model_core.specs.Slabs.{cache_of, grown, by_need, choice_by_need};
-ghost use Rattle.model_core.specs.Machine as machines;
+ghost use Rattle.model_core.specs.Machine as model;
 ghost use Rattle.slab_tables.specs.Content.{cache_at, layout_numbers};
 ghost use Rattle.machine_changes.specs.Shows.{ShowsMachine, Agree};
 ghost use Rattle.machine_changes.specs.Keeps.{Spares};
@@ -41,7 +41,7 @@ impl Slabs {
         requires full { IsAllFull self.old cache.tenant cache.number }
         ensures chosen { (m : Machine) → ShowsMachine space.old buddy.old self.old cache.entry.tenant m
             → choice_by_need self.old.top (layout_numbers cache.entry.kept.now).order m ≡ option_map (λ o. o.first) result }
-        ensures shows { IfSome result (λ o. (m : Machine) (x : machines.Cache)
+        ensures shows { IfSome result (λ o. (m : Machine) (x : model.Cache)
             → ShowsMachine space.old buddy.old self.old cache.entry.tenant m → cache_of m cache.entry.number ≡ Some x
             → ShowsMachine space.new buddy.new self.new cache.entry.tenant
             (grown o.first x (by_need self.old.top (layout_numbers cache.entry.kept.now).order m))) }
@@ -77,7 +77,7 @@ impl Slabs {
         ensures grown { IfSome result (λ o. IsGrown space.old space.new buddy.old buddy.new self.old self.new cache.entry.tenant cache.entry.number cache.entry.kept.now o.first o.machine_frame) }
         ensures chosen { (m : Machine) → ShowsMachine space.old buddy.old self.old cache.entry.tenant m
             → choice self.old.top m (layout_numbers cache.entry.kept.now).order ≡ option_map (λ o. o.first) result }
-        ensures shows { IfSome result (λ o. (m : Machine) (x : machines.Cache)
+        ensures shows { IfSome result (λ o. (m : Machine) (x : model.Cache)
             → ShowsMachine space.old buddy.old self.old cache.entry.tenant m → cache_of m cache.entry.number ≡ Some x
             → ShowsMachine space.new buddy.new self.new cache.entry.tenant (grown o.first x m)) }
         ensures free { IsSome result ↔ HasFreeBlock buddy.old cache.entry.tenant (layout_numbers cache.entry.kept.now).order }

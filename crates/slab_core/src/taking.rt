@@ -12,7 +12,7 @@ ghost use Rattle.machine_changes.specs.Records.{is_set};
 ghost use Rattle.machine_changes.specs.Shows.{live_of, IsSlab, Agree, ShowsMachine};
 ghost use Rattle.machine_changes.specs.Keeps.{Spares};
 ghost use Rattle.machine_changes.specs.Slots.{HoldTogether};
-ghost use Rattle.model_core.specs.Machine as machines;
+ghost use Rattle.model_core.specs.Machine as model;
 ghost use Rattle.machine_changes.specs.Objects.{IsLiveObject, IsToUse, IsAllFull};
 ghost use Rattle.machine_changes.specs.Changes.{Found, found};
 ghost use Rattle.space_core.specs.Laws.{SpaceLaws};
@@ -266,10 +266,10 @@ impl Slabs {
         requires agree { Agree space.old buddy.now self.old }
         requires slab { IsSlab space.old self.old cache.tenant cache.number slab.first slab.machine_frame cache.kept.now }
         requires free { (kept_at self.old.kept slab.machine_frame).live < (layout_numbers cache.kept.now).count }
-        ensures answer { (m : Machine) (x : machines.Cache) (y : machines.Slab)
+        ensures answer { (m : Machine) (x : model.Cache) (y : model.Slab)
             → ShowsMachine space.old buddy.now self.old cache.entry.tenant m
             → cache_of m cache.entry.number ≡ Some x → slab_of x slab.first ≡ Some y → Ok result.place ≡ (hand_out x y m).answer }
-        ensures shows { (m : Machine) (x : machines.Cache) (y : machines.Slab)
+        ensures shows { (m : Machine) (x : model.Cache) (y : model.Slab)
             → ShowsMachine space.old buddy.now self.old cache.entry.tenant m
             → cache_of m cache.entry.number ≡ Some x → slab_of x slab.first ≡ Some y
             → ShowsMachine space.new buddy.now self.new cache.entry.tenant (hand_out x y m).machine }

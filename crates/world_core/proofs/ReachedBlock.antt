@@ -6,7 +6,7 @@ use Rattle.model_core.specs.Room.{IsAmple}
 use Rattle.model_core.proofs.Room.{alloc_is_promised, take_is_promised}
 use Rattle.words_core.specs.declared.event.Event.{Event}
 use Rattle.words_core.specs.declared.event.Event.TheVariants as On
-use Rattle.words_core.specs.declared.event.Command.TheVariants as Ask
+use Rattle.words_core.specs.declared.event.Command.TheVariants as Command
 use Rattle.words_core.specs.declared.reply.Addressee.TheVariants as To
 use Rattle.words_core.specs.Cutting.{lines_of_trace}
 use Rattle.world_core.specs.PrivateStep.{Entry, alloc_body, take_body, command_step}
@@ -33,9 +33,9 @@ reached_object limit order number entries c asked cache room =
 
 -- the reply to a tenant's command is what its machine answers
 told : (limit order t k : ℕ) (w : World) (m : Machine) → slice_get w.machines t ≡ Some m
-    → (world_step limit order (On.Tenant t (Ask.Alloc k)) w).reply ≡ record { addressee = To.Tenant t; body = (command_step limit order (Ask.Alloc k) m).answer }
+    → (world_step limit order (On.Tenant t (Command.Alloc k)) w).reply ≡ record { addressee = To.Tenant t; body = (command_step limit order (Command.Alloc k) m).answer }
 unfolding world_step tenant_step
-told limit order t k w m here = ap (λ o. (tenant_step limit order t (Ask.Alloc k) w o).reply) here
+told limit order t k w m here = ap (λ o. (tenant_step limit order t (Command.Alloc k) w o).reply) here
 
 pub nobody_starves : NobodyStarves
 nobody_starves limit order superblocks tenants t k trace m is_tenant here room =
@@ -47,6 +47,6 @@ nobody_starves limit order superblocks tenants t k trace m is_tenant here room =
     let served = reached_block limit order k own (own_lists_are_requests limit order superblocks tenants t trace) (subst (IsAmple order k) same room) in (
       served.0,
       told limit order t k w m here
-          ∙ (ap (λ n. record { addressee = To.Tenant t; body = (command_step limit order (Ask.Alloc k) n).answer }) same
+          ∙ (ap (λ n. record { addressee = To.Tenant t; body = (command_step limit order (Command.Alloc k) n).answer }) same
           ∙ ap (λ body. record { addressee = To.Tenant t; body = body }) served.1),
     )

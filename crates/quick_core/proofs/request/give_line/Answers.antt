@@ -1,6 +1,6 @@
 use Rattle.std.proofs.Common.{◌≡◌, ◌+◌, get_or, slice_range, refl, arith}
 use Rattle.words_core.specs.Commands.{give_row}
-use Rattle.words_core.specs.declared.event.Command.TheVariants as Whole
+use Rattle.words_core.specs.declared.event.Command.TheVariants as Command
 use Rattle.quick_core.proofs.LineLemmas.{is_read_two, two_numbers, give_plain}
 use Rattle.quick_core.proofs.request.give_line.Goals as goal
 
@@ -16,10 +16,10 @@ returns-clause-reads g c =
     let blank : get_or window (a + 5) 0 ≡ 32 = omega arith in
     let second : get_or window cache.end 0 ≡ 32 = omega arith in
     is_read_two c.one_case.ensures.some c.one_case.ensures.only window a (a + 1) (a + 5) (a + 5 + 1) cache.end (cache.end + 1) number.end place.len
-    c.args.tenant.value cache.value place.value give_row (Whole.Give cache.value place.value)
+    c.args.tenant.value cache.value place.value give_row (Command.Give cache.value place.value)
     refl (omega arith) refl c.in_ok-cache.ensures.some refl number.some (omega arith) (omega arith)
     c.requires.begins.names.number c.requires.begins.names.blank c.requires.begins.letters blank c.in_ok-cache.ensures.value second number.number
     number.ended
     (7, omega arith, refl) give_plain
-    (two_numbers Whole.Give (slice_range window (a + 5 + 1) cache.end) (slice_range window (cache.end + 1) number.end)
+    (two_numbers Command.Give (slice_range window (a + 5 + 1) cache.end) (slice_range window (cache.end + 1) number.end)
     cache.value place.value c.in_ok-cache.ensures.value number.number)

@@ -1,6 +1,6 @@
 use Rattle.std.proofs.Common.{◌≡◌, ◌+◌, get_or, slice_range, refl, arith}
 use Rattle.words_core.specs.Commands.{read_row}
-use Rattle.words_core.specs.declared.event.Command.TheVariants as Whole
+use Rattle.words_core.specs.declared.event.Command.TheVariants as Command
 use Rattle.quick_core.proofs.LineLemmas.{is_read_two, two_numbers, read_plain}
 use Rattle.quick_core.proofs.request.read_line.Goals as goal
 
@@ -16,10 +16,10 @@ returns-clause-reads g c =
     let blank : get_or window (a + 5) 0 ≡ 32 = omega arith in
     let second : get_or window place.end 0 ≡ 32 = omega arith in
     is_read_two c.one_case.ensures.some c.one_case.ensures.only window a (a + 1) (a + 5) (a + 5 + 1) place.end (place.end + 1) number.end len.len
-    c.args.tenant.value place.value len.value read_row (Whole.Read place.value len.value)
+    c.args.tenant.value place.value len.value read_row (Command.Read place.value len.value)
     refl (omega arith) refl c.in_ok-place.ensures.some refl number.some (omega arith) (omega arith)
     c.requires.begins.names.number c.requires.begins.names.blank c.requires.begins.letters blank c.in_ok-place.ensures.value second number.number
     number.ended
     (2, omega arith, refl) read_plain
-    (two_numbers Whole.Read (slice_range window (a + 5 + 1) place.end) (slice_range window (place.end + 1) number.end)
+    (two_numbers Command.Read (slice_range window (a + 5 + 1) place.end) (slice_range window (place.end + 1) number.end)
     place.value len.value c.in_ok-place.ensures.value number.number)

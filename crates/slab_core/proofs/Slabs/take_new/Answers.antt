@@ -1,6 +1,6 @@
 use Rattle.std.proofs.Common.{◌≡◌, ◌<◌, Some, sym, ap, ◌∙◌, subst, rules, arith}
 use Rattle.std.specs.Prelude.{option_map, IfSome, IfNone}
-use Rattle.model_core.specs.Machine as machines
+use Rattle.model_core.specs.Machine as model
 use Rattle.model_core.specs.Machine.{Machine}
 use Rattle.model_core.specs.Slabs.{cache_of, grown, by_need}
 use Rattle.model_core.specs.Operations.{refuse}
@@ -66,7 +66,7 @@ make_of c m h =
     (cached (goal.at.returns-clause-answer c).In_ok-before) c.requires.full c.in_ok-slab.slab.first
     (c.grow.ensures.chosen m h ∙ ap (option_map (λ o. o.first)) c.in_ok-slab.ensures.ok_part)
     (λ x ex.
-    subst (λ o. IfSome o (λ o. (m : Machine) (x : machines.Cache) → ShowsMachine c.args.space.now c.args.buddy.now c.args.self.now c.args.t m
+    subst (λ o. IfSome o (λ o. (m : Machine) (x : model.Cache) → ShowsMachine c.args.space.now c.args.buddy.now c.args.self.now c.args.t m
     → cache_of m c.args.c ≡ Some x → ShowsMachine c.grow.new.space c.grow.new.buddy c.grow.new.self c.args.t
     (grown o.first x (by_need c.args.self.now.top (layout_numbers c.in_ok-before.field-0.now).order m))))
     c.in_ok-slab.ensures.ok_part c.grow.ensures.shows m x h ex)
