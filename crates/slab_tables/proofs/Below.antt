@@ -1,4 +1,4 @@
--- The number below which a tenant's caches are.
+-- For each tenant, a number above those of all its caches.
 use Rattle.std.proofs.Common.{◌≡◌, ℕ, ◌*◌, ◌/◌, ◌%◌, ◌<◌, ◌≤◌, List, Option, Some, None, length, get_or, set, replicate, sym, ap, ◌∙◌, inl, inr, arith}
 use Rattle.std.proofs.lemmas.Bool.{cases_eq}
 use Rattle.std.proofs.lemmas.List.{length-set, length-replicate, get_or-set_same, get_or-set_other}
@@ -7,7 +7,8 @@ use Rattle.model_core.proofs.Lists.{everywhere}
 use Rattle.slab_tables.specs.declared.cache.Cache.{Cache}
 use Rattle.slab_tables.specs.Content.{AreBelow, cache_in, index_of_cache}
 
--- one cache is replaced: by none, where the number is not above it
+-- `AreBelow` holds after one entry of the table of caches is replaced; an entry not below its tenant's number must become
+-- `None`
 pub below_cache : (cs : List (Option Cache)) (bs : List ℕ) (i : ℕ) (o : Option Cache) → i < length cs → (get_or bs (i / MOST_CACHES) 0 ≤ i % MOST_CACHES → o ≡ None)
     → AreBelow cs bs → AreBelow (set cs i o) bs
 below_cache cs bs i o lt none a = record {
@@ -19,12 +20,12 @@ below_cache cs bs i o lt none a = record {
   ];
 }
 
--- a cache that stands is below
+-- an existing cache has a number below its tenant's
 pub below_standing : (cs : List (Option Cache)) (bs : List ℕ) (i : ℕ) (c : Cache) → cache_in cs i ≡ Some c → AreBelow cs bs
     → (o : Option Cache) → get_or bs (i / MOST_CACHES) 0 ≤ i % MOST_CACHES → o ≡ None
 below_standing cs bs i c is a o le = absurd (let f : ◌≡◌ {A = Option Cache} None (Some c) = sym (a.none i le) ∙ is in cc)
 
--- the number of one tenant is replaced
+-- `AreBelow` holds after the number of one tenant is replaced
 pub below_number : (cs : List (Option Cache)) (bs : List ℕ) (t b : ℕ) → t < length bs → b ≤ MOST_CACHES
     → ((c : ℕ) → b ≤ c → c < MOST_CACHES → cache_in cs (index_of_cache t c) ≡ None) → AreBelow cs bs → AreBelow cs (set bs t b)
 below_number cs bs t b lt few none a = record {
@@ -42,25 +43,25 @@ below_number cs bs t b lt few none a = record {
   ];
 }
 
--- the number in which a cache's index says its tenant
+-- a cache's index divided by `MOST_CACHES` is its tenant
 own_number : (t c : ℕ) → c < MOST_CACHES → index_of_cache t c / MOST_CACHES ≡ t
 own_number t c less = omega arith
 
--- a cache whose number is below is replaced
+-- `AreBelow` holds after an entry below its tenant's number is replaced
 pub below_used : (cs : List (Option Cache)) (bs : List ℕ) (t c : ℕ) (o : Option Cache) → t < length bs → c < get_or bs t 0 → c < MOST_CACHES
     → AreBelow cs bs → AreBelow (set cs (index_of_cache t c) o) bs
 below_used cs bs t c o lt below less a =
     below_cache cs bs (index_of_cache t c) o (omega (arith, lt, less, a.tenants))
     (λ le. let here = ap (λ j. get_or bs j 0) (own_number t c less) in absurd (omega (arith, le, here, below, less))) a
 
--- one cache more, and a number above it
+-- `AreBelow` holds after an entry is replaced and its tenant's number is raised above it
 pub below_more : (cs : List (Option Cache)) (bs : List ℕ) (t c b : ℕ) (o : Option Cache) → t < length bs → c < b → get_or bs t 0 ≤ b → b ≤ MOST_CACHES
     → AreBelow cs bs → AreBelow (set cs (index_of_cache t c) o) (set bs t b)
 below_more cs bs t c b o lt over from few a =
     below_used cs (set bs t b) t c o (omega (arith, lt, length-set bs t b)) (omega (arith, over, get_or-set_same bs t b 0 lt)) (omega (arith, over, few))
     (below_number cs bs t b lt few (λ d le less. a.none (index_of_cache t d) (let at = ap (λ j. get_or bs j 0) (own_number t d less) in omega (arith, at, from, le))) a)
 
--- no cache
+-- `AreBelow` holds of tables without caches
 pub below_opening : (tenants : ℕ) → AreBelow (replicate (MOST_CACHES * tenants) None) (replicate tenants 0)
 below_opening tenants = record {
   tenants = length-replicate (MOST_CACHES * tenants) uncached ∙ ap (λ n. MOST_CACHES * n) (sym (length-replicate tenants zero_of));

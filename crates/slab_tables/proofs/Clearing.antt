@@ -1,4 +1,4 @@
--- Caches go with all their slabs.
+-- Removing caches with all their slabs.
 use Rattle.std.proofs.Common.{◌≡◌, ℕ, ◌+◌, ◌*◌, ◌/◌, ◌%◌, ◌<◌, ◌≤◌, ◌⊎◌, Bool, true, false, cond, eqb, ltb, ◌&&◌, ◌||◌, Option, Some, None, length, get_or, set, refl, sym, ap, ◌∙◌, inl, inr, arith}
 use Rattle.std.proofs.lemmas.Bool.{cases_eq, cases_lt, eqb-true, eqb-false, eq-eqb, ne_eqb, lt-ltb, le-ltb}
 use Rattle.std.proofs.lemmas.List.{length-set, get_or-set_same, get_or-set_other}
@@ -12,7 +12,7 @@ use Rattle.slab_tables.proofs.Totals.{total_along, total_none}
 abbrev pub this : ℕ → ℕ → Bool
 this i n = eqb n i
 
--- the three lists of a cache
+-- emptying the three lists of a cache removes exactly its slabs
 
 abbrev without : ℕ → Option (ℕ × ℕ) → Option (ℕ × ℕ)
 without h o = cond (is_in h o) None o
@@ -47,7 +47,7 @@ pub emptied_all : (s a b z : Placed) (i : ℕ) → IsEmptied s a (3 * i) → IsE
 emptied_all s a b z i x y w n =
     w.places n ∙ (ap (without (3 * i + 2)) (y.places n) ∙ (ap (λ o. without (3 * i + 2) (without (3 * i + 1) o)) (x.places n) ∙ emptied_thrice i (place_at s.places n)))
 
--- what is left is no place of what is gone
+-- the place is `Some (head, key)`, and its cache is not one of the removed ones
 pub record IsLeft (gone : ℕ → Bool) (o : Option (ℕ × ℕ)) (head key : ℕ) : Type 0 where
   pub here : o ≡ Some (head, key)
   pub stays : gone (head / 3) ≡ false
@@ -112,7 +112,7 @@ slabs_cleared s i lists w lt heads machine_frames places = record {
           ∙ sym (total_along n s.lists.places lists.places s.kept machine_frames (λ k. ap (is_of_index n) (places k) ∙ index_stays i n (place_at s.lists.places k) ne)))
     ]
 
--- the caches of a tenant, one after the other
+-- the caches of tenant t with numbers below c, which are removed one after the other
 
 abbrev pub those_below : ℕ → ℕ → ℕ → Bool
 those_below t c n = eqb (n / MOST_CACHES) t && ltb (n % MOST_CACHES) c
@@ -191,7 +191,7 @@ one_more t c lt n = elim (cases_eq (n / MOST_CACHES) t) [
           ]
         ]
 
--- all of them, where none has a higher number: the tenant is reset
+-- once all caches below c are removed and none has a higher number, the tenant is reset
 pub cleared_all : (s s' : Content) (t c : ℕ) → IsSlabs s → ((d : ℕ) → c ≤ d → cache_at s t d ≡ None) → IsCleared s s' (those_below t c) → IsReset s s' t
 cleared_all s s' t c w none a = record {
   top = a.top;
@@ -203,7 +203,7 @@ cleared_all s s' t c w none a = record {
   caches = λ n. a.caches n ∙ cache_same n;
 }
   where
-    -- a cache that is not below is none of the tenant's
+    -- the tenant has no cache with number c or above
     vacant : (n : ℕ) → n / MOST_CACHES ≡ t → c ≤ n % MOST_CACHES → cache_in s.caches n ≡ None
     vacant n own from =
         let at : n ≡ index_of_cache t (n % MOST_CACHES) = omega arith in

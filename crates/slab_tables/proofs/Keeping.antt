@@ -1,4 +1,4 @@
--- What holds of all tables still holds after each change.
+-- Each change keeps the invariant of the tables.
 use Rattle.std.proofs.Common.{◌≡◌, ℕ, ◌+◌, ◌-◌, ◌*◌, ◌/◌, ◌%◌, ◌^◌, ◌<◌, ◌≤◌, Bool, true, false, cond, List, Option, Some, None, length, get_or, set, replicate, refl, sym, ap, ◌∙◌, subst, inl, inr, arith}
 use Rattle.std.proofs.Math.Nat.{pow-le-pow_right, mul-le-mul}
 use Rattle.std.proofs.lemmas.Bool.{cases_eq, eq-eqb, ne_eqb, lt-ltb}
@@ -14,7 +14,7 @@ use Rattle.slab_tables.specs.Changes.{fresh_kept, made_more, with_new_slab, with
 use Rattle.slab_tables.proofs.Totals.{part, total_set, part_within, total_none, total_few}
 use Rattle.slab_tables.proofs.Reading.{same_cache, same_place, IsCached, cached, cache_within, placed_at, head_parts, listed, few_live, kind_below, kind_fresh}
 
--- a slab in this place, of which this is kept, is in order
+-- a slab at this place and with this stored state satisfies the invariant
 abbrev pub InOrder : Content → Option (ℕ × ℕ) → Kept → Type 0
 InOrder s p k = (head key : ℕ) → p ≡ Some (head, key) → (c : Cache) × (cache_in s.caches (head / 3) ≡ Some c) × IsListed k c head
 
@@ -27,7 +27,7 @@ with_machine_frame s machine_frame p k live = record {
   live = live;
 }
 
--- one machine frame is replaced, and the totals with it
+-- the invariant holds after the entries of one machine frame and the totals are replaced
 pub slabs_machine_frame : (s : Content) (machine_frame : ℕ) (p : Option (ℕ × ℕ)) (k : Kept) (live : List ℕ) → IsSlabs s → machine_frame < length s.lists.places → InOrder s p k
     → length live ≡ length s.live
     → ((n : ℕ) → n < length s.live → get_or live n 0 + part n (place_at s.lists.places machine_frame) (kept_at s.kept machine_frame) ≡ get_or s.live n 0 + part n p k)
@@ -64,7 +64,7 @@ slabs_machine_frame s machine_frame p k live w lt stands size counts = record {
         let t = total_set n machine_frame p k s.lists.places s.kept lt (omega (arith, w.paired)) in
         omega (arith, t, counts n (omega (arith, w.totals)), w.counted n below)
 
--- one cache is replaced
+-- the invariant holds after one cache is replaced
 pub slabs_cache : (s : Content) (i : ℕ) (o : Option Cache) → IsSlabs s → i < length s.caches → ((c : Cache) → o ≡ Some c → IsTableCache c)
     → ((machine_frame head key : ℕ) → place_at s.lists.places machine_frame ≡ Some (head, key) → head / 3 ≡ i → (c : Cache) × (o ≡ Some c) × IsListed (kept_at s.kept machine_frame) c head)
     → IsSlabs (record s { caches = set s.caches i o })
@@ -101,7 +101,7 @@ slabs_outside s machine_frame outside w lt =
         → (c : Cache) × (cache_in s.caches (head / 3) ≡ Some c) × IsListed (record (kept_at s.kept machine_frame) { outside = outside }) c head
     stands head key e = let x = w.standing machine_frame head key e in (x.0, x.1, record { kind = x.2.kind; few = x.2.few; colour = x.2.colour })
 
--- nothing that is not live is counted
+-- a slab without live objects adds nothing to a total
 part_zero : (n : ℕ) (p : Option (ℕ × ℕ)) (k : Kept) → k.live ≡ 0 → part n p k ≡ 0
 part_zero n p k e = zero_either (is_of_index n p)
   where
@@ -120,7 +120,7 @@ slabs_without s machine_frame w lt empty =
 abbrev with_made : Content → ℕ → ℕ → Cache → Content
 with_made s t c cache = record s { caches = set s.caches (index_of_cache t c) (Some (made_more cache)) }
 
--- a slab more
+-- the invariant holds after a slab is added
 pub slabs_slab : (s : Content) (t c : ℕ) (cache : Cache) (first machine_frame : ℕ) → IsSlabs s → cache_at s t c ≡ Some cache → index_of_cache t c < length s.caches
     → machine_frame < length s.lists.places → place_at s.lists.places machine_frame ≡ None → IsSlabs (with_new_slab s t c cache first machine_frame)
 slabs_slab s t c cache first machine_frame w e below lt free =
@@ -158,14 +158,14 @@ slabs_slab s t c cache first machine_frame w e below lt free =
           },
         )
 
--- a cache less, which has no slab
+-- the invariant holds after a cache without slabs is removed
 pub slabs_less : (s : Content) (t c : ℕ) → IsSlabs s → index_of_cache t c < length s.caches → ((first machine_frame : ℕ) → IsPlacedIn s t c first machine_frame → ⊥)
     → IsSlabs (with_cache s t c None)
 slabs_less s t c w below none = slabs_cache s (index_of_cache t c) None w below
     (λ d e. absurd (let f : ◌≡◌ {A = Option Cache} None (Some d) = e in cc))
     (λ machine_frame head key e is. absurd (none key machine_frame (placed_at s t c head key machine_frame e is)))
 
--- a cache more, in the place of none
+-- the invariant holds after a cache is added under a free number
 pub slabs_more : (s : Content) (t c : ℕ) (cache : Cache) → IsSlabs s → c < MOST_CACHES → index_of_cache t c < length s.caches → cache_at s t c ≡ None → IsTableCache cache
     → IsSlabs (with_cache s t c (Some cache))
 slabs_more s t c cache w lt below vacant fit = slabs_cache s (index_of_cache t c) (Some cache) w below
@@ -175,14 +175,14 @@ slabs_more s t c cache w lt below vacant fit = slabs_cache s (index_of_cache t c
     let gone : cache_in s.caches (index_of_cache t c) ≡ None = sym (ap (λ b. cond b (cache_in s.caches (index_of_cache t c)) None) (lt-ltb c MOST_CACHES lt)) ∙ vacant in
     absurd (let f : ◌≡◌ {A = Option Cache} None (Some x.0) = sym gone ∙ (sym (ap (cache_in s.caches) is) ∙ x.1) in cc))
 
--- what a slab adds to the total of its own cache, and of another
+-- what a slab adds to the total of its own cache and to those of others
 part_here : (t c kind first n : ℕ) (k : Kept) → kind < 3 → n ≡ index_of_cache t c → part n (Some (head_of t c kind, first)) k ≡ k.live
 part_here t c kind first n k lt is = ap (λ b. cond b k.live 0) (eq-eqb (head_of t c kind / 3) n ((head_parts t c kind lt).0 ∙ sym is))
 
 part_elsewhere : (t c kind first n : ℕ) (k : Kept) → kind < 3 → (n ≡ index_of_cache t c → ⊥) → part n (Some (head_of t c kind, first)) k ≡ 0
 part_elsewhere t c kind first n k lt ne = ap (λ b. cond b k.live 0) (ne_eqb (head_of t c kind / 3) n (λ e. ne (sym e ∙ (head_parts t c kind lt).0)))
 
--- the total of a cache is that of its slabs at least, and a small number
+-- a cache's total is at least the number of live objects in each of its slabs, and at most 2 ^ 24
 pub record IsTotal (s : Content) (t c machine_frame : ℕ) : Type 0 where
   pub at_least : (kept_at s.kept machine_frame).live ≤ get_or s.live (index_of_cache t c) 0
   pub at_most : get_or s.live (index_of_cache t c) 0 ≤ 256 * 2 ^ 16
@@ -203,7 +203,7 @@ counted_kept s machine_frame count = record (kept_at s.kept machine_frame) { liv
 abbrev counted_live : Content → ℕ → ℕ → ℕ → List ℕ
 counted_live s n machine_frame count = set s.live n (get_or s.live n 0 + count - (kept_at s.kept machine_frame).live)
 
--- a slab counted anew
+-- the invariant holds after the number of live objects in a slab is set
 pub slabs_count : (s : Content) (t c : ℕ) (cache : Cache) (first machine_frame count : ℕ) → IsSlabs s → cache_at s t c ≡ Some cache → index_of_cache t c < length s.caches
     → IsPlacedIn s t c first machine_frame → count ≤ (layout_numbers cache).count → IsSlabs (with_count s t c cache first machine_frame count)
 slabs_count s t c cache first machine_frame count w e below p few =
@@ -253,13 +253,14 @@ slabs_count s t c cache first machine_frame count w e below p few =
               )
         ]
 
--- what the code reads of the slab
+-- the stored state that the code reads is that of the slab
 pub kept_read : (s : Content) (t c first machine_frame : ℕ) (k : Kept) → IsSlabs s → IsPlacedIn s t c first machine_frame → k ≡ get_or s.kept machine_frame k → k ≡ kept_at s.kept machine_frame
 kept_read s t c first machine_frame k w p read =
     let lt = placed_within s.lists.places machine_frame (head_of t c p.kind, first) p.placed in
     get_or_read s.kept machine_frame k (omega (arith, w.paired)) read blank
 
--- what the code reads when it counts a slab anew: its cache's total and what is kept of it, and that the sums fit
+-- what the code reads when it sets a slab's number of live objects: its cache's total and its stored state; the new total does
+-- not overflow
 pub record IsCounting (s : Content) (t c machine_frame count total : ℕ) (k : Kept) : Type 0 where
   pub total_is : total ≡ get_or s.live (index_of_cache t c) 0
   pub kept_is : k ≡ kept_at s.kept machine_frame
@@ -283,7 +284,7 @@ counting s t c cache first machine_frame count total k w tenant e p few read rea
       enough = omega (arith, x.at_least, ap (λ (y : Kept). y.live) same_kept);
     }
 
--- no cache and no slab
+-- the invariant holds of tables without caches and slabs
 pub slabs_opening : (top superblocks tenants : ℕ) → top ≤ MOST_ORDER → superblocks ≤ MOST_SUPERBLOCKS → tenants ≤ MOST_TENANTS → IsSlabs (empty_tables top superblocks tenants)
 slabs_opening top superblocks tenants order few_superblocks few_tenants = record {
   order = order;

@@ -1,4 +1,4 @@
--- What stands in the tables, read by tenant, number and machine frame.
+-- The content of the tables, read by tenant, number and machine frame.
 use Rattle.std.proofs.Common.{◌≡◌, ℕ, ◌/◌, ◌%◌, ◌<◌, ◌≤◌, Bool, true, false, cond, eqb, Option, Some, None, length, sym, ap, ◌∙◌, subst, inl, inr, arith}
 use Rattle.std.specs.Prelude.{IsSome}
 use Rattle.std.proofs.lemmas.Bool.{cases_lt, lt-ltb, le-ltb, ne_eqb, false≢true}
@@ -12,14 +12,14 @@ use Rattle.slab_tables.specs.Content.{Content, IsSlabs, IsListed, IsTenant, IsPl
 abbrev pub shown : Inside → Content
 shown a = record { top = a.order; lists = a.lists; kept = a.kept.items; caches = a.caches.items; live = a.live.items }
 
--- two answers of one look-up are the same
+-- two results of one lookup are the same
 pub same_cache : {c d : Cache} {o : Option Cache} → o ≡ Some c → o ≡ Some d → c ≡ d
 same_cache {c} {d} {o} a b = cc
 
 pub same_place : {g k h k' : ℕ} {o : Option (ℕ × ℕ)} → o ≡ Some (g, k) → o ≡ Some (h, k') → (g ≡ h) × (k ≡ k')
 same_place {g} {k} {h} {k'} {o} a b = let e : ◌≡◌ {A = ℕ × ℕ} (g, k) (h, k') = cc in (ap (λ (p : ℕ × ℕ). p.0) e, ap (λ (p : ℕ × ℕ). p.1) e)
 
--- a cache that stands has a number below the most, and stands among all
+-- an existing cache has a number below `MOST_CACHES`, and is in the table at its index
 pub record IsCached (s : Content) (t c : ℕ) (cache : Cache) : Type 0 where
   pub below : c < MOST_CACHES
   pub cached : cache_in s.caches (index_of_cache t c) ≡ Some cache
@@ -30,17 +30,17 @@ cached s t c cache e = elim (cases_lt c MOST_CACHES) [
   | inr ge ↦ let none : cache_at s t c ≡ None = ap (λ b. cond b (cache_in s.caches (index_of_cache t c)) None) (le-ltb c MOST_CACHES ge) in absurd (let f : ◌≡◌ {A = Option Cache} None (Some cache) = sym none ∙ e in cc)
 ]
 
--- the list of a place of the cache and its kind
+-- the cache and the kind of a list
 pub head_parts : (t c kind : ℕ) → kind < 3 → (head_of t c kind / 3 ≡ index_of_cache t c) × (head_of t c kind % 3 ≡ kind)
 head_parts t c kind lt = (omega arith, omega arith)
 
--- a place in a list of the cache
+-- a place in a list of the cache is that of one of its slabs
 pub placed_at : (s : Content) (t c head key machine_frame : ℕ) → place_at s.lists.places machine_frame ≡ Some (head, key) → head / 3 ≡ index_of_cache t c → IsPlacedIn s t c key machine_frame
 placed_at s t c head key machine_frame e is =
     let parts : head ≡ head_of t c (head % 3) = omega arith in
     record { kind = head % 3; few = omega arith; placed = e ∙ ap (λ (x : ℕ). Some (x, key)) parts }
 
--- a cache of a tenant stands among all
+-- the index of each cache number of a tenant lies within the table of caches
 pub cache_within : (s : Content) (t c : ℕ) → IsTenant s t → c < MOST_CACHES → index_of_cache t c < length s.caches
 cache_within s t c tenant lt = omega (arith, tenant)
 
@@ -50,7 +50,7 @@ some_below s t c some = elim (cases_lt c MOST_CACHES) [
   | inr ge ↦ absurd (false≢true (subst IsSome (ap (λ b. cond b (cache_in s.caches (index_of_cache t c)) None) (le-ltb c MOST_CACHES ge)) some))
 ]
 
--- the slab at a machine frame of the cache is in order
+-- the stored state of a slab of the cache fits its list
 pub listed : (s : Content) → IsSlabs s → (t c first machine_frame : ℕ) (cache : Cache) → cache_at s t c ≡ Some cache → (kind : ℕ) → kind < 3
     → place_at s.lists.places machine_frame ≡ Some (head_of t c kind, first) → IsListed (kept_at s.kept machine_frame) cache (head_of t c kind)
 listed s w t c first machine_frame cache e kind lt placed =
@@ -58,7 +58,7 @@ listed s w t c first machine_frame cache e kind lt placed =
     let same : k.0 ≡ cache = same_cache (sym (ap (cache_in s.caches) (head_parts t c kind lt).0) ∙ k.1) (cached s t c cache e).cached in
     subst (λ x. IsListed (kept_at s.kept machine_frame) x (head_of t c kind)) same k.2
 
--- a slab stands in the list of its kind
+-- a slab is in the list of its kind
 pub placed_by_kind : (s : Content) → IsSlabs s → (t c first machine_frame : ℕ) (cache : Cache) → cache_at s t c ≡ Some cache → IsPlacedIn s t c first machine_frame
     → place_at s.lists.places machine_frame ≡ Some (head_of t c (kind_of (layout_numbers cache).count (kept_at s.kept machine_frame).live), first)
 placed_by_kind s w t c first machine_frame cache e slab =
@@ -72,7 +72,7 @@ few_live s w i head key e =
     let fit = ((w.fits (head / 3) k.0 k.1).layout.fits 0).few in
     omega (arith, k.2.few)
 
--- the kinds of a slab without and with live objects
+-- there are three kinds, and a slab without live objects is empty
 pub kind_below : (count live : ℕ) → kind_of count live < 3
 kind_below count live = kind (eqb live count) (eqb live 0)
   where

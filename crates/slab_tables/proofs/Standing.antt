@@ -1,9 +1,9 @@
--- A walk along a list that is linked by key comes to slabs that are in it.
+-- A walk along a list that is linked by key visits slabs of that list.
 use Rattle.std.proofs.Common.{ℕ, List, Option, Some, None, IfSome}
 use Rattle.std.specs.Prelude.{MatchOption}
 use Rattle.klist_core.specs.Places.{IsByKey, IsPlacedByKey, IsEmpty, IsFirst, NoneAbove, IsNext}
 
--- the slab of this pair of key and machine frame, if it is one, is in such a list
+-- the pair is a key and a machine frame; if there is one, its slab is in a list that is linked by key
 abbrev pub IsThere : List (Option (ℕ × ℕ)) → Option (ℕ × ℕ) → Type 0
 IsThere places o = IfSome o (λ p. IsPlacedByKey places p.1)
 

@@ -8,15 +8,15 @@ use Rattle.slab_tables.specs.declared.cache.Cache.{Cache}
 use Rattle.slab_tables.specs.declared.cache.Kept.{Kept}
 use Rattle.slab_tables.specs.Content.{Content, kept_at, cache_in, cache_at, index_of_cache, layout_numbers, kind_of, head_of}
 
--- what is kept of the slab that the cache makes next: it has the next colour, and no object is live
+-- the stored state of the slab that the cache makes next: it has the next colour, and no object is live
 abbrev pub fresh_kept : Cache → Kept
 fresh_kept cache = record { colour = colour_offset cache.layout.align cache.made (layout_numbers cache); live = 0; outside = 0 }
 
--- the cache has made one slab more
+-- the cache after it has made one more slab
 abbrev pub made_more : Cache → Cache
 made_more cache = record cache { made = (cache.made + 1) % (layout_numbers cache).colours }
 
--- the next slab of cache c of tenant t, an empty one, begins at frame `first`, machine frame n
+-- a new empty slab of cache c of tenant t, its next one, begins at frame `first`, machine frame n
 abbrev pub with_new_slab : Content → ℕ → ℕ → Cache → ℕ → ℕ → Content
 with_new_slab s t c cache first n = record s {
   lists = inserted s.lists (head_of t c 2) n first;
@@ -24,7 +24,7 @@ with_new_slab s t c cache first n = record s {
   caches = slice_set s.caches (index_of_cache t c) (Some (made_more cache));
 }
 
--- the slab has so many live objects now, and stands in the list of its kind
+-- the slab has `count` live objects, and is in the list of its kind
 abbrev pub with_count : Content → ℕ → ℕ → Cache → ℕ → ℕ → ℕ → Content
 with_count s t c cache first n count = record s {
   lists = record s.lists { places = slice_set s.lists.places n (Some (head_of t c (kind_of (layout_numbers cache).count count), first)) };
@@ -32,15 +32,15 @@ with_count s t c cache first n count = record s {
   live = slice_set s.live (index_of_cache t c) (slice_index s.live (index_of_cache t c) + count - (kept_at s.kept n).live);
 }
 
--- these of the slab's large objects are live
+-- `outside` records which of the slab's large objects are live
 abbrev pub with_outside : Content → ℕ → ℕ → Content
 with_outside s n outside = record s { kept = slice_set s.kept n (record (kept_at s.kept n) { outside = outside }) }
 
--- the slab is gone
+-- the slab is removed
 abbrev pub without_slab : Content → ℕ → Content
 without_slab s n = record s { lists = removed s.lists n }
 
--- cache c of tenant t is this one, or there is none
+-- cache c of tenant t is replaced, added or removed
 abbrev pub with_cache : Content → ℕ → ℕ → Option Cache → Content
 with_cache s t c cache = record s { caches = slice_set s.caches (index_of_cache t c) cache }
 
@@ -50,7 +50,7 @@ pub record IsLeastNumber (s : Content) (t c : ℕ) : Type 0 where
   pub vacant : cache_at s t c ≡ None
   pub least : (d : ℕ) → d < c → IsSome (cache_at s t d)
 
--- every number is that of a cache of tenant t
+-- tenant t has a cache of each number
 abbrev pub IsAllUsed : Content → ℕ → Type 0
 IsAllUsed s t = (d : ℕ) → d < MOST_CACHES → IsSome (cache_at s t d)
 
@@ -58,18 +58,18 @@ IsAllUsed s t = (d : ℕ) → d < MOST_CACHES → IsSome (cache_at s t d)
 abbrev pub new_cache : Cut → List ℕ → Cache
 new_cache layout pattern = record { layout = layout; pattern = pattern; made = 0 }
 
--- list h is empty now, and every other list is as before
+-- list h is empty, and every other list is as before
 pub record IsEmptied (s s' : Placed) (h : ℕ) : Type 0 where
   pub heads : s'.heads ≡ s.heads
   pub machine_frames : length s'.places ≡ length s.places
   pub places : (n : ℕ) → place_at s'.places n ≡ (if is_in h (place_at s.places n) then None else place_at s.places n)
 
--- the place, unless its cache is one of those that the test names
+-- the place, or `None` if the index of its cache satisfies `gone`
 abbrev pub unless_gone : (ℕ → Bool) → Option (ℕ × ℕ) → Option (ℕ × ℕ)
 unless_gone gone None = None
 unless_gone gone (Some p) = if gone (p.0 / 3) then None else Some p
 
--- the caches that the test names, by where they stand among all, are gone with their slabs, and all else is as before
+-- the caches whose indexes satisfy `gone` are removed with their slabs, and all else but the totals is as before
 pub record IsCleared (s s' : Content) (gone : ℕ → Bool) : Type 0 where
   pub top : s'.top ≡ s.top
   pub heads : s'.lists.heads ≡ s.lists.heads
@@ -79,15 +79,15 @@ pub record IsCleared (s s' : Content) (gone : ℕ → Bool) : Type 0 where
   pub tenants : length s'.caches ≡ length s.caches
   pub caches : (n : ℕ) → cache_in s'.caches n ≡ (if gone n then None else cache_in s.caches n)
 
--- tenant t has no cache and no slab any more, and all else is as before
+-- tenant t has no cache and no slab, and all else but the totals is as before
 abbrev pub IsReset : Content → Content → ℕ → Type 0
 IsReset s s' t = IsCleared s s' (λ n. n / MOST_CACHES == t)
 
--- the slab at one machine frame is at another one, with what is kept of it
+-- the slab at one machine frame is moved to another, with its stored state
 abbrev pub with_slab_moved : Content → ℕ → ℕ → Content
 with_slab_moved s from to = record s { lists = replaced s.lists from to; kept = slice_set s.kept to (kept_at s.kept from) }
 
--- the slabs of superblock `from` are at the machine frames of superblock `to` now, with all that is kept of them
+-- the slabs of superblock `from` are moved to the same frames of superblock `to`, with their stored states
 pub record IsMoved (s s' : Content) (from to : ℕ) : Type 0 where
   pub top : s'.top ≡ s.top
   pub heads : s'.lists.heads ≡ s.lists.heads

@@ -12,16 +12,17 @@ use Rattle.slab_tables.specs.declared.kind.Kind.{Kind}
 pub record Content : Type 0 where
   -- a superblock has 2 ^ top frames
   pub top : ℕ
-  -- by machine frame its slab's list and first frame; each cache has three lists, one for each kind of slab
+  -- for each machine frame, the list and the first frame of the slab that begins there; each cache has three lists, one for
+  -- each kind of slab
   pub lists : Placed
-  -- by machine frame
+  -- for each machine frame, the state of the slab that begins there
   pub kept : List Kept
-  -- by tenant and number
+  -- for each tenant and number, its cache
   pub caches : List (Option Cache)
-  -- by tenant and number, how many objects of the cache are live
+  -- for each tenant and number, how many objects of the cache are live
   pub live : List ℕ
 
--- no slab
+-- the stored state if no slab begins at the machine frame
 abbrev pub blank : Kept
 blank = record { colour = 0; live = 0; outside = 0 }
 
@@ -31,23 +32,23 @@ kept_at kept n = slice_index_or kept n blank
 abbrev pub cache_in : List (Option Cache) → ℕ → Option Cache
 cache_in caches n = slice_index_or caches n None
 
--- where cache c of tenant t stands among all
+-- the index of cache c of tenant t among the caches of all tenants
 abbrev pub index_of_cache : ℕ → ℕ → ℕ
 index_of_cache t c = MOST_CACHES * t + c
 
--- cache c of tenant t
+-- cache c of tenant t, or `None` if there is none
 abbrev pub cache_at : Content → ℕ → ℕ → Option Cache
 cache_at s t c = if nat_lt c MOST_CACHES then cache_in s.caches (index_of_cache t c) else None
 
--- tenant t is one of those whose caches these are
+-- the tables are those of more than t tenants
 abbrev pub IsTenant : Content → ℕ → Type 0
 IsTenant s t = index_of_cache t MOST_CACHES ≤ length s.caches
 
--- the layout_numbers of the cache's layout
+-- the numbers of the cache's layout
 abbrev pub layout_numbers : Cache → Layout
 layout_numbers c = numbers_of c.layout
 
--- the kind of a slab of so many objects of which so many are live: 0 full, 1 partial, 2 empty
+-- the kind of a slab of `count` objects with `live` live ones: 0 full, 1 partial, 2 empty
 abbrev pub kind_of : ℕ → ℕ → ℕ
 kind_of count live = if live == count then 0 else (if live == 0 then 2 else 1)
 
@@ -57,11 +58,11 @@ kind_number Kind.Full = 0
 kind_number Kind.Partial = 1
 kind_number Kind.Empty = 2
 
--- the list of the slabs of a kind of cache c of tenant t
+-- the list of the slabs of one kind of cache c of tenant t
 abbrev pub head_of : ℕ → ℕ → ℕ → ℕ
 head_of t c kind = 3 * index_of_cache t c + kind
 
--- what is kept of a slab of the cache is in order, and says that it is of this list's kind
+-- the stored state of a slab of the cache fits the layout, and its kind is that of the list
 pub record IsListed (kept : Kept) (cache : Cache) (head : ℕ) : Type 0 where
   pub kind : head % 3 ≡ kind_of (layout_numbers cache).count kept.live
   pub few : kept.live ≤ (layout_numbers cache).count
@@ -74,18 +75,18 @@ pub record IsTableCache (c : Cache) : Type 0 where
   pub pattern : is_pattern c.pattern ≡ true
   pub made : c.made < (layout_numbers c).colours
 
--- the place is in a list of this cache
+-- the place is in a list of the cache with index n
 abbrev pub is_of_index : ℕ → Option (ℕ × ℕ) → Bool
 is_of_index n None = false
 is_of_index n (Some p) = p.0 / 3 == n
 
--- how many objects are live in the slabs that stand in the lists of a cache
+-- how many objects are live in the slabs of the cache with index n
 abbrev pub live_total : ℕ → List (Option (ℕ × ℕ)) → List Kept → ℕ
 live_total n [] kept = 0
 live_total n (p ∷ places) [] = 0
 live_total n (p ∷ places) (k ∷ kept) = (if is_of_index n p then k.live else 0) + live_total n places kept
 
--- what holds of all tables
+-- the invariant of the tables
 pub record IsSlabs (s : Content) : Type 0 where
   pub order : s.top ≤ MOST_ORDER
   pub paired : length s.kept ≡ length s.lists.places
@@ -98,18 +99,18 @@ pub record IsSlabs (s : Content) : Type 0 where
       → (c : Cache) × (cache_in s.caches (head / 3) ≡ Some c) × IsListed (kept_at s.kept n) c head
   pub counted : (n : ℕ) → n < length s.caches → slice_index s.live n ≡ live_total n s.lists.places s.kept
 
--- by tenant a number above those of its caches
+-- for each tenant, a number above those of all its caches
 pub record AreBelow (caches : List (Option Cache)) (below : List ℕ) : Type 0 where
   pub tenants : length caches ≡ MOST_CACHES * length below
   pub few : (t : ℕ) → slice_index below t ≤ MOST_CACHES
   pub none : (n : ℕ) → slice_index below (n / MOST_CACHES) ≤ n % MOST_CACHES → cache_in caches n ≡ None
 
--- what holds of all tables and of the numbers that are kept beside them
+-- the invariant of the tables with these numbers
 pub record AreTables (s : Content) (below : List ℕ) : Type 0 where
   pub slabs : IsSlabs s
   pub ends : AreBelow s.caches below
 
--- no cache and no slab
+-- tables without caches and slabs
 abbrev pub empty_tables : ℕ → ℕ → ℕ → Content
 empty_tables top superblocks tenants = record {
   top = top;

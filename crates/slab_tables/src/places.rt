@@ -32,11 +32,11 @@ pub(crate) fn machine_frame_at(order: u8, superblock: u16, i: u32) -> u32
 /// A list of fewer slabs is walked without using groups.
 const SHORT: u32 = 8;
 
-/// A list that grows to this number of slabs is kept in groups. For fewer slabs a walk costs no more than a look at its groups.
+/// A list that grows to this number of slabs is kept in groups. For fewer slabs a walk costs no more than a lookup in the groups.
 const LONG: u32 = 128;
 
-/// A list that shrinks below this number of slabs is no longer kept in groups. There are many changes between the two numbers,
-/// since a list has to be walked to put it into groups.
+/// A list that shrinks below this number of slabs is no longer kept in groups. The number is well below `LONG`, because a list
+/// has to be walked each time it is put into groups.
 const NOT_LONG: u32 = 64;
 
 /// The lists of the slabs of all caches, with hints where to look for their slabs.
@@ -197,8 +197,8 @@ impl SlabLists {
 
     /// Moves the slab from its list to the list `head` under the same key.
     ///
-    /// A loose list takes it at once. A short list is walked, unless the slab belongs at an end of it. In a longer one it searches
-    /// for a slab that comes before it.
+    /// If the list is loose, the slab is appended. A short list is walked, unless the slab belongs at an end of it. In a longer
+    /// list the function searches for a slab that comes before it.
     #[inline(never)]
     fn move_to(&mut self, head: u32, machine_frame: u32, key: u32, slab: u8)
         requires head { head < self.old.heads }
@@ -218,7 +218,8 @@ impl SlabLists {
         }
     }
 
-    /// The same as [`Lists::insert`] for a list that is not short: behind a slab that comes before, if one is found nearby.
+    /// The same as [`Lists::insert`] for a list that is not short. Inserts the slab behind one that comes before it, if it finds one
+    /// nearby.
     #[inline(always)]
     fn insert_among(&mut self, head: u32, machine_frame: u32, key: u32, step: u32)
         requires head { head < self.old.heads }
@@ -237,10 +238,11 @@ impl SlabLists {
         }
     }
 
-    /// Returns the machine frame of a slab of the list with a key below this one and not far from it, if one is found.
+    /// Returns the machine frame of a slab of the list, most likely with a key that is below this one and not far from it. Returns
+    /// `None` if it finds none.
     ///
-    /// It searches below `machine_frame` in its group, at as many frames as a fourth of the slabs of the list, since a walk over a
-    /// short list costs less, and then in the last group before that has a slab of the list.
+    /// It searches below `machine_frame` in its group first. The number of frames that it tries there is at most a quarter of the
+    /// list's length, since a walk over a short list costs less. Then it searches in the last earlier group with a slab of the list.
     fn near(&self, head: u32, machine_frame: u32, key: u32, step: u32) -> Option<u32>
         requires head { head < self.now.heads }
         requires machine_frame { machine_frame < length self.now.places }
@@ -318,7 +320,7 @@ fn keep(lists: &Lists, groups: &mut Groups, head: u32)
 }
 
 /// Returns the first of `above - step`, `above - 2 * step` and so on that is in the list. It tries at most `most` frames, and
-/// none further below than `reach`.
+/// none more than `reach` below `above`.
 fn near_below(lists: &Lists, head: u32, above: u32, step: u32, reach: u32, most: u32) -> Option<u32>
     requires head { head < lists.now.heads }
     requires above { above ≤ length lists.now.places }

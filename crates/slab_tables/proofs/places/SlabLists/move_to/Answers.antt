@@ -3,7 +3,7 @@ use Rattle.std.proofs.lemmas.List.{set-set}
 use Rattle.klist_core.specs.Places.{Placed, inserted, removed}
 use Rattle.slab_tables.proofs.places.SlabLists.move_to.Goals as goal
 
--- a slab that is taken out and put in again is put in
+-- removing a slab from its list first does not change the result of inserting it
 put_anew : (s t : Placed) (h i k : ℕ) → t ≡ removed s i → inserted t h i k ≡ inserted s h i k
 put_anew s t h i k e =
     let with_places : List (Option (ℕ × ℕ)) → Placed = λ xs. record { heads = s.heads; places = xs } in

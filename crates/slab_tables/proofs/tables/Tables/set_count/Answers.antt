@@ -5,17 +5,17 @@ use Rattle.slab_tables.proofs.Keeping.{counting, kept_read, slabs_count}
 use Rattle.slab_tables.proofs.tables.Tables.set_count.Goals as goal
 use Rattle.slab_tables.proofs.tables.Tables.set_count.Goals.{After-of-to}
 
--- the list of the slab's kind
+-- `to` is the list of the slab's new kind
 listed_as : (c : After-of-to) → c.of-to.result.number ≡ head_of c.args.t c.args.c (kind_of (layout_numbers c.args.cache.now).count c.args.count)
 listed_as c = c.of-to.ensures ∙ ap (head_of c.args.t c.args.c) (c.of-2.ensures ∙ ap (λ n. kind_of n c.args.count) c.count-total.ensures)
 
--- what is kept of the slab
+-- the state read is the stored state of the slab
 read_as : (c : After-of-to) → c.index.result.now ≡ kept_at c.self.inside.kept.items c.args.machine_frame
 read_as c =
     kept_read (shown c.self.inside) c.args.t c.args.c c.args.first c.args.machine_frame c.index.result.now c.self.invariant.slabs
     (rw (← c.self.view_is) at c.requires.slab) c.index.ensures
 
--- the list in which it stands
+-- `from` is the list of the slab's kind before
 listed_from : (c : After-of-to)
     → c.of-from.result.number ≡ head_of c.args.t c.args.c (kind_of (layout_numbers c.args.cache.now).count (kept_at c.self.inside.kept.items c.args.machine_frame).live)
 listed_from c =
