@@ -1,4 +1,4 @@
--- What is known of a tenant's slabs: which slabs of the machine they are, and that no two share a frame.
+-- Facts about a tenant's slabs: which slabs of the machine they are, and that no two share a frame.
 use Rattle.std.proofs.Common.{◌≡◌, ℕ, ◌+◌, ◌*◌, ◌/◌, ◌%◌, ◌^◌, ◌<◌, ◌≤◌, Bool, true, false, cond, zero, suc, ◌∷◌, Some, None, refl, sym, ap, ◌∙◌, subst, arith}
 use Rattle.std.specs.Prelude.{Option, option_map, is_some, ◌==◌}
 use Rattle.std.proofs.lemmas.Bool.{false≢true, eqb-true, and_parts}
@@ -27,7 +27,7 @@ pub none_mapped : (o : Option Cache) → option_map without_slabs o ≡ None →
 none_mapped None e = refl
 none_mapped (Some x) e = absurd (some_none e)
 
--- tests that are the same below a number
+-- tests that agree on n numbers from k on give the same flags
 pub same_below : (k n : ℕ) (p q : ℕ → Bool) → ((i : ℕ) → k ≤ i → i < k + n → p i ≡ q i) → flags_from k n p ≡ flags_from k n q
 same_below k zero p q same = refl
 same_below k (suc n) p q same =
@@ -36,7 +36,7 @@ same_below k (suc n) p q same =
 
 -- Machine frames
 
--- a machine frame names its superblock and the frame there
+-- a machine frame determines its superblock and its frame in the superblock
 pub superblock_of_machine_frame : (top m f : ℕ) → (m * 2 ^ top + f % 2 ^ top) / 2 ^ top ≡ m
 superblock_of_machine_frame top m f = div-mul-add m (2 ^ top) (f % 2 ^ top) (mod_below f (2 ^ top) (pow_pos top))
 
@@ -51,7 +51,7 @@ some_listed : (n f : ℕ) (o : Option (ℕ × ℕ)) → is_of_cache n f o ≡ tr
 some_listed n f None e = absurd (false≢true e)
 some_listed n f (Some p) e = refl
 
--- a place in a list names one cache and one first frame
+-- a place in a list determines one cache and one first frame
 pub one_listed : (n f n' f' : ℕ) (o : Option (ℕ × ℕ)) → is_of_cache n f o ≡ true → is_of_cache n' f' o ≡ true → (n' ≡ n) × (f' ≡ f)
 one_listed n f n' f' None e e' = absurd (false≢true e)
 one_listed n f n' f' (Some p) e e' =
@@ -60,11 +60,11 @@ one_listed n f n' f' (Some p) e e' =
     (sym (eqb-true (p.0 / 3) n' there.0) ∙ eqb-true (p.0 / 3) n here.0, sym (eqb-true p.1 f' there.1) ∙ eqb-true p.1 f here.1)
 
 module _ (r : spaces.Content) (s : Content) (t : ℕ) where
-  -- a slab's frame has one
+  -- the tables have an entry at the first frame of each slab
   pub has_it : (c f n : ℕ) (cache : own.Cache) → IsSlab r s t c f n cache → has_slab s (machine_frame_of s.top r.slots t f) ≡ true
   has_it c f n cache q = ap (has_slab s) q.under ∙ some_listed (index_of_cache t c) f (place_at s.lists.places n) q.listed
 
-  -- two slabs at one frame are one
+  -- two slabs that begin at one frame are the same slab
   pub record IsOneSlab (c f n c' f' n' : ℕ) (cache cache' : own.Cache) : Type 0 where
     pub number : c' ≡ c
     pub machine_frame : n' ≡ n
@@ -85,7 +85,7 @@ module _ (r : spaces.Content) (s : Content) (t : ℕ) where
       }
 
 module _ (r : spaces.Content) (b : buddies.Content) (s : Content) (t : ℕ) (st : IsSteady r b s t) where
-  -- a machine frame has one frame of t
+  -- a machine frame belongs to at most one frame of t
   pub one_machine_frame : (f g n : ℕ) → machine_frame_of s.top r.slots t f ≡ Some n → machine_frame_of s.top r.slots t g ≡ Some n → f ≡ g
   one_machine_frame f g n e e' =
       let z = 2 ^ s.top in
@@ -126,7 +126,7 @@ module _ (r : spaces.Content) (b : buddies.Content) (s : Content) (t : ℕ) (st 
       (st.stands c' f' n' cache' q').taken (st.stands c f n cache q).taken
       (in_block-true place (block f' (layout_numbers cache').order) i') (in_block-true place (block f (layout_numbers cache).order) i)
 
-  -- the record of a small slab lies in its frame
+  -- the control record of a slab of small objects lies in the slab
   pub record_inside : (c f n j : ℕ) (cache : own.Cache) → IsSlab r s t c f n cache → j < 32 → is_inside (4096 * f + 4064 + j) f cache ≡ true
   record_inside c f n j cache q less =
       let here : (4096 * f + 4064 + j) / 4096 ≡ f =
@@ -134,7 +134,7 @@ module _ (r : spaces.Content) (b : buddies.Content) (s : Content) (t : ℕ) (st 
       in_block-from (4096 * f + 4064 + j) (block f (layout_numbers cache).order)
       (subst (λ x. HasFrame (block f (layout_numbers cache).order) x) (sym here) (has_first (block f (layout_numbers cache).order)))
 
--- an object is live where it was, in a record that stays
+-- an object is live as before if its slab's control record is unchanged
 pub one_stays : (r r' : spaces.Content) (t : ℕ) (cache : own.Cache) (kept : Kept) (f i : ℕ)
     → (is_small (layout_numbers cache).chunk ≡ true → (j : ℕ) → j < 32 → record_byte r' t f j ≡ record_byte r t f j) → i < 256
     → is_live r' t cache kept f i ≡ is_live r t cache kept f i
@@ -153,14 +153,15 @@ all_stay r r' t cache kept f few same =
     same_below 0 (layout_numbers cache).count (is_live r' t cache kept f) (is_live r t cache kept f)
     (λ i low high. one_stays r r' t cache kept f i same (omega arith))
 
--- no slab is shown where none begins
+-- the tables show no slab at a frame at which none begins
 pub no_slab_under : (r : spaces.Content) (s : Content) (t n : ℕ) (cache : own.Cache) (f : ℕ) (o : Option ℕ) → has_slab s o ≡ false → slab_under r s t n cache f o ≡ None
 no_slab_under r s t n cache f None e = refl
 no_slab_under r s t n cache f (Some machine_frame) e =
     ap (λ p. slab_placed (live_of r t cache (kept_at s.kept machine_frame) f) (kept_at s.kept machine_frame).colour f (is_of_cache n f p))
     (none_of (place_at s.lists.places machine_frame) e)
 
--- a slab is shown as it was if its machine frame is the same, and if it is listed there as it was with what was kept of it and the same live objects
+-- a frame shows the same slab as before if it has the same machine frame, the same entry there in the cache's lists, the same
+-- stored state, and the same live objects
 pub same_slab : (r r' : spaces.Content) (s s' : Content) (t c f : ℕ) (cache : own.Cache) → machine_frame_of s'.top r'.slots t f ≡ machine_frame_of s.top r.slots t f
     → ((n : ℕ) → machine_frame_of s.top r.slots t f ≡ Some n → is_of_cache (index_of_cache t c) f (place_at s'.lists.places n) ≡ is_of_cache (index_of_cache t c) f (place_at s.lists.places n))
     → ((n : ℕ) → machine_frame_of s.top r.slots t f ≡ Some n → is_of_cache (index_of_cache t c) f (place_at s.lists.places n) ≡ true
@@ -186,14 +187,14 @@ same_slab r r' s s' t c f cache machine_frame listed stays =
         ∙ placed n at (is_of_cache (index_of_cache t c) f (place_at s.lists.places n)) refl
 
 module _ (r : spaces.Content) (b : buddies.Content) (s : Content) (t : ℕ) (st : IsSteady r b s t) where
-  -- the live objects of a slab whose record is the same
+  -- a slab has the same live objects if its control record is unchanged
   pub live_stays : (r' : spaces.Content) (kept : Kept) (c f n : ℕ) (cache : own.Cache) → IsSlab r s t c f n cache
       → (is_small (layout_numbers cache).chunk ≡ true → (j : ℕ) → j < 32 → record_byte r' t f j ≡ record_byte r t f j)
       → live_of r' t cache kept f ≡ live_of r t cache kept f
   live_stays r' kept c f n cache q same = all_stay r r' t cache kept f ((st.stands c f n cache q).layout.fits 0).few same
 
 module _ (r : spaces.Content) (s : Content) (t c : ℕ) (cache : own.Cache) (cached : cache_at s t c ≡ Some cache) where
-  -- the slab that stands at frame f, machine frame n
+  -- the slab at frame f, machine frame n, as the parts show it
   abbrev pub shown : ℕ → ℕ → Slab
   shown f n = record { first = f; colour = (kept_at s.kept n).colour; live = live_of r t cache (kept_at s.kept n) f }
 
@@ -218,7 +219,7 @@ module _ (r : spaces.Content) (s : Content) (t c : ℕ) (cache : own.Cache) (cac
   shown_under f z (Some n) under e =
       shown_placed f n z (is_of_cache (index_of_cache t c) f (place_at s.lists.places n)) under refl e
 
-  -- what a shown slab is
+  -- each slab that the parts show is a slab of the tables
   pub shown_is : (f : ℕ) (z : Slab) → slab_at r s t c cache f ≡ Some z → IsShown f z
   shown_is f z e = shown_under f z (machine_frame_of s.top r.slots t f) refl e
 
@@ -228,7 +229,7 @@ module _ (r : spaces.Content) (s : Content) (t c : ℕ) (cache : own.Cache) (cac
       ∙ ap (slab_placed (live_of r t cache (kept_at s.kept n) f) (kept_at s.kept n).colour f) q.listed
 
 module _ (r : spaces.Content) (b : buddies.Content) (s : Content) (t : ℕ) (m : Machine) (h : ShowsMachine r b s t m) where
-  -- a cache of the tables is one of the machine
+  -- each cache of the tables is one of the machine
   pub record IsCacheShown (c : ℕ) (cache : own.Cache) : Type 0 where
     pub shown : Cache
     pub cached : cache_of m c ≡ Some shown
@@ -243,7 +244,7 @@ module _ (r : spaces.Content) (b : buddies.Content) (s : Content) (t : ℕ) (m :
       let there = mapped_from without_slabs (cache_of m c) (bare c cache) (h.caches c ∙ ap (option_map (bare c)) e) in
       record { shown = there.0; cached = there.1; same = there.2; layout = layout_of_bare c there.0 cache there.2 }
 
-  -- and back
+  -- conversely, each cache of the machine is one of the tables
   pub record IsCacheKept (c : ℕ) (x : Cache) : Type 0 where
     pub kept : own.Cache
     pub cached : cache_at s t c ≡ Some kept
@@ -260,7 +261,7 @@ module _ (r : spaces.Content) (b : buddies.Content) (s : Content) (t : ℕ) (m :
         layout = layout_of_bare c x there.0 (sym there.2);
       }
 
-  -- a slab of the tables is one of the machine
+  -- each slab of the tables is one of the machine
   pub record IsSlabIn (c f n : ℕ) (cache : own.Cache) (cached : cache_at s t c ≡ Some cache) : Type 0 where
     pub there : IsCacheShown c cache
     pub slab : slab_of there.shown f ≡ Some (shown r s t c cache cached f n)
@@ -273,7 +274,7 @@ module _ (r : spaces.Content) (b : buddies.Content) (s : Content) (t : ℕ) (m :
         slab = h.slabs c f there.shown cache there.cached q.cached ∙ slab_shown r s t c cache q.cached f n q;
       }
 
-  -- and back
+  -- conversely, each slab of the machine is one of the tables
   pub record IsSlabKept (c f : ℕ) (x : Cache) (y : Slab) : Type 0 where
     pub kept : own.Cache
     pub machine_frame : ℕ
@@ -287,7 +288,7 @@ module _ (r : spaces.Content) (b : buddies.Content) (s : Content) (t : ℕ) (m :
       let is = shown_is r s t c there.kept there.cached f y (sym (h.slabs c f x there.kept ex there.cached) ∙ ey) in
       record { kept = there.kept; machine_frame = is.machine_frame; slab = is.slab; is = is.is; layout = there.layout }
 
--- the places of a slab lie in the slot of its first frame
+-- all places of a slab lie in the slot of its first frame
 pub slot_inside : (r : spaces.Content) (b : buddies.Content) (s : Content) (t place c f n : ℕ) (cache : own.Cache) → IsSteady r b s t
     → IsSlab r s t c f n cache → is_inside place f cache ≡ true → slot_of s.top place ≡ f / 2 ^ s.top
 slot_inside r b s t place c f n cache st q inside =

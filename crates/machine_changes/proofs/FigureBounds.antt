@@ -1,4 +1,4 @@
--- The taken blocks of a tenant lie apart in its slots, so their frames are not more than the frames of its slots.
+-- The taken blocks of a tenant are disjoint and lie in its slots. So together they have at most as many frames as the slots.
 use Rattle.std.proofs.Common.{◌≡◌, ℕ, zero, suc, ◌+◌, ◌-◌, ◌*◌, ◌/◌, ◌^◌, ◌<◌, ◌≤◌, Bool, true, Option, Some, None, List, length, take, get_or, refl, sym, ap, ◌∙◌, subst, ⊎_elim, add-one, arith}
 use Rattle.std.specs.Prelude.{is_some}
 use Rattle.std.specs.List.{sum_by, count_by}
@@ -19,7 +19,7 @@ use Rattle.machine_changes.proofs.FigureOrders.{size, sizes_by_order, frames_ris
 
 -- Counts below a number
 
--- n numbers more, all of which pass or none
+-- the count over n more numbers, if the test holds of all of them or of none
 count_run : (p : ℕ → Bool) (v : Bool) (a n : ℕ) → ((x : ℕ) → a ≤ x → x < a + n → p x ≡ v) → count_below p (a + n) ≡ count_below p a + n * bit v
 count_run p v a zero all = let same : a + 0 ≡ a = omega arith in let e : count_below p (a + 0) ≡ count_below p a = ap (count_below p) same in omega (arith, zero-mul (bit v))
 count_run p v a (suc n) all =
@@ -36,7 +36,7 @@ count_rise p n (suc m) le = ⊎_elim
     (λ past. let same : n ≡ suc m = omega arith in let e : count_below p n ≡ count_below p (suc m) = ap (count_below p) same in omega arith)
     (cases_lt n (suc m))
 
--- the entries of a table
+-- counting the entries of a table by index or along the list gives the same number
 count_table : (table : List (Option ℕ)) (n : ℕ) → n ≤ length table → count_below (λ u. is_some (get_or table u None)) n ≡ count_by is_some (take n table)
 count_table table zero le = refl
 count_table table (suc n) le =
@@ -45,7 +45,7 @@ count_table table (suc n) le =
     let next : count_by is_some (take (suc n) table) ≡ count_by is_some (take (n + 1) table) = ap (λ k. count_by is_some (take k table)) (sym (add-one n)) in
     omega arith
 
--- the frames of the slots that pass
+-- how many frames there are in the slots that pass the test
 count_slots : (top : ℕ) (held : ℕ → Bool) (n : ℕ) → count_below (λ x. held (x / 2 ^ top)) (n * 2 ^ top) ≡ count_below held n * 2 ^ top
 count_slots top held zero = ap (count_below (λ x. held (x / 2 ^ top))) (zero-mul (2 ^ top)) ∙ sym (zero-mul (2 ^ top))
 count_slots top held (suc n) =
@@ -74,7 +74,7 @@ module _ (top superblocks : ℕ) (h : buddies.Holding) (long : length h.slots �
   abbrev inside : ℕ → Bool
   inside x = buddies.is_held h (x / 2 ^ top)
 
-  -- all frames of a taken block do
+  -- all frames of a taken block lie in held slots
   count_block : (f k : ℕ) → get_or h.taken f None ≡ Some k → count_below inside (f + 2 ^ k) ≡ count_below inside f + 2 ^ k
   count_block f k e =
       let placed = sound.placed f k e in
@@ -82,7 +82,7 @@ module _ (top superblocks : ℕ) (h : buddies.Holding) (long : length h.slots �
       ap (buddies.is_held h) (same_slot top k x f placed.0.0 (number_of_frame f k x placed.0.1 (low, high))) ∙ placed.1) in
       omega (arith, run, mul-one (2 ^ k))
 
-  -- blocks that begin below n and end at most at e have no more frames than the held slots below e
+  -- taken blocks that begin below n and end at or below e have at most as many frames as the held slots below e
   sizes_within : (n e : ℕ) → n ≤ length h.taken → ((f k : ℕ) → f < n → get_or h.taken f None ≡ Some k → f + 2 ^ k ≤ e)
       → sum_by size (take n h.taken) ≤ count_below inside e
   sizes_within zero e le ends = omega arith
@@ -91,7 +91,7 @@ module _ (top superblocks : ℕ) (h : buddies.Holding) (long : length h.slots �
       more : sum_by size (take (suc j) h.taken) ≡ sum_by size (take j h.taken) + size (get_or h.taken j None)
       more = ap (λ n. sum_by size (take n h.taken)) (sym (add-one j)) ∙ sum_by_more size h.taken j None (omega arith)
 
-      -- a block that begins before one at j ends there at most
+      -- a taken block that begins below j ends at or below j, if one begins at j
       before : (k f i : ℕ) → get_or h.taken j None ≡ Some k → f < j → get_or h.taken f None ≡ Some i → f + 2 ^ i ≤ j
       before k f i is less e = ⊎_elim
           (λ (past : j < f + 2 ^ i). let one : f ≡ j = sound.apart f i j k j e is (omega arith, past) (has_first (block j k)) in absurd (omega arith))
@@ -159,7 +159,7 @@ figures_fit b t w tenant = record {
     h : buddies.Holding
     h = buddies.holding_of t b
 
-    -- the frames of all superblocks
+    -- all superblocks have at most 65,536 frames
     all : b.superblocks * 2 ^ b.top ≤ 65536
     all =
         let few = w.sizes.few in

@@ -1,4 +1,4 @@
--- The lists of a machine hold what the tenant's tables hold: no two of its taken blocks begin at one frame.
+-- The lists of a machine contain what the tenant's tables contain: no two of its taken blocks begin at one frame.
 use Rattle.std.proofs.Common.{◌≡◌, ◌≢◌, ℕ, ◌+◌, ◌≤◌, true, cond, List, [], ◌∷◌, map, Some, None, sym, ap, ◌∙◌, inl, inr, refl, arith}
 use Rattle.std.specs.Prelude.{flat_map, option_map}
 use Rattle.model_core.specs.Blocks.{Block}
@@ -21,7 +21,7 @@ abbrev pub first : Block → ℕ
 first z = z.first
 
 module _ (r : spaces.Content) (b : buddies.Content) (s : Content) (t : ℕ) (m : Machine) (st : IsSteady r b s t) (h : ShowsMachine r b s t m) where
-  -- the block is that of a slab of one of these caches
+  -- z is the block of a slab of one of these caches
   record IsAmong (cs : List Cache) (z : Block) : Type 0 where
     cache : Cache
     slab : Slab
@@ -35,7 +35,7 @@ module _ (r : spaces.Content) (b : buddies.Content) (s : Content) (t : ℕ) (m :
       let slab = map_in (slab_block cache.0) z cache.0.slabs cache.2 in
       record { cache = cache.0; slab = slab.0; cache_in = cache.1; slab_in = slab.1; same = slab.2 }
 
-  -- slabs at one frame are of one cache
+  -- slabs that begin at one frame are of the same cache
   one_cache : (x x' : Cache) (y y' : Slab) → IsIn x m.caches → IsIn x' m.caches → IsIn y x.slabs → IsIn y' x'.slabs → y'.first ≡ y.first
       → x'.number ≡ x.number
   one_cache x x' y y' i i' j j' same =
@@ -60,7 +60,7 @@ module _ (r : spaces.Content) (b : buddies.Content) (s : Content) (t : ℕ) (m :
       (ap first there.same ∙ same ∙ sym (ap first here.2)) in
       absurd (omega arith))
 
-  -- where a slab begins no page block does
+  -- no page block begins at the first frame of a slab
   no_page : (z w : Block) → IsIn z m.blocks → IsIn w (flat_map slab_blocks m.caches) → w.first ≢ z.first
   no_page z w i j same =
       let there = of_some m.caches w j in

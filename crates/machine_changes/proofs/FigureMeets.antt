@@ -26,7 +26,7 @@ use Rattle.machine_changes.proofs.FigureOrders.{size, sizes_by_order, frames_sum
 use Rattle.machine_changes.proofs.FigureLists.{first, blocks_keyed}
 use Rattle.machine_changes.proofs.FigureBounds.{held_within, orders_below}
 
--- each block of a list of different first frames is told
+-- if all blocks of a list have different first frames, a lookup of a block's first frame returns its order
 keyed_told : (bs : List Block) (z : Block) → AreKeyed first bs → IsIn z bs → order_in bs z.first ≡ Some z.order
 keyed_told [] z k i = elim i [ ]
 keyed_told (y ∷ bs) z (one, k) (inl same) =
@@ -39,14 +39,14 @@ ones [] = refl
 ones (x ∷ xs) = let rest = ones xs in omega (arith, sum_by-cons (λ z. 1) x xs)
 
 module _ (bs : List Block) (keyed : AreKeyed first bs) (table : List (Option ℕ)) (told : (f : ℕ) → order_in bs f ≡ get_or table f None) where
-  -- what is counted of the blocks is counted of the table
+  -- a sum over the blocks equals the sum over the table
   blocks_tabled : (weight : Option ℕ → ℕ) → weight None ≡ 0 → sum_by weight table ≡ sum_by (λ z. weight (Some z.order)) bs
   blocks_tabled weight light = sum_tabled None weight light first (λ z. weight (Some z.order)) bs table keyed (record {
     there = λ z i. ap weight (sym (told z.first) ∙ keyed_told bs z keyed i);
     others = λ f off. ap weight (sym (told f) ∙ order_none bs f off) ∙ light;
   })
 
--- a rising list of numbers is as long as the table of those held has entries
+-- a list of different held slots is as long as the number of entries in the table of slots
 slots_tabled : (slots : List ℕ) (table : List (Option ℕ)) → AreKeyed (λ u. u) slots
     → ((u : ℕ) → list_any (λ v. eqb v u) slots ≡ is_some (get_or table u None)) → length slots ≡ count_by is_some table
 slots_tabled slots table keyed same =

@@ -10,11 +10,11 @@ use Rattle.model_core.proofs.Counting.{bit}
 use Rattle.buddy_core.specs.Content.{has_order}
 use Rattle.machine_changes.specs.Figures.{frames_in}
 
--- one more order
+-- the frames of one more order
 pub frames_more : (count : ℕ → ℕ) (n : ℕ) → frames_in count (n + 1) ≡ frames_in count n + count n * 2 ^ n
 frames_more count n = ap (frames_in count) (add-one n)
 
--- more orders, more frames
+-- more orders have at least as many frames
 pub frames_rise : (count : ℕ → ℕ) (n k : ℕ) → n ≤ k → frames_in count n ≤ frames_in count k
 frames_rise count n zero le = let same : n ≡ 0 = omega arith in let e = ap (frames_in count) same in omega arith
 frames_rise count n (suc k) le = ⊎_elim
@@ -39,7 +39,7 @@ frames_both count other (suc n) =
     let last = add-mul (count n) (other n) (2 ^ n) in
     omega arith
 
--- one block of order j
+-- one block of order j has 2 ^ j frames
 frames_one : (j n : ℕ) → j < n → frames_in (λ k. bit (eqb j k)) n ≡ 2 ^ j
 frames_one j zero less = absurd (omega arith)
 frames_one j (suc n) less = ⊎_elim here (elsewhere (frames_one j n)) (cases_eq j n)
@@ -58,7 +58,7 @@ frames_one j (suc n) less = ⊎_elim here (elsewhere (frames_one j n)) (cases_eq
         let last : bit (eqb j n) * 2 ^ n ≡ 0 = ap (λ v. bit v * 2 ^ n) (ne_eqb j n differ) ∙ zero-mul (2 ^ n) in
         omega arith
 
--- the frames of the block that an entry tells
+-- the number of frames of the block of an entry
 abbrev pub size : Option ℕ → ℕ
 size None = 0
 size (Some k) = 2 ^ k
@@ -67,7 +67,7 @@ size_by_order : (o : Option ℕ) (n : ℕ) → ((k : ℕ) → o ≡ Some k → k
 size_by_order None n below = sym (frames_none (λ k. 0) n (λ k less. refl))
 size_by_order (Some j) n below = sym (frames_one j n (below j refl))
 
--- all entries have orders below n
+-- if all entries have orders below n, their frames are those of the blocks of the orders below n
 pub sizes_by_order : (table : List (Option ℕ)) (n : ℕ) → ((f k : ℕ) → get_or table f None ≡ Some k → k < n)
     → sum_by size table ≡ frames_in (λ k. count_by (has_order k) table) n
 sizes_by_order [] n below = sym (frames_none (λ k. count_by (has_order k) []) n (λ k less. refl))

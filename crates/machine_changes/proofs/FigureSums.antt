@@ -1,4 +1,4 @@
--- Sums over a table in which each element of a list stands at its key, and nothing else.
+-- Sums over a table in which each element of a list is at its key, and nothing else is.
 use Rattle.std.proofs.Common.{◌≡◌, ◌≢◌, ℕ, suc, ◌+◌, ◌≤◌, List, [], ◌∷◌, ◌++◌, map, length, get_or, set, refl, sym, ap, ◌∙◌, subst, inl, inr, ⊎_elim, arith}
 use Rattle.std.specs.Prelude.{⊤}
 use Rattle.std.specs.List.{sum_by}
@@ -9,7 +9,7 @@ use Rattle.model_core.specs.WellFormed.{RisesFrom}
 use Rattle.model_core.specs.Elements.{IsIn}
 use Rattle.model_core.proofs.Lists.{in_append, map_in, key_above}
 
--- Lists in which no two have one key
+-- Lists in which no two elements have the same key
 
 module _ {X : Type 0} (key : X → ℕ) where
   abbrev pub AreKeyed : List X → Type 0
@@ -41,7 +41,7 @@ module _ {Y : Type 0} (none : Y) (weight : Y → ℕ) (light : weight none ≡ 0
       let rest : sum_by weight table ≡ 0 = sum_none table (λ f. all (suc f)) in
       omega (arith, sum_by-cons weight y table)
 
-  -- an entry taken out
+  -- the sum after an entry is removed
   sum_less : (table : List Y) (f : ℕ) → sum_by weight (set table f none) + weight (get_or table f none) ≡ sum_by weight table
   sum_less table f = ⊎_elim
       (λ less. let parts = sum_by-set weight table f none none less in omega arith)
@@ -58,7 +58,7 @@ module _ {Y : Type 0} (none : Y) (weight : Y → ℕ) (light : weight none ≡ 0
       (cases_lt f (length table))
 
   module _ {X : Type 0} (key value : X → ℕ) where
-    -- the entry at an element's key weighs as the element, and all other entries weigh nothing
+    -- the entry at an element's key has the element's weight, and all other entries have weight 0
     pub record IsTabled (xs : List X) (table : List Y) : Type 0 where
       pub there : (x : X) → IsIn x xs → weight (get_or table (key x) none) ≡ value x
       pub others : (f : ℕ) → ((x : X) → IsIn x xs → key x ≢ f) → weight (get_or table f none) ≡ 0

@@ -1,4 +1,4 @@
--- Where a block would fit once the empty slabs are given back.
+-- Where a block would fit after all empty slabs are freed.
 use Rattle.std.proofs.Common.{◌≡◌, ◌≢◌, ℕ, ◌/◌, ◌^◌, Bool, true, false, not, List, map, ◌++◌, Some, None, refl, sym, ap, ◌∙◌, subst, ◌⊎◌, inl, inr, ⊎_elim}
 use Rattle.std.specs.Prelude.{Option, option_map, is_some, filter, flat_map, ◌==◌}
 use Rattle.std.proofs.lemmas.Bool.{false≢true, not-true, eq-eqb, ne_eqb, cases_eq}
@@ -32,19 +32,19 @@ module _ (r : spaces.Content) (b : buddies.Content) (s : Content) (t : ℕ) (m :
   abbrev taken : ℕ → Option ℕ
   taken f = buddies.taken_of (buddies.holding_of t b) f
 
-  -- the blocks of the slabs that reaping leaves
+  -- the blocks of the slabs that remain after reaping
   abbrev left_list : List Block
   left_list = flat_map slab_blocks (map without_empty m.caches)
 
   abbrev after : ℕ → Option ℕ
   after f = order_in (m.blocks ++ left_list) f
 
-  -- no object of a slab is live where none is counted
+  -- a slab of the machine is empty exactly if the stored number of its live objects is 0
   empty_tells : (c f n : ℕ) (cache : own.Cache) (q : IsSlab r s t c f n cache) → is_empty (shown r s t c cache q.cached f n) ≡ ((kept_at s.kept n).live == 0)
   empty_tells c f n cache q =
       any_counts (shown r s t c cache q.cached f n).live ∙ ap (λ k. k == 0) (sym (counted c f n cache q))
 
-  -- the block is that of a slab with a live object
+  -- z is the block of a slab with a live object
   record IsLeft (z : Block) : Type 0 where
     of : IsOfSlab r b s t m st h z
     busy : (kept_at s.kept of.machine_frame).live ≢ 0
@@ -84,7 +84,7 @@ module _ (r : spaces.Content) (b : buddies.Content) (s : Content) (t : ℕ) (m :
     there : IsSlabThere r b s t st f
     empty : (kept_at s.kept there.machine_frame).live ≡ 0
 
-  -- an empty slab's block is not taken once it is given back
+  -- after reaping, the block of an empty slab is not taken
   given_back : (c f n : ℕ) (cache : own.Cache) → IsSlab r s t c f n cache → (kept_at s.kept n).live ≡ 0 → after f ≡ None
   given_back c f n cache q empty =
       order_of_none r b s t m st h left_list (λ z i. (left_tells z i).of) f (has_it r s t c f n cache q) (λ z i same.
@@ -92,7 +92,7 @@ module _ (r : spaces.Content) (b : buddies.Content) (s : Content) (t : ℕ) (m :
       let one = one_slab r s t c f n is.of.number z.first is.of.machine_frame cache is.of.cache q is.of.slab same in
       is.busy (ap (λ x. (kept_at s.kept x).live) one.machine_frame ∙ empty))
 
-  -- .. and all else is taken as it was
+  -- all other blocks are taken as before
   sorted : (f : ℕ) → IsEmptySlab f ⊎ (after f ≡ taken f)
   sorted f = go (has_slab s (machine_frame_of s.top r.slots t f)) refl
     where

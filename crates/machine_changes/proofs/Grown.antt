@@ -1,4 +1,4 @@
--- A slab made.
+-- Making a slab.
 use Rattle.std.proofs.Common.{◌≡◌, ◌≢◌, ℕ, ◌+◌, ◌-◌, ◌*◌, ◌/◌, ◌%◌, ◌^◌, ◌<◌, ◌≤◌, Bool, true, false, cond, zero, suc, [], ◌∷◌, map, Some, None, refl, sym, ap, ◌∙◌, subst, ◌⊎◌, inl, inr, ⊎_elim, arith}
 use Rattle.std.specs.Prelude.{Option, option_map, is_some, replicate, ◌&&◌, ◌==◌}
 use Rattle.std.proofs.lemmas.Bool.{eq-eqb, ne_eqb, cases_eq, false_from_ne_true}
@@ -25,7 +25,7 @@ use Rattle.machine_changes.specs.Laws.{GrownShows}
 use Rattle.machine_changes.proofs.Lookups.{some_none, some_same, found_key, keys_replaced, found_new, found_other, in_found, found_put}
 use Rattle.machine_changes.proofs.Facts.{one_listed, one_slab, one_machine_frame, same_slab, live_stays, record_inside, cache_kept}
 
--- flags that are all down
+-- flags that are all clear
 pub all_down : (k n : ℕ) (p : ℕ → Bool) → ((i : ℕ) → k ≤ i → i < k + n → p i ≡ false) → flags_from k n p ≡ replicate n false
 all_down k zero p down = refl
 all_down k (suc n) p down =
@@ -44,14 +44,14 @@ module _ (r r' : spaces.Content) (b b' : buddies.Content) (s s' : Content) (t c 
   machine_frame_same : (g : ℕ) → machine_frame_of s'.top r'.slots t g ≡ machine_frame_of s.top r.slots t g
   machine_frame_same g = ap (λ top. machine_frame_of top r'.slots t g) k.top ∙ ap (frame_under s.top g) (k.slots (g / 2 ^ s.top))
 
-  -- the new slab's block is free of the others
+  -- the new slab's block shares no place with another slab
   apart_slab : (place d g x : ℕ) (other : own.Cache) → IsSlab r s t d g x other → is_inside place g other ≡ true → is_inside place f cache ≡ false
   apart_slab place d g x other q inside =
       false_from_ne_true (is_inside place f cache) (λ here.
       apart g (layout_numbers other).order (place / 4096) (st.stands d g x other q).taken
       (in_block-true place (block g (layout_numbers other).order) inside) (in_block-true place (block f (layout_numbers cache).order) here))
 
-  -- the block was not taken
+  -- the block was not taken before
   untaken : buddies.taken_of (buddies.holding_of t b) f ≡ None
   untaken = go (buddies.taken_of (buddies.holding_of t b) f) refl
     where
@@ -63,11 +63,11 @@ module _ (r r' : spaces.Content) (b b' : buddies.Content) (s s' : Content) (t c 
   not_first d g x other q same =
       some_none (sym (st.stands d g x other q).taken ∙ ap (buddies.taken_of (buddies.holding_of t b)) same ∙ untaken)
 
-  -- machine frames of other frames are other machine frames
+  -- another frame has another machine frame
   differs : (g x : ℕ) → machine_frame_of s.top r.slots t g ≡ Some x → g ≢ f → x ≢ n
   differs g x under other same = other (one_machine_frame r b s t st g f x under (k.under ∙ ap (λ y. Some y) (sym same)))
 
-  -- a cache that stands stood before, with the same layout
+  -- each cache existed before, with the same layout
   pub record WasCached (d : ℕ) (other : own.Cache) : Type 0 where
     pub before : own.Cache
     pub cached : cache_at s t d ≡ Some before
@@ -83,7 +83,7 @@ module _ (r r' : spaces.Content) (b b' : buddies.Content) (s s' : Content) (t c 
       (λ (differ : d ≢ c). record { before = other; cached = sym (k.caches d differ) ∙ e; layout = refl })
       (cases_eq d c)
 
-  -- .. and one that stood stands
+  -- conversely, each cache of before still exists, with the same layout
   pub record NowCached (d : ℕ) (other : own.Cache) : Type 0 where
     pub after : own.Cache
     pub cached : cache_at s' t d ≡ Some after
@@ -136,7 +136,7 @@ module _ (r r' : spaces.Content) (b b' : buddies.Content) (s s' : Content) (t c 
         layout = now.layout;
       }
 
-  -- the new slab
+  -- the new slab is in a list of cache c
 
   new_listed : is_of_cache (index_of_cache t c) f (place_at s'.lists.places n) ≡ true
   new_listed =
@@ -169,7 +169,7 @@ module _ (r r' : spaces.Content) (b b' : buddies.Content) (s s' : Content) (t c 
       ∙ ap (λ kept. slab_placed (live_of r' t cache kept f) kept.colour f true) k.fresh
       ∙ ap (λ live. slab_placed live (fresh_kept cache).colour f true) new_live
 
-  -- no other cache has it
+  -- the new slab is not in a list of another cache
   none_new : (d : ℕ) (other : own.Cache) → d ≢ c → slab_at r' s' t d other f ≡ None
   none_new d other differ =
       let unlisted : is_of_cache (index_of_cache t d) f (place_at s'.lists.places n) ≡ false =
@@ -185,7 +185,7 @@ module _ (r r' : spaces.Content) (b b' : buddies.Content) (s s' : Content) (t c 
       ap (slab_under r s t (index_of_cache t d) other f) k.under
       ∙ ap (λ place. slab_placed (live_of r t other (kept_at s.kept n) f) (kept_at s.kept n).colour f (is_of_cache (index_of_cache t d) f place)) k.vacant
 
-  -- slabs of other frames
+  -- slabs at other frames keep their live objects
 
   live_now : (d g x : ℕ) (other : own.Cache) → IsSlab r s t d g x other
       → live_of r' t other (kept_at s.kept x) g ≡ live_of r t other (kept_at s.kept x) g
@@ -210,7 +210,7 @@ module _ (r r' : spaces.Content) (b b' : buddies.Content) (s s' : Content) (t c 
   has_new = ap (has_slab s') (machine_frame_same f ∙ k.under) ∙ ap is_some k.listed
 
   module _ (m : Machine) (x : Cache) (ex : cache_of m c ≡ Some x) (h : ShowsMachine r b s t m) where
-    -- the machine's cache, but for its slabs
+    -- the machine's cache without its slabs is that of the tables
     same : without_slabs x ≡ bare c cache
     same =
         let there = cache_kept r b s t m h c x ex in
@@ -272,7 +272,7 @@ module _ (r r' : spaces.Content) (b b' : buddies.Content) (s s' : Content) (t c 
         (each_from (λ y. y.first ≢ f) x.slabs (λ y i e.
         some_none (sym (in_found (λ z. z.first) 0 y x.slabs (h.slabs_rise c x ex) i) ∙ ap (slab_of x) e ∙ no_slab)))
 
-    -- which caches of the grown machine are which
+    -- a cache of the grown machine is the grown cache or one of the others, which are unchanged
     abbrev WasCache : ℕ → Cache → Type 0
     WasCache d z = ((d ≡ c) × (z ≡ grown_cache f x)) ⊎ ((d ≢ c) × (cache_of m d ≡ Some z))
 

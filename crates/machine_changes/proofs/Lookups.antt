@@ -1,4 +1,4 @@
--- Look-ups by a key in lists of which one element is replaced, put in, or left out.
+-- Lookups by key in lists of which one element is replaced, inserted, or removed.
 use Rattle.std.proofs.Common.{◌≡◌, ◌≢◌, ℕ, Bool, true, false, not, cond, eqb, ltb, List, [], ◌∷◌, map, Some, None, refl, sym, ap, ◌∙◌, ⊎_elim}
 use Rattle.std.specs.Prelude.{find, filter, Option, option_map}
 use Rattle.std.proofs.lemmas.Bool.{false≢true, eqb-true, eq-eqb, ne_eqb, cases_eq}
@@ -12,12 +12,12 @@ some_none {A} {x} e = cc
 pub some_same : {A : Type 0} {x y : A} → Some x ≡ Some y → x ≡ y
 some_same {A} {x} {y} e = cc
 
--- a function of one of two values
+-- a function of a conditional is a conditional of the function's values
 pub through : {A B : Type 0} (f : A → B) (v : Bool) (x y : A) → f (cond v x y) ≡ cond v (f x) (f y)
 through f true x y = refl
 through f false x y = refl
 
--- what an option was before it was mapped
+-- the value of an option before it was mapped
 pub mapped_from : {A B : Type 0} (f : A → B) (o : Option A) (y : B) → option_map f o ≡ Some y → (x : A) × (o ≡ Some x) × (f x ≡ y)
 mapped_from f None y e = absurd (some_none (sym e))
 mapped_from f (Some x) y e = (x, refl, some_same e)
@@ -31,15 +31,15 @@ module _ {X : Type 0} (key : X → ℕ) where
   abbrev pub at : ℕ → List X → Option X
   at n xs = find (λ x. eqb (key x) n) xs
 
-  -- the element with the key of the new one replaced by it
+  -- the list with the element under the new element's key replaced by it
   abbrev pub replaced : X → List X → List X
   replaced new xs = map (λ x. cond (eqb (key x) (key new)) new x) xs
 
-  -- what is found has the key
+  -- the element found has the key
   pub found_key : (n : ℕ) (xs : List X) (x : X) → at n xs ≡ Some x → key x ≡ n
   found_key n xs x e = eqb-true (key x) n (find_in (λ y. eqb (key y) n) x xs e).1
 
-  -- at the head of a list
+  -- the head of a list is found if it has the key
   pub at_here : (n : ℕ) (x : X) (xs : List X) → key x ≡ n → at n (x ∷ xs) ≡ Some x
   at_here n x xs e = ap (λ b. cond b (Some x) (at n xs)) (eq-eqb (key x) n e)
 
@@ -50,13 +50,13 @@ module _ {X : Type 0} (key : X → ℕ) where
   same_key new x true is = sym (eqb-true (key x) (key new) is)
   same_key new x false is = refl
 
-  -- the keys stay
+  -- the keys are unchanged
   pub keys_replaced : (new : X) (xs : List X) → map key (replaced new xs) ≡ map key xs
   keys_replaced new [] = refl
   keys_replaced new (x ∷ xs) =
       ap (λ k. k ∷ map key (replaced new xs)) (same_key new x (eqb (key x) (key new)) refl) ∙ ap (λ ks. key x ∷ ks) (keys_replaced new xs)
 
-  -- at the key of the new element it is found, where one was
+  -- a lookup of the new element's key finds it, if the key was in the list before
   pub found_new : (new old : X) (xs : List X) → at (key new) xs ≡ Some old → at (key new) (replaced new xs) ≡ Some new
   found_new new old [] e = absurd (some_none (sym e))
   found_new new old (x ∷ xs) e = go (eqb (key x) (key new)) refl e (found_new new old xs)
@@ -67,7 +67,7 @@ module _ {X : Type 0} (key : X → ℕ) where
       go true is _ _ = at_here (key new) new (replaced new xs) refl
       go false is e more = at_past (key new) x (replaced new xs) (λ same. false≢true (sym is ∙ eq-eqb (key x) (key new) same)) ∙ more e
 
-  -- at another key nothing changes
+  -- a lookup of another key is unchanged
   pub found_other : (new : X) (n : ℕ) (xs : List X) → n ≢ key new → at n (replaced new xs) ≡ at n xs
   found_other new n [] differ = refl
   found_other new n (x ∷ xs) differ = go (eqb (key x) (key new)) refl (found_other new n xs differ)
@@ -79,7 +79,7 @@ module _ {X : Type 0} (key : X → ℕ) where
           ∙ sym (at_past n x xs (λ same. differ (sym same ∙ eqb-true (key x) (key new) is)))
       go false is more = ap (λ o. cond (eqb (key x) n) (Some x) o) more
 
-  -- look-ups in a list whose elements were changed under their keys
+  -- lookups in a list after a change of its elements that keeps their keys
   pub found_mapped : (g : X → X) (n : ℕ) (xs : List X) → ((x : X) → key (g x) ≡ key x) → at n (map g xs) ≡ option_map g (at n xs)
   found_mapped g n [] same = refl
   found_mapped g n (x ∷ xs) same =
@@ -98,7 +98,7 @@ module _ {X : Type 0} (key : X → ℕ) where
   none_either true = refl
   none_either false = refl
 
-  -- look-ups in a list of which the elements with some keys are left out
+  -- lookups in a list after the elements with some keys are removed
   pub found_kept : (gone : ℕ → Bool) (n : ℕ) (xs : List X) → at n (filter (λ x. not (gone (key x))) xs) ≡ cond (gone n) None (at n xs)
   found_kept gone n [] = none_either (gone n)
   found_kept gone n (x ∷ xs) = ⊎_elim (here (found_kept gone n xs)) (elsewhere (found_kept gone n xs)) (cases_eq (key x) n)
@@ -126,7 +126,7 @@ module _ {X : Type 0} (key : X → ℕ) where
   differ_from : (new x : X) (xs : List X) → at (key new) (x ∷ xs) ≡ None → key x ≢ key new
   differ_from new x xs absent same = some_none (sym (at_here (key new) x xs same) ∙ absent)
 
-  -- look-ups in a list with an element put in under a new key
+  -- lookups in a list after an element is inserted under a new key
   pub found_put : (new : X) (n : ℕ) (xs : List X) → at (key new) xs ≡ None → at n (put_rising key new xs) ≡ cond (eqb (key new) n) (Some new) (at n xs)
   found_put new n [] absent = refl
   found_put new n (x ∷ xs) absent =

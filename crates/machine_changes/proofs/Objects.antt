@@ -1,4 +1,4 @@
--- Live objects by their places.
+-- Live objects and their places.
 use Rattle.std.proofs.Common.{◌≡◌, ◌≢◌, ℕ, zero, suc, ◌+◌, ◌*◌, ◌/◌, ◌^◌, ◌<◌, ◌≤◌, Bool, true, false, cond, List, [], ◌∷◌, Some, None, length, get_or, refl, sym, ap, ◌∙◌, subst, inl, inr, arith}
 use Rattle.std.specs.Prelude.{Option, find, Ok, ◌==◌}
 use Rattle.std.proofs.Math.Nat.{mul-div_cancel}
@@ -30,7 +30,7 @@ use Rattle.machine_changes.proofs.Members.{some_found}
 abbrev pub object_of : Cache → Slab → ℕ → LiveObject
 object_of c y i = record { slab = y; index = i; place = object_place (layout c) y.first y.colour i }
 
--- the objects whose flags are up are the live ones
+-- an object whose flag is set is in the list of live objects
 live_listed : (c : Cache) (y : Slab) (n i : ℕ) (live : List Bool) → i < length live → get_or live i false ≡ true
     → IsIn (object_of c y (n + i)) (live_from c y n live)
 live_listed c y n i [] less e = absurd (omega arith)
@@ -64,7 +64,7 @@ lies l f colour i place fit less e =
     let within : l.room ≤ 4096 * 2 ^ l.order = fit.within in
     in_frames f place (colour + i * l.chunk) (2 ^ l.order) (sym e) (omega arith)
 
--- objects of a slab that begin at one place are one
+-- two objects of a slab that begin at one place are the same object
 pub one_index : (l : Layout) (f colour i j : ℕ) → 0 < l.chunk → object_place l f colour i ≡ object_place l f colour j → i ≡ j
 one_index l f colour i j some e =
     let same : i * l.chunk ≡ j * l.chunk = omega arith in
@@ -76,7 +76,7 @@ module _ (r : spaces.Content) (b : buddies.Content) (s : Content) (t c : ℕ) (s
       let is = st.stands c f n cache q in
       subst (IsFit (layout_numbers cache)) (sym is.colour.1) (is.layout.fits is.colour.0)
 
-  -- two objects of a cache that begin at one place are one
+  -- two objects of a cache that begin at one place are the same object
   pub record IsOneObject (o u : Found) : Type 0 where
     pub first : u.first ≡ o.first
     pub index : u.index ≡ o.index
@@ -102,7 +102,7 @@ module _ (r : spaces.Content) (b : buddies.Content) (s : Content) (t c : ℕ) (s
       }
 
   module _ (m : Machine) (h : ShowsMachine r b s t m) where
-    -- a live object of the machine is one of the tables
+    -- each live object of the machine is one of the tables
     pub record IsObjectKept (place : ℕ) (x : Cache) (w : LiveObject) : Type 0 where
       pub kept : own.Cache
       pub machine_frame : ℕ
@@ -130,7 +130,7 @@ module _ (r : spaces.Content) (b : buddies.Content) (s : Content) (t c : ℕ) (s
           standing = standing;
         }
 
-    -- what a look-up by place finds
+    -- the object that a lookup by place finds is one of the tables
     pub found_kept : (place : ℕ) (x : Cache) (w : LiveObject) → cache_of m c ≡ Some x → find (λ z. z.place == place) (live_objects x) ≡ Some w → IsObjectKept place x w
     found_kept place x w ex e =
         let there = find_in (λ z. z.place == place) w (live_objects x) e in
@@ -143,7 +143,7 @@ module _ (r : spaces.Content) (b : buddies.Content) (s : Content) (t c : ℕ) (s
         go None e = refl
         go (Some w) e = let is = found_kept place x w ex e in absurd (none (found is.kept w.slab.first is.machine_frame w.index) is.object)
 
-    -- a live object of the tables is one of the machine
+    -- each live object of the tables is one of the machine
     pub record IsObjectIn (o : Found) : Type 0 where
       pub cache : Cache
       pub slab : Slab

@@ -18,7 +18,7 @@ use Rattle.machine_changes.specs.Pages.{IsInPage, BlockDecides, NoBlockDecides}
 use Rattle.machine_changes.proofs.PageLists.{order_told}
 
 module _ (r : spaces.Content) (b : buddies.Content) (s : Content) (t place len : ℕ) (m : Machine) (h : ShowsMachine r b s t m) where
-  -- an order told by a page block is that of a taken block, and no slab's
+  -- the order of a page block is that of a taken block that is not a slab's
   page_taken : (f k : ℕ) (v : Bool) → has_slab s (machine_frame_of s.top r.slots t f) ≡ v → cond v None (buddies.taken_of (buddies.holding_of t b) f) ≡ Some k
       → (has_slab s (machine_frame_of s.top r.slots t f) ≡ false) × (buddies.taken_of (buddies.holding_of t b) f ≡ Some k)
   page_taken f k true is e = absurd (some_none (sym e))
@@ -44,7 +44,7 @@ module _ (r : spaces.Content) (b : buddies.Content) (s : Content) (t place len :
       (and_from (nat_le (4096 * p.first) place) (nat_le (place + len) (4096 * p.first + 4096 * 2 ^ p.order))
       (le-leb (4096 * p.first) place begins) (le-leb (place + len) (4096 * p.first + 4096 * 2 ^ p.order) (omega arith)))
 
--- the frame of a place of the range is one of the block's
+-- the frame of each place of the range is one of the block's
 pub frame_in : (first z place len p : ℕ) → 4096 * first ≤ place → place + len ≤ 4096 * (first + z) → place ≤ p → p < place + len
     → (first ≤ p / 4096) × (p / 4096 < first + z)
 frame_in first z place len p begins ends low high = (omega arith, omega arith)

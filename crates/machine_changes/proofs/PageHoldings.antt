@@ -1,4 +1,4 @@
--- What tenants hold, and that the parts agree, after the taken blocks of one tenant change.
+-- The holdings of all tenants, and that the parts agree, after the taken blocks of one tenant change.
 use Rattle.std.proofs.Common.{◌≡◌, ◌≢◌, ℕ, ◌*◌, ◌/◌, true, cond, List, None, Some, length, get_or, set, refl, sym, ap, ◌∙◌, subst, ⊎_elim, get_or-set_same, get_or-set_other, arith}
 use Rattle.std.specs.Prelude.{Option, is_some, ◌==◌, slice_index_or}
 use Rattle.std.proofs.lemmas.Bool.{cases_eq, cases_lt, eq-eqb, ne_eqb}
@@ -17,7 +17,7 @@ use Rattle.machine_changes.proofs.Lookups.{some_none}
 other_holding : (t u : ℕ) (h : buddies.Holding) (c : buddies.Content) → u ≢ t → buddies.holding_of u (buddies.with_holding t h c) ≡ buddies.holding_of u c
 other_holding t u h c other = get_or-set_other c.tenants t u h buddies.no_tenant other
 
--- a change that leaves nothing as nothing
+-- the tenant's holding is changed as `change` says, if `change` leaves the holding of no tenant as it is
 pub own_changed : (t : ℕ) (change : buddies.Holding → buddies.Holding) (c : buddies.Content) → change buddies.no_tenant ≡ buddies.no_tenant
     → buddies.holding_of t (buddies.with_holding t (change (buddies.holding_of t c)) c) ≡ change (buddies.holding_of t c)
 own_changed t change c nothing =
@@ -28,7 +28,7 @@ own_changed t change c nothing =
     ∙ sym (ap change (get_or_past c.tenants t buddies.no_tenant past) ∙ nothing))
     (cases_lt t (length c.tenants))
 
--- a table with nothing at one place
+-- lookups in a table after one entry is cleared
 pub set_none : (xs : List (Option ℕ)) (i j : ℕ) → get_or (set xs i None) j None ≡ cond (j == i) None (get_or xs j None)
 set_none xs i j =
     ⊎_elim
@@ -48,7 +48,7 @@ same_space t r = record { slots = λ u. refl; banks = λ u m here. refl; bytes =
 pub same_caches : (t : ℕ) (r : spaces.Content) (s : Content) → IsSameCaches t r s s
 same_caches t r s = record { top = refl; caches = λ c. refl; lists = λ f n under. refl; kept = λ f n under. refl }
 
--- tenant t holds h now, with the same slots, and with the same taken blocks where slabs begin
+-- tenant t now holds h, with the same slots, and with the same taken blocks wherever a slab begins
 module _ (r : spaces.Content) (b : buddies.Content) (s : Content) (t : ℕ) (a : Agree r b s) (h : buddies.Holding)
     (is : buddies.holding_of t (buddies.with_holding t h b) ≡ h) (slots : h.slots ≡ (buddies.holding_of t b).slots)
     (stays : (f : ℕ) → has_slab s (machine_frame_of s.top r.slots t f) ≡ true → buddies.taken_of (buddies.holding_of t b) f ≢ None → buddies.taken_of h f ≡ buddies.taken_of (buddies.holding_of t b) f) where
@@ -62,7 +62,7 @@ module _ (r : spaces.Content) (b : buddies.Content) (s : Content) (t : ℕ) (a :
       (λ (other : u ≢ t). ap (λ x. x.slots) (other_holding t u h b other))
       (cases_eq u t)
 
-  -- the taken block of a slab, of whichever tenant
+  -- the taken block of each slab of each tenant is unchanged
   taken_stays : (machine_frame head key : ℕ) (cache : own.Cache) → place_at s.lists.places machine_frame ≡ Some (head, key) → IsAgreed r b s machine_frame head key cache
       → (u : ℕ) → head / 3 / MOST_CACHES ≡ u → buddies.taken_of (buddies.holding_of u b') key ≡ buddies.taken_of (buddies.holding_of u b) key
   taken_stays machine_frame head key cache place x u tenant =

@@ -27,7 +27,7 @@ use Rattle.machine_changes.proofs.PageBlocks.{frame_in}
 
 -- Objects
 
--- a byte of object i of a slab lies in the slab, below the end of its room, and is an object's
+-- the offset is that of a byte of an object; it lies in the slab, below `room`
 pub record IsObjectByte (l : Layout) (size colour off z : ℕ) : Type 0 where
   pub below : off < 4096 * z
   pub room : off < l.room
@@ -95,13 +95,13 @@ object_block r b s t place len st o g =
     }
 
 module _ (r : spaces.Content) (b : buddies.Content) (s : Content) (t place len : ℕ) (st : IsSteady r b s t) (x : IsInBlock b t place len) where
-  -- it lies in one held slot
+  -- the range lies in one held slot
   home_some : 0 < len → r.unit ≡ 4096 * 2 ^ s.top → IsSome (home_of r t place len)
   home_some some unit =
       let placed = st.sound.placed x.first x.order x.taken in
       range_held r t s.top x.first x.order place len unit placed.0.0 placed.0.1 placed.1 some x.begins x.ends
 
-  -- each place of it lies in a held slot
+  -- each place of the range lies in a held slot
   held : (p : ℕ) → place ≤ p → p < place + len → is_some (spaces.superblock_at r.slots t (slot_of s.top p)) ≡ true
   held p low high =
       let placed = st.sound.placed x.first x.order x.taken in
@@ -119,7 +119,7 @@ reach_held r b s t place len a st is =
 -- Places of a range and slabs
 
 module _ (r : spaces.Content) (b : buddies.Content) (s : Content) (t place len : ℕ) (st : IsSteady r b s t) where
-  -- no place of a page block lies in a slab
+  -- no place of a range inside a page block lies in a slab
   pub page_outside : IsInPage r b s t place len → (p : ℕ) → place ≤ p → p < place + len
       → (c f n : ℕ) (cache : own.Cache) → IsSlab r s t c f n cache → is_inside p f cache ≡ false
   page_outside g p low high c f n cache q =
@@ -130,7 +130,7 @@ module _ (r : spaces.Content) (b : buddies.Content) (s : Content) (t place len :
       (in_block-true p (block f (layout_numbers cache).order) inside) frame in
       false≢true (sym g.page ∙ subst (λ x. has_slab s (machine_frame_of s.top r.slots t x) ≡ true) same (has_it r s t c f n cache q)))
 
-  -- a place of an object lies in its slab
+  -- each place of a range inside an object lies in the object's slab
   pub object_inside : (o : Found) (g : HasRange r s t place len o) (p : ℕ) → place ≤ p → p < place + len → is_inside p o.first o.cache ≡ true
   object_inside o g p low high =
       let is = byte_of r b s t place len st o g p low high in
@@ -142,7 +142,7 @@ module _ (r : spaces.Content) (b : buddies.Content) (s : Content) (t place len :
 
 module _ (r : spaces.Content) (b : buddies.Content) (s : Content) (t place len : ℕ) (st : IsSteady r b s t) (is : IsInReach r b s t place len)
     (m : Machine) (h : ShowsMachine r b s t m) where
-  -- the machine has a byte at each place in reach
+  -- the machine has a byte at each place of a range in reach
   pub mapped_in_reach : (p : ℕ) → place ≤ p → p < place + len → is_some (m.bytes p) ≡ true
   mapped_in_reach p low high =
       ⊎_elim
@@ -170,7 +170,7 @@ reach_bytes r b s t place len m st h is p low high = byte_told r b s t place len
 cons_some : {A : Type 0} (o : Option A) (x : A) (f : ℕ → Option A) (is : List ℕ) → o ≡ Some x → (n : ℕ) → f n ≡ o → filter_map f (n ∷ is) ≡ x ∷ filter_map f is
 cons_some o x f is some n here = rw here (rw some refl)
 
--- a range where these bytes stand, one after the other
+-- reading the range returns these bytes, if they are there in this order
 range_reads : (bytes : ℕ → Option ℕ) (place : ℕ) (xs : List ℕ) → ((i : ℕ) → i < length xs → bytes (place + i) ≡ Some (slice_index xs i))
     → filter_map bytes (range_with_len place (length xs)) ≡ xs
 range_reads bytes place [] each = refl

@@ -1,4 +1,4 @@
--- The parts show one machine at most.
+-- The parts show at most one machine.
 use Rattle.std.proofs.Common.{◌≡◌, ◌≢◌, ℕ, zero, suc, ◌-◌, ◌*◌, ◌/◌, ◌<◌, Bool, true, false, List, map, Some, None, refl, sym, ap, ◌∙◌, subst, ◌⊎◌, inl, inr, ⊎_elim, arith, eqb}
 use Rattle.std.specs.Prelude.{Option, option_map, is_some, ◌==◌}
 use Rattle.std.proofs.lemmas.Bool.{false≢true, eqb-true, and_parts, cases_eq, false_from_ne_true}
@@ -23,7 +23,7 @@ use Rattle.machine_changes.proofs.Facts.{one_slab, cache_kept}
 use Rattle.machine_changes.proofs.Reserved.{order_found}
 use Rattle.machine_changes.specs.Pages.{OneMachine}
 
--- rising lists with the same look-ups are one
+-- two rising lists with the same results of all lookups are equal
 same_found : {X : Type 0} (key : X → ℕ) (xs ys : List X) → RisesFrom 0 (map key xs) → RisesFrom 0 (map key ys) → ((k : ℕ) → at key k xs ≡ at key k ys) → xs ≡ ys
 same_found {X} key xs ys rises rises' same =
     same_keyed key 0 xs ys rises rises' (carried xs ys rises same) (carried ys xs rises' (λ k. sym (same k)))
@@ -31,7 +31,7 @@ same_found {X} key xs ys rises rises' same =
     carried : (ws zs : List X) → RisesFrom 0 (map key ws) → ((k : ℕ) → at key k ws ≡ at key k zs) → (x : X) → IsIn x ws → IsIn x zs
     carried ws zs r e x i = (find_in (λ y. eqb (key y) (key x)) x zs (sym (e (key x)) ∙ in_found key 0 x ws r i)).0
 
--- the block found at a frame is that of the told order
+-- the block found at a frame begins there and has the order that the lookup returns
 block_found : (bs : List Block) (f : ℕ) → at (λ z. z.first) f bs ≡ option_map (block f) (order_in bs f)
 block_found bs f = go (at (λ z. z.first) f bs) refl ∙ ap (option_map (block f)) (sym (order_found bs f))
   where
@@ -44,7 +44,7 @@ block_found bs f = go (at (λ z. z.first) f bs) refl ∙ ap (option_map (block f
 -- Places inside slabs
 
 module _ (r : spaces.Content) (s : Content) (t place : ℕ) where
-  -- a slab has the place
+  -- the place lies in a slab
   record IsInSlab : Type 0 where
     number : ℕ
     first : ℕ
@@ -53,11 +53,11 @@ module _ (r : spaces.Content) (s : Content) (t place : ℕ) where
     slab : IsSlab r s t number first machine_frame cache
     inside : is_inside place first cache ≡ true
 
-  -- no slab at the frame has it
+  -- the place lies in no slab that begins at frame f
   abbrev IsApart : ℕ → Type 0
   IsApart f = (c n : ℕ) (cache : own.Cache) → IsSlab r s t c f n cache → is_inside place f cache ≡ false
 
-  -- the number of the cache of a place in the lists
+  -- the number of the tenant's cache whose list the place is in
   number_in : Option (ℕ × ℕ) → ℕ
   number_in None = 0
   number_in (Some p) = p.0 / 3 - MOST_CACHES * t
@@ -73,7 +73,7 @@ module _ (r : spaces.Content) (s : Content) (t place : ℕ) where
     abbrev c : ℕ
     c = number_in (place_at s.lists.places n)
 
-    -- a slab at the frame is one of this cache
+    -- a slab that begins at the frame is of this cache
     only : (d x : ℕ) (cache : own.Cache) → IsSlab r s t d f x cache → (d ≡ c) × IsSlab r s t c f n cache
     only d x cache q =
         let machine_frame : x ≡ n = some_same (sym q.under ∙ under) in
@@ -115,7 +115,7 @@ module _ (r : spaces.Content) (s : Content) (t place : ℕ) where
       join (inr none) (inr here) =
           inr (λ f less. ⊎_elim (λ (same : f ≡ k). subst IsApart (sym same) here) (λ (differ : f ≢ k). none f (omega (arith, differ))) (cases_eq f k))
 
-  -- a slab has the place, or none has
+  -- the place lies in a slab or in none
   in_slab_or_none : IsInSlab ⊎ ((c f n : ℕ) (cache : own.Cache) → IsSlab r s t c f n cache → is_inside place f cache ≡ false)
   in_slab_or_none =
       ⊎_elim (λ is. inl is)

@@ -1,4 +1,4 @@
--- A page block more.
+-- Adding a page block.
 use Rattle.std.proofs.Common.{◌≡◌, ◌≢◌, ℕ, Bool, true, false, cond, eqb, List, [], ◌∷◌, Some, None, refl, sym, ap, ◌∙◌, arith}
 use Rattle.std.specs.Prelude.{Option, option_map}
 use Rattle.std.proofs.lemmas.Bool.{false≢true, ne_eqb, false_from_ne_true}
@@ -15,7 +15,7 @@ use Rattle.machine_changes.specs.Laws.{ReservedShows}
 use Rattle.machine_changes.proofs.Lookups.{eq_turned, some_none, at, in_found, found_put, through}
 use Rattle.machine_changes.proofs.Facts.{some_slab}
 
--- the order that a list of blocks tells at a frame is that of the block found there
+-- a lookup of a frame returns the order of the block found there
 pub order_found : (bs : List Block) (f : ℕ) → order_in bs f ≡ option_map (λ b. b.order) (at (λ b. b.first) f bs)
 order_found [] f = refl
 order_found (y ∷ ys) f = go (eqb y.first f) (order_found ys f)
@@ -29,7 +29,7 @@ none_found : (o : Option Block) → option_map (λ b. b.order) o ≡ None → o 
 none_found None e = refl
 none_found (Some b) e = absurd (some_none e)
 
--- what a list of blocks tells with one put in at a new frame
+-- lookups in a list of blocks after a block is inserted at a new frame
 pub order_put : (z : Block) (bs : List Block) (g : ℕ) → order_in bs z.first ≡ None
     → order_in (put_rising (λ x. x.first) z bs) g ≡ cond (eqb z.first g) (Some z.order) (order_in bs g)
 order_put z bs g absent =
@@ -38,7 +38,7 @@ order_put z bs g absent =
     ∙ through (option_map (λ x. x.order)) (eqb z.first g) (Some z) (at (λ x. x.first) g bs)
     ∙ ap (cond (eqb z.first g) (Some z.order)) (sym (order_found bs g))
 
--- a slab's frame is taken
+-- a taken block begins at the first frame of each slab
 pub slab_taken : (r : spaces.Content) (b : buddies.Content) (s : Content) (t f : ℕ) → IsSteady r b s t
     → has_slab s (machine_frame_of s.top r.slots t f) ≡ true → buddies.taken_of (buddies.holding_of t b) f ≢ None
 slab_taken r b s t f st has none =

@@ -1,4 +1,4 @@
--- Slabs given back.
+-- Freeing slabs.
 use Rattle.std.proofs.Common.{◌≡◌, ℕ, ◌+◌, ◌-◌, ◌*◌, ◌/◌, ◌^◌, Bool, true, false, not, cond, map, Some, None, refl, sym, ap, ◌∙◌, subst}
 use Rattle.std.specs.Prelude.{Option, option_map, is_some, filter, flat_map}
 use Rattle.std.specs.List.{list_any}
@@ -38,7 +38,7 @@ module _ (r r' : spaces.Content) (b b' : buddies.Content) (s s' : Content) (t : 
   pub has_now : (f : ℕ) → has_slab s' (machine_frame_of s'.top r'.slots t f) ≡ cond (gone f) false (has_slab s (machine_frame_of s.top r.slots t f))
   has_now f = ap (has_slab s') (machine_frame_same f) ∙ has_now_under f (machine_frame_of s.top r.slots t f) refl
 
-  -- the place in the lists, as a test of it
+  -- whether a slab of the cache is listed at the frame after the change
   pub listed_now : (d f n : ℕ) → machine_frame_of s.top r.slots t f ≡ Some n
       → is_of_cache d f (place_at s'.lists.places n) ≡ cond (gone f) false (is_of_cache d f (place_at s.lists.places n))
   listed_now d f n under = ap (is_of_cache d f) (k.lists f n under) ∙ through (is_of_cache d f) (gone f) None (place_at s.lists.places n)
@@ -47,7 +47,7 @@ module _ (r r' : spaces.Content) (b b' : buddies.Content) (s s' : Content) (t : 
   true_unless true w e = absurd (false≢true e)
   true_unless false w e = (refl, e)
 
-  -- a slab that is there was there, and is not gone
+  -- each slab existed before and is not one of the freed ones
   pub slab_was : (c f n : ℕ) (cache : own.Cache) → IsSlab r' s' t c f n cache → IsSlab r s t c f n cache × (gone f ≡ false)
   slab_was c f n cache p =
       let under : machine_frame_of s.top r.slots t f ≡ Some n = sym (machine_frame_same f) ∙ p.under in
@@ -63,7 +63,7 @@ module _ (r r' : spaces.Content) (b b' : buddies.Content) (s s' : Content) (t : 
         ∙ ap (λ v. cond v false (is_of_cache (index_of_cache t c) f (place_at s.lists.places n))) stays ∙ q.listed;
   }
 
-  -- no slab that is gone has a place of a slab that stays
+  -- a freed slab shares no place with a slab that remains
   pub not_gone : (place c f n : ℕ) (cache : own.Cache) → IsSlab r s t c f n cache → gone f ≡ false → is_inside place f cache ≡ true
       → (c' f' n' : ℕ) (cache' : own.Cache) → IsSlab r s t c' f' n' cache' → gone f' ≡ true → is_inside place f' cache' ≡ false
   not_gone place c f n cache q stays inside c' f' n' cache' q' goes =
@@ -91,7 +91,7 @@ module _ (r r' : spaces.Content) (b b' : buddies.Content) (s s' : Content) (t : 
           (λ n under listed. (k.kept f n under, live_now c f n cache (record { cached = cached; under = under; listed = listed }) stays))
 
   module _ (m : Machine) (h : ShowsMachine r b s t m) where
-    -- the slab that is gone and has this place
+    -- the place lies in a freed slab
     pub record IsGone (place : ℕ) : Type 0 where
       pub number : ℕ
       pub first : ℕ
@@ -147,7 +147,7 @@ module _ (r r' : spaces.Content) (b b' : buddies.Content) (s s' : Content) (t : 
     was_cache : (c : ℕ) (z : Cache) → cache_of (returned gone m) c ≡ Some z → (x : Cache) × (cache_of m c ≡ Some x) × (kept_slabs gone x ≡ z)
     was_cache c z e = mapped_from (kept_slabs gone) (cache_of m c) z (sym (cache_now c) ∙ e)
 
-    -- page blocks are as they were
+    -- the page blocks are unchanged
     blocks_now : (f : ℕ) → order_in m.blocks f
         ≡ cond (has_slab s' (machine_frame_of s'.top r'.slots t f)) None (buddies.taken_of (buddies.holding_of t b') f)
     blocks_now f =

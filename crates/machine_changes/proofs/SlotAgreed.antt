@@ -1,4 +1,4 @@
--- Parts of which one tenant's share changed: what agreed still agrees.
+-- The parts still agree after the share of one tenant changed.
 use Rattle.std.proofs.Common.{◌≡◌, ◌≢◌, ℕ, ◌+◌, ◌*◌, ◌/◌, ◌%◌, ◌^◌, ◌<◌, ◌≤◌, cond, length, Some, refl, sym, ap, ◌∙◌, subst, ⊎_elim, arith}
 use Rattle.std.proofs.lemmas.Bool.{cases_eq}
 use Rattle.std.proofs.lemmas.List.{length-set}
@@ -18,13 +18,13 @@ use Rattle.machine_changes.specs.Keeps.{Keeps}
 use Rattle.machine_changes.proofs.Facts.{same_below}
 use Rattle.machine_changes.proofs.Untouched.{machine_frame_same}
 
--- an object of a slab whose record is the same
+-- an object is live as before if its slab's control record is unchanged
 one_same : (r r' : spaces.Content) (t : ℕ) (cache : own.Cache) (kept : Kept) (f i : ℕ)
     → ((j : ℕ) → j < 32 → record_byte r' t f j ≡ record_byte r t f j) → i < 256 → is_live r' t cache kept f i ≡ is_live r t cache kept f i
 one_same r r' t cache kept f i same less =
     ap (λ x. cond (is_small (layout_numbers cache).chunk) (is_set x (i % 8)) (is_set kept.outside i)) (same (i / 8) (omega arith))
 
--- the slab that stood at a machine frame agrees at the machine frame where it stands now
+-- a slab that agreed at its old machine frame agrees at the new one
 pub agreed_still : (r r' : spaces.Content) (b b' : buddies.Content) (s s' : Content) (machine_frame machine_frame' head key : ℕ) (cache : own.Cache)
     → (layout_numbers cache).count ≤ 256 → IsAgreed r b s machine_frame head key cache
     → machine_frame_of s'.top r'.slots (head / 3 / MOST_CACHES) key ≡ Some machine_frame'
@@ -44,7 +44,7 @@ agreed_still r r' b b' s s' machine_frame machine_frame' head key cache few g un
       rest = λ i low high. ap (λ k. is_live r' t cache k key i) kept ∙ one_same r r' t cache (kept_at s.kept machine_frame) key i same high ∙ g.rest i low high;
     }
 
--- The share of tenant t changed, which holds h now: all others keep everything, and so do their slabs; those of t agree.
+-- Only the share of tenant t changed: t now holds h. All other tenants keep everything, and their slabs. The slabs of t agree.
 pub record IsLocal (r r' : spaces.Content) (b : buddies.Content) (h : buddies.Holding) (s s' : Content) (t : ℕ) : Type 0 where
   pub unit : r'.unit ≡ r.unit
   pub superblocks : length r'.owners ≡ length r.owners
@@ -98,7 +98,7 @@ module _ (r r' : spaces.Content) (b : buddies.Content) (h : buddies.Holding) (s 
         ⊎_elim (k.mine n head key cache place cache_now) (other_agreed n head key cache place cache_now) (cases_eq (head / 3 / MOST_CACHES) t);
   }
 
--- the tables are as they were, and the memory is the same for tenant u
+-- tenant u keeps everything if the tables are unchanged and the memory is the same for u
 pub keeps_untabled : (r r' : spaces.Content) (b : buddies.Content) (h : buddies.Holding) (s : Content) (t u : ℕ) → u ≢ t → IsSameFor u r r'
     → Keeps r r' b (buddies.with_holding t h b) s s u
 keeps_untabled r r' b h s t u differ same = record {

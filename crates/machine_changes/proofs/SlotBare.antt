@@ -1,4 +1,4 @@
--- No slab stands on a superblock without owner; and what one tenant has in parts that hold together is steady.
+-- No slab lies on a superblock without owner. If the parts hold together, the premise of the laws holds of each tenant.
 use Rattle.std.proofs.Common.{◌≡◌, ℕ, ◌+◌, ◌*◌, ◌/◌, ◌%◌, ◌^◌, ◌<◌, Some, None, length, refl, sym, ap, ◌∙◌, arith}
 use Rattle.std.specs.Prelude.{Option}
 use Rattle.std.proofs.lemmas.Nat.{div-mul-add}
@@ -27,7 +27,7 @@ module _ (r : spaces.Content) (b : buddies.Content) (s : Content) (h : HoldToget
     pub cache : own.Cache
     pub cached : cache_in s.caches (head / 3) ≡ Some cache
     pub agreed : IsAgreed r b s n head key cache
-    -- the superblock on which it stands
+    -- the superblock that it lies on
     pub superblock : ℕ
     pub under : spaces.superblock_at r.slots (head / 3 / MOST_CACHES) (key / 2 ^ s.top) ≡ Some superblock
     pub machine_frame : n ≡ superblock * 2 ^ s.top + key % 2 ^ s.top

@@ -1,4 +1,4 @@
--- A slot has a taken frame exactly where the machine has it busy.
+-- A slot has a taken frame exactly if it is busy in the machine.
 use Rattle.std.proofs.Common.{◌≡◌, ◌↔◌, ℕ, ◌+◌, ◌^◌, ◌<◌, Bool, true, false, ◌||◌, cond, ltb, List, [], ◌∷◌, ◌++◌, Some, None, sym, ap, ◌∙◌, subst, ⊎_elim, arith}
 use Rattle.std.specs.Prelude.{flat_map, option_map}
 use Rattle.std.specs.List.{list_any}
@@ -36,7 +36,7 @@ overlap_tells a b is =
     (λ le. (a.first, (omega arith, omega arith), (le, left)))
     (cases_lt a.first b.first)
 
--- a block that a list tells passes the test
+-- a test that holds of a block which a lookup finds holds of some block of the list
 any_told : (p : Block → Bool) (bs : List Block) (f k : ℕ) → order_in bs f ≡ Some k → p (block f k) ≡ true → list_any p bs ≡ true
 any_told p [] f k told passes = absurd (some_none (sym told))
 any_told p (z ∷ bs) f k told passes = ⊎_elim here (elsewhere (λ rest. any_told p bs f k rest passes)) (cases_eq z.first f)

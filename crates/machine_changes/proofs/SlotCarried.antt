@@ -1,4 +1,4 @@
--- A tenant's slabs are at other machine frames, with all that is kept of them, and its bytes are the same.
+-- A tenant's slabs are moved to other machine frames, with their stored states. Its bytes are the same.
 use Rattle.std.proofs.Common.{◌≡◌, ℕ, ◌+◌, ◌-◌, ◌*◌, cond, Some, None, refl, sym, ap, ◌∙◌, ◌/◌, ◌%◌}
 use Rattle.std.specs.Prelude.{Option, option_map, is_some, ⊤}
 use Rattle.model_core.specs.Layouts.{in_object, is_small}
@@ -15,7 +15,7 @@ use Rattle.machine_changes.specs.Shows.{machine_frame_of, byte_or_zero, live_of,
 use Rattle.machine_changes.proofs.Lookups.{some_none, some_same}
 use Rattle.machine_changes.proofs.Facts.{same_below}
 
--- bytes that stay leave the live objects of a slab as they were
+-- a slab has the same live objects if its control record is unchanged
 live_same : (r r' : spaces.Content) (t : ℕ) (cache : own.Cache) (kept : Kept) (f : ℕ)
     → ((j : ℕ) → record_byte r' t f j ≡ record_byte r t f j) → live_of r' t cache kept f ≡ live_of r t cache kept f
 live_same r r' t cache kept f same =
@@ -27,7 +27,7 @@ pub record IsSameSlab (s s' : Content) (n n' : ℕ) : Type 0 where
   pub place : place_at s'.lists.places n' ≡ place_at s.lists.places n
   pub kept : kept_at s'.kept n' ≡ kept_at s.kept n
 
--- .. if there are any
+-- the same if there are machine frames; otherwise both are `None`
 abbrev pub SameSlab : Content → Content → Option ℕ → Option ℕ → Type 0
 SameSlab s s' None None = ⊤
 SameSlab s s' None (Some n') = ⊥
@@ -65,7 +65,7 @@ module _ (r r' : spaces.Content) (b b' : buddies.Content) (s s' : Content) (t : 
   slab_same : (c f : ℕ) (cache : own.Cache) → slab_at r' s' t c cache f ≡ slab_at r s t c cache f
   slab_same c f cache = slab_same_under (index_of_cache t c) f cache (machine_frame_of s.top r.slots t f) (machine_frame_of s'.top r'.slots t f) (k.machine_frames f)
 
-  -- where a slab stood
+  -- the slab of before that is now at machine frame n'
   record WasSlab (c f n' : ℕ) (cache : own.Cache) : Type 0 where
     pub machine_frame : ℕ
     pub slab : IsSlab r s t c f machine_frame cache
@@ -89,7 +89,7 @@ module _ (r r' : spaces.Content) (b b' : buddies.Content) (s s' : Content) (t : 
       go (Some n) None under is same = absurd same
       go (Some n) (Some x') under is same = here n x' under (some_same is) same
 
-  -- and where it stands
+  -- conversely, each slab of before still exists
   slab_is : (c f n : ℕ) (cache : own.Cache) → IsSlab r s t c f n cache → (n' : ℕ) × IsSlab r' s' t c f n' cache
   slab_is c f n cache q = go (machine_frame_of s.top r.slots t f) (machine_frame_of s'.top r'.slots t f) q.under refl (k.machine_frames f)
     where

@@ -1,4 +1,4 @@
--- All that a tenant has is taken from it.
+-- Removing all that a tenant has.
 use Rattle.std.proofs.Common.{◌≡◌, ◌≢◌, ℕ, ◌*◌, ◌/◌, ◌^◌, ◌<◌, ◌≤◌, Bool, true, false, cond, eqb, ltb, length, Some, None, refl, sym, ap, ◌∙◌, ⊎_elim, arith}
 use Rattle.std.specs.Prelude.{Option}
 use Rattle.std.proofs.lemmas.Bool.{false≢true, eq-eqb, ne_eqb, cases_lt, le-ltb, lt-ltb}
@@ -19,7 +19,7 @@ use Rattle.machine_changes.proofs.SlotAgreed.{IsLocal, agree_of}
 use Rattle.machine_changes.proofs.SlotBare.{tenant_of, slab_there}
 use Rattle.machine_changes.proofs.SlotEmpty.{empty_shows, none_in}
 
--- the caches of another tenant are those of its numbers
+-- another tenant has the same caches, if only table entries of t changed
 pub same_cache : (s' s : Content) (t v c : ℕ) → ((i : ℕ) → (i / MOST_CACHES ≡ t → ⊥) → cache_in s'.caches i ≡ cache_in s.caches i) → v ≢ t → cache_at s' v c ≡ cache_at s v c
 same_cache s' s t v c stays differ = ⊎_elim below above (cases_lt c MOST_CACHES)
   where
@@ -32,7 +32,7 @@ same_cache s' s t v c stays differ = ⊎_elim below above (cases_lt c MOST_CACHE
         ap (λ w. cond w (cache_in s'.caches (index_of_cache v c)) None) (le-ltb c MOST_CACHES more)
         ∙ sym (ap (λ w. cond w (cache_in s.caches (index_of_cache v c)) None) (le-ltb c MOST_CACHES more))
 
--- a place that is not gone was there, in a list of another cache
+-- a place that is left was there before, and its cache is not one of the removed ones
 pub unless_some : (gone : ℕ → Bool) (place : Option (ℕ × ℕ)) (p : ℕ × ℕ) → unless_gone gone place ≡ Some p → (place ≡ Some p) × (gone (p.0 / 3) ≡ false)
 unless_some gone None p e = absurd (some_none (sym e))
 unless_some gone (Some q) p e = go (gone (q.0 / 3)) refl e

@@ -1,4 +1,4 @@
--- Parts in which a tenant has nothing show the empty machine; so do the parts before the first event.
+-- Parts in which a tenant has nothing show the empty machine. The parts before the first event show it for every tenant.
 use Rattle.std.proofs.Common.{◌≡◌, ℕ, ◌*◌, ◌^◌, ◌≤◌, Bool, true, false, cond, ltb, length, None, refl, sym, ap, ◌∙◌, ⊎_elim, arith}
 use Rattle.std.specs.Prelude.{Option, is_some, option_map, replicate, slice_index_or, []}
 use Rattle.std.proofs.lemmas.Bool.{cases_lt}
@@ -37,7 +37,7 @@ empty_shows r b s t slots taken caches = record {
     either true = refl
     either false = refl
 
--- nothing stands anywhere in a list of nothing
+-- every lookup in a list of `None` returns `None`
 pub none_in : {A : Type 0} (n i : ℕ) → slice_index_or (replicate n (nothing A)) i (nothing A) ≡ None
 none_in {A} n i = ⊎_elim
     (λ below. get_or-replicate n i (nothing A) (nothing A) below)

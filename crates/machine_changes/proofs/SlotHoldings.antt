@@ -1,4 +1,4 @@
--- The slots that a tenant holds after a change of one.
+-- The slots that a tenant holds after one of them changes.
 use Rattle.std.proofs.Common.{◌≡◌, ℕ, ◌<◌, cond, eqb, length, Some, None, get_or-set_same, get_or-set_other, sym, ap, ◌∙◌, ⊎_elim, arith}
 use Rattle.std.specs.Prelude.{Option, List, slice_index_or, slice_set}
 use Rattle.std.proofs.lemmas.Bool.{eq-eqb, ne_eqb, cases_eq}
@@ -17,7 +17,7 @@ replaced xs u x v below = ⊎_elim
     (λ differ. get_or-set_other xs u v x None differ ∙ sym (ap (λ w. cond w x (slice_index_or xs v None)) (ne_eqb v u differ)))
     (cases_eq v u)
 
--- in the buddy system and in the memory's mapping alike
+-- the tenant's slots in the buddy system after one entry changes, compared with the memory's slots
 pub slots_with : (r : spaces.Content) (b : buddies.Content) (s : Content) → HoldTogether r b s → (t u v : ℕ) (x : Option ℕ) → t < length r.slots → u < length r.owners
     → slice_index_or (slice_set (buddies.holding_of t b).slots u x) v None ≡ cond (eqb v u) x (spaces.superblock_at r.slots t v)
 slots_with r b s h t u v x tenant slot =
@@ -25,7 +25,7 @@ slots_with r b s h t u v x tenant slot =
     let same : length r.owners ≡ b.superblocks = h.agree.superblocks in
     replaced (buddies.holding_of t b).slots u x v (omega arith) ∙ ap (cond (eqb v u) x) (h.agree.slots t v)
 
--- a slot with a superblock is one of those that there are
+-- a slot with a superblock has a number below the number of superblocks
 pub slot_below : (r : spaces.Content) (b : buddies.Content) (s : Content) → HoldTogether r b s → (t u m : ℕ) → t < length r.slots
     → spaces.superblock_at r.slots t u ≡ Some m → u < length r.owners
 slot_below r b s h t u m tenant here =

@@ -1,4 +1,4 @@
--- A slot stands over another superblock.
+-- Moving a slot to another superblock.
 use Rattle.std.proofs.Common.{◌≡◌, ◌≢◌, ◌⊎◌, inl, inr, ℕ, ◌+◌, ◌*◌, ◌/◌, ◌%◌, ◌^◌, ◌<◌, cond, eqb, length, Some, None, refl, sym, ap, ◌∙◌, subst, ⊎_elim}
 use Rattle.std.specs.Prelude.{Option, is_some}
 use Rattle.std.proofs.lemmas.Bool.{eq-eqb, ne_eqb, cases_eq}
@@ -53,14 +53,14 @@ module _ (r : spaces.Content) (b : buddies.Content) (s s' : Content) (t u from t
   reads : ReadsSame t r r'
   reads = h.space.own_bytes.move t u from to here below free
 
-  -- what stands under another slot is neither of the two superblocks
+  -- the superblock in any other slot is neither of the two
   pub not_from : (v w m : ℕ) → spaces.superblock_at r.slots v w ≡ Some m → ((v ≡ t) × (w ≡ u) → ⊥) → m ≢ from
   not_from v w m under differ e = differ (h.space.apart.slots v w t u m under (here ∙ ap (λ (x : ℕ). Some x) (sym e)))
 
   pub not_to : (v w m : ℕ) → spaces.superblock_at r.slots v w ≡ Some m → m ≢ to
   not_to v w m under e = is_owned r b s h v w to (under ∙ ap (λ (x : ℕ). Some x) e) free
 
-  -- a machine frame of such a superblock has what it had
+  -- the machine frames of such a superblock keep their slabs
   machine_frame_stays : (v f m : ℕ) → spaces.superblock_at r.slots v (f / size) ≡ Some m → ((v ≡ t) × (f / size ≡ u) → ⊥)
       → IsSameSlab s s' (m * size + f % size) (m * size + f % size)
   machine_frame_stays v f m under differ =
@@ -125,7 +125,7 @@ module _ (r : spaces.Content) (b : buddies.Content) (s s' : Content) (t u from t
   pub machine_now : (m : Machine) → ShowsMachine r b s t m → ShowsMachine r' b' s' t m
   machine_now m = carried_shows r r' b b' s s' t carried m
 
-  -- Where a slab that stands at a machine frame stood
+  -- Where each slab was before the move
 
   record WasAt (n : ℕ) (p : ℕ × ℕ) : Type 0 where
     pub machine_frame : ℕ
@@ -191,7 +191,7 @@ module _ (r : spaces.Content) (b : buddies.Content) (s s' : Content) (t u from t
           ap (frame_under s.top key) (slot_other (key / size) differ ∙ under)
           ∙ ap (λ (x : ℕ). Some x) (sym (stays.1 ∙ machine_frame))
 
-  -- what stands there for another tenant stood there
+  -- a slab of another tenant was at the same machine frame before
   placed_before : (n head key : ℕ) → place_at s'.lists.places n ≡ Some (head, key) → (head / 3 / MOST_CACHES ≡ t → ⊥)
       → place_at s.lists.places n ≡ Some (head, key)
   placed_before n head key placed differ = go (was_at n (head, key) placed)

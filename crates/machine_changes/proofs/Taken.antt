@@ -17,7 +17,7 @@ use Rattle.machine_changes.specs.Laws.{TakenMeets}
 use Rattle.machine_changes.proofs.Lookups.{in_found}
 use Rattle.machine_changes.proofs.Facts.{has_it, one_slab, some_slab, slab_in, IsSlabKept, slab_of_machine}
 
--- The order that a list of blocks tells at a frame
+-- The order that a lookup in a list of blocks returns for a frame
 
 pub order_none : (bs : List Block) (f : ℕ) → ((z : Block) → IsIn z bs → z.first ≡ f → ⊥) → order_in bs f ≡ None
 order_none [] f none = refl
@@ -53,7 +53,7 @@ order_before (x ∷ xs) ys f none = ap (λ o. cond (eqb x.first f) (Some x.order
 -- Slabs and their blocks
 
 module _ (r : spaces.Content) (b : buddies.Content) (s : Content) (t : ℕ) (m : Machine) (st : IsSteady r b s t) (h : ShowsMachine r b s t m) where
-  -- the block is that of a slab
+  -- z is the block of a slab
   pub record IsOfSlab (z : Block) : Type 0 where
     pub number : ℕ
     pub machine_frame : ℕ
@@ -61,7 +61,7 @@ module _ (r : spaces.Content) (b : buddies.Content) (s : Content) (t : ℕ) (m :
     pub slab : IsSlab r s t number z.first machine_frame cache
     pub order : z.order ≡ (layout_numbers cache).order
 
-  -- a slab of the machine is one of the tables
+  -- each slab of the machine is one of the tables
   pub slab_kept : (x : Cache) (y : Slab) → IsIn x m.caches → IsIn y x.slabs → IsSlabKept r b s t m h x.number y.first x y
   slab_kept x y i j =
       let ex : cache_of m x.number ≡ Some x = in_found (λ z. z.number) 0 x m.caches h.caches_rise i in
@@ -73,13 +73,13 @@ module _ (r : spaces.Content) (b : buddies.Content) (s : Content) (t : ℕ) (m :
       let is = slab_kept x y i j in
       record { number = x.number; machine_frame = is.machine_frame; cache = is.kept; slab = is.slab; order = ap (λ l. l.order) is.layout }
 
-  -- page blocks, and blocks of some of the slabs
+  -- The list `bs` contains blocks of slabs.
   module _ (bs : List Block) (tells : (z : Block) → IsIn z bs → IsOfSlab z) where
-    -- where a slab begins, no page block does
+    -- no page block begins at the first frame of a slab
     no_page : (f : ℕ) → has_slab s (machine_frame_of s.top r.slots t f) ≡ true → order_in m.blocks f ≡ None
     no_page f has = h.blocks f ∙ ap (λ v. cond v None (buddies.taken_of (buddies.holding_of t b) f)) has
 
-    -- a slab that is among them
+    -- the lookup at a slab whose block is in `bs`
     pub order_of_slab : (c f n : ℕ) (cache : own.Cache) → IsSlab r s t c f n cache → IsIn (block f (layout_numbers cache).order) bs
         → order_in (m.blocks ++ bs) f ≡ buddies.taken_of (buddies.holding_of t b) f
     order_of_slab c f n cache q i =
@@ -89,12 +89,12 @@ module _ (r : spaces.Content) (b : buddies.Content) (s : Content) (t : ℕ) (m :
         is.order ∙ ap (λ x. (layout_numbers x).order) (one_slab r s t c f n is.number z.first is.machine_frame cache is.cache q is.slab same).same)
         ∙ sym (st.stands c f n cache q).taken
 
-    -- a slab that is not
+    -- the lookup at a slab whose block is not in `bs`
     pub order_of_none : (f : ℕ) → has_slab s (machine_frame_of s.top r.slots t f) ≡ true → ((z : Block) → IsIn z bs → z.first ≡ f → ⊥)
         → order_in (m.blocks ++ bs) f ≡ None
     order_of_none f has none = order_past m.blocks bs f (no_page f has) ∙ order_none bs f none
 
-    -- where no slab begins
+    -- the lookup at a frame at which no slab begins
     pub order_of_page : (f : ℕ) → has_slab s (machine_frame_of s.top r.slots t f) ≡ false
         → order_in (m.blocks ++ bs) f ≡ buddies.taken_of (buddies.holding_of t b) f
     order_of_page f none =

@@ -15,14 +15,14 @@ use Rattle.machine_changes.proofs.ByKind.{to_list, from_list}
 
 module _ (r : spaces.Content) (b : buddies.Content) (s : Content) (w : IsSlabs s) (a : Agree r b s) (t c kind : ℕ) (less : kind < 3)
     (m : Machine) (x : Cache) (h : ShowsMachine r b s t m) (ex : cache_of m c ≡ Some x) where
-  -- an empty list is that of a kind of which there is no slab
+  -- if a list is empty, the machine finds no slab of its kind
   none_found : IsEmpty s.lists.places (head_of t c kind) → find (is_kind kind) x.slabs ≡ None
   none_found none =
       find_none (is_kind kind) x.slabs (λ y i. false_from_ne_true (is_kind kind y) (λ e.
       let there = to_list r b s w a t c kind less m x h ex y i e in
       none there.machine_frame y.first there.place))
 
-  -- the first of a list is the first slab of its kind
+  -- the first slab of a list is the first one of its kind in the machine
   record IsFound (first : ℕ) : Type 0 where
     slab : Slab
     found : find (is_kind kind) x.slabs ≡ Some slab

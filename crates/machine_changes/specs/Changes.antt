@@ -1,4 +1,4 @@
--- What the calls do to one tenant's part of the memory, the buddy systems and the tables, frame by frame.
+-- What the calls change in one tenant's part of the memory, the buddy systems and the tables, frame by frame.
 use Rattle.std.specs.Prelude.{◌≡◌, ◌≢◌, ℕ, ◌+◌, ◌-◌, ◌*◌, ◌%◌, ◌<◌, Bool, true, false, not, if◌then◌else◌, List, Some, None, map, filter, flat_map, slice_set}
 use Rattle.model_core.specs.declared.limits.TheConstants.{FRAME_BYTES, RECORD_BYTES, RECORD_OFFSET}
 use Rattle.model_core.specs.Blocks.{Block, with_taken}
@@ -15,7 +15,7 @@ use Rattle.slab_tables.specs.Content.{Content, kept_at, cache_at, kind_number, h
 use Rattle.slab_tables.specs.Changes.{fresh_kept, made_more}
 use Rattle.machine_changes.specs.Shows.{machine_frame_of, record_byte, live_of, is_of_cache, has_slab, is_inside, IsSlab}
 
--- an object: its cache, the first frame and the machine frame of its slab, and which of the slab's objects it is
+-- an object: its cache, the first frame and the machine frame of its slab, and its index in the slab
 pub record Found : Type 0 where
   pub cache : own.Cache
   pub first : ℕ
@@ -25,7 +25,8 @@ pub record Found : Type 0 where
 abbrev pub found : own.Cache → ℕ → ℕ → ℕ → Found
 found cache first machine_frame index = record { cache = cache; first = first; machine_frame = machine_frame; index = index }
 
--- object o of cache c of tenant t is live now, or not, and nothing else changed but the record of its slab
+-- Object o of cache c of tenant t is marked live, or free if v is false. Apart from that, only the record of its slab, the
+-- slab's number of live objects and its list may change.
 pub record IsMarked (r r' : spaces.Content) (s s' : Content) (t c : ℕ) (o : Found) (v : Bool) : Type 0 where
   pub top : s'.top ≡ s.top
   pub slots : (u : ℕ) → spaces.superblock_at r'.slots t u ≡ spaces.superblock_at r.slots t u
@@ -40,8 +41,8 @@ pub record IsMarked (r r' : spaces.Content) (s s' : Content) (t c : ℕ) (o : Fo
   pub bytes : (place : ℕ) → ((k : ℕ) → k < RECORD_BYTES → place ≢ FRAME_BYTES * o.first + RECORD_OFFSET + k) → byte_at r' t place ≡ byte_at r t place
   pub large : is_small (layout_numbers o.cache).chunk ≢ true → (place : ℕ) → byte_at r' t place ≡ byte_at r t place
 
--- The slabs of tenant t at these first frames are given back: they stand in no list, their blocks are not taken, and their
--- bytes are zero. A set of frames serves one slab, a cache and all caches alike.
+-- The slabs of tenant t that begin at these first frames are freed: they are in no list, their blocks are not taken, and
+-- their bytes are zero. `gone` may select one slab, the slabs of one cache, or slabs of all caches.
 pub record IsReturned (r r' : spaces.Content) (b b' : buddies.Content) (s s' : Content) (t : ℕ) (gone : ℕ → Bool) : Type 0 where
   pub top : s'.top ≡ s.top
   pub slots : (u : ℕ) → spaces.superblock_at r'.slots t u ≡ spaces.superblock_at r.slots t u
@@ -58,7 +59,7 @@ pub record IsReturned (r r' : spaces.Content) (b b' : buddies.Content) (s s' : C
       → ((c f n : ℕ) (cache : own.Cache) → IsSlab r s t c f n cache → gone f ≡ true → is_inside place f cache ≡ false)
       → byte_at r' t place ≡ byte_at r t place
 
--- the same of the private machine
+-- the same change of the private machine
 
 abbrev pub kept_slabs : (ℕ → Bool) → Cache → Cache
 kept_slabs gone c = record c { slabs = filter (λ s. not (gone s.first)) c.slabs }
@@ -72,8 +73,8 @@ returned gone m = record m {
   bytes = zeroed (flat_map (gone_blocks gone) m.caches) m.bytes;
 }
 
--- The block at frame f, machine frame n, becomes the next slab of cache c of tenant t: an empty one, its record clear and every
--- object constructed. All bytes outside it stay.
+-- The block at frame f, machine frame n, becomes the next slab of cache c of tenant t. The slab is empty, its record is clear,
+-- and every object is constructed. All bytes outside the slab are unchanged.
 pub record IsGrown (r r' : spaces.Content) (b b' : buddies.Content) (s s' : Content) (t c : ℕ) (cache : own.Cache) (f n : ℕ) : Type 0 where
   pub top : s'.top ≡ s.top
   pub slots : (u : ℕ) → spaces.superblock_at r'.slots t u ≡ spaces.superblock_at r.slots t u

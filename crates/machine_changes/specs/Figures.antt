@@ -1,4 +1,4 @@
--- How the figures of a report are read off the parts.
+-- How the figures of a report follow from the parts.
 use Rattle.std.specs.Prelude.{◌≡◌, ℕ, zero, suc, ◌+◌, ◌*◌, ◌^◌, ◌<◌, ◌≤◌, length}
 use Rattle.model_core.specs.Machine.{Machine}
 use Rattle.model_core.specs.Reports.{frames_held, frames_taken, free_count, taken_count}
@@ -8,7 +8,7 @@ use Rattle.slab_tables.specs.Content.{Content}
 use Rattle.machine_changes.specs.Shows.{ShowsMachine, Agree}
 use Rattle.machine_changes.specs.Steady.{IsSteady}
 
--- how many frames the blocks of the orders below n have, of which there are `count k` of each order k
+-- how many frames there are in `count k` blocks of each order k below n
 abbrev pub frames_in : (ℕ → ℕ) → ℕ → ℕ
 frames_in count zero = 0
 frames_in count (suc k) = frames_in count k + count k * 2 ^ k
@@ -17,20 +17,20 @@ frames_in count (suc k) = frames_in count k + count k * 2 ^ k
 abbrev pub frames_below : buddies.Holding → ℕ → ℕ
 frames_below h n = frames_in (λ k. buddies.taken_block_count k h) n
 
--- the figures of the machine are those of the buddy system's tenant t
+-- the figures of the machine are those of tenant t in the buddy system
 pub record HasFigures (b : buddies.Content) (t : ℕ) (m : Machine) : Type 0 where
   pub held : frames_held b.top m ≡ buddies.held_slots (buddies.holding_of t b) * 2 ^ b.top
   pub free : (k : ℕ) → free_count b.top m k ≡ buddies.free_block_count b.top b.superblocks k (buddies.holding_of t b)
   pub taken : (k : ℕ) → taken_count m k ≡ buddies.taken_block_count k (buddies.holding_of t b)
   pub frames : frames_taken m ≡ frames_below (buddies.holding_of t b) (b.top + 1)
 
--- whichever machine the parts show for a tenant, its figures are those of the tenant in the buddy system
+-- if the parts show a machine for a tenant, its figures are those of the tenant in the buddy system
 abbrev pub FiguresMeet : Type 0
 FiguresMeet = (r : spaces.Content) (b : buddies.Content) (s : Content) (t : ℕ) (m : Machine)
     → Agree r b s → IsSteady r b s t → buddies.BuddyLaws b → t < length b.tenants → ShowsMachine r b s t m → HasFigures b t m
 
--- The frames of a tenant's slots are 65536 at most, and so are its blocks of each order. The frames of its taken blocks,
--- which share none, are not more than those of its slots.
+-- A tenant's slots have at most 65,536 frames. It has at most 65,536 free and 65,536 taken blocks of each order. Its taken
+-- blocks are disjoint, so they have at most as many frames as its slots.
 pub record AreWithin (b : buddies.Content) (t : ℕ) : Type 0 where
   pub held : buddies.held_slots (buddies.holding_of t b) * 2 ^ b.top ≤ 65536
   pub free : (k : ℕ) → buddies.free_block_count b.top b.superblocks k (buddies.holding_of t b) ≤ 65536

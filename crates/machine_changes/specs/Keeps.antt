@@ -1,4 +1,4 @@
--- What a call for one tenant leaves to all others: everything.
+-- A call for one tenant changes nothing of the others.
 use Rattle.std.specs.Prelude.{◌≡◌, ◌≢◌, ℕ, Some}
 use Rattle.klist_core.specs.Places.{place_at}
 use Rattle.space_core.specs.Content as spaces
@@ -7,21 +7,21 @@ use Rattle.buddy_core.specs.Content as buddies
 use Rattle.slab_tables.specs.Content.{Content, kept_at, cache_at}
 use Rattle.machine_changes.specs.Shows.{machine_frame_of}
 
--- tenant t has the same caches, and at each machine frame under its slots the same slab with the same that is kept of it
+-- tenant t has the same caches, and each machine frame in its slots has the same slab with the same stored state
 pub record IsSameCaches (t : ℕ) (r : spaces.Content) (s s' : Content) : Type 0 where
   pub top : s'.top ≡ s.top
   pub caches : (c : ℕ) → cache_at s' t c ≡ cache_at s t c
   pub lists : (f n : ℕ) → machine_frame_of s.top r.slots t f ≡ Some n → place_at s'.lists.places n ≡ place_at s.lists.places n
   pub kept : (f n : ℕ) → machine_frame_of s.top r.slots t f ≡ Some n → kept_at s'.kept n ≡ kept_at s.kept n
 
--- all that tenant t has is as it was: slots and bytes, control records included, taken blocks, caches and slabs
+-- tenant t keeps everything: its slots and bytes with the control records, its taken blocks, caches and slabs
 pub record Keeps (r r' : spaces.Content) (b b' : buddies.Content) (s s' : Content) (t : ℕ) : Type 0 where
   pub space : IsSameFor t r r'
   pub buddy : buddies.holding_of t b' ≡ buddies.holding_of t b
   pub slabs : IsSameCaches t r s s'
 
--- What is done for tenant t spares all others. Of the memory it changes bytes alone, and none of a superblock without owner;
--- of the buddy systems t's alone.
+-- A call for tenant t changes nothing of other tenants. In the memory it changes only bytes, and none of a superblock without
+-- owner. Of the buddy systems it changes only that of t.
 pub record Spares (t : ℕ) (r r' : spaces.Content) (b b' : buddies.Content) (s s' : Content) : Type 0 where
   pub others : (u : ℕ) → u ≢ t → Keeps r r' b b' s s' u
   pub space : r' ≡ record r { banks = r'.banks }

@@ -1,4 +1,4 @@
--- The laws of the object layer: what the changes of the parts are to the private machine that they show.
+-- The laws of the object layer: what each change of the parts does to the private machine that they show.
 use Rattle.std.specs.Prelude.{◌≡◌, ◌↔◌, ℕ, ◌<◌, ◌≤◌, ◌==◌, Bool, true, false, if◌then◌else◌, Some, None, Ok, is_some, map, filter, find, length}
 use Rattle.model_core.specs.Blocks.{block, HasFrame, with_taken}
 use Rattle.model_core.specs.Layouts.{IsLayout}
@@ -22,12 +22,12 @@ use Rattle.machine_changes.specs.Changes.{Found, IsMarked, IsReturned, IsGrown, 
 use Rattle.machine_changes.specs.Objects.{IsLiveObject, IsNoObject, Standing, IsToUse, IsAllFull}
 use Rattle.machine_changes.specs.Fitting.{WouldFit}
 
--- parts that keep all that a tenant has show the same machine of it
+-- if the parts keep all that a tenant has, they show the same machine for it
 abbrev pub KeptShowsSame : Type 0
 KeptShowsSame = (r r' : spaces.Content) (b b' : buddies.Content) (s s' : Content) (t : ℕ) → Keeps r r' b b' s s' t
     → (m : Machine) → ShowsMachine r b s t m → ShowsMachine r' b' s' t m
 
--- an object marked is that object live, or not, in the machine
+-- marking an object live or free marks it so in the machine
 abbrev pub MarkedShows : Type 0
 MarkedShows = (r r' : spaces.Content) (b : buddies.Content) (s s' : Content) (t c : ℕ) (o : Found) (v : Bool) (m : Machine) (x : Cache) (y : Slab)
     → IsMarked r r' s s' t c o v → IsSteady r b s t → IsSlab r s t c o.first o.machine_frame o.cache
@@ -35,26 +35,26 @@ MarkedShows = (r r' : spaces.Content) (b : buddies.Content) (s s' : Content) (t 
     → cache_of m c ≡ Some x → slab_of x o.first ≡ Some y
     → ShowsMachine r b s t m → ShowsMachine r' b s' t (with_cache (with_slab (with_live o.index v y) x) m)
 
--- slabs given back
+-- freeing slabs frees them in the machine
 abbrev pub ReturnedShows : Type 0
 ReturnedShows = (r r' : spaces.Content) (b b' : buddies.Content) (s s' : Content) (t : ℕ) (gone : ℕ → Bool) (m : Machine)
     → IsReturned r r' b b' s s' t gone → IsSteady r b s t → ShowsMachine r b s t m → ShowsMachine r' b' s' t (returned gone m)
 
--- exactly the empty slabs given back are the machine reaped
+-- if exactly the empty slabs are freed, the machine is reaped
 abbrev pub ReapedShows : Type 0
 ReapedShows = (r r' : spaces.Content) (b b' : buddies.Content) (s s' : Content) (t : ℕ) (gone : ℕ → Bool) (m : Machine)
     → IsReturned r r' b b' s s' t gone → IsSteady r b s t → ShowsMachine r b s t m
     → ((c f : ℕ) (x : Cache) (y : Slab) → cache_of m c ≡ Some x → slab_of x f ≡ Some y → gone f ≡ is_empty y)
     → ShowsMachine r' b' s' t (reaped m)
 
--- a slab made on untaken frames is the cache grown
+-- making a slab on free frames grows the cache in the machine
 abbrev pub GrownShows : Type 0
 GrownShows = (r r' : spaces.Content) (b b' : buddies.Content) (s s' : Content) (t c : ℕ) (cache : own.Cache) (f n : ℕ) (m : Machine) (x : Cache)
     → IsGrown r r' b b' s s' t c cache f n → IsSteady r b s t → IsLayout cache.layout.size cache.layout.align (layout_numbers cache)
     → ((g k y : ℕ) → buddies.taken_of (buddies.holding_of t b) g ≡ Some k → HasFrame (block g k) y → HasFrame (block f (layout_numbers cache).order) y → ⊥)
     → cache_of m c ≡ Some x → ShowsMachine r b s t m → ShowsMachine r' b' s' t (grown f x m)
 
--- one taken block more that is no slab's is one page block more
+-- a new taken block that is not a slab's is a new page block in the machine
 abbrev pub ReservedShows : Type 0
 ReservedShows = (r : spaces.Content) (b b' : buddies.Content) (s : Content) (t f k : ℕ) (m : Machine)
     → IsSteady r b s t → buddies.taken_of (buddies.holding_of t b) f ≡ None
@@ -67,13 +67,13 @@ TakeUses = (r : spaces.Content) (b : buddies.Content) (s : Content) (t c : ℕ) 
     → IsSlabs s → Agree r b s → IsSteady r b s t → ShowsMachine r b s t m → cache_of m c ≡ Some x → IsToUse r s t c cache o
     → (y : Slab) × (slab_to_use (find is_partial x.slabs) (find is_empty x.slabs) ≡ Some y) × (slab_of x o.first ≡ Some y)
 
--- .. and where there is none, the machine finds none
+-- if there is no such slab, the machine finds none
 abbrev pub TakeMakes : Type 0
 TakeMakes = (r : spaces.Content) (b : buddies.Content) (s : Content) (t c : ℕ) (m : Machine) (x : Cache)
     → IsSlabs s → Agree r b s → IsSteady r b s t → ShowsMachine r b s t m → cache_of m c ≡ Some x → IsAllFull s t c
     → slab_to_use (find is_partial x.slabs) (find is_empty x.slabs) ≡ None
 
--- giving back object `index` of a slab of cache c, which begins at the place
+-- a give of cache c at the place returns object `index` of the slab that begins at frame `first`
 pub record GivesObject (m : Machine) (c place index first : ℕ) : Type 0 where
   pub cache : Cache
   pub slab : Slab
@@ -81,12 +81,12 @@ pub record GivesObject (m : Machine) (c place index first : ℕ) : Type 0 where
   pub standing : slab_of cache first ≡ Some slab
   pub step : give_step c place m ≡ record { answer = Ok tt; machine = with_cache (with_slab (with_live index false slab) cache) m }
 
--- a live object that begins at the place is the one that a give gives back
+-- a give returns the live object that begins at the place
 abbrev pub FoundGives : Type 0
 FoundGives = (r : spaces.Content) (b : buddies.Content) (s : Content) (t c place : ℕ) (o : Found) (m : Machine)
     → IsSteady r b s t → ShowsMachine r b s t m → IsLiveObject r s t c place o → GivesObject m c place o.index o.first
 
--- where none begins there, a give is refused
+-- if no live object begins at the place, a give is refused
 abbrev pub NotFoundRefuses : Type 0
 NotFoundRefuses = (r : spaces.Content) (b : buddies.Content) (s : Content) (t c place : ℕ) (cache : own.Cache) (m : Machine)
     → IsSteady r b s t → ShowsMachine r b s t m → cache_at s t c ≡ Some cache → IsNoObject r s t c place
@@ -97,12 +97,12 @@ abbrev pub TakenMeets : Type 0
 TakenMeets = (r : spaces.Content) (b : buddies.Content) (s : Content) (t : ℕ) (m : Machine)
     → IsSteady r b s t → ShowsMachine r b s t m → (f : ℕ) → taken_in m f ≡ buddies.taken_of (buddies.holding_of t b) f
 
--- the live objects that are counted are those that the records tell
+-- the stored number of live objects of each slab is the number that its record shows
 abbrev pub AreObjectsCounted : spaces.Content → Content → ℕ → Type 0
 AreObjectsCounted r s t = (c f n : ℕ) (cache : own.Cache) → IsSlab r s t c f n cache
     → (kept_at s.kept n).live ≡ count_true (live_of r t cache (kept_at s.kept n) f)
 
--- a block would fit exactly where the reaped machine finds one
+-- a block would fit exactly if the reaped machine finds a place for it
 abbrev pub FittingMeets : Type 0
 FittingMeets = (r : spaces.Content) (b : buddies.Content) (s : Content) (t k : ℕ) (m : Machine)
     → IsSteady r b s t → AreObjectsCounted r s t → ShowsMachine r b s t m → k ≤ s.top
@@ -112,17 +112,17 @@ FittingMeets = (r : spaces.Content) (b : buddies.Content) (s : Content) (t k : �
 abbrev pub is_kind : ℕ → Slab → Bool
 is_kind kind y = if kind == 0 then is_full y else (if kind == 1 then is_partial y else is_empty y)
 
--- the list of a kind has exactly the first frames of the cache's slabs of that kind
+-- the list of each kind has exactly the first frames of the cache's slabs of that kind
 abbrev pub ListsHold : Content → Type 0
 ListsHold s = (r : spaces.Content) (b : buddies.Content) (t c kind : ℕ) (m : Machine) (x : Cache)
     → Agree r b s → IsSteady r b s t → ShowsMachine r b s t m → cache_of m c ≡ Some x → kind < 3
     → keys_of s.lists.places (head_of t c kind) ≡ map (λ y. y.first) (filter (is_kind kind) x.slabs)
 
--- .. of all tables
+-- this holds of all tables
 abbrev pub KindsHold : Type 0
 KindsHold = (s : Content) → IsSlabs s → ArePlaces s.lists → ListsHold s
 
--- what parts that agree lend of one tenant
+-- if the parts agree, the premise of the laws holds of each tenant
 abbrev pub AgreeSteady : Type 0
 AgreeSteady = (r : spaces.Content) (b : buddies.Content) (s : Content) (t : ℕ)
     → IsSlabs s → Agree r b s → t < length r.slots → IsOneToOne r → buddies.IsSized b

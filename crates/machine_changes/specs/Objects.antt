@@ -1,4 +1,4 @@
--- Objects by their places, and the slab that a take uses.
+-- Objects and their places, and the slab that a take uses.
 use Rattle.std.specs.Prelude.{◌≡◌, ℕ, ◌+◌, ◌<◌, ◌≤◌, ◌⊎◌, true}
 use Rattle.model_core.specs.Layouts.{object_place}
 use Rattle.klist_core.specs.Places.{IsEmpty, IsFirst}
@@ -16,7 +16,7 @@ pub record IsLiveObject (r : spaces.Content) (s : Content) (t c place : ℕ) (o 
   pub live : is_live r t o.cache (kept_at s.kept o.machine_frame) o.first o.index ≡ true
   pub begins : object_place (layout_numbers o.cache) o.first (kept_at s.kept o.machine_frame).colour o.index ≡ place
 
--- no live object of the cache begins there
+-- no live object of the cache begins at the place
 abbrev pub IsNoObject : spaces.Content → Content → ℕ → ℕ → ℕ → Type 0
 IsNoObject r s t c place = (o : Found) → IsLiveObject r s t c place o → ⊥
 
@@ -25,7 +25,7 @@ pub record Standing : Type 0 where
   pub first : ℕ
   pub machine_frame : ℕ
 
--- the slab of cache c that a take uses: the first of the partial ones, else of the empty ones
+-- the slab of cache c that a take uses: the first partial one, or the first empty one if none is partial
 pub record IsToUse (r : spaces.Content) (s : Content) (t c : ℕ) (cache : own.Cache) (o : Standing) : Type 0 where
   pub slab : IsSlab r s t c o.first o.machine_frame cache
   pub first : IsFirst s.lists.places (head_of t c (kind_number Partial)) o.first o.machine_frame
@@ -36,7 +36,7 @@ pub record IsToUse (r : spaces.Content) (s : Content) (t c : ℕ) (cache : own.C
 abbrev pub IsAllFull : Content → ℕ → ℕ → Type 0
 IsAllFull s t c = IsEmpty s.lists.places (head_of t c (kind_number Partial)) × IsEmpty s.lists.places (head_of t c (kind_number Empty))
 
--- the `len` bytes of tenant t from the place on, one at least, are among those of the live object o
+-- the range has a byte, and lies inside the live object o of tenant t
 pub record HasRange (r : spaces.Content) (s : Content) (t place len : ℕ) (o : Found) : Type 0 where
   pub number : ℕ
   pub begin : ℕ
@@ -45,6 +45,6 @@ pub record HasRange (r : spaces.Content) (s : Content) (t place len : ℕ) (o : 
   pub from : begin ≤ place
   pub to : place + len ≤ begin + o.cache.layout.size
 
--- they are among those of no live object
+-- the range lies inside no live object of tenant t
 abbrev pub HasNone : spaces.Content → Content → ℕ → ℕ → ℕ → Type 0
 HasNone r s t place len = (o : Found) → HasRange r s t place len o → ⊥

@@ -1,4 +1,4 @@
--- The laws of page blocks, of reach, and of bytes read and written; and that the parts show one machine at most.
+-- The laws of page blocks, of ranges in reach, and of bytes read and written; and that the parts show at most one machine.
 use Rattle.std.specs.Prelude.{◌≡◌, ◌↔◌, ◌⊎◌, ℕ, ◌+◌, ◌*◌, ◌/◌, ◌%◌, ◌^◌, ◌<◌, ◌≤◌, true, false, List, Some, IsSome, length, filter_map, slice_index, slice_index_or}
 use Rattle.std.specs.List.{range_with_len}
 use Rattle.model_core.specs.declared.limits.TheConstants.{FRAME_BYTES, RECORD_OFFSET}
@@ -25,18 +25,18 @@ use Rattle.machine_changes.specs.Objects.{HasRange}
 abbrev pub released : ℕ → ℕ → buddies.Content → buddies.Content
 released t f b = buddies.with_holding t (buddies.without_block f (buddies.holding_of t b)) b
 
--- a block released is the page block less in the machine
+-- releasing a block removes the page block from the machine
 abbrev pub ReleasedShows : Type 0
 ReleasedShows = (r : spaces.Content) (b : buddies.Content) (s : Content) (t f : ℕ) (m : Machine)
     → ShowsMachine r b s t m → ShowsMachine r (released t f b) s t (without_block f m)
 
--- where it was no slab's, the parts agree as before, and others keep everything
+-- if the block is not a slab's, the parts still agree after its release, and others keep everything
 abbrev pub ReleasedAgrees : Type 0
 ReleasedAgrees = (r : spaces.Content) (b : buddies.Content) (s : Content) (t f : ℕ)
     → Agree r b s → has_slab s (machine_frame_of s.top r.slots t f) ≡ false
     → Agree r (released t f b) s × Spares t r r b (released t f b) s s
 
--- the range lies inside one taken block of tenant t that is no slab's
+-- the range lies inside one taken block of tenant t that is not a slab's
 pub record IsInPage (r : spaces.Content) (b : buddies.Content) (s : Content) (t place len : ℕ) : Type 0 where
   pub first : ℕ
   pub order : ℕ
@@ -50,19 +50,19 @@ pub record IsInReach (r : spaces.Content) (b : buddies.Content) (s : Content) (t
   pub some : 0 < len
   pub inside : IsInPage r b s t place len ⊎ ((o : Found) × HasRange r s t place len o)
 
--- exactly these ranges are in reach of the machine
+-- a range is in reach of the machine exactly if the parts say so
 abbrev pub ReachMeets : Type 0
 ReachMeets = (r : spaces.Content) (b : buddies.Content) (s : Content) (t place len : ℕ) (m : Machine)
     → IsSteady r b s t → ShowsMachine r b s t m → (in_reach m place len ≡ true) ↔ IsInReach r b s t place len
 
--- the taken block that has the first frame of a range tells whether the range lies inside a page block ..
+-- if a taken block has the first frame of a range, that block decides whether the range lies inside a page block
 abbrev pub BlockDecides : Type 0
 BlockDecides = (r : spaces.Content) (b : buddies.Content) (s : Content) (t place len first order : ℕ)
     → IsSteady r b s t → 0 < len → buddies.taken_of (buddies.holding_of t b) first ≡ Some order → HasFrame (block first order) (place / FRAME_BYTES)
     → IsInPage r b s t place len
     ↔ ((has_slab s (machine_frame_of s.top r.slots t first) ≡ false) × (place + len ≤ FRAME_BYTES * (first + 2 ^ order)))
 
--- .. and where none has it, the range does not
+-- if no taken block has the first frame, the range lies inside no page block
 abbrev pub NoBlockDecides : Type 0
 NoBlockDecides = (r : spaces.Content) (b : buddies.Content) (s : Content) (t place len : ℕ)
     → 0 < len → (IsTaken (buddies.taken_of (buddies.holding_of t b)) (place / FRAME_BYTES) → ⊥) → IsInPage r b s t place len → ⊥
@@ -72,51 +72,51 @@ abbrev pub ReachHeld : Type 0
 ReachHeld = (r : spaces.Content) (b : buddies.Content) (s : Content) (t place len : ℕ)
     → Agree r b s → IsSteady r b s t → IsInReach r b s t place len → IsSome (home_of r t place len)
 
--- the machine has the memory's byte at each of its places
+-- at each place of a range in reach, the machine has the memory's byte
 abbrev pub ReachBytes : Type 0
 ReachBytes = (r : spaces.Content) (b : buddies.Content) (s : Content) (t place len : ℕ) (m : Machine)
     → IsSteady r b s t → ShowsMachine r b s t m → IsInReach r b s t place len
     → (p : ℕ) → place ≤ p → p < place + len → m.bytes p ≡ byte_at r t p
 
--- what the machine reads of a range in reach is what the memory has there
+-- reading a range in reach of the machine returns the memory's bytes
 abbrev pub ReachReads : Type 0
 ReachReads = (r : spaces.Content) (b : buddies.Content) (s : Content) (t place len : ℕ) (bytes : List ℕ) (m : Machine)
     → IsSteady r b s t → ShowsMachine r b s t m → IsInReach r b s t place len
     → AreBytesAt r t place len bytes → filter_map m.bytes (range_with_len place len) ≡ bytes
 
--- the memory with these bytes of tenant t written from a place on
+-- the memory after tenant t writes these bytes from the place on
 abbrev pub stored : ℕ → ℕ → List ℕ → spaces.Content → spaces.Content
 stored t place new r = with_window r t place (length new) new
 
--- bytes written over a range in reach are written in the machine
+-- writing bytes over a range in reach writes them in the machine
 abbrev pub WrittenShows : Type 0
 WrittenShows = (r : spaces.Content) (b : buddies.Content) (s : Content) (t place : ℕ) (new : List ℕ) (m : Machine)
     → SpaceLaws r → Agree r b s → IsSteady r b s t → IsInReach r b s t place (length new)
     → ShowsMachine r b s t m → ShowsMachine (stored t place new r) b s t (record m { bytes = written place new m.bytes })
 
--- a tenant's control records are as they were, the parts agree, and others keep everything
+-- a tenant's control records show the same live objects, the parts agree, and others keep everything
 pub record IsWritten (r r' : spaces.Content) (b : buddies.Content) (s : Content) (t : ℕ) : Type 0 where
   pub live : (c f n : ℕ) (cache : own.Cache) → IsSlab r s t c f n cache
       → live_of r' t cache (kept_at s.kept n) f ≡ live_of r t cache (kept_at s.kept n) f
   pub agree : Agree r' b s
   pub spares : Spares t r r' b b s s
 
--- no byte of a range in reach is a control record's
+-- a write over a range in reach changes no control record
 abbrev pub WrittenAgrees : Type 0
 WrittenAgrees = (r : spaces.Content) (b : buddies.Content) (s : Content) (t place : ℕ) (new : List ℕ)
     → IsSlabs s → SpaceLaws r → Agree r b s → IsSteady r b s t → IsInReach r b s t place (length new)
     → IsWritten r (stored t place new r) b s t
 
--- the parts show one machine at most for a tenant
+-- the parts show at most one machine for a tenant
 abbrev pub OneMachine : Type 0
 OneMachine = (r : spaces.Content) (b : buddies.Content) (s : Content) (t : ℕ) (m n : Machine)
     → ShowsMachine r b s t m → ShowsMachine r b s t n → m ≡ n
 
--- byte i of the control record in machine frame n: of the last 32 bytes of that frame
+-- byte i of the control record in machine frame n, which is the last 32 bytes of that frame
 abbrev pub record_at : spaces.Content → Content → ℕ → ℕ → ℕ
 record_at r s n i = slice_index (spaces.bank r.banks (n / 2 ^ s.top)) (FRAME_BYTES * (n % 2 ^ s.top) + RECORD_OFFSET + i)
 
--- the control record of a slab of small objects has a 1 for each live object of the machine's slab, and else zeroes
+-- the control record of a slab of small objects has a 1 for each live object of the machine's slab, and zeroes elsewhere
 abbrev pub RecordMeets : Type 0
 RecordMeets = (r : spaces.Content) (b : buddies.Content) (s : Content) (t c f n : ℕ) (cache : own.Cache) (m : Machine) (x : Cache) (y : Slab)
     → Agree r b s → ShowsMachine r b s t m → IsSlab r s t c f n cache → is_small (layout_numbers cache).chunk ≡ true

@@ -15,7 +15,7 @@ use Rattle.slab_tables.specs.declared.cache.Kept.{Kept}
 use Rattle.slab_tables.specs.Content.{Content, kept_at, cache_in, cache_at, index_of_cache, layout_numbers}
 use Rattle.machine_changes.specs.Records.{is_set, flags, count_true}
 
--- the machine frame at frame f, when this superblock lies under the slot of f
+-- the machine frame at frame f, if the slot of f has this superblock
 abbrev pub frame_under : ℕ → ℕ → Option ℕ → Option ℕ
 frame_under top f None = None
 frame_under top f (Some m) = Some (m * 2 ^ top + f % 2 ^ top)
@@ -31,7 +31,8 @@ byte_or_zero o = unwrap_or o 0
 abbrev pub record_byte : spaces.Content → ℕ → ℕ → ℕ → ℕ
 record_byte r t f j = byte_or_zero (byte_at r t (FRAME_BYTES * f + RECORD_OFFSET + j))
 
--- object i of the slab at frame f of tenant t is live: by the record in the frame where objects are small, else by what is kept
+-- object i of the slab at frame f of tenant t is live: according to the record in the frame if the objects are small, and
+-- according to the stored state if they are large
 abbrev pub is_live : spaces.Content → ℕ → own.Cache → Kept → ℕ → ℕ → Bool
 is_live r t c kept f i =
     if is_small (layout_numbers c).chunk then is_set (record_byte r t f (i / 8)) (i % 8) else is_set kept.outside i
@@ -40,7 +41,7 @@ is_live r t c kept f i =
 abbrev pub live_of : spaces.Content → ℕ → own.Cache → Kept → ℕ → List Bool
 live_of r t c kept f = flags (layout_numbers c).count (is_live r t c kept f)
 
--- the place in the lists is that of a slab at frame f of cache n of all
+-- the place in the lists is that of a slab that begins at frame f, of the cache with index n
 abbrev pub is_of_cache : ℕ → ℕ → Option (ℕ × ℕ) → Bool
 is_of_cache n f None = false
 is_of_cache n f (Some p) = p.0 / 3 == n && p.1 == f
@@ -54,7 +55,7 @@ slab_under r s t n c f None = None
 slab_under r s t n c f (Some x) =
     slab_placed (live_of r t c (kept_at s.kept x) f) (kept_at s.kept x).colour f (is_of_cache n f (place_at s.lists.places x))
 
--- the slab of cache c of tenant t at frame f
+-- the slab of cache c of tenant t that begins at frame f, or `None`
 abbrev pub slab_at : spaces.Content → Content → ℕ → ℕ → own.Cache → ℕ → Option Slab
 slab_at r s t c cache f = slab_under r s t (index_of_cache t c) cache f (machine_frame_of s.top r.slots t f)
 
@@ -63,7 +64,7 @@ abbrev pub has_slab : Content → Option ℕ → Bool
 has_slab s None = false
 has_slab s (Some n) = is_some (place_at s.lists.places n)
 
--- the cache with this number, but for its slabs
+-- the cache without its slabs
 abbrev pub bare : ℕ → own.Cache → Cache
 bare number c = record { number = number; size = c.layout.size; align = c.layout.align; pattern = c.pattern; made = c.made; slabs = [] }
 
@@ -80,12 +81,12 @@ pub record IsSlab (r : spaces.Content) (s : Content) (t c f n : ℕ) (cache : ow
 abbrev pub is_inside : ℕ → ℕ → own.Cache → Bool
 is_inside place f cache = in_block place (block f (layout_numbers cache).order)
 
--- the parts show that the tenant's private machine is this one
+-- the parts show m as the private machine of tenant t
 pub record ShowsMachine (r : spaces.Content) (b : buddies.Content) (s : Content) (t : ℕ) (m : Machine) : Type 0 where
   pub slots_rise : RisesFrom 0 m.slots
   pub slots : (u : ℕ) → holds m u ≡ is_some (spaces.superblock_at r.slots t u)
   pub blocks_rise : RisesFrom 0 (map (λ x. x.first) m.blocks)
-  -- page blocks are the taken blocks that are no slab's
+  -- the page blocks are the taken blocks that are not slabs'
   pub blocks : (f : ℕ) → order_in m.blocks f
       ≡ (if has_slab s (machine_frame_of s.top r.slots t f) then None else buddies.taken_of (buddies.holding_of t b) f)
   pub caches_rise : RisesFrom 0 (map (λ x. x.number) m.caches)
@@ -93,23 +94,23 @@ pub record ShowsMachine (r : spaces.Content) (b : buddies.Content) (s : Content)
   pub slabs_rise : (c : ℕ) (x : Cache) → cache_of m c ≡ Some x → RisesFrom 0 (map (λ y. y.first) x.slabs)
   pub slabs : (c f : ℕ) (x : Cache) (cache : own.Cache) → cache_of m c ≡ Some x → cache_at s t c ≡ Some cache
       → slab_of x f ≡ slab_at r s t c cache f
-  -- outside slabs exactly the held places have a byte, and inside a slab those of its objects
+  -- outside slabs exactly the places in held slots have a byte, and inside a slab exactly those of its objects
   pub mapped : (place : ℕ) → ((c f n : ℕ) (cache : own.Cache) → IsSlab r s t c f n cache → is_inside place f cache ≡ false)
       → is_some (m.bytes place) ≡ holds m (slot_of s.top place)
   pub in_slab : (place c f n : ℕ) (cache : own.Cache) → IsSlab r s t c f n cache → is_inside place f cache ≡ true
       → is_some (m.bytes place) ≡ in_object (layout_numbers cache) cache.layout.size (kept_at s.kept n).colour (place - FRAME_BYTES * f)
   pub bytes : (place byte : ℕ) → m.bytes place ≡ Some byte → byte_at r t place ≡ Some byte
 
--- the slab at machine frame n is a taken block of its tenant, and its record and its count say the same
+-- the slab at machine frame n is a taken block of its tenant, and its record has as many live objects as its stored state says
 pub record IsAgreed (r : spaces.Content) (b : buddies.Content) (s : Content) (n head key : ℕ) (cache : own.Cache) : Type 0 where
   pub under : machine_frame_of s.top r.slots (head / 3 / MOST_CACHES) key ≡ Some n
   pub taken : buddies.taken_of (buddies.holding_of (head / 3 / MOST_CACHES) b) key ≡ Some (layout_numbers cache).order
   pub counted : (kept_at s.kept n).live ≡ count_true (live_of r (head / 3 / MOST_CACHES) cache (kept_at s.kept n) key)
-  -- the record is the bitmap of the live objects and nothing else
+  -- all bits of the record past the last object are 0
   pub rest : (i : ℕ) → (layout_numbers cache).count ≤ i → i < 256 → is_live r (head / 3 / MOST_CACHES) cache (kept_at s.kept n) key i ≡ false
 
--- The memory, the buddy systems and the tables agree: on their sizes, on the superblock under each slot of each tenant, and
--- on each slab.
+-- The memory, the buddy systems and the tables agree on their sizes, on the superblock in each slot of each tenant, and on each
+-- slab.
 pub record Agree (r : spaces.Content) (b : buddies.Content) (s : Content) : Type 0 where
   pub order : b.top ≡ s.top
   pub unit : r.unit ≡ FRAME_BYTES * 2 ^ s.top

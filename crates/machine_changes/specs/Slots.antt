@@ -1,4 +1,4 @@
--- What becomes of the parts, and of the private machines that they show, where the slots of a tenant change.
+-- What a change of a tenant's slots does to the parts and to the private machines that they show.
 use Rattle.std.specs.Prelude.{◌≡◌, ◌≢◌, ◌↔◌, ℕ, ◌+◌, ◌*◌, ◌^◌, ◌<◌, true, Some, None, length}
 use Rattle.model_core.specs.declared.limits.TheConstants.{FRAME_BYTES}
 use Rattle.model_core.specs.Blocks.{slot_block, HasTaken}
@@ -14,40 +14,40 @@ use Rattle.slab_tables.specs.Changes.{IsReset, IsMoved}
 use Rattle.machine_changes.specs.Shows.{ShowsMachine, Agree}
 use Rattle.machine_changes.specs.Keeps.{Keeps}
 
--- the memory, the buddy systems and the tables are each in order, and they agree
+-- the invariants of the memory, the buddy systems and the tables hold, and the three agree
 pub record HoldTogether (r : spaces.Content) (b : buddies.Content) (s : Content) : Type 0 where
   pub space : SpaceLaws r
   pub buddy : buddies.BuddyLaws b
   pub slabs : IsSlabs s
   pub agree : Agree r b s
 
--- The parts change for tenant t alone: they still agree, all other tenants keep everything, and whichever machine they showed
--- for t, they show it with this change.
+-- The parts change only for tenant t: they still agree, and all other tenants keep everything. If they showed a machine for t,
+-- they now show `change` of it.
 pub record ChangesFor (t : ℕ) (r r' : spaces.Content) (b b' : buddies.Content) (s s' : Content) (change : Machine → Machine) : Type 0 where
   pub agree : Agree r' b' s'
   pub others : (u : ℕ) → u ≢ t → Keeps r r' b b' s s' u
   pub shows : (m : Machine) → ShowsMachine r b s t m → ShowsMachine r' b' s' t (change m)
 
--- superblock m, which has no owner, with_grant to tenant t as its least slot u that is not held
+-- granting superblock m, which has no owner, to tenant t as its least free slot u
 abbrev pub GrantedShows : Type 0
 GrantedShows = (r : spaces.Content) (b : buddies.Content) (s : Content) (t u m : ℕ)
     → HoldTogether r b s → t < length r.slots → IsLeastSlot r.slots t u → u < length r.owners
     → m < length r.owners → spaces.owner_at r.owners m ≡ None
     → ChangesFor t r (with_grant r t u m) b (buddies.with_holding t (buddies.with_slot u m (buddies.holding_of t b)) b) s s (after_grant s.top)
 
--- the least slot that is not held is the machine's next one
+-- the least slot that the tenant does not hold is the machine's next one
 abbrev pub NextMeets : Type 0
 NextMeets = (r : spaces.Content) (b : buddies.Content) (s : Content) (t u : ℕ) (m : Machine)
     → ShowsMachine r b s t m → IsLeastSlot r.slots t u → next_slot m ≡ u
 
--- superblock m taken out of slot u of tenant t, in which no frame is taken
+-- taking back superblock m from slot u of tenant t, in which no frame is taken
 abbrev pub TakenBackShows : Type 0
 TakenBackShows = (r : spaces.Content) (b : buddies.Content) (s : Content) (t u m : ℕ)
     → HoldTogether r b s → t < length r.slots → spaces.superblock_at r.slots t u ≡ Some m
     → (HasTaken (buddies.taken_of (buddies.holding_of t b)) (slot_block b.top u) → ⊥)
     → ChangesFor t r (with_take_back r t u m) b (buddies.with_holding t (buddies.without_slot u (buddies.holding_of t b)) b) s s (after_take_back s.top u)
 
--- a slot has a taken frame exactly where the machine has it busy
+-- a slot has a taken frame exactly if it is busy in the machine
 abbrev pub BusyMeets : Type 0
 BusyMeets = (r : spaces.Content) (b : buddies.Content) (s : Content) (t u : ℕ) (m : Machine)
     → HoldTogether r b s → t < length r.slots → ShowsMachine r b s t m
@@ -63,7 +63,7 @@ abbrev pub UnownedIsSpare : Type 0
 UnownedIsSpare = (r : spaces.Content) (b : buddies.Content) (s : Content) (m : ℕ)
     → HoldTogether r b s → spaces.owner_at r.owners m ≡ None → IsSpare b s m
 
--- slot u of tenant t with_move from superblock `from` to superblock `to`, which has no owner
+-- moving slot u of tenant t from superblock `from` to superblock `to`, which has no owner
 abbrev pub MovedShows : Type 0
 MovedShows = (r : spaces.Content) (b : buddies.Content) (s s' : Content) (t u from to : ℕ)
     → HoldTogether r b s → t < length r.slots → spaces.superblock_at r.slots t u ≡ Some from
@@ -71,7 +71,7 @@ MovedShows = (r : spaces.Content) (b : buddies.Content) (s s' : Content) (t u fr
     → ReadsSame t r (with_move r t u from to)
     × ChangesFor t r (with_move r t u from to) b (buddies.with_holding t (buddies.with_slot u to (buddies.holding_of t b)) b) s s' (λ m. m)
 
--- tenant t has no slot any more, and what all others have is as before
+-- tenant t has no slot, and all others have the same memory as before
 pub record HasGivenUp (t : ℕ) (r r' : spaces.Content) : Type 0 where
   pub unit : r'.unit ≡ r.unit
   pub superblocks : length r'.owners ≡ length r.owners
@@ -79,7 +79,7 @@ pub record HasGivenUp (t : ℕ) (r r' : spaces.Content) : Type 0 where
   pub slots : (u : ℕ) → spaces.superblock_at r'.slots t u ≡ None
   pub others : (u : ℕ) → u ≢ t → IsSameFor u r r'
 
--- all that tenant t has is taken from it
+-- removing all that tenant t has
 abbrev pub EmptiedShows : Type 0
 EmptiedShows = (r r' : spaces.Content) (b : buddies.Content) (s s' : Content) (t : ℕ)
     → HoldTogether r b s → t < length r.slots → HasGivenUp t r r' → IsReset s s' t

@@ -1,4 +1,4 @@
--- What parts that agree lend of one tenant: the premise of the laws.
+-- The premise of the laws: facts about one tenant that hold if the parts agree.
 use Rattle.std.specs.Prelude.{◌≡◌, ℕ, ◌<◌, Some, is_some}
 use Rattle.model_core.specs.Blocks.{IsSound}
 use Rattle.model_core.specs.Layouts.{IsLayout}
@@ -10,7 +10,7 @@ use Rattle.slab_tables.specs.declared.cache.Cache as own
 use Rattle.slab_tables.specs.Content.{Content, kept_at, layout_numbers}
 use Rattle.machine_changes.specs.Shows.{IsSlab, machine_frame_of}
 
--- the slab's block is taken, and it is cut by its cache's layout
+-- the slab's block is taken, and its cache's layout and its colour are valid
 pub record IsStanding (b : buddies.Content) (s : Content) (t f n : ℕ) (cache : own.Cache) : Type 0 where
   pub taken : buddies.taken_of (buddies.holding_of t b) f ≡ Some (layout_numbers cache).order
   pub layout : IsLayout cache.layout.size cache.layout.align (layout_numbers cache)
@@ -22,7 +22,7 @@ pub record IsSteady (r : spaces.Content) (b : buddies.Content) (s : Content) (t 
   pub listed : (f n head key : ℕ) → machine_frame_of s.top r.slots t f ≡ Some n → place_at s.lists.places n ≡ Some (head, key)
       → (c : ℕ) × (cache : own.Cache) × IsSlab r s t c f n cache
   pub sound : IsSound s.top (λ u. is_some (spaces.superblock_at r.slots t u)) (buddies.taken_of (buddies.holding_of t b))
-  -- a place of a taken frame fits 32 bits
+  -- taken blocks begin at frames below 65,536, so their first places fit 32 bits
   pub few : (f k : ℕ) → buddies.taken_of (buddies.holding_of t b) f ≡ Some k → f < 65536
   -- no superblock is in two slots
   pub apart : (u v m : ℕ) → spaces.superblock_at r.slots t u ≡ Some m → spaces.superblock_at r.slots t v ≡ Some m → u ≡ v

@@ -1,6 +1,6 @@
-//! The laws of the parts together: which private machine the memory, the buddy systems and the tables of caches show for a
-//! tenant (`specs/`), what each change of objects, slabs, page blocks, bytes and slots is to that machine, that all other
-//! tenants keep everything, and what the parts tell of the machine.
+//! Laws about the memory, the buddy systems and the tables of caches together. They define which private machine the three show
+//! for a tenant. They say what each change of objects, slabs, page blocks, bytes and slots does to that machine, that all other
+//! tenants keep everything, and what the parts determine about the machine.
 //!
-//! They stand in `specs/`, each with its proof in `proofs/`, where the proofs of the crates above cite it. There is no code.
+//! The laws are in `specs/`, and their proofs in `proofs/`. Proofs of the crates above cite them. This crate has no code.
 #![tactic(auto)]
