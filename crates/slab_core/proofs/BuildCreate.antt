@@ -1,4 +1,4 @@
--- A cache made is the one that the machine makes.
+-- Making a cache makes the machine's.
 use Rattle.std.proofs.Common.{◌≡◌, ◌≢◌, ℕ, ◌<◌, ◌≤◌, Bool, cond, List, [], Some, None, IsSome, refl, sym, ap, ◌∙◌, subst, arith}
 use Rattle.std.specs.Prelude.{Option, option_map, nat_le, MatchOption, IfSome, IfNone, if◌then◌else◌}
 use Rattle.std.proofs.lemmas.Bool.{eq-eqb, ne_eqb, lt-ltb, le-leb, lt-leb}
@@ -21,7 +21,7 @@ use Rattle.machine_changes.proofs.Facts.{none_mapped}
 use Rattle.slab_core.proofs.BuildCache.{IsBare, cache_agrees, cache_shows}
 use Rattle.slab_core.proofs.BuildNumber.{least_above, least_is}
 
--- where no cache is, no slab of it stands
+-- a number without a cache has no slab
 pub bare_without : (s : Content) (t c : ℕ) → IsSlabs s → c < MOST_CACHES → cache_at s t c ≡ None → IsBare s (index_of_cache t c)
 bare_without s t c w small vacant n head key placed e =
     let there = w.standing n head key placed in

@@ -1,4 +1,4 @@
--- A block would fit in a free block or around an empty slab.
+-- A block fits in a free block, or around an empty slab.
 use Rattle.std.proofs.Common.{◌≡◌, ℕ, ◌*◌, ◌/◌, ◌%◌, ◌^◌, ◌<◌, ◌≤◌, Bool, true, false, refl, sym, ap, ◌∙◌, subst, ⊎_elim, arith}
 use Rattle.std.specs.Prelude.{is_some, ◌↔◌}
 use Rattle.std.proofs.Math.Nat.{pow-le-pow_right}
@@ -26,17 +26,17 @@ use Rattle.slab_core.proofs.ReserveOne.{vacant_free}
 use Rattle.slab_core.proofs.ReserveByNeed.{free_fits}
 use Rattle.slab_core.proofs.FittingFrames.{idle_begins, listed_taken}
 
--- two tests of one fact answer the same
+-- two tests of one fact have the same result
 same_answer : {P : Type 0} (v u : Bool) → (v ≡ true) ↔ P → P ↔ (u ≡ true) → v ≡ u
 same_answer v u by_v by_u = same_bool v u (λ e. by_u.0 (by_v.0 e)) (λ e. by_v.1 (by_u.1 e))
 
--- a test of whether a block would fit answers whether one is chosen once the empty slabs are given back
+-- if a test decides whether a block would fit, its result says whether the machine finds a block after reaping
 pub fits_answers : {r : spaces.Content} {b : buddies.Content} {s : Content} {t k : ℕ} → HoldTogether r b s → IsSteady r b s t → k ≤ s.top → {fits : Bool}
     → (fits ≡ true) ↔ WouldFit r b s t k → (m : Machine) → ShowsMachine r b s t m → fits ≡ is_some (choice s.top (reaped m) k)
 fits_answers {r = r} {b = b} {s = s} {t = t} {k = k} parts st order {fits = fits} by m shows =
     same_answer fits (is_some (choice s.top (reaped m) k)) by (fitting_meets r b s t k m st (counted r b s parts.slabs parts.agree t) shows order)
 
--- a frame of a smaller block is one of a larger that begins there too
+-- a frame of a smaller block is a frame of a larger one that begins at the same frame
 wider : (f j k x : ℕ) → j ≤ k → HasFrame (block f j) x → HasFrame (block f k) x
 wider f j k x le has =
     let two : 0 < 2 = omega arith in
@@ -62,12 +62,12 @@ module _ {r : spaces.Content} {b : buddies.Content} {s : Content} {t k : ℕ} (w
           idle = h.unused;
         }
 
-  -- where a frame of the block lies in an empty slab, the block would fit around the slab
+  -- if a frame of the block lies in an empty slab, the block would fit around the slab
   module _ (fit : WouldFit r b s t k) (x : ℕ) (has : HasFrame (block fit.first k) x) (i : IsIdle r s t x) where
     aligned : i.first % 2 ^ (layout_numbers i.cache).order ≡ 0
     aligned = (st.sound.placed i.first (layout_numbers i.cache).order (st.stands i.number i.first i.machine_frame i.cache i.slab).taken).0.1
 
-    -- a slab no smaller than the block has all of it
+    -- if the slab is at least as large as the block, it contains the block
     in_slab : k ≤ (layout_numbers i.cache).order → IsUnusedBlock r b s t (around i.first k).first k
     in_slab le y there is =
         let here : (around i.first k).first ≡ i.first =
@@ -82,7 +82,7 @@ module _ {r : spaces.Content} {b : buddies.Content} {s : Content} {t k : ℕ} (w
           within = wider i.first k (layout_numbers i.cache).order y le (subst (λ f. HasFrame (block f k) y) here there);
         }
 
-    -- a smaller one lies in it
+    -- if the slab is at most as large as the block, it lies in the block
     in_fit : (layout_numbers i.cache).order ≤ k → IsUnusedBlock r b s t (around i.first k).first k
     in_fit le =
         let same : number_at k i.first ≡ number_at k fit.first =
@@ -115,7 +115,7 @@ module _ {r : spaces.Content} {b : buddies.Content} {s : Content} {t k : ℕ} (w
         untaken = λ x has is. none_around (fits_around fit x has (fit.idle x has is));
       }))
 
-  -- where no block is free that is large enough, one would fit around empty slabs alone
+  -- if no free block is large enough, a block would fit only around an empty slab
   pub fits_by_slabs : k ≤ s.top → (HasFreeBlock b t k → ⊥) → (slabs : Bool) → (slabs ≡ true) ↔ WouldFitInSlabs r b s t k
       → (slabs ≡ true) ↔ WouldFit r b s t k
   fits_by_slabs fits none true by = (λ e. slab_fits fits (by.0 refl), λ fit. refl)

@@ -1,4 +1,4 @@
--- The search around the empty slabs of one cache.
+-- Searching around the empty slabs of one cache.
 use Rattle.std.proofs.Common.{◌≡◌, ℕ, ◌*◌, ◌-◌, ◌/◌, ◌^◌, ◌<◌, ◌≤◌, length, Some, None, Bool, eqb, ◌||◌, sym, ap, ◌∙◌, subst, inl, inr, ⊎_elim, arith}
 use Rattle.std.specs.Prelude.{Option, List, IfSome, MatchOption, is_some}
 use Rattle.std.proofs.Math.Nat.{div-mul-le_self, div-lt_iff_lt-mul}
@@ -16,12 +16,12 @@ use Rattle.slab_core.specs.Fitting.{IsUnusedBlock, WouldFitAround, AreRefused}
 use Rattle.slab_core.proofs.FittingFree.{held_within}
 use Rattle.slab_core.proofs.FittingFrames.{listed_taken}
 
--- how far the search has to go yet
+-- how many frames the search still has ahead, at most
 abbrev pub left : Option (ℕ × ℕ) → ℕ
 left None = 0
 left (Some p) = 65536 - p.0
 
--- what follows a place in its list
+-- `next` is what follows the place in its list
 abbrev pub Follows : List (Option (ℕ × ℕ)) → Option (ℕ × ℕ) → ℕ × ℕ → Type 0
 Follows places next p = MatchOption next (NoneAbove places p.0 p.1) (λ q. IsNext places p.0 p.1 q.0 q.1)
 
@@ -30,12 +30,12 @@ module _ (r : spaces.Content) (b : buddies.Content) (s : Content) (t c k : ℕ) 
   abbrev pub IsNoneBefore : ℕ → Type 0
   IsNoneBefore frame = (f n : ℕ) → place_at s.lists.places n ≡ Some (head_of t c 2, f) → f < frame → IsUnusedBlock r b s t (around f k).first k → ⊥
 
-  -- the next slab stands in the list, and no block fits around those before it
+  -- an empty slab of the cache begins at frame f, and no block fits around those before it
   pub record IsNextSlab (f n : ℕ) : Type 0 where
     pub placed : place_at s.lists.places n ≡ Some (head_of t c 2, f)
     pub none : IsNoneBefore f
 
-  -- the search at the next slab
+  -- the state of the search: at the slab `next`, or finished without a block if there is none
   pub record IsSearched (next : Option (ℕ × ℕ)) : Type 0 where
     pub rest : MatchOption next (WouldFitAround r b s t c k → ⊥) (λ p. IsNextSlab p.0 p.1)
 
@@ -47,7 +47,7 @@ module _ {r : spaces.Content} {b : buddies.Content} {s : Content} {t c k : ℕ} 
     pub slab_small : IsSlabs s → Agree r b s → IsSteady r b s t → c < MOST_CACHES → slab < 65536
     slab_small w a st less = let taken = listed_taken r b s t c slab machine_frame w a less here.placed in st.few slab taken.0 taken.1
 
-    -- the machine has its first frame
+    -- the slab's first frame is below the number of machine frames
     pub slab_within : IsSlabs s → Agree r b s → IsSteady r b s t → buddies.IsSized b → t < length b.tenants → c < MOST_CACHES → slab < length s.lists.places
     slab_within w a st sized lt less =
         let taken = listed_taken r b s t c slab machine_frame w a less here.placed in
@@ -55,7 +55,7 @@ module _ {r : spaces.Content} {b : buddies.Content} {s : Content} {t c k : ℕ} 
         let below : slab < b.superblocks * 2 ^ s.top = (div-lt_iff_lt-mul (pow_pos s.top)).0 (held_within b t (slab / 2 ^ s.top) sized lt held) in
         omega (arith, below, a.machine_frames)
 
-    -- what follows the slab in its list
+    -- `next` is what follows the slab in its list
     abbrev pub IsAfter : Option (ℕ × ℕ) → Type 0
     IsAfter next = Follows s.lists.places next (head_of t c 2, slab)
 
@@ -69,7 +69,7 @@ module _ {r : spaces.Content} {b : buddies.Content} {s : Content} {t c k : ℕ} 
     left_less None small after = omega arith
     left_less (Some q) small after = let above = after.above in omega arith
 
-    -- no block fits around the slab, and the search goes on behind it
+    -- if no block fits around the slab, the search continues with the next one
     pub goes_on : (next : Option (ℕ × ℕ)) → (IsUnusedBlock r b s t (around slab k).first k → ⊥) → IsAfter next → IsSearched r b s t c k next
     goes_on next none after = record { rest = go next after }
       where
@@ -91,7 +91,7 @@ module _ {r : spaces.Content} {b : buddies.Content} {s : Content} {t c k : ℕ} 
               (cases_lt slab f);
         }
 
--- the block that was walked is refused now, beside those that were
+-- the refused blocks after one more block is refused
 pub refused_more : (r : spaces.Content) (b : buddies.Content) (s : Content) (t k : ℕ) (before after : ℕ → Bool) (i : ℕ) → AreRefused r b s t k before
     → ((n : ℕ) → after n ≡ (eqb n i || before n)) → (IsUnusedBlock r b s t (i * 2 ^ k) k → ⊥) → AreRefused r b s t k after
 refused_more r b s t k before after i refused more none n is = elim (cases_eq n i) [

@@ -1,4 +1,4 @@
--- Frames that are not taken, or lie in empty slabs.
+-- Frames that are not taken, and frames in empty slabs.
 use Rattle.std.proofs.Common.{◌≡◌, ℕ, ◌+◌, ◌/◌, ◌^◌, ◌<◌, ◌≤◌, true, false, Some, refl, sym, ap, ◌∙◌, subst, ⊎_elim, arith}
 use Rattle.std.proofs.Math.Nat.{pow-le-pow_right}
 use Rattle.std.proofs.lemmas.Bool.{false≢true, cases_lt}
@@ -18,22 +18,22 @@ use Rattle.slab_core.specs.Calls.{idle_at}
 use Rattle.slab_core.specs.Fitting.{IsUnusedFrame, IsBorder, IsUnusedTo}
 use Rattle.slab_core.proofs.ReturnMany.{idle_tells, idle_is}
 
--- a block of an order that a superblock may have is small
+-- a block of an order of at most 8 has at most 256 frames
 pub small_size : (k : ℕ) → k ≤ 8 → 2 ^ k ≤ 256
 small_size k small = let two : 0 < 2 = omega arith in pow-le-pow_right two small
 
--- an empty slab begins at the first frame of the one in which an idle frame lies
+-- the slab in which an idle frame lies is empty
 pub idle_begins : (r : spaces.Content) (s : Content) (t x : ℕ) (i : IsIdle r s t x) → idle_at (λ n. true) r s t i.first ≡ true
 idle_begins r s t x i =
     let p = placed_as r s t i.number i.first i.machine_frame i.cache i.slab in
     idle_is (λ n. true) r s t i.first i.machine_frame p.head i.first i.slab.under p.place refl i.empty
 
 module _ (r : spaces.Content) (b : buddies.Content) (s : Content) (t : ℕ) (st : IsSteady r b s t) where
-  -- a superblock has all of a taken block
+  -- a taken block has an order of at most 8
   pub order_small : IsSlabs s → (f k : ℕ) → buddies.taken_of (buddies.holding_of t b) f ≡ Some k → k ≤ 8
   order_small w f k taken = omega (arith, (st.sound.placed f k taken).0.0, w.order)
 
-  -- the frames of an empty slab's block are idle
+  -- all frames of an empty slab's block are idle
   pub idle_in : (f k x : ℕ) → buddies.taken_of (buddies.holding_of t b) f ≡ Some k → HasFrame (block f k) x
       → idle_at (λ n. true) r s t f ≡ true → IsIdle r s t x
   idle_in f k x taken has idle =
@@ -50,7 +50,7 @@ module _ (r : spaces.Content) (b : buddies.Content) (s : Content) (t : ℕ) (st 
         within = subst (λ j. HasFrame (block f j) x) order has;
       }
 
-  -- a taken block that begins at a border ends at one
+  -- the end of a taken block that begins at a border is a border
   module _ (f k : ℕ) (taken : buddies.taken_of (buddies.holding_of t b) f ≡ Some k) (border : IsBorder b t f) where
     border_past : IsBorder b t (f + 2 ^ k)
     border_past g j is less = ⊎_elim
@@ -81,7 +81,7 @@ module _ (r : spaces.Content) (b : buddies.Content) (s : Content) (t : ℕ) (st 
         st.sound.apart i.first (layout_numbers i.cache).order f k f (st.stands i.number i.first i.machine_frame i.cache i.slab).taken taken i.within has in
         false≢true (sym busy ∙ ap (idle_at (λ n. true) r s t) (sym same) ∙ idle_begins r s t f i)
 
--- what stands in the list of the empty slabs of a tenant's cache is a taken block of the tenant
+-- each entry in the list of a cache's empty slabs is a taken block of the tenant
 pub listed_taken : (r : spaces.Content) (b : buddies.Content) (s : Content) (t c f n : ℕ) → IsSlabs s → Agree r b s → c < MOST_CACHES
     → place_at s.lists.places n ≡ Some (head_of t c 2, f) → (k : ℕ) × (buddies.taken_of (buddies.holding_of t b) f ≡ Some k)
 listed_taken r b s t c f n w a less placed =

@@ -1,4 +1,4 @@
--- Sets of numbers, a bit each.
+-- Sets of numbers with one bit for each number.
 use Rattle.std.proofs.Common.{◌≡◌, ◌≢◌, ℕ, suc, ◌*◌, ◌/◌, ◌%◌, ◌^◌, ◌<◌, ◌≤◌, ◌⊎◌, ⊎_elim, false, List, replicate, length, get_or, set, eqb, ◌||◌, sym, ap, ◌∙◌, inl, inr, w64, arith}
 use Rattle.std.specs.Int.{bit_at, div_ceil}
 use Rattle.std.proofs.Math.Nat.{mul-le-mul_left, mul-le-mul_right}
@@ -9,7 +9,7 @@ use Rattle.std.proofs.lemmas.List.{get_or-set_same, get_or-set_other, get_or-rep
 use Rattle.std.proofs.lemmas.Nat.Bits.{bit_at_set_same, bit_at_set_other, bit_at-zero}
 use Rattle.slab_core.specs.Fitting.{has_number}
 
--- the words with one more bit
+-- the words after bit i is set
 abbrev pub with_bit : List ℕ → ℕ → List ℕ
 with_bit words i = set words (i / 64) (bit_or (get_or words (i / 64) 0) (1 * 2 ^ (i % 64) % 2 ^ 64))
 
@@ -45,7 +45,7 @@ none_yet count n = ap (λ w. eqb (bit_at w (n % 64)) 1) word ∙ ap (λ b. eqb b
       | inr past ↦ get_or_past (replicate count 0) (n / 64) 0 (omega (arith, length-replicate {A = ℕ} count 0))
     ]
 
--- a set of larger blocks takes no more words
+-- a set of larger blocks needs at most as many words
 pub few_words : (count size : ℕ) → 0 < size → div_ceil count size ≤ count
 few_words count size some = ⊎_elim
     (λ over.

@@ -1,4 +1,4 @@
--- Bytes written over themselves.
+-- Writing bytes over themselves changes nothing.
 use Rattle.std.proofs.Common.{◌≡◌, ℕ, ◌+◌, ◌%◌, ◌++◌, take, drop, slice_range, Option, Some, None, List, [], length, refl, sym, ap, ◌∙◌, arith}
 use Rattle.std.proofs.Math.ListN.{set}
 use Rattle.std.proofs.Math.Seq.{take-length}

@@ -1,4 +1,4 @@
--- A slab made on a block that was free.
+-- Making a slab on a free block.
 use Rattle.std.proofs.Common.{◌≡◌, ◌≢◌, ◌↔◌, ℕ, ◌+◌, ◌-◌, ◌*◌, ◌/◌, ◌%◌, ◌^◌, ◌<◌, ◌≤◌, Bool, true, false, zero, suc, cond, ltb, leb, length, Some, None, IsSome, refl, sym, ap, ◌∙◌, subst, ⊎_elim, arith}
 use Rattle.std.specs.Prelude.{Option, is_some, ◌&&◌}
 use Rattle.std.proofs.lemmas.Bool.{cases_eq, false≢true, eq-eqb, ne_eqb, and_parts, leb-true, ltb-true, false_from_ne_true}
@@ -45,7 +45,7 @@ no_place : (o : Option (ℕ × ℕ)) → ((head key : ℕ) → o ≡ Some (head,
 no_place None none = refl
 no_place (Some p) none = absurd (none p.0 p.1 refl)
 
--- a slab is made exactly where a block is free for it
+-- a slab is made exactly if a free block is large enough
 pub none_free : {A : Type 0} (b : buddies.Content) (t k : ℕ) → IsWithout b.top (buddies.is_held (buddies.holding_of t b)) (buddies.taken_of (buddies.holding_of t b)) k
     → (o : Option A) → o ≡ None → IsSome o ↔ HasFreeBlock b t k
 none_free b t k without o none = (λ e. absurd (false≢true (sym (ap is_some none) ∙ e)), λ h. absurd (without h.found h.free h.enough))
@@ -54,7 +54,7 @@ pub some_free : {A : Type 0} (b : buddies.Content) (t k f j : ℕ) → IsChoice 
     → (p : A) → IsSome (Some p) ↔ HasFreeBlock b t k
 some_free b t k f j chosen p = (λ e. record { found = block f j; free = chosen.0; enough = chosen.1 }, λ h. refl)
 
--- the block that is chosen for an order
+-- the block chosen for one order is the one chosen for an equal order
 pub chosen_for : (b : buddies.Content) (t k k' f j : ℕ) → k ≡ k'
     → IsChoice b.top (buddies.is_held (buddies.holding_of t b)) (buddies.taken_of (buddies.holding_of t b)) k (block f j)
     → IsChoice b.top (buddies.is_held (buddies.holding_of t b)) (buddies.taken_of (buddies.holding_of t b)) k' (block f j)
@@ -86,7 +86,7 @@ module _ {r : spaces.Content} {b : buddies.Content} {s : Content} (t k : ℕ) (a
     both = choices_meet b.top k (buddies.is_held (buddies.holding_of t b)) (buddies.taken_of (buddies.holding_of t b)) m
         (λ u. h.slots u ∙ sym (ap is_some (a.slots t u))) (taken_meets r b s t m st h)
 
-    -- the machine chooses the block that the buddy system does
+    -- the machine chooses the same block as the buddy system
     pub choice_some : (f j : ℕ) → IsChoice b.top (buddies.is_held (buddies.holding_of t b)) (buddies.taken_of (buddies.holding_of t b)) k (block f j)
         → choice s.top m k ≡ Some f
     choice_some f j chosen = ap (λ top. choice top m k) (sym a.order) ∙ both.0 f j chosen
@@ -97,7 +97,7 @@ module _ {r : spaces.Content} {b : buddies.Content} {s : Content} (t k : ℕ) (a
     pub choice_large : b.top < k → choice s.top m k ≡ None
     choice_large large = choice_none (none_large large)
 
--- for the next slab of the tenant's cache the buddy system has chosen the block at frame f, machine frame n
+-- the buddy system has chosen the block at frame f, machine frame n, for the next slab of cache c of tenant t
 pub record IsChosen (r : spaces.Content) (b : buddies.Content) (s : Content) (t c : ℕ) (cache : own.Cache) (f j n : ℕ) : Type 0 where
   pub parts : HoldTogether r b s
   pub steady : IsSteady r b s t
@@ -119,7 +119,7 @@ module _ {r : spaces.Content} {b : buddies.Content} {s : Content} {t c : ℕ} {c
   cached : cache_at s t c ≡ Some cache
   cached = chosen.cached
 
-  -- it is cut by the cache's layout
+  -- the cache's layout is valid
   pub cut : IsLayout cache.layout.size cache.layout.align (layout_numbers cache)
   cut = (in_tables s t c cache w cached).layout
 
@@ -161,7 +161,7 @@ module _ {r : spaces.Content} {b : buddies.Content} {s : Content} {t c : ℕ} {c
   pub few : f < 65536
   few = omega (arith, frame_within, chosen.parts.buddy.sizes.taken t known, a.machine_frames, ap (λ top. b.superblocks * 2 ^ top) a.order, w.small)
 
-  -- no slab begins there
+  -- no slab begins at the block
   pub vacant : place_at s.lists.places n ≡ None
   vacant = no_place (place_at s.lists.places n) (λ head key e.
       let there = chosen.steady.listed f n head key under e in
@@ -210,7 +210,7 @@ module _ {r : spaces.Content} {b : buddies.Content} {s : Content} {t c : ℕ} {c
     abbrev s' : Content
     s' = with_new_slab s t c cache f n
 
-    -- each object is found by one division
+    -- the object of a byte and its offset in the object follow from one division
     constructed : (place : ℕ) → is_inside place f cache ≡ true
         → in_object (layout_numbers cache) cache.layout.size (fresh_kept cache).colour (place - 4096 * f) ≡ true
         → byte_at r' t place ≡ Some (pattern_byte cache.pattern ((place - 4096 * f - (fresh_kept cache).colour) % (layout_numbers cache).chunk))
@@ -298,7 +298,7 @@ module _ {r : spaces.Content} {b : buddies.Content} {s : Content} {t c : ℕ} {c
               (ap (λ x. is_live r' t cache x f i) kept_now ∙ down i high);
         }
 
-    -- the slabs that stood before
+    -- the other slabs still agree
     stays : (x head key : ℕ) (other : own.Cache) → x ≢ n → place_at s.lists.places x ≡ Some (head, key) → cache_in s.caches (head / 3) ≡ Some other
         → head / 3 / MOST_CACHES ≡ t → IsAgreed r' reserved s' x head key other
     stays x head key other away placed old e =

@@ -1,4 +1,4 @@
--- One object marked: its slab is counted anew, the parts agree, and nothing else has changed.
+-- Marking one object: the slab's number of live objects is updated, the parts agree, and nothing else changes.
 use Rattle.std.proofs.Common.{◌≡◌, ◌≢◌, ℕ, ◌+◌, ◌*◌, ◌/◌, ◌%◌, ◌<◌, ◌≤◌, Bool, true, false, not, List, Some, None, length, get_or, set, refl, sym, ap, ◌∙◌, subst, inl, inr, arith}
 use Rattle.std.specs.Prelude.{◌==◌, ◌&&◌, if◌then◌else◌}
 use Rattle.std.proofs.lemmas.Bool.{cases_eq}
@@ -24,7 +24,7 @@ use Rattle.slab_core.proofs.BuildParts.{IsLocal, agreed_still, spares_of, agree_
 use Rattle.slab_core.proofs.MarkBits.{flags_changed, count_cleared, count_set}
 use Rattle.slab_core.proofs.ObjectSlabs.{IsHeld, held, machine_frame_within}
 
--- the count after one object more or less
+-- the number of live objects after one is marked live or free
 abbrev pub IsCountOf : Bool → ℕ → ℕ → Type 0
 IsCountOf live before count = (live ≡ true → count ≡ before + 1) × (live ≡ false → count + 1 ≡ before)
 
@@ -45,7 +45,7 @@ module _ {r : spaces.Content} {b : buddies.Content} {s : Content} {t c f n i : �
   flag_was : get_or flags_before i false ≡ not v
   flag_was = flag_at (layout_numbers cache).count i (is_live r t cache (kept_at s.kept n) f) false less ∙ was
 
-  -- the marked flags, counted
+  -- the new number is the number of set flags
   count_marked : (count : ℕ) → IsCountOf v (kept_at s.kept n).live count → count ≡ count_true (set flags_before i v)
   count_marked count is = by_case v flag_was is
     where
@@ -53,7 +53,7 @@ module _ {r : spaces.Content} {b : buddies.Content} {s : Content} {t c f n i : �
       by_case true flag e = let m = count_set flags_before i (omega (arith, long)) flag in let d = e.0 refl in omega (arith, h.counted)
       by_case false flag e = let m = count_cleared flags_before i (omega (arith, long)) flag in let d = e.1 refl in omega (arith, h.counted)
 
-  -- an object that is live is counted
+  -- if the object was live, the number was at least 1
   pub some_live : v ≡ false → 1 ≤ (kept_at s.kept n).live
   some_live e =
       let m = count_cleared flags_before i (omega (arith, long)) (flag_was ∙ ap not e) in omega (arith, h.counted)
@@ -67,7 +67,7 @@ module _ {r : spaces.Content} {b : buddies.Content} {s : Content} {t c f n i : �
       let whole : h.head ≡ head_of t c (h.head % 3) = omega arith in
       record { kind = h.head % 3; few = omega arith; placed = h.place ∙ ap (λ (x : ℕ). Some (x, f)) whole }
 
-  -- no other machine frame of the cache has the slab's first frame
+  -- no other machine frame has a slab of the cache with the same first frame
   pub alone : (m : ℕ) → IsPlacedIn s t c f m → m ≡ n
   alone m p =
       let few = p.few in
@@ -140,7 +140,7 @@ module _ {r : spaces.Content} {b : buddies.Content} {s : Content} {t c f n i : �
       large = k.large;
     }
 
-    -- the slab that was marked
+    -- the marked slab agrees
     own_slab : IsAgreed r' b s' n head_now f cache
     own_slab = record {
       under = ap (λ u. machine_frame_of s.top r.slots u f) tenant_now ∙ q.under;
@@ -164,7 +164,7 @@ module _ {r : spaces.Content} {b : buddies.Content} {s : Content} {t c f n i : �
       kept = kept_other;
     }
 
-    -- another slab of the tenant
+    -- each other slab of the tenant still agrees
     other_slab : (machine_frame head key : ℕ) (cache' : own.Cache) → machine_frame ≢ n → place_at s.lists.places machine_frame ≡ Some (head, key) → cache_in s.caches (head / 3) ≡ Some cache'
         → head / 3 / MOST_CACHES ≡ t → IsAgreed r' b s' machine_frame head key cache'
     other_slab machine_frame head key cache' other place cached tenant =

@@ -1,4 +1,4 @@
--- Bits of control records against the flags of objects.
+-- Bits of control records and flags of objects.
 use Rattle.std.proofs.Common.{◌≡◌, ◌≢◌, ℕ, ◌+◌, ◌%◌, ◌^◌, ◌<◌, ◌≤◌, Bool, true, false, not, cond, eqb, zero, suc, List, [], ◌∷◌, length, get_or, set, refl, sym, ap, ◌∙◌, inl, inr, arith}
 use Rattle.std.specs.Int.{bit_at}
 use Rattle.std.specs.Int.Bits.{bit_xor}
@@ -12,7 +12,7 @@ turned a b c few one e = elim (cases_lt a 1) [
   | inr ge ↦ ne_eqb c 1 (λ same. omega arith) ∙ sym (ap not (eq-eqb a 1 (omega arith)))
 ]
 
--- a bit turned, and each other bit of the word
+-- flipping a bit changes that bit and no other bit of the word
 pub bit_turned : (word i : ℕ) → is_set (bit_xor word (2 ^ i)) i ≡ not (is_set word i)
 bit_turned word i = turned (bit_at word i) (bit_at (2 ^ i) i) (bit_at (bit_xor word (2 ^ i)) i) (bit_at-lt word i) (bit_at-pow_same i) (bit_at_xor word (2 ^ i) i)
 
@@ -24,14 +24,14 @@ bit_stays word i j other =
     let same : bit_at (bit_xor word (2 ^ i)) j ≡ bit_at word j = omega arith in
     ap (λ x. eqb x 1) same
 
--- a flag for each number
+-- tests that agree on n numbers from k on give the same flags
 same_flags : (k n : ℕ) (p q : ℕ → Bool) → ((i : ℕ) → k ≤ i → i < k + n → q i ≡ p i) → flags_from k n q ≡ flags_from k n p
 same_flags k zero p q same = refl
 same_flags k (suc n) p q same =
     ap (λ b. b ∷ flags_from (suc k) n q) (same k (omega arith) (omega arith))
     ∙ ap (λ bs. p k ∷ bs) (same_flags (suc k) n p q (λ i low high. same i (omega arith) (omega arith)))
 
--- the test of one number changed
+-- the flags after the test of one number changes
 pub flags_changed : (k n i : ℕ) (p q : ℕ → Bool) (v : Bool) → i < n → q (k + i) ≡ v → ((j : ℕ) → k ≤ j → j < k + n → j ≢ k + i → q j ≡ p j)
     → flags_from k n q ≡ set (flags_from k n p) i v
 flags_changed k zero i p q v less here other = absurd (omega arith)
@@ -42,7 +42,7 @@ flags_changed k (suc n) (suc i) p q v less here other =
     ap (λ b. b ∷ flags_from (suc k) n q) (other k (omega arith) (omega arith) (λ same. omega arith))
     ∙ ap (λ bs. p k ∷ bs) (flags_changed (suc k) n i p q v (omega arith) (ap q (omega arith) ∙ here) (λ j low high ne. other j (omega arith) (omega arith) (λ same. ne (omega arith))))
 
--- one flag less, or more, is up
+-- how many flags are set after one is cleared or set
 pub count_cleared : (xs : List Bool) (i : ℕ) → i < length xs → get_or xs i false ≡ true → count_true (set xs i false) + 1 ≡ count_true xs
 count_cleared [] i less up = absurd (omega arith)
 count_cleared (x ∷ xs) zero less up = let one : count_true (x ∷ xs) ≡ 1 + count_true xs = ap (λ b. cond b 1 0 + count_true xs) up in omega arith

@@ -1,4 +1,4 @@
--- The slab in which a live object of a cache begins is the one at the aligned block around its place.
+-- A live object of a cache lies in the slab that begins at the aligned block around its first place.
 use Rattle.std.proofs.Common.{◌≡◌, ℕ, ◌+◌, ◌-◌, ◌*◌, ◌/◌, ◌%◌, ◌^◌, ◌<◌, ◌≤◌, false, length, Some, None, sym, ap, ◌∙◌, subst, arith}
 use Rattle.std.proofs.lemmas.Bool.{false≢true}
 use Rattle.std.proofs.lemmas.Nat.{div-mul-add}
@@ -23,7 +23,7 @@ pub around_frame : (f k x : ℕ) → f % 2 ^ k ≡ 0 → HasFrame (block f k) x 
 around_frame f k x aligned has =
     sym (first_is f k aligned) ∙ ap (λ n. n * 2 ^ k) (sym (number_of_frame f k x aligned has) ∙ number_is k x)
 
--- a place so many bytes behind the first of a block
+-- a place with an offset less than the block's size lies in the block
 pub in_frame : (f k off : ℕ) → off < 4096 * 2 ^ k → HasFrame (block f k) ((4096 * f + off) / 4096)
 in_frame f k off less =
     let here : (4096 * f + off) / 4096 ≡ f + off / 4096 =
@@ -57,7 +57,7 @@ module _ {r : spaces.Content} {b : buddies.Content} {s : Content} {t c : ℕ} {c
       subst (λ p. HasFrame (block f k) (p / 4096)) o.begins (in_frame f k (object_offset (layout_numbers cache) colour i) (object_within (layout_numbers cache) colour i fit o.index)) in
       around_frame f k (place / 4096) ((sound parts tenant).placed f k h.taken).0.1 has ∙ sym is_first
 
-  -- an object that begins at the place is one of the slab there
+  -- each object that begins at the place is one of the slab at the aligned block around it
   pub there : (o : Found) → IsLiveObject r s t c place o → IsLiveObject r s t c place (found cache first o.machine_frame o.index)
   there o is =
       let mine : IsLiveObject r s t c place (found cache o.first o.machine_frame o.index) =

@@ -1,4 +1,4 @@
--- The rows of a report, one cache after the other.
+-- The rows of a report, one for each cache.
 use Rattle.std.proofs.Common.{◌≡◌, ℕ, ◌+◌, ◌<◌, ◌≤◌, cond, ltb, List, [], ◌∷◌, ◌++◌, map, Some, None, refl, sym, ap, ◌∙◌, inl, inr, arith}
 use Rattle.std.specs.Prelude.{filter, Option, option_map}
 use Rattle.std.proofs.lemmas.Bool.{cases_eq, cases_lt, lt-ltb, le-ltb}
@@ -19,7 +19,7 @@ listed None = []
 listed (Some x) = x ∷ []
 
 module _ {X : Type 0} (key : X → ℕ) where
-  -- those with a key below n
+  -- the elements with a key below n
   abbrev pub below : ℕ → List X → List X
   below n xs = filter (λ x. ltb (key x) n) xs
 
@@ -28,7 +28,7 @@ module _ {X : Type 0} (key : X → ℕ) where
   none_below n k (x ∷ xs) (low, rises) le =
       ap (λ b. cond b (x ∷ below n xs) (below n xs)) (le-ltb (key x) n (omega arith)) ∙ none_below n (key x + 1) xs rises (omega arith)
 
-  -- the one with the key n comes next
+  -- the element with the key n comes next
   pub below_more : (n k : ℕ) (xs : List X) → RisesFrom k (map key xs) → below (n + 1) xs ≡ below n xs ++ listed (at key n xs)
   below_more n k [] rises = refl
   below_more n k (x ∷ xs) (low, rises) = elim (cases_lt (key x) n) [
@@ -65,7 +65,7 @@ no_more : {X : Type 0} (xs : List X) → xs ≡ xs ++ []
 no_more [] = refl
 no_more (x ∷ xs) = ap (λ ys. x ∷ ys) (no_more xs)
 
--- the next cache's row put at the end, where there is such a cache
+-- the rows after the next cache's row is appended, if there is such a cache
 pub pushed : (rows : List CacheRow) (row : CacheRow) (xs : List Cache) (o : Option Cache) → Some row ≡ option_map row_of_cache o → rows ≡ map row_of_cache xs
     → rows ++ (row ∷ []) ≡ map row_of_cache (xs ++ listed o)
 pushed rows row xs None e same = absurd (some_none e)
@@ -75,7 +75,7 @@ pub not_pushed : (rows : List CacheRow) (xs : List Cache) (o : Option Cache) →
 not_pushed rows xs None e same = same ∙ ap (map row_of_cache) (no_more xs)
 not_pushed rows xs (Some x) e same = absurd (some_none (sym e))
 
--- all caches have a number below one from which there is none
+-- if no cache has the number `end` or above, all caches have numbers below `end`
 pub all_caches : (r : spaces.Content) (b : buddies.Content) (s : Content) (t end : ℕ) (m : Machine) → ((c : ℕ) → end ≤ c → cache_at s t c ≡ None)
     → ShowsMachine r b s t m → below (λ x. x.number) end m.caches ≡ m.caches
 all_caches r b s t end m none h = all_below (λ x. x.number) end m.caches (numbers_below r b s t end m none h)

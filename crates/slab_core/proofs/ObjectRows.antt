@@ -1,4 +1,4 @@
--- What a report says of a cache is what the machine says of it.
+-- The row of a cache in a report is that of the machine.
 use Rattle.std.proofs.Common.{◌≡◌, ℕ, ◌+◌, ◌*◌, ◌<◌, Some, length, get_or, sym, ap, ◌∙◌, arith}
 use Rattle.std.specs.Prelude.{filter, Option, option_map}
 use Rattle.std.proofs.lemmas.List.{length-map}
@@ -32,7 +32,7 @@ same_row a b c d e = cc
 
 module _ (r : spaces.Content) (b : buddies.Content) (s : Content) (t c : ℕ) (m : Machine) (cache : own.Cache) (x : Cache) (w : IsSlabs s) (hold : ListsHold s)
     (a : Agree r b s) (st : IsSteady r b s t) (h : ShowsMachine r b s t m) (cached : cache_at s t c ≡ Some cache) (ex : cache_of m c ≡ Some x) where
-  -- the slabs of a kind
+  -- the list of a kind is as long as the machine's cache has slabs of that kind
   pub kind_counted : (kind : ℕ) → kind < 3 → length (keys_of s.lists.places (head_of t c kind)) ≡ length (filter (is_kind kind) x.slabs)
   kind_counted kind less = ap length (hold r b t c kind m x a st h ex less) ∙ length-map (filter (is_kind kind) x.slabs) (λ y. y.first)
 

@@ -1,4 +1,4 @@
--- What parts that agree say of a slab of a tenant.
+-- Facts about a tenant's slab if the parts agree.
 use Rattle.std.proofs.Common.{◌≡◌, ℕ, ◌/◌, ◌<◌, ◌≤◌, false, Some, length, sym, ap, ◌∙◌, subst}
 use Rattle.model_core.specs.declared.limits.TheConstants.{MOST_CACHES}
 use Rattle.model_core.specs.Layouts.{IsLayout, is_small}
@@ -13,7 +13,7 @@ use Rattle.machine_changes.specs.Shows.{live_of, is_live, IsSlab, Agree}
 use Rattle.machine_changes.proofs.Lookups.{some_same}
 use Rattle.machine_changes.proofs.Steady.{within, in_table, placed_as, agreed}
 
--- a slab in parts that agree
+-- a slab of the tenant, with what the parts say of it
 pub record IsHeld (r : spaces.Content) (b : buddies.Content) (s : Content) (t c f n : ℕ) (cache : own.Cache) : Type 0 where
   pub head : ℕ
   pub index : head / 3 ≡ index_of_cache t c
@@ -45,7 +45,7 @@ held r b s t c f n cache w a q =
       rest = subst (λ u. (i : ℕ) → (layout_numbers cache).count ≤ i → i < 256 → is_live r u cache (kept_at s.kept n) f i ≡ false) p.tenant x.rest;
     }
 
--- a cache of the tables
+-- facts about a cache of the tables
 pub record IsInTables (cache : own.Cache) : Type 0 where
   pub layout : IsLayout cache.layout.size cache.layout.align (layout_numbers cache)
   pub few : (layout_numbers cache).count ≤ 256
@@ -57,10 +57,10 @@ in_tables s t c cache w cached =
     record { layout = fit.layout; few = (fit.layout.fits 0).few; few_large = (few_objects cache.layout.size cache.layout.align fit.size fit.align).1 }
 
 module _ {r : spaces.Content} {s : Content} {t c f n : ℕ} {cache : own.Cache} (q : IsSlab r s t c f n cache) where
-  -- the cache of a slab is one of them
+  -- these hold of the slab's cache
   pub slab_cache : IsSlabs s → IsInTables cache
   slab_cache w = in_tables s t c cache w q.cached
 
-  -- and its machine frame is one of theirs
+  -- the slab's machine frame is one of the tables
   pub machine_frame_within : n < length s.lists.places
   machine_frame_within = let p = placed_as r s t c f n cache q in within s.lists.places n (p.head, f) p.place

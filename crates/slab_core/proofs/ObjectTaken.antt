@@ -1,4 +1,4 @@
--- An object that was handed out is live.
+-- An object that a take has allocated is live.
 use Rattle.std.proofs.Common.{◌≡◌, ℕ, ◌<◌, true, false, get_or, sym, ap, ◌∙◌, arith}
 use Rattle.std.proofs.lemmas.List.{get_or-set_same}
 use Rattle.model_core.specs.Layouts.{object_place}

@@ -1,4 +1,4 @@
--- How many objects of a cache are live: by its lists, and by its slabs.
+-- How many objects of a cache are live, counted over its lists and over its slabs.
 use Rattle.std.proofs.Common.{◌≡◌, ℕ, suc, ◌+◌, ◌*◌, ◌/◌, ◌≤◌, Bool, true, false, not, cond, eqb, ltb, List, [], ◌∷◌, map, Option, Some, None, length, refl, sym, ap, ◌∙◌, inl, inr, arith}
 use Rattle.std.specs.Prelude.{filter, ◌&&◌, flat_map}
 use Rattle.std.proofs.lemmas.Bool.{cases_eq, eq-eqb, ne_eqb, eqb-true}
@@ -12,12 +12,12 @@ use Rattle.slab_tables.specs.Content.{kept_at, live_total}
 use Rattle.machine_changes.specs.Records.{count_true}
 use Rattle.machine_changes.proofs.Flags.{any_counts}
 
--- the counts of the slabs of a list
+-- the sum of the numbers of live objects over the slabs of a list
 abbrev pub sum_of : (ℕ → ℕ) → List (ℕ × ℕ) → ℕ
 sum_of live [] = 0
 sum_of live (p ∷ ps) = live p.1 + sum_of live ps
 
--- the live objects of slabs
+-- the number of live objects in slabs
 abbrev pub sum_live : List Slab → ℕ
 sum_live [] = 0
 sum_live (y ∷ ys) = count_true y.live + sum_live ys
@@ -41,7 +41,7 @@ sum_with live h i head key qs = go (eqb head h)
 is_cond : (v w : Bool) (n : ℕ) → v ≡ w → cond v n 0 ≡ cond w n 0
 is_cond v w n e = ap (λ b. cond b n 0) e
 
--- a place in the lists of a cache stands in one of them
+-- a place in the lists of a cache is in exactly one of them
 one_of : (head n x : ℕ) → cond (eqb (head / 3) n) x 0 ≡ cond (eqb head (3 * n)) x 0 + (cond (eqb head (3 * n + 1)) x 0 + cond (eqb head (3 * n + 2)) x 0)
 one_of head n x = elim (cases_eq head (3 * n)) [
   | inl a ↦ omega (
@@ -99,7 +99,7 @@ total_of_lists live n i (Some (head, key) ∷ ps) (k ∷ ks) few same =
       sum_with live (3 * n + 2) i head key (list_from (3 * n + 2) (i + 1) ps),
     )
 
--- a list with the first frames of slabs, whose counts are the slabs'
+-- the sum over a list with the first frames of slabs is the number of live objects in these slabs
 pub sum_of_slabs : (live : ℕ → ℕ) (qs : List (ℕ × ℕ)) (ys : List Slab) → map (λ q. q.0) qs ≡ map (λ y. y.first) ys
     → ((q : ℕ × ℕ) (y : Slab) → IsIn q qs → IsIn y ys → q.0 ≡ y.first → live q.1 ≡ count_true y.live) → sum_of live qs ≡ sum_live ys
 sum_of_slabs live [] [] e same = refl
@@ -111,7 +111,7 @@ sum_of_slabs live (q ∷ qs) (y ∷ ys) e same =
     let rest : map (λ z. z.0) qs ≡ map (λ z. z.first) ys = cc in
     omega (arith, same q y (inl refl) (inl refl) here, sum_of_slabs live qs ys rest (λ p z i j. same p z (inr i) (inr j)))
 
--- each slab is of one kind, or has no object
+-- the sum over all slabs is the sum over the full, the partial and the empty ones
 pub sum_by_kind : (ys : List Slab) → sum_live (filter is_full ys) + (sum_live (filter is_partial ys) + sum_live (filter is_empty ys)) ≡ sum_live ys
 sum_by_kind [] = refl
 sum_by_kind (y ∷ ys) = go (is_full y) (is_empty y) (λ e. eqb-true (count_true y.live) 0 (sym (any_counts y.live) ∙ e)) (sum_by_kind ys)
@@ -130,7 +130,7 @@ live_counted c y i [] = refl
 live_counted c y i (true ∷ bs) = omega (arith, live_counted c y (i + 1) bs)
 live_counted c y i (false ∷ bs) = omega (arith, live_counted c y (i + 1) bs)
 
--- a cache has as many live objects as its slabs
+-- a cache has as many live objects as its slabs together
 pub objects_counted : (c : Cache) (ys : List Slab) → length (flat_map (live_in c) ys) ≡ sum_live ys
 objects_counted c [] = refl
 objects_counted c (y ∷ ys) = length-append (live_in c y) (flat_map (live_in c) ys) ∙ omega (arith, live_counted c y 0 y.live, objects_counted c ys)

@@ -1,4 +1,5 @@
--- A page block reserved by need: where none is found at once, all empty slabs are given back if one is found then.
+-- Reserving a page block on demand: if no block is found at once, and one would be found after all empty slabs are freed, they
+-- are freed.
 use Rattle.std.proofs.Common.{◌≡◌, ◌↔◌, ℕ, ◌/◌, ◌^◌, ◌≤◌, Bool, true, false, cond, Some, None, IsSome, IfSome, IfNone, refl, sym, ap, ◌∙◌, subst}
 use Rattle.std.specs.Prelude.{Option, is_some}
 use Rattle.std.proofs.lemmas.Bool.{false≢true}
@@ -24,12 +25,12 @@ use Rattle.slab_core.proofs.FittingFrames.{idle_begins}
 use Rattle.slab_core.proofs.ReserveOne.{vacant_free}
 use Rattle.slab_core.proofs.ReturnMany.{idle_empty}
 
--- The step of the machine, by what it chooses
+-- The step of the machine, for each choice
 module _ (order k : ℕ) (m : Machine) where
   pub found_choice : (f : ℕ) → Some f ≡ choice order m k → Some f ≡ choice_by_need order k m
   found_choice f e = e ∙ sym (ap (λ x. choice order x k) (by_need_found order k f m (sym e)))
 
-  -- where nothing is found at once it chooses what the reaped machine does
+  -- if the machine finds nothing at once, it chooses what the reaped machine does
   pub next_choice : None ≡ choice order m k → choice_by_need order k m ≡ choice order (reaped m) k
   next_choice none = go (choice order (reaped m) k) refl
     where
@@ -52,7 +53,7 @@ module _ (order k : ℕ) (m : Machine) where
     pub refused_step : None ≡ choice order m k → false ≡ is_some (choice order (reaped m) k) → (alloc_step order k m).machine ≡ m
     refused_step none still = ap (λ z. z.machine) ((alloc_reaps order k m fits).stays (sym none) (no_choice (choice order (reaped m) k) still))
 
--- what is free would fit
+-- if a large enough block is free, the block would fit
 pub free_fits : (r : spaces.Content) (b : buddies.Content) (s : Content) (t k : ℕ) → Agree r b s → HasFreeBlock b t k → WouldFit r b s t k
 free_fits r b s t k a h =
     let out = reserved_is_untaken b.top (buddies.is_held (buddies.holding_of t b)) (buddies.taken_of (buddies.holding_of t b)) h.found.first h.found.order k h.free h.enough in
@@ -68,16 +69,16 @@ pub is_there : {A : Type 0} (o : Option A) (P : Type 0) → IsSome o → IfNone 
 is_there None P some = absurd (false≢true some)
 is_there (Some x) P some = tt
 
--- what a block reserved for need is to the request
+-- a block that is reserved after freeing answers the request as the machine does
 pub record IsServedThen (r r' : spaces.Content) (b b' : buddies.Content) (s s' : Content) (t k : ℕ) (o : Option ℕ) : Type 0 where
   pub some : IsSome o
   pub answer : (m : Machine) → ShowsMachine r b s t m → o ≡ choice_by_need s.top k m
   pub shows : (m : Machine) → ShowsMachine r b s t m → ShowsMachine r' b' s' t (alloc_step s.top k m).machine
 
--- All empty slabs given back
+-- All empty slabs are freed
 module _ {r r' : spaces.Content} {b b' : buddies.Content} {s s' : Content} {t k : ℕ} (st : IsSteady r b s t)
     (gone : IsReturned r r' b b' s s' t (idle_at (λ i. true) r s t)) where
-  -- what would fit is free now
+  -- if the block would fit, a large enough block is now free
   pub fits_free : Agree r' b' s' → WouldFit r b s t k → HasFreeBlock b' t k
   fits_free a' fit =
       let order : b'.top ≡ s.top = a'.order ∙ gone.top in

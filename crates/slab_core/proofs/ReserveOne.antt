@@ -1,4 +1,4 @@
--- A page block reserved beside slabs.
+-- Reserving a page block beside slabs.
 use Rattle.std.proofs.Common.{◌≡◌, ◌≢◌, ◌↔◌, ℕ, ◌+◌, ◌*◌, ◌/◌, ◌^◌, ◌<◌, Bool, true, false, cond, length, Some, None, IsSome, IfSome, IfNone, refl, sym, ap, ◌∙◌, subst, ⊎_elim, arith}
 use Rattle.std.specs.Prelude.{Option, is_some, MatchOption}
 use Rattle.std.proofs.lemmas.Bool.{cases_eq, eq-eqb, false≢true, ne_eqb}
@@ -43,12 +43,12 @@ module _ (b : buddies.Content) (t : ℕ) where
   abbrev taken : ℕ → Option ℕ
   taken f = buddies.taken_of (buddies.holding_of t b) f
 
-  -- a held slot is one of the table
+  -- a held slot has a number below the length of the table of slots
   held_within : (u : ℕ) → held u ≡ true → u < length (buddies.holding_of t b).slots
   held_within u e =
       let there = some_of (buddies.superblock_at (buddies.holding_of t b) u) e in within (buddies.holding_of t b).slots u there.0 there.1
 
-  -- where a block is vacant, some free block is large enough
+  -- if a block is vacant, some free block is large enough
   pub vacant_free : (f k : ℕ) → IsVacant b.top held taken f k → HasFreeBlock b t k
   vacant_free f k v =
       let slots : ℕ = length (buddies.holding_of t b).slots in
@@ -91,7 +91,7 @@ module _ (r : spaces.Content) (b : buddies.Content) (s : Content) (t k : ℕ) (a
         ap (λ h. buddies.taken_of h g) holding_now
         ∙ ap (λ (x : ℕ → Option ℕ). x g) (taken-with_block (buddies.holding_of t b) f k frame_within)
 
-    -- what was taken is so still
+    -- what was taken is still taken
     stays : (u g i : ℕ) → buddies.taken_of (buddies.holding_of u b) g ≡ Some i → buddies.taken_of (buddies.holding_of u reserved) g ≡ Some i
     stays u g i e = ⊎_elim
         (λ same. subst (λ x. buddies.taken_of (buddies.holding_of x reserved) g ≡ Some i) (sym same)
@@ -140,7 +140,7 @@ module _ (r : spaces.Content) (b : buddies.Content) (s : Content) (t k : ℕ) (a
       spare = λ m none. refl;
     }
 
-    -- no slab begins where no block is taken
+    -- no slab begins at a frame at which no taken block begins
     no_slab : IsSteady r b s t → has_slab s (machine_frame_of s.top r.slots t f) ≡ false
     no_slab st = under (machine_frame_of s.top r.slots t f) refl
       where
@@ -168,7 +168,7 @@ module _ (r : spaces.Content) (b : buddies.Content) (s : Content) (t k : ℕ) (a
       agree = one_agrees;
     })
 
-  -- what a request of order k leaves, by its answer
+  -- the state after a request of order k, for its result o
   pub record IsServed (b' : buddies.Content) (o : Option ℕ) : Type 0 where
     pub answer : (m : Machine) → ShowsMachine r b s t m → o ≡ choice s.top m k
     pub shows : IfSome o (λ f. (m : Machine) → ShowsMachine r b s t m → ShowsMachine r b' s t (with_block (block f k) m))

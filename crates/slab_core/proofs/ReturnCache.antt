@@ -1,4 +1,4 @@
--- A cache of which no object is live given back with all its slabs.
+-- Removing a cache without live objects, with all its slabs.
 use Rattle.std.proofs.Common.{◌≡◌, ◌≢◌, ℕ, ◌+◌, ◌/◌, ◌%◌, ◌<◌, Bool, true, false, not, cond, eqb, List, [], ◌∷◌, ◌++◌, map, length, append-nil, Some, None, refl, sym, ap, ◌∙◌, subst, inl, inr, ⊎_elim, arith}
 use Rattle.std.specs.Prelude.{Option, option_map, filter, flat_map, Ok, ◌&&◌, if◌then◌else◌}
 use Rattle.std.specs.List.{list_any}
@@ -46,7 +46,7 @@ filter_none p [] none = refl
 filter_none p (x ∷ xs) none =
     ap (λ v. cond v (x ∷ filter p xs) (filter p xs)) (none x (inl refl)) ∙ filter_none p xs (λ y i. none y (inr i))
 
--- of a rising list the element of one key alone
+-- if only the element with key c adds to the list, the list is that element's
 one_only : (g : Cache → List Block) (c k : ℕ) (x : Cache) (xs : List Cache) → RisesFrom k (map (λ y. y.number) xs) → at (λ y. y.number) c xs ≡ Some x
     → ((y : Cache) → IsIn y xs → y.number ≢ c → g y ≡ []) → flat_map g xs ≡ g x
 one_only g c k x [] rises e none = absurd (some_none (sym e))
@@ -86,14 +86,14 @@ module _ (r : spaces.Content) (b : buddies.Content) (s : Content) (t c : ℕ) (w
   some_kind : (y : Slab) → is_empty y ≡ false → is_full y ≡ false → is_partial y ≡ true
   some_kind y e f = ap (λ v. not v && not (is_empty y)) f ∙ ap not e
 
-  -- .. and in the machine all slabs of an unused cache are empty
+  -- in the machine, all slabs of an unused cache are empty
   pub all_empty : IsUnused s t c → (x : Cache) → cache_of m c ≡ Some x → (y : Slab) → IsIn y x.slabs → is_empty y ≡ true
   all_empty unused x ex y i = ⊎_elim (λ e. e) (λ e. ⊎_elim
       (λ full. absurd (let l = to_list r b s w a t c 0 (omega arith) m x h ex y i full in unused.0 l.machine_frame y.first l.place))
       (λ none. absurd (let l = to_list r b s w a t c 1 (omega arith) m x h ex y i (some_kind y e none) in unused.1 l.machine_frame y.first l.place))
       (cases_Bool (is_full y))) (cases_Bool (is_empty y))
 
-  -- .. and where all are, it is unused
+  -- conversely, if all are, the cache is unused
   pub unused_of : (x : Cache) → cache_of m c ≡ Some x → list_any (λ y. not (is_empty y)) x.slabs ≡ false → IsUnused s t c
   unused_of x ex none = (not_kind 0 (omega arith), not_kind 1 (omega arith))
     where
@@ -139,7 +139,7 @@ pub no_cache_step : (r : spaces.Content) (b : buddies.Content) (s : Content) (t 
     → destroy_step c m ≡ refuse NoCache m
 no_cache_step r b s t c m h vacant = step_none c m (no_cache r b s t c m h vacant)
 
--- cache c of a tenant stands among all
+-- the index of cache c of a tenant lies within the table of caches
 pub among_all : (r : spaces.Content) (b : buddies.Content) (s : Content) (t c : ℕ) → Agree r b s → t < length r.slots → c < MOST_CACHES
     → index_of_cache t c < length s.caches
 among_all r b s t c a tenant small =
@@ -147,7 +147,7 @@ among_all r b s t c a tenant small =
     let tables = a.tenants in
     omega arith
 
--- what is left where a cache that was not in use is given back
+-- the state after the slabs of an unused cache are freed: the cache still exists, but has no slab
 pub record IsLeft (s : Content) (t c : ℕ) : Type 0 where
   pub bare : IsBare s (index_of_cache t c)
   pub small : c < MOST_CACHES
@@ -164,14 +164,14 @@ left_of {r' = r'} {b' = b'} {s = s} {s' = s'} {t = t} c {cache = cache} cached t
       within = among_all r' b' s' t c agree (subst (λ n. t < n) (sym (ap (λ x. length x.slots) spares.space)) tenant) small;
     }
 
--- what the machine shows once the cache is gone
+-- what the parts show after the cache is removed
 pub record IsDestroyed (r : spaces.Content) (b : buddies.Content) (s : Content) (t c : ℕ) (m : Machine) (frames : ℕ) : Type 0 where
   pub answer : Ok frames ≡ (destroy_step c m).answer
   pub shown : ShowsMachine r b (with_cache s t c None) t (destroy_step c m).machine
 
 module _ {r : spaces.Content} {b : buddies.Content} {s : Content} {t : ℕ} (c : ℕ) {cache : own.Cache} (w : IsSlabs s) (a : Agree r b s) (st : IsSteady r b s t)
     (cached : cache_at s t c ≡ Some cache) where
-  -- an object is live
+  -- if an object is live, a destroy is refused
   pub used_step : (IsUnused s t c → ⊥) → (m : Machine) → ShowsMachine r b s t m → destroy_step c m ≡ refuse CacheInUse m
   used_step used m h =
       let there = cache_shown r b s t m h c cache cached in
@@ -274,7 +274,7 @@ module _ {r : spaces.Content} {b : buddies.Content} {s : Content} {t : ℕ} (c :
     pub destroyed_as : (frames : ℕ) → frames ≡ empty_frames_in (cache_of m c) → IsDestroyed r' b' s' t c m frames
     destroyed_as frames e = let there = cache_shown r b s t m h c cache cached in done there.shown there.cached frames e
 
--- the entry alone goes
+-- removing the cache's entry changes nothing of other tenants
 pub spares_entry : (r : spaces.Content) (b : buddies.Content) {s : Content} {t c : ℕ} → IsLeft s t c → Spares t r r b b s (with_cache s t c None)
 spares_entry r b {s = s} {t = t} {c = c} left = record {
   others = cache_others s t c None left.small left.within r b;

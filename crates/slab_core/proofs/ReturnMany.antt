@@ -1,4 +1,4 @@
--- Slabs without live objects given back one after the other, until none is left.
+-- Freeing empty slabs one after the other, until none is left.
 use Rattle.std.proofs.Common.{◌≡◌, ℕ, ◌+◌, ◌/◌, ◌%◌, ◌<◌, Bool, true, false, cond, eqb, ◌||◌, length, Some, None, refl, sym, ap, ◌∙◌, subst, ◌⊎◌, inl, inr, ⊎_elim, arith}
 use Rattle.std.specs.Prelude.{Option, ◌==◌, ◌&&◌}
 use Rattle.std.proofs.lemmas.Bool.{cases_eq, cases_lt, false≢true, eqb-true, eq-eqb, and_parts, and_from, false_from_ne_true}
@@ -36,9 +36,9 @@ or_cases : (v w : Bool) → (v || w) ≡ true → (v ≡ true) ⊎ (w ≡ true)
 or_cases true w e = inl refl
 or_cases false w e = inr e
 
--- What is idle
+-- Slabs that are idle
 
--- cache c of tenant t, by where it stands among all
+-- the test of the index of cache c of tenant t
 abbrev pub this : ℕ → ℕ → ℕ → Bool
 this t c i = eqb i (index_of_cache t c)
 
@@ -80,7 +80,7 @@ idle_is these r s t f n head key under place one empty =
     ∙ ap (λ p. is_of_these these p && (kept_at s.kept n).live == 0) place
     ∙ and_from (these (head / 3)) ((kept_at s.kept n).live == 0) one (eq-eqb (kept_at s.kept n).live 0 empty)
 
--- Some of them given back
+-- Some of the idle slabs are freed
 
 pub record IsGiving (these : ℕ → Bool) (r r' : spaces.Content) (b b' : buddies.Content) (s s' : Content) (t : ℕ) : Type 0 where
   pub gone : ℕ → Bool
@@ -161,7 +161,7 @@ module _ {these : ℕ → Bool} {r r' : spaces.Content} {b b' : buddies.Content}
       go true is e = absurd (some_none (sym e))
       go false is e = (is, e)
 
-  -- what is idle yet was so before
+  -- a slab that is still idle was idle before
   was_idle : (f : ℕ) → idle_at these r' s' t f ≡ true → idle_at these r s t f ≡ true
   was_idle f e =
       let i = idle_tells these r' s' t f e in
@@ -181,7 +181,7 @@ module _ {these : ℕ → Bool} {r r' : spaces.Content} {b b' : buddies.Content}
     tables = tables';
   }
 
-  -- the superblocks stand under the same slots as before
+  -- the superblocks are in the same slots as before
   pub still_apart : IsOneToOne r → IsOneToOne r'
   still_apart apart = record {
     superblocks = λ u v m n e e'. apart.superblocks u v m n
@@ -192,7 +192,7 @@ module _ {these : ℕ → Bool} {r r' : spaces.Content} {b b' : buddies.Content}
         (subst (λ (z : spaces.Content). spaces.superblock_at z.slots x y ≡ Some m) g.spares.space e');
   }
 
-  -- once none is idle any more, exactly those that were so are given back
+  -- if no slab is idle, exactly those that were idle before have been freed
   pub giving_all : ((f : ℕ) → idle_at these r' s' t f ≡ true → ⊥) → IsReturned r r' b b' s s' t (idle_at these r s t)
   giving_all none = subst (λ (x : ℕ → Bool). IsReturned r r' b b' s s' t x) (λ i f. same f (g.gone f) refl i) k
     where
@@ -205,7 +205,7 @@ module _ {these : ℕ → Bool} {r r' : spaces.Content} {b b' : buddies.Content}
           none f (idle_is these r' s' t f i.machine_frame i.head i.key (machine_frame_same r r' b b' s s' t g.gone k st f ∙ i.under) stays i.one
           (ap (λ x. x.live) (k.kept f i.machine_frame i.under) ∙ i.empty))))
 
--- no list grows where a slab is taken out of one
+-- an empty list stays empty when a slab is removed from a list
 pub empty_without : (s : Content) (machine_frame head : ℕ) → IsEmpty s.lists.places head → IsEmpty (without_slab s machine_frame).lists.places head
 empty_without s machine_frame head none i key placed =
     ⊎_elim (λ same. ⊎_elim
@@ -213,7 +213,7 @@ empty_without s machine_frame head none i key placed =
     (λ past. none i key (ap (λ places. place_at places i) (sym (set_past s.lists.places machine_frame None past)) ∙ placed)) (cases_lt machine_frame (length s.lists.places)))
     (λ differ. none i key (sym (get_or-set_other s.lists.places machine_frame i None None differ) ∙ placed)) (cases_eq i machine_frame)
 
--- What stands in the list of a cache's empty slabs
+-- The entries in the list of a cache's empty slabs
 
 pub record IsEmptySlab (r : spaces.Content) (s : Content) (t c first machine_frame : ℕ) (cache : own.Cache) : Type 0 where
   pub slab : IsSlab r s t c first machine_frame cache
@@ -227,7 +227,7 @@ kind_empty count live kind two e = go (live == count) (live == 0) refl e
     go true false is e = absurd (omega arith)
     go false false is e = absurd (omega arith)
 
--- what is idle stands in the list of its cache's empty slabs
+-- an idle slab is in the list of its cache's empty slabs
 pub record IsInEmpty (s : Content) (t : ℕ) (these : ℕ → Bool) (f : ℕ) : Type 0 where
   pub number : ℕ
   pub machine_frame : ℕ
@@ -275,7 +275,7 @@ module _ {r : spaces.Content} {b : buddies.Content} {s : Content} {t : ℕ} (w :
 
 -- One cache, slab by slab
 module _ {r : spaces.Content} {s : Content} {t c : ℕ} where
-  -- the slab at this frame is the cache's, and idle
+  -- the slab at this frame is the cache's, and is idle
   pub one_idle : {first machine_frame : ℕ} {cache : own.Cache} → IsEmptySlab r s t c first machine_frame cache → (f : ℕ) → eqb f first ≡ true → idle_at (this t c) r s t f ≡ true
   one_idle {first = first} {machine_frame = machine_frame} {cache = cache} is f e =
       let p = placed_as r s t c first machine_frame cache is.slab in
@@ -302,12 +302,12 @@ none_any {r = r} {b = b} {s = s} t w a apart none f e =
     let i = idle_listed w a (λ g n head key. slab_listed r b s w a t g n head key apart) (λ x. true) f e in
     none i.number i.small i.machine_frame f i.placed
 
--- where there is no cache, its list is empty
+-- if a cache does not exist, its list is empty
 pub no_cache : (s : Content) (t c : ℕ) → IsSlabs s → c < MOST_CACHES → cache_at s t c ≡ None → IsEmpty s.lists.places (head_of t c 2)
 no_cache s t c w small vacant n key placed =
     bare_without s t c w small vacant n (head_of t c 2) key placed (omega arith)
 
--- the idle slabs of the caches below number c given back
+-- the idle slabs of the caches with numbers below c are freed
 pub record IsGivingBelow (r r' : spaces.Content) (b b' : buddies.Content) (s s' : Content) (t c : ℕ) : Type 0 where
   pub giving : IsGiving (λ i. true) r r' b b' s s' t
   pub lists : (d : ℕ) → d < c → IsEmpty s'.lists.places (head_of t d 2)
@@ -328,7 +328,7 @@ below_next {r' = r'} {s' = s'} {s'' = s''} {t = t} {c = c} st g k spares agree t
       (λ high. let same : d ≡ c = omega arith in subst (λ x. IsEmpty s''.lists.places (head_of t x 2)) (sym same) none) (cases_lt d c);
 }
 
--- there is no cache of this number
+-- no cache has the next number
 pub below_none : {r r' : spaces.Content} {b b' : buddies.Content} {s s' : Content} {t c : ℕ} → IsGivingBelow r r' b b' s s' t c
     → c < MOST_CACHES → cache_at s' t c ≡ None → IsGivingBelow r r' b b' s s' t (c + 1)
 below_none {s' = s'} {t = t} {c = c} g small vacant = record {
@@ -338,7 +338,7 @@ below_none {s' = s'} {t = t} {c = c} g small vacant = record {
       subst (λ x. IsEmpty s'.lists.places (head_of t x 2)) (sym same) (no_cache s' t c g.giving.tables small vacant)) (cases_lt d c);
 }
 
--- what is idle is what is empty in the machine
+-- a slab is idle exactly if it is empty in the machine
 pub idle_empty : (r : spaces.Content) (b : buddies.Content) (s : Content) (t : ℕ) (m : Machine) → IsSlabs s → Agree r b s → ShowsMachine r b s t m
     → (c f : ℕ) (x : Cache) (y : Slab) → cache_of m c ≡ Some x → slab_of x f ≡ Some y → idle_at (λ i. true) r s t f ≡ is_empty y
 idle_empty r b s t m w a h c f x y ex ey =

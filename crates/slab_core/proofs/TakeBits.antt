@@ -1,4 +1,4 @@
--- The least bit of a record that is 0, and the least object that is not live.
+-- The first clear bit of a record, and the first free object.
 use Rattle.std.proofs.Common.{◌≡◌, ◌≢◌, ℕ, ◌+◌, ◌-◌, ◌*◌, ◌/◌, ◌%◌, ◌^◌, ◌<◌, ◌≤◌, Bool, true, false, not, zero, suc, List, ◌∷◌, length, get_or, take, drop, eqb, refl, sym, ap, subst, ◌∙◌, inl, inr, min, w32, arith}
 use Rattle.std.specs.List.{position_or_len, slice_range}
 use Rattle.std.specs.Int.{bit_at, trailing_ones, w64, to_le_bytes}
@@ -9,11 +9,11 @@ use Rattle.std.proofs.lemmas.Nat.{pow-add}
 use Rattle.std.proofs.lemmas.Nat.Bits.{bit_at_above, bit_at_cat_low, bit_at_ones, bit_at-trailing_ones, same_from_bits_below}
 use Rattle.machine_changes.specs.Records.{is_set, flags_from, flags}
 
--- every bit of a full byte is 1
+-- all bits of the byte 255 are 1
 pub full_byte : (byte j : ℕ) → byte ≡ 255 → j < 8 → is_set byte j ≡ true
 full_byte byte j e less = ap (λ x. is_set x j) e ∙ eq-eqb (bit_at 255 j) 1 (bit_at_ones 8 j less)
 
--- the least bit of a word that is 0
+-- k is the first clear bit of a word, or the number of its bits if none is clear
 pub record IsClear (bits_of : ℕ) (word k : ℕ) : Type 0 where
   pub below : k ≤ bits_of
   pub ones : (j : ℕ) → j < k → is_set word j ≡ true
@@ -31,7 +31,7 @@ clear_word word less other =
       },
     )
 
--- of the 16 bits of a word of more
+-- the first clear bit among the lower 16 bits of a wider word
 pub clear_half : (word : ℕ) → word < 65536 → IsClear 16 word (trailing_ones w32 word)
 clear_half word less =
     let x = bit_at-trailing_ones w32 word (omega arith) in
@@ -44,7 +44,7 @@ clear_half word less =
       clear = λ low. ne_eqb (bit_at word (trailing_ones w32 word)) 1 (λ e. omega (arith, x.1));
     }
 
--- byte k of a word
+-- byte k of a little-endian word
 byte_of : (word k : ℕ) → k < 8 → get_or (to_le_bytes w64 word) k 0 ≡ word / 2 ^ (8 * k) % 256
 byte_of word zero less = omega arith
 byte_of word (suc zero) less = omega arith
@@ -56,13 +56,13 @@ byte_of word (suc (suc (suc (suc (suc (suc zero)))))) less = omega arith
 byte_of word (suc (suc (suc (suc (suc (suc (suc zero))))))) less = omega arith
 byte_of word (suc (suc (suc (suc (suc (suc (suc (suc k)))))))) less = absurd (omega arith)
 
--- its low eight bits
+-- the low eight bits of a number
 low_bit : (n r : ℕ) → r < 8 → bit_at (n % 256) r ≡ bit_at n r
 low_bit n r less =
     let split : n ≡ n / 256 * 2 ^ 8 + n % 256 = omega arith in
     sym (ap (λ m. bit_at m r) split ∙ bit_at_cat_low (n / 256) 8 (n % 256) r less)
 
--- bit j of a word that was read of bytes is bit j % 8 of byte j / 8
+-- bit j of a word that was read from bytes is bit j % 8 of byte j / 8
 bit_of_word : (bytes : List ℕ) (at word j : ℕ) → to_le_bytes w64 word ≡ slice_range bytes at (at + 8) → j < 64
     → bit_at (get_or bytes (at + j / 8) 0) (j % 8) ≡ bit_at word j
 bit_of_word bytes at word j read less =
@@ -82,7 +82,7 @@ bit_of_word bytes at word j read less =
         let split : 8 * k + j % 8 ≡ j = omega arith in
         ap (λ n. n % 2) (div-div-eq-div-mul word (2 ^ (8 * k)) (2 ^ (j % 8)) ∙ (ap (λ p. word / p) (sym (pow-add 2 (8 * k) (j % 8))) ∙ ap (λ n. word / 2 ^ n) split))
 
--- .. of word i of a record
+-- the same for word i of a record
 bit_there : (bytes : List ℕ) (i word k j : ℕ) → to_le_bytes w64 word ≡ slice_range bytes (8 * i) (8 * i + 8) → k < 64 → j ≡ 64 * i + k
     → is_set (get_or bytes (j / 8) 0) (j % 8) ≡ is_set word k
 bit_there bytes i word k j read less is =
@@ -91,11 +91,11 @@ bit_there bytes i word k j read less is =
     ap (λ n. is_set (get_or bytes n 0) (j % 8)) byte
     ∙ (ap (is_set (get_or bytes (8 * i + k / 8) 0)) bit ∙ ap (λ b. eqb b 1) (bit_of_word bytes (8 * i) word k read less))
 
--- all bits of a record below a place are 1
+-- all bits of a record with an index below `end` are 1
 abbrev pub AreOnes : List ℕ → ℕ → Type 0
 AreOnes bytes end = (j : ℕ) → j < end → is_set (get_or bytes (j / 8) 0) (j % 8) ≡ true
 
--- .. and those of word i below its bit k
+-- the same up to bit k of word i, if all bits of that word below k are 1
 pub ones_more : (bytes : List ℕ) (i word k : ℕ) → AreOnes bytes (64 * i) → to_le_bytes w64 word ≡ slice_range bytes (8 * i) (8 * i + 8) → k ≤ 64 → ((j : ℕ) → j < k → is_set word j ≡ true)
     → AreOnes bytes (64 * i + k)
 ones_more bytes i word k ones read few bits j less = elim (cases_lt j (64 * i)) [
@@ -103,19 +103,19 @@ ones_more bytes i word k ones read few bits j less = elim (cases_lt j (64 * i)) 
   | inr high ↦ bit_there bytes i word (j - 64 * i) j read (omega arith) (omega arith) ∙ bits (j - 64 * i) (omega arith)
 ]
 
--- .. and those of a full word
+-- the same up to the end of word i, if all bits of that word are 1
 pub ones_full : (bytes : List ℕ) (i word : ℕ) → AreOnes bytes (64 * i) → to_le_bytes w64 word ≡ slice_range bytes (8 * i) (8 * i + 8) → word ≡ 2 ^ 64 - 1
     → AreOnes bytes (64 * (i + 1))
 ones_full bytes i word ones read full =
     let more : 64 * i + 64 ≡ 64 * (i + 1) = omega arith in
     subst (AreOnes bytes) more (ones_more bytes i word 64 ones read (omega arith) (λ j less. ap (λ x. is_set x j) full ∙ eq-eqb (bit_at (2 ^ 64 - 1) j) 1 (bit_at_ones 64 j less)))
 
--- the least bit of word i that is 0
+-- the first clear bit of word i is a clear bit of the record
 pub clear_there : (bytes : List ℕ) (i word k : ℕ) → to_le_bytes w64 word ≡ slice_range bytes (8 * i) (8 * i + 8) → k < 64 → IsClear 64 word k
     → is_set (get_or bytes ((64 * i + k) / 8) 0) ((64 * i + k) % 8) ≡ false
 clear_there bytes i word k read less is = bit_there bytes i word k (64 * i + k) read less refl ∙ is.clear less
 
--- a byte is full if all bits of its record are 1
+-- if all bits of a record are 1, each of its bytes is 255
 pub full_by_ones : (bytes : List ℕ) (at : ℕ) → AreOnes bytes (8 * length bytes) → at < length bytes → get_or bytes at 0 < 256 → get_or bytes at 0 ≡ 255
 full_by_ones bytes at ones within small =
     same_from_bits_below 8 (get_or bytes at 0) 255 small (omega arith) (λ j less.
@@ -124,7 +124,7 @@ full_by_ones bytes at ones within small =
     sym (ap (λ n. bit_at (get_or bytes n 0) ((8 * at + j) % 8)) byte ∙ ap (bit_at (get_or bytes at 0)) bit)
     ∙ (eqb-true (bit_at (get_or bytes ((8 * at + j) / 8) 0) ((8 * at + j) % 8)) 1 (ones (8 * at + j) (omega arith)) ∙ sym (bit_at_ones 8 j less)))
 
--- the least number that fails the test, or n
+-- the first number that fails the test, or n if none does
 pub first_clear : (k n i : ℕ) (p : ℕ → Bool) → i ≤ n → ((j : ℕ) → k ≤ j → j < k + i → p j ≡ true) → (i < n → p (k + i) ≡ false) → position_or_len not (flags_from k n p) ≡ i
 first_clear k zero i p few ones clear = omega arith
 first_clear k (suc n) zero p few ones clear =
@@ -135,7 +135,7 @@ first_clear k (suc n) (suc i) p few ones clear =
     let rest = first_clear (suc k) n i p (omega arith) (λ j low high. ones j (omega arith) (omega arith)) (λ less. ap p (omega arith) ∙ clear (omega arith)) in
     ap (λ b. position_or_len not (b ∷ flags_from (suc k) n p)) up ∙ omega (arith, rest)
 
--- .. of n tests, where the least among more numbers is known
+-- the same for n tests, if the first failing number below a bound of at least n is known
 pub least_of : (n bound i : ℕ) (p : ℕ → Bool) → n ≤ bound → i ≤ bound → ((j : ℕ) → j < i → p j ≡ true) → (i < bound → p i ≡ false) → min i n ≡ position_or_len not (flags n p)
 least_of n bound i p few below ones clear = elim (cases_lt i n) [
   | inl less ↦

@@ -1,4 +1,4 @@
--- The least object of a slab that is not live, handed out.
+-- Allocating the first free object of a slab.
 use Rattle.std.proofs.Common.{◌≡◌, ℕ, suc, ◌+◌, ◌*◌, ◌/◌, ◌%◌, ◌^◌, ◌<◌, ◌≤◌, Bool, true, false, not, if◌then◌else◌, List, [], ◌∷◌, Option, Some, None, IsSome, Ok, length, get_or, refl, sym, ap, ◌∙◌, subst, arith}
 use Rattle.std.specs.List.{position_or_len}
 use Rattle.std.proofs.lemmas.Bool.{false≢true}
@@ -27,7 +27,7 @@ use Rattle.machine_changes.proofs.Facts.{under_is, superblock_of_machine_frame, 
 use Rattle.slab_core.proofs.ObjectSlabs.{IsHeld, held}
 use Rattle.slab_core.proofs.ObjectFinding.{in_frame, object_within}
 
--- where not all flags are up, the first that is not is found
+-- flag i is clear; if not all flags are set, the search finds such a flag
 pub record IsDown (xs : List Bool) (i : ℕ) : Type 0 where
   pub within : i < length xs
   pub down : get_or xs i false ≡ false
@@ -41,7 +41,7 @@ down_found (true ∷ xs) less =
     subst (IsDown (true ∷ xs)) (sym next) (record { within = omega arith; down = rest.down })
 down_found (false ∷ xs) less = record { within = omega arith; down = refl }
 
--- object i is the least of a slab that is not live
+-- object i is the first free one of the slab
 pub record IsLeastFree (r : spaces.Content) (b : buddies.Content) (s : Content) (t c f n i : ℕ) (cache : own.Cache) : Type 0 where
   pub parts : HoldTogether r b s
   pub steady : IsSteady r b s t
@@ -77,7 +77,7 @@ module _ {r : spaces.Content} {b : buddies.Content} {s : Content} {t c f n i : �
       let frames : 2 ^ (layout_numbers cache).order ≤ 2 ^ 3 = pow-le-pow_right {n = 2} (omega arith) h.layout.order in
       omega arith
 
-  -- all its bytes lie in the superblock of its slab
+  -- all bytes of the object lie in the superblock of its slab
   module _ (place size : ℕ) (at : place ≡ 4096 * f + object_offset (layout_numbers cache) (kept_at s.kept n).colour i) (sized : size ≡ cache.layout.size) where
     under : (m : ℕ) × (spaces.superblock_at r.slots t (f / 2 ^ s.top) ≡ Some m) × (n ≡ m * 2 ^ s.top + f % 2 ^ s.top)
     under = under_is s.top f n (spaces.superblock_at r.slots t (f / 2 ^ s.top)) o.slab.under
@@ -95,7 +95,7 @@ module _ {r : spaces.Content} {b : buddies.Content} {s : Content} {t c f n i : �
         let chunked = h.layout.chunked in
         omega arith
 
-    -- the slot of its first place is that of the slab
+    -- the object's first place lies in the slot of the slab
     slot_is : place / r.unit ≡ f / 2 ^ s.top
     slot_is =
         let k = (layout_numbers cache).order in

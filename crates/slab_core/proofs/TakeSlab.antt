@@ -14,7 +14,7 @@ use Rattle.machine_changes.specs.Objects.{IsToUse}
 use Rattle.machine_changes.proofs.Steady.{in_table, slab_from, tenant_is}
 
 module _ {r : spaces.Content} {b : buddies.Content} {s : Content} (t c : ℕ) {cache : own.Cache} (a : Agree r b s) (cached : cache_at s t c ≡ Some cache) where
-  -- what stands in a list of a cache is a slab of it
+  -- each entry in a list of a cache is a slab of the cache
   pub slab_in_list : (kind f n : ℕ) → kind < 3 → place_at s.lists.places n ≡ Some (head_of t c kind, f) → IsSlab r s t c f n cache
   slab_in_list kind f n few place =
       let there = in_table s t c cache cached in
@@ -30,7 +30,7 @@ module _ {r : spaces.Content} {b : buddies.Content} {s : Content} (t c : ℕ) {c
   pub use_empty : (f n : ℕ) → IsEmpty s.lists.places (head_of t c 1) → IsFirst s.lists.places (head_of t c 2) f n → IsToUse r s t c cache (record { first = f; machine_frame = n })
   use_empty f n none first = record { slab = slab_in_list 2 f n (omega arith) first.here; first = inr (none, first) }
 
-  -- the slab of a list of partial or of empty ones has an object that is not live
+  -- each slab in the list of partial or of empty slabs has a free object
   pub free_in_list : IsSlabs s → (kind f n : ℕ) → 0 < kind → kind < 3 → place_at s.lists.places n ≡ Some (head_of t c kind, f)
       → (kept_at s.kept n).live < (layout_numbers cache).count
   free_in_list w kind f n some few place =

@@ -1,4 +1,4 @@
--- What the steps of the calls do, for the calls above them.
+-- What the steps inside the calls do, for use by the calls.
 use Rattle.std.specs.Prelude.{◌≡◌, ◌≢◌, ℕ, ◌+◌, ◌/◌, ◌<◌, ◌==◌, ◌&&◌, Bool, true, false, Option, Some, None, List, length, slice_index}
 use Rattle.model_core.specs.Layouts.{is_small, object_place, pattern_byte}
 use Rattle.model_core.specs.Machine.{Cache}
@@ -13,16 +13,16 @@ use Rattle.slab_tables.specs.Content.{Content, kept_at, head_of, layout_numbers}
 use Rattle.slab_tables.specs.Changes.{made_more}
 use Rattle.machine_changes.specs.Shows.{machine_frame_of, is_inside, record_byte, IsSlab}
 
--- the range of tenant t holds the pattern now, over and over, and all else of the memory is as before
+-- the range of tenant t is filled with the pattern, repeated, and all else of the memory is as before
 pub record IsFilled (r r' : spaces.Content) (t place len : ℕ) (pattern : List ℕ) : Type 0 where
   pub bytes : List ℕ
   pub long : length bytes ≡ len
   pub constructed : (j : ℕ) → j < len → slice_index bytes j ≡ pattern_byte pattern j
   pub filled : r' ≡ with_window r t place len bytes
 
--- The first n objects of the block at frame `first` of tenant t are constructed, as those of a slab of the cache with this
--- colour offset. The control record is clear, where it stands in the frame, and all else is as before: t's bytes outside the
--- block, all that others have, and what superblocks without owner hold.
+-- The first n objects of the block at frame `first` of tenant t are constructed, as in a slab of the cache with this colour
+-- offset. The control record is clear, if it is in the frame. All else is as before: the bytes of t outside the block, all that
+-- others have, and the superblocks without owner.
 pub record IsConstructed (r r' : spaces.Content) (t : ℕ) (cache : own.Cache) (first colour n : ℕ) : Type 0 where
   pub space : r' ≡ record r { banks = r'.banks }
   pub others : (u : ℕ) → u ≢ t → IsSameFor u r r'
@@ -32,30 +32,30 @@ pub record IsConstructed (r r' : spaces.Content) (t : ℕ) (cache : own.Cache) (
       → byte_at r' t (object_place (layout_numbers cache) first colour i + j) ≡ Some (pattern_byte cache.pattern j)
   pub bytes : (place : ℕ) → is_inside place first cache ≡ false → byte_at r' t place ≡ byte_at r t place
 
--- the place is in a list of one of these caches, each named by where it stands among all
+-- the place is in a list of a cache whose index passes the test
 abbrev pub is_of_these : (ℕ → Bool) → Option (ℕ × ℕ) → Bool
 is_of_these these None = false
 is_of_these these (Some p) = these (p.0 / 3)
 
--- a slab of one of these caches begins at machine frame n, and no object of it is live
+-- a slab of one of these caches begins at machine frame n, and none of its objects is live
 abbrev pub is_idle : (ℕ → Bool) → Content → Option ℕ → Bool
 is_idle these s None = false
 is_idle these s (Some n) = is_of_these these (place_at s.lists.places n) && (kept_at s.kept n).live == 0
 
--- .. at frame f of tenant t
+-- the same at frame f of tenant t
 abbrev pub idle_at : (ℕ → Bool) → spaces.Content → Content → ℕ → ℕ → Bool
 idle_at these r s t f = is_idle these s (machine_frame_of s.top r.slots t f)
 
--- the frames of the cache's empty slabs
+-- the number of frames in the cache's empty slabs
 abbrev pub empty_frames_in : Option Cache → ℕ
 empty_frames_in None = 0
 empty_frames_in (Some c) = frames_of (empty_blocks c)
 
--- cache c of tenant t has neither a full nor a partial slab: no object of it is live
+-- cache c of tenant t has neither a full nor a partial slab, so none of its objects is live
 abbrev pub IsUnused : Content → ℕ → ℕ → Type 0
 IsUnused s t c = IsEmpty s.lists.places (head_of t c 0) × IsEmpty s.lists.places (head_of t c 1)
 
--- an empty slab of cache c of tenant t begins at machine frame n, and was the last that the cache, as it was before, made
+-- an empty slab of cache c of tenant t begins at machine frame n; the cache was `before` until it made the slab
 pub record IsNew (r : spaces.Content) (s : Content) (t c : ℕ) (before : own.Cache) (first n : ℕ) : Type 0 where
   pub slab : IsSlab r s t c first n (made_more before)
   pub empty : (kept_at s.kept n).live ≡ 0

@@ -1,4 +1,4 @@
--- What the steps of giving an object back do.
+-- What the steps of giving back an object do.
 use Rattle.std.specs.Prelude.{◌≡◌, ℕ, ◌/◌, ◌%◌, ◌^◌, ◌<◌, Bool, true, false, List, Some, slice_index, slice_set}
 use Rattle.std.specs.Int.Bits.{bit_xor}
 use Rattle.model_core.specs.Layouts.{object_place}
@@ -10,20 +10,21 @@ use Rattle.machine_changes.specs.Shows.{is_live, IsSlab}
 use Rattle.machine_changes.specs.Changes.{Found}
 use Rattle.machine_changes.specs.Objects.{IsNoObject}
 
--- object o of a slab of cache c of tenant t begins at the place, live or not; if it is not live, no live object of the cache does
+-- object o of a slab of cache c of tenant t begins at the place, live or not; if it is not live, no live object of the cache
+-- begins there
 pub record BeginsAt (r : spaces.Content) (s : Content) (t c place : ℕ) (o : Found) : Type 0 where
   pub slab : IsSlab r s t c o.first o.machine_frame o.cache
   pub index : o.index < (layout_numbers o.cache).count
   pub begins : object_place (layout_numbers o.cache) o.first (kept_at s.kept o.machine_frame).colour o.index ≡ place
   pub dead : is_live r t o.cache (kept_at s.kept o.machine_frame) o.first o.index ≡ false → IsNoObject r s t c place
 
--- `was` says whether bit k of the bytes was 1; if it was, it is the one that changed, and else none did
+-- `was` says whether bit k of the bytes was 1; if it was, only that bit changed, and otherwise nothing did
 pub record IsLowered (before after : List ℕ) (k : ℕ) (was : Bool) : Type 0 where
   pub told : was ≡ is_set (slice_index before (k / 8)) (k % 8)
   pub turned : was ≡ true → after ≡ slice_set before (k / 8) (bit_xor (slice_index before (k / 8)) (2 ^ (k % 8)))
   pub kept : was ≡ false → after ≡ before
 
--- so it is in the control record at a place of tenant t, and all else of the memory is as before
+-- the same of the control record at a place of tenant t; all else of the memory is as before
 pub record IsRecordLowered (r r' : spaces.Content) (t place k : ℕ) (was : Bool) : Type 0 where
   pub before : List ℕ
   pub after : List ℕ

@@ -1,4 +1,4 @@
--- What a caller knows of an object whose bytes it lends.
+-- What a caller of a lend knows about the object.
 use Rattle.std.specs.Prelude.{◌≡◌, ℕ, false, Some, Ok}
 use Rattle.model_core.specs.Machine.{Cache, Machine}
 use Rattle.model_core.specs.Slabs.{cache_of}
@@ -8,7 +8,7 @@ use Rattle.buddy_core.specs.Content as buddies
 use Rattle.slab_tables.specs.Content.{Content}
 use Rattle.machine_changes.specs.Shows.{machine_frame_of, has_slab}
 
--- a live object of cache c begins at the place, and has this many bytes
+-- a live object of cache c with this many bytes begins at the place
 pub record HasObject (m : Machine) (c place bytes : ℕ) : Type 0 where
   pub cache : Cache
   pub cached : cache_of m c ≡ Some cache

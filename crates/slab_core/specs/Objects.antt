@@ -1,4 +1,4 @@
--- What the steps of giving and taking objects do.
+-- What the steps of taking and giving objects do.
 use Rattle.std.specs.Prelude.{◌≡◌, ◌≢◌, ℕ, ◌+◌, ◌*◌, ◌/◌, ◌%◌, ◌^◌, ◌<◌, Bool, not, true, false, List, Some, length, slice_index, slice_set}
 use Rattle.std.specs.Int.Bits.{bit_xor}
 use Rattle.model_core.specs.declared.limits.TheConstants.{FRAME_BYTES, RECORD_BYTES, RECORD_OFFSET}
@@ -17,15 +17,16 @@ use Rattle.machine_changes.specs.Objects.{Standing}
 use Rattle.slab_core.specs.declared.objects.Slab.{Slab}
 use Rattle.slab_core.specs.declared.objects.Object.{Object}
 
--- a slab and an object as the parts have them
+-- a slab and an object, as the definitions name them
 abbrev pub standing : Slab → Standing
 standing slab = record { first = slab.first; machine_frame = slab.machine_frame }
 
 abbrev pub found_in : own.Cache → Object → Found
 found_in cache o = found cache o.slab.first o.slab.machine_frame o.index
 
--- In the record of its slab object o of tenant t is live now where it was not, and the other way round. No other object's bit
--- has changed, no other byte of the memory, and nothing that is kept of any slab but the record where that is kept outside.
+-- The bit of object o of tenant t is flipped in the record of its slab: o is live if it was free, and free if it was live. No
+-- other object's bit has changed, and no byte of the memory outside the record. The stored states changed only in the record,
+-- if it is outside.
 pub record IsTurned (r r' : spaces.Content) (s s' : Content) (t : ℕ) (o : Found) : Type 0 where
   pub turned : is_live r' t o.cache (kept_at s'.kept o.machine_frame) o.first o.index
       ≡ not (is_live r t o.cache (kept_at s.kept o.machine_frame) o.first o.index)
@@ -43,8 +44,8 @@ pub record IsTurned (r r' : spaces.Content) (s s' : Content) (t : ℕ) (o : Foun
   pub colour : (kept_at s'.kept o.machine_frame).colour ≡ (kept_at s.kept o.machine_frame).colour
   pub live : (kept_at s'.kept o.machine_frame).live ≡ (kept_at s.kept o.machine_frame).live
 
--- Object o of a slab of cache c of tenant t is turned, and its slab is still to be counted. Before, in r and s, the parts agreed,
--- and the object was live where it is not to be, and the other way round.
+-- The bit of object o of a slab of cache c of tenant t is flipped, and its slab's number of live objects is not yet updated.
+-- Before, in r and s, the parts agreed, and the object was free if it is now `live`, or live if it is not.
 pub record IsToCount (r r' : spaces.Content) (b : buddies.Content) (s s' : Content) (t c : ℕ) (o : Found) (live : Bool) : Type 0 where
   pub tenant : t < length r.slots
   pub laws : SpaceLaws r
@@ -55,26 +56,26 @@ pub record IsToCount (r r' : spaces.Content) (b : buddies.Content) (s s' : Conte
   pub was : is_live r t o.cache (kept_at s.kept o.machine_frame) o.first o.index ≡ not live
   pub turned : IsTurned r r' s s' t o
 
--- .. and once it is counted
+-- the same after the number is updated
 pub record IsRecounted (r r' : spaces.Content) (b : buddies.Content) (s s' : Content) (t c : ℕ) (o : Found) (live : Bool) : Type 0 where
   pub marked : IsMarked r r' s s' t c o live
   pub spares : Spares t r r' b b s s'
   pub agree : Agree r' b s'
 
--- some bit of these bytes is 0
+-- some byte has a clear bit
 pub record HasClear (bytes : List ℕ) : Type 0 where
   pub at : ℕ
   pub within : at < length bytes
   pub clear : slice_index bytes at ≢ 255
 
--- bit k was the least of the bytes that was 0, and is the one that changed
+-- bit k was the first clear bit of the bytes, and only that bit has changed
 pub record IsRaised (before after : List ℕ) (k : ℕ) : Type 0 where
   pub below : k < 8 * length before
   pub ones : (j : ℕ) → j < k → is_set (slice_index before (j / 8)) (j % 8) ≡ true
   pub clear : is_set (slice_index before (k / 8)) (k % 8) ≡ false
   pub turned : after ≡ slice_set before (k / 8) (bit_xor (slice_index before (k / 8)) (2 ^ (k % 8)))
 
--- so it is in the control record at a place of tenant t, and all else of the memory is as before
+-- the same of the control record at a place of tenant t; all else of the memory is as before
 pub record IsRecordRaised (r r' : spaces.Content) (t place k : ℕ) : Type 0 where
   pub before : List ℕ
   pub after : List ℕ

@@ -1,4 +1,4 @@
--- The object that a take has handed out.
+-- The object that a take has allocated.
 use Rattle.std.specs.Prelude.{◌≡◌, ℕ, Result, Ok, Err, Some}
 use Rattle.model_core.specs.declared.refusals.TakeRefusal.{TakeRefusal}
 use Rattle.space_core.specs.Content as spaces
@@ -8,12 +8,12 @@ use Rattle.machine_changes.specs.Changes.{Found}
 use Rattle.machine_changes.specs.Objects.{IsLiveObject}
 use Rattle.slab_core.specs.declared.taking.Taken.{Taken}
 
--- the first place of the object, or why none was taken
+-- the first place of the object, or the refusal
 abbrev pub place_taken : Result Taken TakeRefusal → Result ℕ TakeRefusal
 place_taken (Ok taken) = Ok taken.place
 place_taken (Err refusal) = Err refusal
 
--- a live object of cache c of tenant t begins at the place, it has this size, and all its bytes lie in this superblock
+-- a live object of cache c of tenant t with this size begins at the place, and all its bytes lie in this superblock
 pub record IsTakenObject (r : spaces.Content) (s : Content) (t c : ℕ) (taken : Taken) : Type 0 where
   pub object : Found
   pub live : IsLiveObject r s t c taken.place object

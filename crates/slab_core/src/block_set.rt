@@ -1,9 +1,9 @@
-//! Sets of blocks of one order: one bit for each block, by its number.
+//! Sets of blocks of one order: one bit for each block, indexed by its number.
 
 ghost use Rattle.std.specs.Prelude.{◌≡◌, ℕ, ◌<◌, ◌*◌, ◌==◌, ◌||◌, length};
 ghost use Rattle.slab_core.specs.Fitting.{has_number};
 
-/// The number of words with a bit for each frame that a tenant can have.
+/// The number of words that have a bit for each frame that a tenant can have.
 pub(crate) const MOST_WORDS: usize = 1024;
 
 /// Returns true if the set has the block.

@@ -38,8 +38,8 @@ fn has_free(buddy: &Buddy, t: u8, k: u8) -> bool
 impl Slabs {
     /// Returns true if a block of order `k` would be found for tenant `t` after all its empty slabs were freed.
     ///
-    /// If a block is free that is large enough, or no slab is empty, this follows from counts and the heads of lists. Otherwise it
-    /// looks only at the frames of those blocks of order `k` in which empty slabs begin.
+    /// If a large enough block is free, or no slab is empty, this follows from counts and the heads of lists. Otherwise it
+    /// checks only the frames of those blocks of order `k` in which empty slabs begin.
     pub fn would_fit(&self, space: &Space, buddy: &Buddy, t: u8, k: u8) -> bool
         requires tenant { t < length space.now.slots }
         requires order { k ≤ self.now.top }
@@ -58,7 +58,7 @@ impl Slabs {
         has_free(buddy, t, k) || view.would_fit_in_slabs(&mut [0; MOST_WORDS], k)
     }
 
-    /// The same as [`Slabs::would_fit`] if no free block is large enough. It uses the set of `self` for the search.
+    /// The same as [`Slabs::would_fit`] if no free block is large enough. It stores the set of refused blocks in `self`.
     #[cold]
     #[inline(never)]
     pub(crate) fn fits_by_need(&mut self, space: &Space, buddy: &Buddy, t: u8, k: u8) -> bool
@@ -82,7 +82,7 @@ impl Slabs {
     }
 }
 
-/// What a search reads: the parts and its tenant.
+/// What a search reads: the parts, and the tenant.
 #[derive(Clone, Copy)]
 struct View<'a> {
     tables: &'a Tables,
@@ -120,7 +120,7 @@ impl View<'_> {
         false
     }
 
-    /// Returns true if a block of order `k` would fit around an empty slab. Walks each block in which one begins.
+    /// Returns true if a block of order `k` would fit around an empty slab. Walks each block of that order in which one begins.
     #[inline(never)]
     fn would_fit_around(self, refused: &mut [u64], k: u8) -> bool
         requires tenant { self.tenant < length self.space.now.slots }
@@ -131,7 +131,7 @@ impl View<'_> {
         ensures fits { (result ≡ true) ↔ WouldFitInSlabs self.entry.space.now self.entry.buddy.now self.entry.tables.now self.entry.tenant k }
         ensures words { length refused.new ≡ length refused.old }
     {
-        // The blocks that were walked, so that none is walked again for another cache.
+        // The blocks that were walked and refused, so that no block is walked again for another cache.
         let words = refused.len().div_ceil(1 << k);
         let refused = &mut refused[..words];
         refused.fill(0);
@@ -194,8 +194,9 @@ impl View<'_> {
         true
     }
 
-    /// Returns a frame such that no frame from this one up to it is taken, except by empty slabs. Returns `None` if this one is
-    /// taken otherwise. `begins` is the order of the taken block that begins here.
+    /// Returns a frame above this one. No frame from this one up to the returned one is taken, except by empty slabs. Returns
+    /// `None` if this frame is taken by anything else. `begins` is the order of the taken block that begins at this frame, if
+    /// one does.
     #[inline(always)]
     fn past_unused(self, frame: u32, begins: Option<u8>) -> Option<u32>
         requires tenant { self.tenant < length self.space.now.slots }

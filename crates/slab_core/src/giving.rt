@@ -1,4 +1,4 @@
-//! Giving an object back.
+//! Giving back an object.
 
 ghost use Rattle.std.specs.Prelude.{◌≡◌, ◌<◌, length, OnErr};
 ghost use Rattle.model_core.specs.Machine.{Machine};
@@ -13,10 +13,11 @@ use model_core::refusals::GiveRefusal;
 use space_core::Space;
 
 impl Slabs {
-    /// Gives the object of cache `c` of tenant `t` back that begins at a place. Its bytes stay as they are.
+    /// Gives back the object of cache `c` of tenant `t` that begins at `place`. Its bytes stay as they are.
     ///
-    /// `NoCache` where the tenant has no such cache, else `NotAnObject` where no live object of the cache begins there.
-    // Inlined, so that a give of the kernel is one call.
+    /// Refuses with `NoCache` if the tenant has no such cache, then with `NotAnObject` if no live object of the cache begins at
+    /// `place`. Then nothing changes.
+    // Always inlined, so that a give of the kernel is one call.
     #[inline(always)]
     pub fn give(
         &mut self,

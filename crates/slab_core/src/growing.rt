@@ -1,4 +1,4 @@
-//! Makes a block a slab: clears its control record and constructs each of its objects.
+//! Makes a slab of a block: clears its control record and constructs each of its objects.
 
 ghost use Rattle.std.specs.Prelude.{◌≡◌, ◌↔◌, ℕ, ◌+◌, ◌*◌, ◌^◌, ◌<◌, length, option_map, Some, IsSome, IfSome, IfNone};
 ghost use Rattle.model_core.specs.Layouts.{IsLayout};
@@ -134,7 +134,7 @@ pub(crate) fn construct(space: &mut Space, cache: TenantCache<'_>, first: u32, c
     }
 }
 
-/// Clears the control record of the block at frame `first`, if it is in the frame.
+/// Clears the control record of the block at frame `first`, if the record is in that frame.
 fn clear_record(space: &mut Space, cache: TenantCache<'_>, first: u32)
     requires tenant { cache.tenant < length space.old.slots }
     requires laws { SpaceLaws space.old }

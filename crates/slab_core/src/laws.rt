@@ -10,7 +10,7 @@ use buddy_core::Buddy;
 use space_core::Space;
 
 impl Slabs {
-    /// A law: if the parts agree, each of them has its invariants, and each tenant has what the laws of the parts require. The
+    /// A law: if the parts agree, the invariants of each part hold, and so does the premise of the laws for each tenant. The
     /// call does nothing.
     pub fn laws_with(&self, space: &Space, buddy: &Buddy, t: u8)
         requires tenant { t < length space.now.slots }

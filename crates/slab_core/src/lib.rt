@@ -1,10 +1,10 @@
 //! Slab caches over the buddy systems and the memory of all tenants (Bonwick, "The Slab Allocator", USENIX Summer 1994).
 //!
 //! A slab is a block of frames cut into objects of one size. The control record of a slab of small objects is in the last
-//! 32 bytes of its frame: one bit for each object, 1 if it is live. That of a slab of large objects is kept outside.
+//! 32 bytes of its frame: one bit for each object, 1 if it is live. The record of a slab of large objects is stored outside it.
 //!
-//! Every call for a tenant's command is proved to be the step of the tenant's private machine, which is the one that the memory, the buddy systems and
-//! the caches show for it, and to leave all other tenants unchanged.
+//! Each call for a tenant's command is proved to do the step of the tenant's private machine, and to leave all other tenants
+//! unchanged. The private machine is the one that the memory, the buddy systems and the caches show for the tenant.
 //!
 //! Only [`Slabs::new`] allocates.
 //!
@@ -61,7 +61,7 @@ pub use taking::Taken;
 #[derive(Debug, Drop)]
 pub struct Slabs {
     tables: Tables,
-    /// The set of the blocks that a search refuses: one bit for each frame of the machine.
+    /// The set of blocks that a search has refused: at least one bit for each frame of the machine.
     refused: Vec<u64>,
 }
 

@@ -21,7 +21,7 @@ use model_core::limits::{FRAME_BYTES, RECORD_OFFSET};
 use slab_tables::{Cache, ListId, Tables};
 use space_core::Space;
 
-/// A cache of a tenant: its number there, and what the tables keep of it.
+/// A cache of a tenant: its number, and its stored state.
 #[derive(Clone, Copy)]
 pub(crate) struct TenantCache<'a> {
     pub(crate) tenant: u8,
@@ -29,21 +29,21 @@ pub(crate) struct TenantCache<'a> {
     pub(crate) kept: &'a Cache,
 }
 
-/// A slab: its first frame, in the tenant's numbers and in the machine's.
+/// A slab: its first frame in the tenant's numbering, and its first machine frame.
 #[derive(Clone, Copy)]
 pub(crate) struct Slab {
     pub(crate) first: u32,
     pub(crate) machine_frame: u32,
 }
 
-/// An object: its slab, and which of the slab's objects it is.
+/// An object: its slab, and its index in the slab.
 #[derive(Clone, Copy)]
 pub(crate) struct Object {
     pub(crate) slab: Slab,
     pub(crate) index: u32,
 }
 
-/// The place of the byte with the bit of an object, in the control record of the slab at a frame.
+/// Returns the place of the byte with an object's bit in the control record of the slab at a frame.
 pub(crate) fn record_place(frame: u32, index: u32) -> u32
     requires frame { frame < 65536 }
     requires index { index < 256 }
@@ -61,7 +61,7 @@ fn is_bit_set(bits: u32, bit: u32) -> bool
     bits >> bit & 1 == 1
 }
 
-/// Clears a bit of a control record, counted through all its bytes, and returns true if it was set.
+/// Clears a bit of a control record and returns true if it was set. `bit` is the bit's index in the record, 0 to 255.
 #[inline(always)]
 fn lower(bytes: &mut [u8], bit: u32) -> bool
     requires whole { length bytes.old ≡ 32 }
@@ -75,7 +75,7 @@ fn lower(bytes: &mut [u8], bit: u32) -> bool
     true
 }
 
-/// Clears a bit of the control record at a place of tenant `t`, in this superblock, and returns true if it was set.
+/// Clears a bit of the control record at a place of tenant `t`, which lies in this superblock, and returns true if it was set.
 #[inline(always)]
 fn lower_in_record(space: &mut Space, superblock: u16, t: u8, place: u32, bit: u32) -> bool
     requires home { home_of space.old t place 32 ≡ Some superblock }
@@ -85,7 +85,7 @@ fn lower_in_record(space: &mut Space, superblock: u16, t: u8, place: u32, bit: u
     lower(space.window_in(superblock, t, place, 32), bit)
 }
 
-/// The first frame of the aligned block of `2^order` frames that has the place.
+/// Returns the first frame of the aligned block of `2^order` frames around a place.
 pub(crate) fn block_around(place: u32, order: u8) -> u32
     requires { order ≤ 3 }
     ensures value { result ≡ (around (place / FRAME_BYTES) order).first }
@@ -94,7 +94,7 @@ pub(crate) fn block_around(place: u32, order: u8) -> u32
     place / FRAME_BYTES >> order << order
 }
 
-/// The machine frame at a frame of tenant `t`, if it holds the slot.
+/// Returns the machine frame at a frame of tenant `t`, or `None` if the tenant does not hold the slot.
 pub(crate) fn machine_frame_in(tables: &Tables, space: &Space, t: u8, frame: u32) -> Option<u32>
     requires tenant { t < length space.now.slots }
     requires machine_frames { length tables.now.lists.places ≡ length space.now.owners * 2 ^ tables.now.top }
@@ -108,7 +108,7 @@ pub(crate) fn machine_frame_in(tables: &Tables, space: &Space, t: u8, frame: u32
 }
 
 impl Slabs {
-    /// The machine frame at a frame of tenant `t`, if it holds the slot.
+    /// Returns the machine frame at a frame of tenant `t`, or `None` if the tenant does not hold the slot.
     pub(crate) fn machine_frame(&self, space: &Space, t: u8, frame: u32) -> Option<u32>
         requires tenant { t < length space.now.slots }
         requires machine_frames { length self.now.lists.places ≡ length space.now.owners * 2 ^ self.now.top }
@@ -118,7 +118,7 @@ impl Slabs {
         machine_frame_in(&self.tables, space, t, frame)
     }
 
-    /// The superblock that has the machine frame.
+    /// Returns the superblock of a machine frame.
     #[inline(always)]
     pub(crate) fn superblock(&self, machine_frame: u32) -> u16
         requires tables { IsSlabs self.now }
@@ -128,9 +128,10 @@ impl Slabs {
         (machine_frame >> self.tables.order()) as u16
     }
 
-    /// Returns whether a slab begins at frame `frame` of tenant `t`. False if the tenant does not hold the slot of the frame.
+    /// Returns true if a slab begins at frame `frame` of tenant `t`. Returns false if the tenant does not hold the slot of the
+    /// frame.
     ///
-    /// `space` is the memory on which these slabs lie: it has as many frames as these tables have machine frames.
+    /// `space` is the memory that these slabs lie in: it has as many frames as these tables have machine frames.
     pub fn is_slab(&self, space: &Space, t: u8, frame: u32) -> bool
         requires tenant { t < length space.now.slots }
         requires machine_frames { length self.now.lists.places ≡ length space.now.owners * 2 ^ self.now.top }
@@ -142,7 +143,8 @@ impl Slabs {
         }
     }
 
-    /// Returns whether a slab begins at a machine frame: [`Slabs::is_slab`] for a caller that has looked up the superblock.
+    /// Returns true if a slab begins at a machine frame. It is [`Slabs::is_slab`] for a caller that has looked up the
+    /// superblock.
     #[inline(always)]
     pub fn is_slab_in(&self, machine_frame: u32) -> bool
         requires { machine_frame < length self.now.lists.places }
@@ -151,7 +153,7 @@ impl Slabs {
         self.tables.place_of(machine_frame).is_some()
     }
 
-    /// Whether there is such a slab of the cache.
+    /// Returns true if the slab exists and is of the cache.
     fn is_of_cache(&self, cache: TenantCache<'_>, slab: Slab) -> bool
         requires cache { cache.number < MOST_CACHES }
         requires machine_frame { slab.machine_frame < length self.now.lists.places }
@@ -166,7 +168,7 @@ impl Slabs {
         }
     }
 
-    /// Whether an object of a slab is live.
+    /// Returns true if an object of a slab is live.
     pub(crate) fn is_live_object(
         &self,
         space: &Space,
@@ -192,8 +194,8 @@ impl Slabs {
         }
     }
 
-    /// Returns the object of the cache that begins at a place, live or not, if one does. Inlined, since a give takes a third more
-    /// instructions if it is a call.
+    /// Returns the object of the cache that begins at a place, live or not, or `None` if none begins there. It is always
+    /// inlined: a give takes a third more instructions with a call.
     #[inline(always)]
     pub(crate) fn locate(&self, space: &Space, cache: TenantCache<'_>, place: u32) -> Option<Object>
         requires tenant { cache.tenant < length space.now.slots }
@@ -220,7 +222,7 @@ impl Slabs {
         Some(Object { slab, index })
     }
 
-    /// The live object of the cache that begins at a place, if one does.
+    /// Returns the live object of the cache that begins at a place, or `None` if none begins there.
     #[inline(always)]
     pub(crate) fn find(&self, space: &Space, cache: TenantCache<'_>, place: u32) -> Option<Object>
         requires tenant { cache.tenant < length space.now.slots }
@@ -237,9 +239,10 @@ impl Slabs {
         }
     }
 
-    /// Clears the bit of an object in the record of its slab, and returns true if it was set. If it was not, nothing changes.
+    /// Clears the bit of an object in the record of its slab, and returns true if it was set. If it was not set, nothing
+    /// changes.
     ///
-    /// A give reads the bit and clears it by this one call, since two calls would look the byte up twice.
+    /// A give reads and clears the bit in this one call, because two calls would look up the byte twice.
     #[inline(always)]
     pub(crate) fn clear_bit(
         &mut self,
@@ -275,7 +278,8 @@ impl Slabs {
         }
     }
 
-    /// Counts the live objects of a slab anew, of which one has been turned: it is live now, or is not any more.
+    /// Updates the number of live objects in a slab after one of them was marked: adds 1 if it is now live, or subtracts 1 if
+    /// it is now free.
     #[inline(always)]
     pub(crate) fn recount(&mut self, cache: TenantCache<'_>, object: Object, live: bool)
         requires { (r : spaces.Content) × (r' : spaces.Content) × (b : buddies.Content) × (s : Content)

@@ -1,4 +1,4 @@
-//! Which live object has a range of bytes.
+//! Finds the live object that contains a range of bytes.
 
 ghost use Rattle.std.specs.Prelude.{◌≡◌, ◌↔◌, true, ◌/◌, ◌<◌, false, Some, length, MatchOption};
 ghost use Rattle.model_core.specs.declared.limits.TheConstants.{FRAME_BYTES};
@@ -19,19 +19,19 @@ use model_core::limits::FRAME_BYTES;
 use slab_tables::ListId;
 use space_core::Space;
 
-/// The bytes of a live object of a tenant.
+/// The bytes of a tenant's live object.
 #[derive(Clone, Copy, Debug, PartialEq, Eq)]
 pub struct ObjectSpan {
     /// The number of its cache.
     pub cache: u32,
     /// The place of its first byte.
     pub place: u32,
-    /// How many bytes it has.
+    /// The number of its bytes.
     pub bytes: u32,
 }
 
 impl Slabs {
-    /// Returns whether the `len` bytes of tenant `t` from byte `place` on lie inside one live object. False if `len` is 0.
+    /// Returns true if the `len` bytes of tenant `t` from `place` on lie inside one live object. Returns false if `len` is 0.
     pub fn object_at(&self, space: &Space, buddy: &Buddy, t: u8, place: u32, len: u32) -> bool
         requires tenant { t < length space.now.slots }
         requires agree { Agree space.now buddy.now self.now }
@@ -47,8 +47,8 @@ impl Slabs {
         self.object_in(space, buddy, t, first, machine_frame, order, place, len)
     }
 
-    /// Returns whether a range lies inside one live object: [`Slabs::object_at`] for a caller that has looked up the taken block
-    /// around `place`. The block has `2^order` frames and begins at frame `first`, which is `machine_frame`.
+    /// Returns true if a range lies inside one live object. It is [`Slabs::object_at`] for a caller that has looked up the
+    /// taken block around `place`. The block has `2^order` frames and begins at frame `first`, which is `machine_frame`.
     pub fn object_in(
         &self,
         space: &Space,
@@ -72,7 +72,7 @@ impl Slabs {
             .is_some()
     }
 
-    /// Returns the live object that a range lies inside, if there is one. There is none if `len` is 0. The caller has looked up the
+    /// Returns the live object that a range lies inside, or `None` if there is none or `len` is 0. The caller has looked up the
     /// taken block around `place`, as for [`Slabs::object_in`].
     #[inline(always)]
     pub fn object_around(
@@ -121,8 +121,8 @@ impl Slabs {
         })
     }
 
-    /// The number of the cache of the slab of tenant `t` that begins at these frames, if one does; `space` and `t` are named for
-    /// the contract alone.
+    /// Returns the number of the cache whose slab begins at these frames of tenant `t`, or `None` if no slab does. Only the
+    /// contract uses `space` and `t`.
     fn slab_at(&self, space: &Space, t: u8, slab: Slab) -> Option<u32>
         requires steady { (b : buddies.Content) × IsSteady space.now b self.now t }
         requires machine_frame { machine_frame_of self.now.top space.now.slots t slab.first ≡ Some slab.machine_frame }

@@ -1,4 +1,4 @@
-//! Allocates page blocks beside slabs, on demand out of the frames of empty slabs.
+//! Allocates page blocks, and frees empty slabs if a block is found only then.
 
 ghost use Rattle.std.specs.Prelude.{◌≡◌, ◌≤◌, ◌<◌, ◌↔◌, length, IsSome, IfSome, IfNone};
 ghost use Rattle.model_core.specs.Blocks.{block};

@@ -115,8 +115,8 @@ impl Slabs {
 
     /// Destroys cache `c` of tenant `t`, frees its slabs and returns the number of their frames.
     ///
-    /// Refused with `NoCache` if there is no such cache, else with `CacheInUse` if an object of it is live. Then nothing is
-    /// changed.
+    /// Refuses with `NoCache` if there is no such cache, then with `CacheInUse` if an object of it is live. Then nothing
+    /// changes.
     pub fn destroy(
         &mut self,
         space: &mut Space,
@@ -173,7 +173,7 @@ impl Slabs {
         frames
     }
 
-    /// Returns the number of frames in empty slabs of cache `c` of tenant `t`, 0 if there is no such cache.
+    /// Returns the number of frames in empty slabs of cache `c` of tenant `t`, or 0 if there is no such cache.
     pub(crate) fn empty_frames_of(&self, t: u8, c: u32) -> u32
         requires tenant { IsTenant self.now t }
         requires cache { c < MOST_CACHES }

@@ -1,4 +1,4 @@
-//! The rows of a report for caches.
+//! The rows of a report for its caches.
 
 ghost use Rattle.std.specs.Prelude.{◌≡◌, ◌<◌, length, option_map};
 ghost use Rattle.model_core.specs.declared.limits.TheConstants.{MOST_CACHES};
@@ -31,7 +31,7 @@ impl Slabs {
         rows
     }
 
-    /// Returns the row of cache `c` of tenant `t`, if there is one.
+    /// Returns the row of cache `c` of tenant `t`, or `None` if there is no such cache.
     fn row(&self, t: u8, c: u8) -> Option<CacheRow>
         requires tenant { IsTenant self.now t }
         requires cache { c < MOST_CACHES }

@@ -28,7 +28,7 @@ use model_core::refusals::TakeRefusal;
 use slab_tables::Kind;
 use space_core::Space;
 
-/// Reads eight bytes as one number, the first of them the lowest.
+/// Reads eight bytes as one little-endian number.
 #[inline(always)]
 fn eight_at(bytes: &[u8], at: usize) -> u64
     requires { at + 8 ≤ length bytes.now }
@@ -46,7 +46,7 @@ fn eight_at(bytes: &[u8], at: usize) -> u64
     ])
 }
 
-/// Returns the index of the first clear bit of a control record, counted through all its bytes.
+/// Returns the index of the first clear bit of a control record, 0 to 255.
 #[inline(always)]
 fn first_clear(bytes: &[u8]) -> u32
     requires whole { length bytes.now ≡ 32 }
@@ -64,7 +64,7 @@ fn first_clear(bytes: &[u8]) -> u32
     unreachable!()
 }
 
-/// Sets the first clear bit of a control record and returns its index, counted through all its bytes.
+/// Sets the first clear bit of a control record and returns its index, 0 to 255.
 #[inline(always)]
 fn raise(bytes: &mut [u8]) -> u32
     requires whole { length bytes.old ≡ 32 }
@@ -76,7 +76,8 @@ fn raise(bytes: &mut [u8]) -> u32
     bit
 }
 
-/// Sets the least bit of the control record at a place of tenant `t`, in this superblock, that is 0, and answers which.
+/// Sets the first clear bit of the control record at a place of tenant `t`, which lies in this superblock, and returns its
+/// index.
 #[inline(always)]
 fn raise_in_record(space: &mut Space, superblock: u16, t: u8, place: u32) -> u32
     requires home { home_of space.old t place 32 ≡ Some superblock }
@@ -86,24 +87,26 @@ fn raise_in_record(space: &mut Space, superblock: u16, t: u8, place: u32) -> u32
     raise(space.window_in(superblock, t, place, 32))
 }
 
-/// An object that a take has handed out: what a caller needs to lend its bytes.
+/// An object that a take has allocated, with what a caller needs to lend its bytes.
 #[derive(Clone, Copy, Debug, PartialEq, Eq)]
 pub struct Taken {
     /// Its first place.
     pub place: u32,
     /// Its size in bytes.
     pub size: u32,
-    /// The superblock that it lies in.
+    /// The superblock of its bytes.
     pub superblock: u16,
 }
 
 impl Slabs {
-    /// Takes an object of cache `c` of tenant `t`, and answers its first place: the least object that is not live of the first
-    /// partial slab, else of the first empty one, else of a new slab. The tenant's empty slabs are given back for a new slab
-    /// where a block is found for it only then.
+    /// Takes an object of cache `c` of tenant `t` and returns its first place.
     ///
-    /// `NoCache` where the tenant has no such cache, else `NoFrames` where a new slab is needed and no block is found for it;
-    /// then nothing is changed.
+    /// It is the first free object of the first partial slab. If no slab is partial, it is the first object of the first empty
+    /// slab, and if none is empty, of a new slab. If a block for the new slab is found only after all empty slabs of the tenant
+    /// are freed, they are freed first.
+    ///
+    /// Refuses with `NoCache` if the tenant has no such cache, then with `NoFrames` if a new slab is needed and no block would
+    /// be found for it even after freeing. Then nothing changes.
     pub fn take(
         &mut self,
         space: &mut Space,
@@ -127,8 +130,8 @@ impl Slabs {
         }
     }
 
-    /// The same as [`Slabs::take`]. It also returns the size of the object and its superblock, which the take has looked up: a
-    /// caller that lends the bytes needs no second look-up of the cache and of the slot.
+    /// The same as [`Slabs::take`]. It also returns the object's size and superblock, which the take has looked up. So a caller
+    /// that lends the bytes need not look up the cache and the slot again.
     #[inline(always)]
     pub fn take_object(
         &mut self,
@@ -161,9 +164,10 @@ impl Slabs {
         self.take_new(space, buddy, t, c)
     }
 
-    /// The same as [`Slabs::take_object`] where every slab of the cache is full: out of a new slab.
+    /// The same as [`Slabs::take_object`] if every slab of the cache is full. The object is the first of a new slab.
     ///
-    /// It stands apart since it lends the cache to a call: so `take_object` keeps no copy of it in memory.
+    /// It is a separate function because it passes a borrow of the cache to a call. So `take_object` keeps no copy of the cache
+    /// in memory.
     #[cold]
     #[inline(never)]
     fn take_new(
@@ -193,7 +197,7 @@ impl Slabs {
             kept: &before,
         };
         let slab = self.grow(space, buddy, cache).ok_or(TakeRefusal::NoFrames)?;
-        // It has made one slab more.
+        // The cache has now made one slab more.
         let after = *self.tables.cache(t, c).unwrap();
         let cache = TenantCache {
             kept: &after,
@@ -202,7 +206,8 @@ impl Slabs {
         Ok(self.hand_out(space, buddy, cache, slab))
     }
 
-    /// The slab that a take uses: the first partial one, else the first empty one.
+    /// Returns the slab that a take uses: the first partial one, or the first empty one if none is partial. Returns `None` if
+    /// all slabs are full.
     fn slab_to_use(&self, space: &Space, buddy: &Buddy, cache: TenantCache<'_>) -> Option<Slab>
         requires tenant { cache.tenant < length space.now.slots }
         requires parts { HoldTogether space.now buddy.now self.now }
@@ -226,7 +231,7 @@ impl Slabs {
         })
     }
 
-    /// Lets the least object of a slab be live that is not, and answers which. The slab is still to be counted.
+    /// Marks the first free object of a slab live and returns its index. The caller updates the slab's number of live objects.
     #[inline(always)]
     fn mark_least_free(&mut self, space: &mut Space, cache: TenantCache<'_>, slab: Slab) -> u32
         requires tenant { cache.tenant < length space.old.slots }
@@ -253,7 +258,7 @@ impl Slabs {
         }
     }
 
-    /// Hands out the least object of a slab that is not live, and returns what a caller needs to lend it.
+    /// Allocates the first free object of a slab, and returns what a caller needs to lend it.
     #[inline(always)]
     fn hand_out(
         &mut self,
@@ -280,7 +285,8 @@ impl Slabs {
         self.laws_with(space, buddy, cache.tenant);
         let superblock = self.superblock(slab.machine_frame);
         let index = self.mark_least_free(space, cache, slab);
-        // Here, beside the count that `recount` reads: what is read before the mark has its address worked out twice.
+        // Read here, next to the count that `recount` reads. If it were read before the mark, its address would be computed
+        // twice.
         let colour = u32::from(self.tables.kept_of(slab.machine_frame).colour);
         self.recount(cache, Object { slab, index }, true);
         Taken {

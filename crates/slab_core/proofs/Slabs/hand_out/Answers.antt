@@ -27,7 +27,7 @@ colour_is c =
     c.from-colour.ensures ∙ (ap (λ (k : Kept). k.colour) c.kept_of.ensures
     ∙ (ap (λ (s : Content). (kept_at s.kept c.args.slab.machine_frame).colour) c.self.view_is ∙ c.mark_least_free-index.ensures.turned.colour))
 
--- some object is not live
+-- some object of the slab is free
 pub mark_least_free-index-requires-clause-free : goal.mark_least_free-index-requires-clause-free
 mark_least_free-index-requires-clause-free c =
     let x = c.args in
@@ -110,7 +110,7 @@ returns-clause-shows c = λ m y z h ey ez.
     (marked_shows _ _ x.buddy.now _ _ _ _ (object a) true m y z (counted (goal.at.returns-clause-shows c).After-offset).marked
     c.laws_with.ensures.steady c.requires.slab (object_below (next a)) ey ez h)
 
--- no slot has changed
+-- the memory changes only in its bytes
 space_is : (c : After-offset) → c.mark_least_free-index.new.space ≡ record c.args.space.now { banks = c.mark_least_free-index.new.space.banks }
 space_is c = c.mark_least_free-index.ensures.turned.space
 

@@ -12,7 +12,7 @@ use Rattle.slab_core.proofs.Slabs.make_slab.Goals as goal
 use Rattle.slab_core.proofs.Slabs.make_slab.Goals.{Then-order, In_err-first, In-Some, After-kept_of-colour, After-construct}
 use Rattle.slab_core.proofs.GrowOne.{has_machine_frame, choice_some, choice_none, choice_large, none_large, chosen_for, none_free, some_free, IsChosen, cut, in_reach, few, vacant, fresh, machine_frame_within, kept_now, IsMade, made}
 
--- No block is large enough
+-- A slot is smaller than the block
 
 above : (c : Then-order) → c.args.buddy.now.top < (layout_numbers c.args.cache.kept.now).order
 above c = omega (arith, c.if-order.true, c.order.ensures, c.order-order.ensures)
@@ -28,7 +28,7 @@ returns-then-order-clause-free c =
     none_free {A = Slab} c.args.buddy.now c.args.cache.tenant (layout_numbers c.args.cache.kept.now).order
     (none_large c.args.cache.tenant (layout_numbers c.args.cache.kept.now).order c.requires.agree (above a)) None refl
 
--- None is free
+-- No free block is large enough
 
 without : (c : In_err-first) → IsWithout c.args.buddy.now.top (is_held (holding_of c.args.cache.tenant c.args.buddy.now)) (taken_of (holding_of c.args.cache.tenant c.args.buddy.now)) (layout_numbers c.args.cache.kept.now).order
 without c =
@@ -95,7 +95,7 @@ returns-clause-free c =
     some_free {A = Slab} c.args.buddy.now c.args.cache.tenant (layout_numbers c.args.cache.kept.now).order c.in_ok-first.first c.in_ok-first.ensures.done.0
     (chosen (goal.at.returns-clause-free c).In-Some).block (record { first = c.in_ok-first.first; machine_frame = c.in-Some.machine_frame })
 
--- A slab is made
+-- The slab is made
 
 tables : (c : After-kept_of-colour) → c.add_slab.new.self ≡ with_new_slab c.args.self.now c.args.cache.tenant c.args.cache.number c.args.cache.kept.now c.in_ok-first.first c.in-Some.machine_frame
 tables c = c.add_slab.ensures ∙ ap (λ s. with_new_slab s c.args.cache.tenant c.args.cache.number c.args.cache.kept.now c.in_ok-first.first c.in-Some.machine_frame) c.self.view_is

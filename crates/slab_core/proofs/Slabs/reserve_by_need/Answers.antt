@@ -14,7 +14,7 @@ use Rattle.slab_core.proofs.ReturnMany.{spares_twice}
 use Rattle.slab_core.proofs.ReserveByNeed.{found_choice, found_step, free_fits, next_choice, no_choice, refused_step, is_there, IsServedThen, served_then}
 use Rattle.slab_core.proofs.Slabs.reserve_by_need.Goals as goal
 
--- found at once
+-- a block is found at once
 pub returns-in-Some-clause-answer : goal.returns-in-Some-clause-answer
 returns-in-Some-clause-answer c = λ m h. found_choice c.args.self.now.top c.args.k m c.in-Some.first (c.in-Some.ensures.answer m h)
 
@@ -35,7 +35,7 @@ pub fits_by_need-requires-clause-none : goal.fits_by_need-requires-clause-none
 fits_by_need-requires-clause-none c = λ h.
     false≢true (c.in_default.ensures.free.1 (subst (λ b. HasFreeBlock b c.args.t c.args.k) c.in_default.ensures.refused h))
 
--- not found after all empty slabs are given back either
+-- no block would be found even after all empty slabs are freed
 still_none : (c : goal.Then-not-fits_by_need) (m : Machine) → ShowsMachine c.args.space.now c.args.buddy.now c.args.self.now c.args.t m
     → false ≡ is_some (choice c.args.self.now.top (reaped m) c.args.k)
 still_none c m h =
@@ -61,7 +61,7 @@ returns-then-not-fits_by_need-clause-fits c = (
       ∙ c.fits_by_need.ensures.fits.1 (subst (λ b. WouldFit c.args.space.now b c.args.self.now c.args.t c.args.k) (sym c.in_default.ensures.refused) fits),
 )
 
--- found once they are given back
+-- a block is found after all empty slabs are freed
 gone : (c : goal.After-reserve-2) → IsReturned c.args.space.now c.give_back_all.new.space c.args.buddy.now c.give_back_all.new.buddy
     c.args.self.now c.give_back_all.new.self c.args.t (idle_at (λ i. true) c.args.space.now c.args.self.now c.args.t)
 gone c =

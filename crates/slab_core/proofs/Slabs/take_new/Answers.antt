@@ -31,13 +31,13 @@ returns-in_err-before-clause-answer c = λ m h. let e = refused c m h in rw e (s
 pub returns-in_err-before-clause-shows : goal.returns-in_err-before-clause-shows
 returns-in_err-before-clause-shows c = λ m h. rw (refused c m h) h
 
--- the cache that stands in the tables
+-- the cache in the tables
 cached : (c : In_ok-before) → cache_at c.args.self.now c.args.t c.args.c ≡ Some c.in_ok-before.field-0.now
 cached c =
     sym (ap (λ (s : Content). cache_at s c.args.t c.args.c) c.self.view_is)
     ∙ (sym c.cache.ensures ∙ ap (option_map (λ x. x.now)) c.in_ok-before.ensures.ok_part)
 
--- None can be used
+-- No slab can be made
 
 no_frames : (c : After-from_residual-in_err-slab) (m : Machine) → ShowsMachine c.args.space.now c.args.buddy.now c.args.self.now c.args.t m
     → take_step c.args.self.now.top c.args.c m ≡ refuse NoFrames m
@@ -85,7 +85,7 @@ returns-clause-shows c = λ m h.
 pub returns-clause-spares : goal.returns-clause-spares
 returns-clause-spares c = spares_twice c.grow.ensures.spares c.hand_out.ensures.spares
 
--- the new slab has an object that is not live
+-- the new slab has a free object
 pub hand_out-requires-clause-free : goal.hand_out-requires-clause-free
 hand_out-requires-clause-free c =
     let x = c.args in

@@ -24,7 +24,7 @@ returns-in_err-kept-clause-answer c = λ m h. let e = refused c m h in rw e (sea
 pub returns-in_err-kept-clause-shows : goal.returns-in_err-kept-clause-shows
 returns-in_err-kept-clause-shows c = λ m h. rw (refused c m h) h
 
--- the cache that stands in the tables
+-- the cache in the tables
 cached : (c : In_ok-kept) → cache_at c.args.self.now c.args.t c.args.c ≡ Some c.in_ok-kept.field-0.now
 cached c =
     sym (ap (λ (s : Content). cache_at s c.args.t c.args.c) c.self.view_is)
