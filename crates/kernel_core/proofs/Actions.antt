@@ -1,4 +1,4 @@
--- What a tenant sees of actions is what its private machine gives to its own list.
+-- What a tenant sees of actions is what its private machine gives for its own list.
 use Rattle.std.proofs.Common.{◌≡◌, ℕ, ◌<◌, ◌==◌, Bool, true, false, List, [], ◌∷◌, ◌++◌, Some, map, slice_get, if◌then◌else◌, append_assoc, refl, sym, ap, ◌∙◌, subst}
 use Rattle.std.proofs.lemmas.Bool.{eqb-true}
 use Rattle.std.proofs.lemmas.List.{map-append}
@@ -34,7 +34,7 @@ seen-append limit order (x ∷ xs) ys m =
     ap (then_seen first.sights) (seen-append limit order xs ys first.machine)
     ∙ ap (λ sights. record { sights = sights; machine = rest.machine }) (sym (append_assoc first.sights (own_seen limit order xs first.machine).sights rest.sights))
 
--- entries alone are the private run of them
+-- an own list of entries only is a private run of them
 entered : (limit order : ℕ) (entries : List Entry) (m : Machine)
     → own_seen limit order (map Enters entries) m
     ≡ record { sights = map Told (private_run limit order entries m).replies; machine = (private_run limit order entries m).machine }
@@ -54,7 +54,7 @@ pub record Has (k : KernelContent) (t : ℕ) (m : Machine) : Type 0 where
   pub shows : Shows k world
   pub machine : slice_get world.machines t ≡ Some m
 
--- from one kernel to another, tenant t sees what its private machine gives to these
+-- `seen` is what the private machine m gives for `owns`, and kernel k' has the machine afterwards
 pub record Follows (n t : ℕ) (owns : List Own) (m : Machine) (seen : List Sight) (k' : KernelContent) : Type 0 where
   pub sights : seen ≡ (own_seen cache_limit n owns m).sights
   pub order : k'.order ≡ n
@@ -77,7 +77,7 @@ run_follows k k' event reply t m had steps is =
       };
     })
 
--- what a store is to the private machine
+-- what a store does to the private machine
 abbrev if_own : {A : Type 0} → Bool → A → List A
 if_own own x = if own then x ∷ [] else []
 
@@ -129,7 +129,7 @@ follows k k' (Runs event reply) t m had did = run_follows k k' event reply t m h
 follows k k' (StoresAt named place bytes) t m had did = store_follows k k' named place bytes t m had did
 follows k k' (LoadsAt named place byte) t m had did = load_follows k k' named place byte t m had did
 
--- one after the other
+-- one own list after the other
 both : (order t : ℕ) (owns owns' : List Own) (m : Machine) (sights sights' : List Sight) (k' l' : KernelContent) → Follows order t owns m sights k'
     → Follows order t owns' (own_seen cache_limit order owns m).machine sights' l' → Follows order t (owns ++ owns') m (sights ++ sights') l'
 both order t owns owns' m sights sights' k' l' one more =
@@ -150,7 +150,7 @@ all_follow k k' (action ∷ actions) t m had did =
     both k.order t (own_in t action) (own_actions t actions) m (sights_in t action) (sights_of t actions) did.0 k' one
     (subst (λ order. Follows order t (own_actions t actions) next (sights_of t actions) k') one.order (all_follow did.0 k' actions t next one.has did.2))
 
--- a kernel that is booted shows the empty machine
+-- a booted kernel shows the empty machine
 pub booted_has : (k : KernelContent) (superblocks tenants t : ℕ) → IsBooted k superblocks tenants → t < tenants → Has k t empty_machine
 booted_has k superblocks tenants t booted here =
     record { kernel = booted.kernel; world = opening_world superblocks tenants; shows = booted.shows; machine = opening-machine superblocks tenants t here }

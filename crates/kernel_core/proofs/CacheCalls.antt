@@ -26,7 +26,7 @@ use Rattle.kernel_core.specs.Steps.{StepsMachine}
 use Rattle.kernel_core.proofs.Commanding.{answered, called, commanded, by_err, by_none}
 use Rattle.kernel_core.proofs.Changing.{marks_kept}
 
--- an object taken, by the order that the tables have
+-- a take, with the order of the superblocks as the tables have it
 pub taken : (r r' : spaces.Content) (b b' : buddies.Content) (s s' : tables.Content) (t : ℕ) → Agree r b s → Spares t r r' b b' s s'
     → (number : ℕ) (told : Result ℕ TakeRefusal)
     → ((m : Machine) → ShowsMachine (content_of r b s) t m → told ≡ (take_step s.top number m).answer)
@@ -41,12 +41,12 @@ taken r r' b b' s s' t agree spares number told answer shows refused =
     (λ m shown. subst (λ top. ShowsMachine (content_of r' b' s') t (take_step top number m).machine) order (shows m shown))
     (by_err take_body told (λ place. refl) refused)
 
--- what a refused take leaves is so of its answer
+-- what holds after a refused `take_object` holds after the refused take
 pub untaken : (P : Type 0) (told : Result Taken TakeRefusal) → OnErr told P → OnErr (place_taken told) P
 untaken P (Ok it) left = left
 untaken P (Err refusal) left = left
 
--- A cache made: what a size and an alignment give is a layout, or the limit that they miss
+-- Making a cache: the layout of a size and an alignment, or the limit that they break
 
 abbrev judged : ℕ → ℕ → Bool → Bool → Result Cut LayoutRefusal
 judged size align v w = if v then (if w then Ok (cut size align) else Err cutting.BadAlign) else Err cutting.BadSize
@@ -75,7 +75,7 @@ cut_is size align l = go (is_size size) (is_alignment align)
     go true false is = absurd (cc)
     go true true is = cc
 
--- there is no layout
+-- a size or an alignment without a layout is refused
 pub cache_refused : (k : KernelContent) (t size align : ℕ) (pattern : List ℕ) (limit : LayoutRefusal) (refusal : CacheRefusal) → Err limit ≡ layout_or_refusal size align
     → ((m : Machine) → by_layout pattern m (Err limit) ≡ record { answer = Err refusal; machine = m })
     → StepsMachine k t (Command.Cache size align (record { items = pattern })) k (cache_body size align (Err refusal))
@@ -84,7 +84,7 @@ cache_refused k t size align pattern limit refusal is same =
     answered k t (Command.Cache size align (record { items = pattern })) (cache_body size align (Err refusal))
     (λ m shown. ap (with_body (cache_body size align)) (step_is size align pattern m ∙ ap (by_layout pattern m) (sym is) ∙ same m))
 
--- with a layout, the cache is made or no number is left for it
+-- with a layout, the cache is made, or is refused because all numbers are used
 pub created : (r : spaces.Content) (b : buddies.Content) (s s' : tables.Content) (t : ℕ) → ((u : ℕ) → u ≢ t → Keeps r r b b s s' u)
     → (size align : ℕ) (pattern : List ℕ) (l : Cut) (result : Option ℕ) → Ok l ≡ layout_or_refusal size align
     → ((m : Machine) → ShowsMachine (content_of r b s) t m → result ≡ (create_step MOST_CACHES l.size l.align pattern m).answer)

@@ -1,4 +1,4 @@
--- What a kernel lends of a tenant, and what a call leaves: marks, what others have, the machine of the tenant.
+-- Facts about a tenant in a kernel, and what a call does to the marks, the other tenants and the tenant's machine.
 use Rattle.std.proofs.Common.{◌≡◌, ℕ, ◌≤◌, false, refl, arith, ◌<◌, Bool, Option, Some, None, length, slice_set, sym, ap, ◌∙◌, ⊎_elim, subst, ◌⊎◌, inl, inr, [], slice_index_or}
 use Rattle.std.proofs.lemmas.Bool.{cases_eq, cases_lt}
 use Rattle.model_core.specs.declared.owner.Owner.{Owner}
@@ -32,7 +32,7 @@ marks_kept old new owners marks m =
     ∙ sym (ap (λ os. mark_after (spaces.owner_at old.owners m) (spaces.owner_at os m) (spaces.mark_at old.marks m)) owners
     ∙ mark_kept (spaces.owner_at old.owners m) (spaces.mark_at old.marks m))
 
--- then superblock m gets another owner, and the mark that this asks for
+-- next, superblock m gets another owner, and the mark that follows from it
 pub marks_replaced : (old now : spaces.Content) (m : ℕ) (o : Option Owner) (is : Bool) → MarksFollow old now → m < length now.owners → m < length now.marks
     → mark_after (spaces.owner_at old.owners m) o (spaces.mark_at old.marks m) ≡ is
     → MarksFollow old (record now { owners = slice_set now.owners m o; marks = slice_set now.marks m is })
@@ -51,7 +51,7 @@ marks_replaced old now m o is follows owner mark told n = ⊎_elim
 
 -- Calls
 
--- a call for tenant t that spares all others, and answers and leaves what the step does
+-- a call for tenant t that changes nothing of others, returns the step's answer and leaves the step's machine
 pub does_called : {A : Type 0} (r r' : spaces.Content) (b b' : buddies.Content) (s s' : tables.Content) (t : ℕ) → Spares t r r' b b' s s'
     → (step : Machine → Step A) (told : A)
     → ((m : Machine) → ShowsMachine (content_of r b s) t m → told ≡ (step m).answer)
@@ -73,11 +73,11 @@ does_called r r' b b' s s' t spares step told answer shows =
       spare = spares.spare;
     }
 
--- a refused call, which leaves each of the parts
+-- a refused call, which changes none of the parts
 pub same_of : (r r' : spaces.Content) (b b' : buddies.Content) (s s' : tables.Content) → (r' ≡ r) × ((b' ≡ b) × (s' ≡ s)) → content_of r' b' s' ≡ content_of r b s
 same_of r r' b b' s s' same = λ i. content_of (same.0 i) (same.1.0 i) (same.1.1 i)
 
--- parts that stay keep all
+-- unchanged parts keep everything
 pub keeps_all : (k : KernelContent) (t : ℕ) → Keeps k k t
 keeps_all k t = record {
   space = same_space t k.space;
@@ -85,7 +85,7 @@ keeps_all k t = record {
   slabs = record { top = refl; caches = λ c. refl; lists = λ f n under. refl; kept = λ f n under. refl };
 }
 
--- a call that changes nothing, as the step does, whichever machine the parts show
+-- a call that changes nothing, like its step, for each machine that the parts show
 pub does_nothing : {A : Type 0} (k : KernelContent) (t : ℕ) (step : Machine → Step A) (told : A)
     → ((m : Machine) → ShowsMachine k t m → step m ≡ record { answer = told; machine = m })
     → Does k t step k.space.owners k told
@@ -99,17 +99,17 @@ does_nothing {A} k t step told same = record {
   spare = λ _ _. refl;
 }
 
--- What the fields lend
+-- What holds of the fields
 
--- each tenant has its row in the memory's mapping
+-- each tenant has a row in the memory's table of slots
 pub has_row : (r : spaces.Content) (b : buddies.Content) (s : tables.Content) (t : ℕ) → Agree r b s → t < length b.tenants → t < length r.slots
 has_row r b s t agree known = omega (arith, agree.rows)
 
--- a tenant that there is not holds nothing
+-- a tenant that does not exist holds nothing
 pub no_row : (r : spaces.Content) (b : buddies.Content) (s : tables.Content) (t u : ℕ) → Agree r b s → length b.tenants ≤ t → spaces.superblock_at r.slots t u ≡ None
 no_row r b s t u agree past = ap (λ row. slice_index_or row u None) (get_or_past r.slots t [] (omega (arith, agree.rows)))
 
--- parts that agree, and are each in order
+-- the parts agree if their invariants hold and they hold together
 pub parts_agree : (r : spaces.Content) (b : buddies.Content) (s : tables.Content) → HoldTogether r b s → PartsAgree (content_of r b s)
 parts_agree r b s holds = record {
   space = holds.space.facts;
@@ -122,25 +122,25 @@ parts_agree r b s holds = record {
   agree = holds.agree;
 }
 
--- such parts lend of a tenant what the laws ask for
+-- then the premise of the laws holds of each tenant
 pub steady : (r : spaces.Content) (b : buddies.Content) (s : tables.Content) (t : ℕ) → HoldTogether r b s → t < length b.tenants → IsSteady r b s t
 steady r b s t holds known =
     (agree_steady r b s t holds.slabs holds.agree (has_row r b s t holds.agree known) holds.space.apart holds.buddy.sizes
     (λ u less. holds.buddy.sound u less)).0
 
--- what the laws say of the parts, they say of the fields
+-- what holds of a kernel's content holds of the fields
 pub opened : (r : spaces.Content) (b : buddies.Content) (s : tables.Content) (k : KernelContent) → content_of r b s ≡ k → HoldTogether k.space k.buddy k.slabs → HoldTogether r b s
 opened r b s k is holds = subst (λ (x : KernelContent). HoldTogether x.space x.buddy x.slabs) (sym is) holds
 
 pub known : (r : spaces.Content) (b : buddies.Content) (s : tables.Content) (k : KernelContent) (t : ℕ) → content_of r b s ≡ k → t < k.tenants → t < length b.tenants
 known r b s k t is less = subst (λ (x : KernelContent). t < x.tenants) (sym is) less
 
--- other contents, of the buddy systems one tenant's alone
+-- the sizes stay the same if only one tenant's holding in the buddy systems is replaced
 pub same_sizes : (r r' : spaces.Content) (b : buddies.Content) (s s' : tables.Content) (t : ℕ) (h : buddies.Holding)
     → SameSizes (content_of r b s) (content_of r' (buddies.with_holding t h b) s')
 same_sizes r r' b s s' t h = record { order = refl; superblocks = refl; tenants = length-set b.tenants t h }
 
--- a superblock that stands under a slot is there
+-- a superblock in a slot has a number below the number of superblocks
 pub superblock_there : (r : spaces.Content) → spaces.IsSpace r → (t u m : ℕ) → spaces.superblock_at r.slots t u ≡ Some m → m < length r.owners
 superblock_there r facts t u m at = go (cases_lt m (length r.owners))
   where
@@ -148,7 +148,7 @@ superblock_there r facts t u m at = go (cases_lt m (length r.owners))
     go (inl less) = less
     go (inr past) = absurd (some_none (sym ((facts.agree t u m).0 at) ∙ get_or_past r.owners m None past))
 
--- the parts with another memory, where the sizes are told by the buddy systems
+-- the parts with another memory; their sizes are those of the buddy systems
 pub with_space : (k : KernelContent) (r : spaces.Content) → PartsAgree k → content_of r k.buddy k.slabs ≡ record k { space = r }
 with_space k r agree = λ i. record {
   order = agree.top i;

@@ -1,4 +1,4 @@
--- What a call does for one tenant is a command of that tenant, told in words.
+-- A call for one tenant is a command of that tenant, with a reply in words.
 use Rattle.std.proofs.Common.{◌≡◌, ℕ, true, false, Option, Some, None, Result, Ok, Err, IfNone, refl, sym, ap, ◌∙◌, subst}
 use Rattle.std.specs.Prelude.{OnErr, IsErrAnd}
 use Rattle.std.proofs.lemmas.Result.{err_from_is_err_and}
@@ -25,7 +25,7 @@ use Rattle.kernel_core.specs.Does.{Does}
 use Rattle.kernel_core.proofs.Changing.{does_called, does_nothing, same_of}
 use Rattle.kernel_core.specs.Steps.{StepsMachine, body_of}
 
--- the call does the step that the command is, and the tenant is told its answer
+-- the call does the command's step, and the reply has its answer
 pub commanded : {A : Type 0} (k k' : KernelContent) (t : ℕ) (command : Command) (body : A → Body) (step : Machine → Step A) (told : A)
     → ((m : Machine) → command_step cache_limit k.order command m ≡ with_body body (step m))
     → Does k t step k.space.owners k' told → (is_refused (body told) ≡ true → k' ≡ k) → StepsMachine k t command k' (body told)
@@ -42,7 +42,7 @@ commanded k k' t command body step told same does refused = record {
   refused = refused;
 }
 
--- a call that spares all other tenants
+-- a call that changes nothing of other tenants
 pub called : {A : Type 0} (r r' : spaces.Content) (b b' : buddies.Content) (s s' : tables.Content) (t : ℕ) → Spares t r r' b b' s s'
     → (command : Command) (body : A → Body) (step : Machine → Step A) (told : A)
     → ((m : Machine) → command_step cache_limit b.top command m ≡ with_body body (step m))
@@ -54,7 +54,7 @@ called r r' b b' s s' t spares command body step told same answer shows refused 
     commanded (content_of r b s) (content_of r' b' s') t command body step told same (does_called r r' b b' s s' t spares step told answer shows)
     (λ is. same_of r r' b b' s s' (refused is))
 
--- only what is refused is told as a refusal
+-- what holds after an error holds if the reply is a refusal
 pub by_err : {A E P : Type 0} (body : Result A E → Body) (x : Result A E) → ((a : A) → is_refused (body (Ok a)) ≡ false) → OnErr x P → is_refused (body x) ≡ true → P
 by_err body (Ok a) done same is = absurd (both_ways (is_refused (body (Ok a))) (done a) is)
 by_err body (Err e) done same is = same
@@ -68,7 +68,7 @@ pub passed : {A E : Type 0} (told : A → Body) (refusal : E → Refusal) (e : E
     → body_of told y ≡ Refused (refusal e)
 passed told refusal e y is = let found = err_from_is_err_and y is in ap (body_of told) found.1 ∙ ap (λ r. Refused r) found.2
 
--- a command that changes nothing, as its step does, whichever machine the kernel shows
+-- a command that changes nothing, like its step, for each machine that the kernel shows
 pub answered : (k : KernelContent) (t : ℕ) (command : Command) (body : Body)
     → ((m : Machine) → ShowsMachine k t m → command_step cache_limit k.order command m ≡ record { answer = body; machine = m }) → StepsMachine k t command k body
 answered k t command body same = record { does = does_nothing k t (command_step cache_limit k.order command) body same; refused = λ _. refl }
@@ -80,7 +80,7 @@ unfolding command_step report_step
 reported k t told are =
     answered k t Command.Report (Say.Report told) (λ m shown. ap (λ r. record { answer = Say.Report r; machine = m }) (sym (are m shown)))
 
--- a cache made
+-- the reply to a cache that is made
 pub made : (size align number chunk order count colours : ℕ) (l : Cut) → l ≡ cut size align
     → chunk ≡ (numbers_of l).chunk → order ≡ (numbers_of l).order → count ≡ (numbers_of l).count → colours ≡ (numbers_of l).colours
     → cache_body size align (Ok number) ≡ Say.Cache number chunk order count colours

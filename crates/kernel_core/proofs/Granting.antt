@@ -1,4 +1,4 @@
--- A superblock without owner is given to a tenant.
+-- Granting a superblock without owner to a tenant.
 use Rattle.std.proofs.Common.{◌≡◌, ℕ, ◌<◌, false, Some, None, is_none, position, length, slice_set, refl, sym, ap, subst, arith, ◌≤◌, slice_get, ◌∙◌}
 use Rattle.std.proofs.lemmas.Option.{slice_get_past}
 use Rattle.model_core.specs.Operations.{after_grant, next_slot}
@@ -30,7 +30,7 @@ use Rattle.kernel_core.specs.Does as calls
 use Rattle.kernel_core.specs.Steps.{Steps}
 use Rattle.kernel_core.proofs.Worlds.{steps_done, steps_answered, unnamed}
 
--- it stands under no slot, and no slab begins on it
+-- the first superblock without owner is in no slot, and no slab begins on it
 pub free_is_spare : (r : spaces.Content) (b : buddies.Content) (s : tables.Content) (m : ℕ) → HoldTogether r b s → position is_none r.owners ≡ Some m → IsSpare b s m
 free_is_spare r b s m holds free = unowned_is_spare r b s m holds (unowned-from_position r.owners m free)
 
@@ -52,7 +52,7 @@ pub changes : (r : spaces.Content) (b : buddies.Content) (s : tables.Content) (t
 changes r b s t u m g =
     granted_shows r b s t u m g.together (has_row r b s t g.together.agree g.tenant) g.least g.slot_below g.below (unowned-from_position r.owners m g.free)
 
--- the least superblock without owner becomes the least slot that the tenant does not hold
+-- the first superblock without owner becomes the least slot that the tenant does not hold
 pub does_granted : (r : spaces.Content) (b : buddies.Content) (s : tables.Content) (t u m : ℕ) → IsGrantable r b s t u m
     → Does (content_of r b s) t (slot_grant_step b.top) (slice_set r.owners m (Some (owned_by t u))) (content_of (with_grant r t u m) (buddy_after t u m b) s) u
 does_granted r b s t u m g =
@@ -69,20 +69,20 @@ does_granted r b s t u m g =
       spare = g.together.space.spare.grant t u m g.below;
     }
 
--- What it is to the world
+-- What a grant does to the world
 
 -- the reply to a grant
 abbrev pub granted_reply : ℕ → ℕ → ℕ → Reply
 granted_reply t u m = record { addressee = To.Admin; body = Granted t u m }
 
--- the world after it
+-- the world after a grant
 abbrev granted_world : KernelContent → World → ℕ → ℕ → Machine → ℕ → WorldStep
 granted_world k w t m x u = record {
   reply = granted_reply t u m;
   world = record { owners = slice_set k.space.owners m (Some (owned_by t u)); machines = slice_set w.machines t (after_grant k.order x) };
 }
 
--- what a grant is to the world
+-- what a grant does to the world
 grant_is : (k : KernelContent) (w : World) (t m : ℕ) (x : Machine) → Shows k w → slice_get w.machines t ≡ Some x → position is_none k.space.owners ≡ Some m
     → world_step cache_limit k.order (On.Admin (Do.Grant t)) w ≡ granted_world k w t m x (next_slot x)
 unfolding world_step grant_step
@@ -97,7 +97,7 @@ grant_is k w t m x shown here free =
       };
     }) shown.owners
 
--- the least superblock without owner becomes the least slot that the tenant does not hold
+-- the first superblock without owner becomes the least slot that the tenant does not hold
 pub steps_granted : (k k' : KernelContent) (t n u m : ℕ) → t ≡ n → t < k.tenants → PartsAgree k' → position is_none k.space.owners ≡ Some m
     → Does k t (calls.slot_grant_step k.order) (slice_set k.space.owners m (Some (owned_by t u))) k' u
     → Steps k (On.Admin (Do.Grant n)) k' (granted_reply t u m)
@@ -106,7 +106,7 @@ steps_granted k k' t n u m same known agree free does = subst (λ v. Steps k (On
     (λ w x shown shows here. grant_is k w t m x shown here free ∙ ap (granted_world k w t m x) (sym (does.answer x shows)))
     (λ v named. unnamed t v named) refl)
 
--- no such tenant
+-- there is no such tenant
 pub grant_without_tenant : (k : KernelContent) (t : ℕ) → k.tenants ≤ t → Steps k (On.Admin (Do.Grant t)) k (record { addressee = To.Admin; body = Refused NoTenant })
 unfolding grant_step world_step
 grant_without_tenant k t unknown =

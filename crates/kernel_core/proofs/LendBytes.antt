@@ -1,4 +1,4 @@
--- Bytes lent where they lie: the private machine's, and the parts agree whatever is left there.
+-- Bytes lent in place: they are the private machine's, and the parts agree after any bytes are left there.
 use Rattle.std.proofs.Common.{◌≡◌, false, ℕ, ◌+◌, ◌%◌, ◌++◌, take, drop, slice_range, Option, Some, None, List, [], length, unwrap_or, refl, sym, ap, ◌∙◌, subst, arith}
 use Rattle.std.proofs.Math.ListN.{set}
 use Rattle.std.proofs.Math.Seq.{take-length}
@@ -21,7 +21,7 @@ use Rattle.kernel_core.proofs.Changing.{steady}
 use Rattle.kernel_core.proofs.Fitting.{fit-same}
 use Rattle.kernel_core.proofs.PageCalls.{IsRequested, write_agrees, out_of_reach, within_reach}
 
--- bytes written over themselves
+-- writing bytes over themselves changes nothing
 put_same : (ys ws : List ℕ) (i n : ℕ) → slice_range ys i (i + n) ≡ ws → length ws ≡ n → put_within ys i ws ≡ ys
 put_same ys ws i n is long =
     ap (λ j. take (length ys) (take i ys ++ (ws ++ drop (i + j) ys))) long
@@ -41,7 +41,7 @@ pub length-fit : (xs ws : List ℕ) → length (fit xs ws) ≡ length xs
 length-fit xs ws =
     length-take (length xs) (ws ++ drop (length ws) xs) ∙ omega (arith, length-append ws (drop (length ws) xs), length-drop (length ws) xs)
 
--- a window as long as what is left in it
+-- writing bytes of the window's length is a store
 pub window_fitted : (r : spaces.Content) (t place len : ℕ) (xs ws : List ℕ) → length xs ≡ len → with_window r t place len (fit xs ws) ≡ stored t place (fit xs ws) r
 window_fitted r t place len xs ws long = ap (λ n. with_window r t place n (fit xs ws)) (sym (length-fit xs ws ∙ long))
 
@@ -82,7 +82,7 @@ module _ (r : spaces.Content) (b : buddies.Content) (s : tables.Content) (t plac
         ∙ ap (λ x. content_of x b s) (ap (λ n. with_window r t place n xs) long ∙ window_same r t place len xs is long));
   }
 
--- what is not in reach of the parts is not in reach of the machine
+-- a range that is not in reach of the parts is not in reach of the machine
 pub lend_beyond : (k : KernelContent) (t place len : ℕ) → IsRequested k.space k.buddy k.slabs t → (IsInReach k.space k.buddy k.slabs t place len → ⊥)
     → (m : Machine) → ShowsMachine k t m → in_reach m place len ≡ false
 lend_beyond k t place len asked beyond m shown = out_of_reach k.space k.buddy k.slabs t place len asked m shown beyond

@@ -1,4 +1,4 @@
--- Which bytes can be lent: a page block around a place, a live object that begins at one.
+-- The bytes that can be lent: a page block around a place, and a live object that begins at one.
 use Rattle.std.proofs.Common.{◌≡◌, inl, inr, ℕ, ◌*◌, ◌/◌, ◌%◌, ◌^◌, ◌<◌, ◌≤◌, Bool, true, false, if◌then◌else◌, Option, Some, None, refl, sym, ap, ◌∙◌, subst, arith}
 use Rattle.std.specs.Prelude.{is_some}
 use Rattle.std.proofs.lemmas.Bool.{false≢true, lt-ltb, le-ltb}
@@ -31,7 +31,7 @@ use Rattle.kernel_core.proofs.Worlds.{unknown_tenant, steps_asked}
 use Rattle.kernel_core.proofs.Changing.{steady}
 use Rattle.kernel_core.proofs.PageCalls.{block_slot, IsRequested, not_held, home_is}
 
--- a block of no slab
+-- a taken block that is not a slab's
 record IsPage (v : Bool) (o : Option ℕ) (k : ℕ) : Type 0 where
   page : v ≡ false
   taken : o ≡ Some k
@@ -51,7 +51,7 @@ module _ (r : spaces.Content) (b : buddies.Content) (s : tables.Content) (t plac
   st : IsSteady r b s t
   st = steady r b s t asked.together asked.tenant
 
-  -- a place of a page block of the machine lies in a page
+  -- a place in a page block of the machine lies in one of the parts
   page_of : (m : Machine) → ShowsMachine (content_of r b s) t m → IsTaken (order_in m.blocks) (place / 4096) → IsInPage r b s t place 1
   page_of m shown taken =
       let f : ℕ = taken.0 in
@@ -66,18 +66,18 @@ module _ (r : spaces.Content) (b : buddies.Content) (s : tables.Content) (t plac
         ends = omega (arith, here.1);
       }
 
-  -- so none is there in a slot that is not held, ..
+  -- there is no page block in a slot that is not held
   pub unheld_no_page : spaces.superblock_at r.slots t (place / 4096 / 2 ^ s.top) ≡ None → (m : Machine) → ShowsMachine (content_of r b s) t m
       → IsTaken (order_in m.blocks) (place / 4096) → ⊥
   unheld_no_page none m shown taken = not_held r b s t place 1 asked none (record { some = omega arith; inside = inl (page_of m shown taken) })
 
-  -- .. where no block is taken, ..
+  -- there is no page block at a frame that is not taken
   pub free_no_page : (IsTaken (buddies.taken_of (buddies.holding_of t b)) (place / 4096) → ⊥) → (m : Machine) → ShowsMachine (content_of r b s) t m
       → IsTaken (order_in m.blocks) (place / 4096) → ⊥
   free_no_page none m shown taken = no_block_decides r b s t place 1 (omega arith) none (page_of m shown taken)
 
   module _ (first order : ℕ) (taken : buddies.taken_of (buddies.holding_of t b) first ≡ Some order) (here : HasFrame (block first order) (place / 4096)) where
-    -- .. and where a slab is
+    -- there is no page block at the frames of a slab
     pub slab_no_page : has_slab s (machine_frame_of s.top r.slots t first) ≡ true → (m : Machine) → ShowsMachine (content_of r b s) t m
         → IsTaken (order_in m.blocks) (place / 4096) → ⊥
     slab_no_page slab m shown there =
@@ -121,7 +121,7 @@ module _ (r : spaces.Content) (b : buddies.Content) (s : tables.Content) (t plac
         size = size;
       }
 
-  -- a live object's bytes
+  -- the bytes of a live object
   module _ (bytes : ℕ) (object : (o : Found) × HasRange r s t place bytes o) where
     reach : IsInReach r b s t place bytes
     reach = record { some = object.1.some; inside = inr object }
@@ -160,9 +160,9 @@ module _ (r : spaces.Content) (b : buddies.Content) (s : tables.Content) (t firs
   pub page_span : (m : ℕ) → IsBlockSpan (record { tenant = t; place = 4096 * first; bytes = 4096 * 2 ^ order % 4294967296; superblock = m }) t first order
   page_span m = record { tenant = refl; place = refl; bytes = size_is order page_few }
 
--- What a tenant is told, by its number
+-- What a tenant gets, by its number
 
--- a refusal to a tenant that there is
+-- a refusal to a tenant that exists
 pub refused_for : (k : KernelContent) (t tenant : ℕ) (Why : ℕ → Type 0) → t ≡ tenant → t < k.tenants → Why t → (tenant < k.tenants) × Why tenant
 refused_for k t tenant Why same less why = subst (λ u. (u < k.tenants) × Why u) same (less, why)
 
@@ -180,7 +180,7 @@ reply_known k k' t tenant command body same less agree steps =
     (subst (λ u. Steps k (On.Tenant tenant command) k' (record { addressee = To.Tenant u; body = body })) same
     (steps_asked k k' t tenant command body same less (λ w shown. agree) steps))
 
--- .. which was refused
+-- the same for a refused command
 pub reply_refused : (k k' : KernelContent) (t tenant : ℕ) (command : Command) (refusal : Refusal) → t ≡ tenant → t < k.tenants → PartsAgree k
     → StepsMachine k t command k' (Refused refusal) → Steps k (On.Tenant tenant command) k' (reply_for k tenant (Refused refusal))
 reply_refused k k' t tenant command refusal same less agree steps =

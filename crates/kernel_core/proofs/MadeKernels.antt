@@ -1,4 +1,4 @@
--- Kernels made step by step: what grants, page blocks taken and bytes read do to parts that are known.
+-- Kernels made step by step: what grants, allocations of page blocks and reads of a byte do to known parts.
 use Rattle.std.proofs.Common.{◌≡◌, ℕ, zero, suc, ◌+◌, ◌*◌, ◌/◌, ◌%◌, ◌^◌, ◌<◌, ◌≤◌, true, false, Option, Some, None, List, [], ◌∷◌, length, slice_range, inl, refl, sym, ap, ◌∙◌, subst, arith}
 use Rattle.std.specs.Prelude.{is_some, replicate, slice_index, IsSome}
 use Rattle.std.proofs.lemmas.Bool.{false≢true}
@@ -46,7 +46,7 @@ kernel_of r b s together = record { agree = parts_agree r b s together; together
 abbrev pub to_tenant : ℕ → Body → Reply
 to_tenant t body = record { addressee = To.Tenant t; body = body }
 
--- a superblock granted
+-- a superblock is granted
 pub grant_acts : (r : spaces.Content) (b : buddies.Content) (s : tables.Content) (t u m : ℕ) → IsGrantable r b s t u m → buddies.BuddyLaws (buddy_after t u m b)
     → Acts (content_of r b s) (Runs (On.Admin (Do.Grant t)) (granted_reply t u m)) (content_of (with_grant r t u m) (buddy_after t u m b) s)
 grant_acts r b s t u m g laws =
@@ -62,7 +62,7 @@ grant_acts r b s t u m g laws =
       is,
     )
 
--- a page block taken out of the block that is chosen
+-- a page block is taken out of the chosen free block
 abbrev reserved : ℕ → ℕ → ℕ → buddies.Content → buddies.Content
 reserved t f k b = buddies.with_holding t (buddies.with_block f k (buddies.holding_of t b)) b
 
@@ -90,14 +90,14 @@ alloc_acts r b s t k f j together tenant small chosen laws =
       is,
     )
 
--- a byte read
+-- a byte is read
 
 one_byte : (xs : List ℕ) (x : ℕ) → length xs ≡ 1 → slice_index xs 0 ≡ x → xs ≡ x ∷ []
 one_byte [] x one is = absurd (omega arith)
 one_byte (y ∷ []) x one is = ap (λ z. z ∷ []) is
 one_byte (y ∷ z ∷ zs) x one is = absurd (omega arith)
 
--- what is loaded is what a read of it tells
+-- a read of a loaded byte returns that byte
 read_window : (k : KernelContent) (t place byte : ℕ) → IsKernel k → Loads k t place byte → window_of k.space t place 1 ≡ Some (byte ∷ [])
 read_window k t place byte is loads =
     go (home_of k.space t place 1) refl
@@ -124,7 +124,7 @@ read_acts k t place byte is loads =
       is,
     )
 
--- a range inside frame 0, where that is a page block
+-- a range inside frame 0 is in reach if the frame is a page block
 pub in_frame : (r : spaces.Content) (b : buddies.Content) (s : tables.Content) (t place len : ℕ) → buddies.taken_of (buddies.holding_of t b) 0 ≡ Some 0
     → has_slab s (machine_frame_of s.top r.slots t 0) ≡ false → 0 < len → place + len ≤ 4096 → IsInReach r b s t place len
 in_frame r b s t place len taken page some inside = record {
@@ -132,7 +132,7 @@ in_frame r b s t place len taken page some inside = record {
   inside = inl (record { first = 0; order = 0; taken = taken; page = page; begins = omega arith; ends = inside });
 }
 
--- Two superblocks of 8 frames and two tenants, each of which may hold one slot and have taken the first frame of it
+-- Two superblocks of 8 frames and two tenants. Each tenant may hold one slot and may have taken its first frame
 
 abbrev pub holder : Option ℕ → Option ℕ → buddies.Holding
 holder superblock taken = record { slots = superblock ∷ None ∷ []; taken = taken ∷ replicate 15 None }
@@ -149,7 +149,7 @@ holder_slot a x zero m is = (refl, is)
 holder_slot a x (suc zero) m is = absurd (cc)
 holder_slot a x (suc (suc u)) m is = absurd (cc)
 
--- what is taken is a frame of a slot that is held
+-- a taken frame lies in a held slot
 abbrev IsPlaced : Option ℕ → Option ℕ → Type 0
 IsPlaced a x = (k : ℕ) → x ≡ Some k → (k ≡ 0) × (is_some a ≡ true)
 
@@ -195,7 +195,7 @@ module _ (a x b y : Option ℕ) (placed : IsPlaced a x) (placed' : IsPlaced b y)
     apart = apart;
   }
 
--- the block that a request for one frame is served from, where nothing is taken
+-- the free block that a request for one frame is served from if nothing is taken
 pub chosen : (m : ℕ) → IsChoice 3 (buddies.is_held (holder (Some m) None)) (buddies.taken_of (holder (Some m) None)) 0 (block 0 3)
 chosen m = choice_is_found 3 (buddies.is_held (holder (Some m) None)) (buddies.taken_of (holder (Some m) None)) 2 0 below
   where
@@ -204,7 +204,7 @@ chosen m = choice_is_found 3 (buddies.is_held (holder (Some m) None)) (buddies.t
     below (suc zero) is = omega arith
     below (suc (suc u)) is = absurd (false≢true is)
 
--- as booted
+-- the memory after boot
 
 abbrev pub opened_space : spaces.Content
 opened_space = spaces.empty_space (4096 * 2 ^ 3) 2 2

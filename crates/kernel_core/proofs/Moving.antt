@@ -1,4 +1,4 @@
--- A slot is moved to a superblock without owner.
+-- Moving a slot to a superblock without owner.
 use Rattle.std.proofs.Common.{◌≡◌, ℕ, ◌<◌, true, false, Some, None, is_none, length, position, slice_set, refl, ap, arith, ◌≤◌, Option, is_some, IsSome, List, map, slice_get, sym, ◌∙◌, subst}
 use Rattle.std.proofs.lemmas.List.{length-set}
 use Rattle.std.proofs.lemmas.Option.{slice_get_past}
@@ -31,7 +31,7 @@ use Rattle.kernel_core.specs.Steps.{Steps}
 use Rattle.kernel_core.proofs.Worlds.{steps_done, steps_answered, unnamed}
 use Rattle.kernel_core.proofs.Owners.{is_under, given_up_one}
 
--- superblock `from` stands under slot u of tenant t, and `to` is the least without owner
+-- superblock `from` is in slot u of tenant t, and `to` is the first superblock without owner
 pub record IsMovable (r : spaces.Content) (b : buddies.Content) (s s' : tables.Content) (t u from to : ℕ) : Type 0 where
   pub together : HoldTogether r b s
   pub tenant : t < length b.tenants
@@ -67,7 +67,7 @@ moves r b s s' t u from to g =
       };
     }
   where
-    -- the old superblock has lost its owner
+    -- the memory after the old superblock has lost its owner
     left : spaces.Content
     left = record r { owners = slice_set r.owners from None; marks = slice_set r.marks from true }
 
@@ -75,17 +75,17 @@ moves r b s s' t u from to g =
     left_follows = marks_replaced r r from None true (marks_kept r r refl refl) g.below (omega (arith, g.below, g.together.space.facts.flagged))
         (ap (λ o. mark_after o None (spaces.mark_at r.marks from)) ((g.together.space.facts.agree t u from).0 g.here))
 
--- What it is to the world
+-- What a move does to the world
 
--- the reply
+-- the reply to a move
 abbrev pub moved_reply : ℕ → ℕ → ℕ → Reply
 moved_reply t u m = record { addressee = To.Admin; body = Moved t u m }
 
--- the world after it
+-- the world after a move
 abbrev moved_world : ℕ → ℕ → ℕ → List (Option Owner) → List Machine → WorldStep
 moved_world t u to owners machines = record { reply = moved_reply t u to; world = record { owners = slice_set owners to (Some (owned_by t u)); machines = machines } }
 
--- what a move is to the world: the owners change alone
+-- a move changes only the owners of the world
 moved_is : (k : KernelContent) (w : World) (t u from to : ℕ) (x : Machine) → Shows k w → slice_get w.machines t ≡ Some x
     → superblock_at k t u ≡ Some from → position is_none k.space.owners ≡ Some to → holds x u ≡ true
     → world_step cache_limit k.order (On.Admin (Do.Move t u)) w

@@ -21,7 +21,7 @@ pub opening_agrees : (order superblocks tenants : ℕ)
 unfolding opening_content
 opening_agrees order superblocks tenants = (opening_shows order superblocks tenants).agree
 
--- the tenants are counted
+-- the number of tenants is the length of the list of their holdings
 pub opening_is : (order superblocks tenants : ℕ)
     → content_of (opening_content order superblocks tenants).space (opening_content order superblocks tenants).buddy (opening_content order superblocks tenants).slabs
     ≡ opening_content order superblocks tenants
@@ -35,7 +35,7 @@ opening_is order superblocks tenants = λ i. record {
   slabs = (opening_content order superblocks tenants).slabs;
 }
 
--- What it is to the world
+-- The world after boot
 
 -- the sizes are within the limits
 pub bootable : (c : Config) → is_bootable c ≡ true → (c.order ≤ MOST_ORDER) × (c.superblocks ≤ MOST_SUPERBLOCKS) × (c.tenants ≤ MOST_TENANTS)

@@ -1,4 +1,4 @@
--- Which superblocks have which owner.
+-- The owners of superblocks.
 use Rattle.model_core.specs.declared.owner.Owner.{Owner}
 use Rattle.std.proofs.Common.{◌≡◌, ◌≢◌, ℕ, ◌<◌, ◌==◌, ◌&&◌, true, false, if◌then◌else◌, Option, Some, None, length, map, slice_index_or, slice_set, sym, ap, ◌∙◌, ⊎_elim, arith}
 use Rattle.std.specs.List.{position_or_len}
@@ -12,7 +12,7 @@ use Rattle.world_core.specs.World.{given_up}
 use Rattle.world_core.proofs.Runs.{is_same}
 use Rattle.machine_changes.proofs.Lookups.{some_none, some_same}
 
--- an owner is one tenant with one slot
+-- an owner is determined by its tenant and its slot
 pub owner_is : (t u : ℕ) (o : Option Owner) → is_owner t u o ≡ true → o ≡ Some (owned_by t u)
 owner_is t u None fails = absurd (false≢true fails)
 owner_is t u (Some o) owns =
@@ -24,7 +24,7 @@ owner_is t u (Some o) owns =
 pub owner_self : (t u : ℕ) → is_owner t u (Some (owned_by t u)) ≡ true
 owner_self t u = ap (λ b. b && (u == u)) (is_same t) ∙ is_same u
 
--- superblock m is the one under slot u of tenant t
+-- superblock m is the one in slot u of tenant t
 pub record IsUnder (s : spaces.Content) (t u m : ℕ) : Type 0 where
   pub within : m < length s.owners
   pub owner : spaces.owner_at s.owners m ≡ Some (owned_by t u)
@@ -40,14 +40,14 @@ is_under s t u m space here = record {
       other (some_same (sym ((space.agree t u n).1 (owner_is t u (spaces.owner_at s.owners n) owns)) ∙ here)));
 }
 
--- its number is found by its owner
+-- a search for its owner finds its number
 pub found_under : (s : spaces.Content) (t u m : ℕ) → IsUnder s t u m → position_or_len (is_owner t u) s.owners ≡ m
 found_under s t u m under =
     position_or_len_is (is_owner t u) s.owners m None (omega (arith, under.within))
     (λ n below. under.only n (λ same. absurd (omega arith)))
     (λ _. ap (is_owner t u) under.owner ∙ owner_self t u)
 
--- it has no owner any more, and all others stay
+-- the owners after only this superblock loses its owner
 pub given_up_one : (s : spaces.Content) (t u m : ℕ) → IsUnder s t u m → slice_set s.owners m None ≡ map (given_up (is_owner t u)) s.owners
 given_up_one s t u m under =
     same_lists (slice_set s.owners m None) (map (given_up (is_owner t u)) s.owners)

@@ -1,4 +1,4 @@
--- Page blocks taken and released, bytes read and written.
+-- Taking and freeing page blocks, and reading and writing bytes.
 use Rattle.std.proofs.Common.{◌≡◌, ℕ, ◌/◌, ◌^◌, ◌≤◌, nat_lt, true, false, if◌then◌else◌, Option, Some, None, IfNone, OnSome, Err, ok_or, refl, sym, ap, ◌∙◌, subst, ◌<◌, ◌&&◌, nat_le, Bool, Ok, IsSome, List, length, filter_map, IfSome, IfOk}
 use Rattle.model_core.specs.Blocks.{block, HasFrame}
 use Rattle.model_core.proofs.BlocksByNumber.{number_of_frame, same_slot}
@@ -41,7 +41,7 @@ large_is : (order o : ℕ) (m : Machine) → nat_lt order o ≡ true → alloc_s
 unfolding alloc_step
 large_is order o m large = rw large refl
 
--- an order that is too large
+-- an order that is too large is refused
 pub alloc_large : (k : KernelContent) (t o : ℕ) → nat_lt k.order o ≡ true → StepsMachine k t (Command.Alloc o) k (Refused BadOrder)
 unfolding command_step
 alloc_large k t o large = answered k t (Command.Alloc o) (Refused BadOrder) (λ m shown. ap (with_body alloc_body) (large_is k.order o m large))
@@ -56,8 +56,7 @@ unfolding alloc_step
 alloc_told order o m x small is =
     rw (le-ltb order o small) (told_at o (by_need order o m) x ∙ ap (λ y. (alloc_at o (by_need order o m) y).answer) is)
 
--- What a call for a page block does: it answers the machine's choice, and what it makes of the parts shows what the step makes
--- of the machine.
+-- What a call for a page block does: it returns the machine's choice, and the parts afterwards show the machine after the step.
 pub record TakesBlock (r r' : spaces.Content) (b b' : buddies.Content) (s s' : tables.Content) (t o : ℕ) (x : Option ℕ) : Type 0 where
   pub agree : Agree r b s
   pub spares : Spares t r r' b b' s s'
@@ -66,7 +65,7 @@ pub record TakesBlock (r r' : spaces.Content) (b b' : buddies.Content) (s s' : t
   pub shows : (m : Machine) → ShowsMachine (content_of r b s) t m → ShowsMachine (content_of r' b' s') t (alloc_step s.top o m).machine
   pub refused : IfNone x ((r' ≡ r) × ((b' ≡ b) × (s' ≡ s)))
 
--- a block is taken, or none is found
+-- a block is taken, or no block is found
 pub alloc_done : (r r' : spaces.Content) (b b' : buddies.Content) (s s' : tables.Content) (t o : ℕ) (x : Option ℕ) → TakesBlock r r' b b' s s' t o x
     → StepsMachine (content_of r b s) t (Command.Alloc o) (content_of r' b' s') (alloc_body (ok_or x AllocRefusal.NoFrames))
 unfolding command_step
@@ -77,17 +76,17 @@ alloc_done r r' b b' s s' t o x takes =
     (λ m shown. subst (λ n. ShowsMachine (content_of r' b' s') t (alloc_step n o m).machine) top (takes.shows m shown))
     (by_none (λ o. alloc_body (ok_or o AllocRefusal.NoFrames)) x (λ first. refl) takes.refused)
 
--- what holds of a block that is found holds of the answer
+-- what holds of a block that is found holds of the result
 pub ok_told : (P : ℕ → Type 0) (o : Option ℕ) → IfSome o P → IfOk (ok_or o Refusal.NoFrames) P
 ok_told P None p = tt
 ok_told P (Some first) p = p
 
--- as the tenant is told
+-- the body of the reply is that of the result
 pub allocated : (o : Option ℕ) → body_of Frame (ok_or o Refusal.NoFrames) ≡ alloc_body (ok_or o AllocRefusal.NoFrames)
 allocated (Some first) = refl
 allocated None = refl
 
--- Releasing
+-- Freeing
 
 freed_is : (f o : ℕ) (m : Machine) → order_in m.blocks f ≡ Some o → free_step f m ≡ record { answer = Some o; machine = without_block f m }
 unfolding free_step
@@ -104,7 +103,7 @@ block_slot r b s t first order x st taken here =
     let placed = st.sound.placed first order taken in
     sym (same_slot s.top order x first placed.0.0 (number_of_frame first order x placed.0.1 here))
 
--- the slot is not held
+-- if the slot is not held, a free is refused
 pub free_unheld : (r : spaces.Content) (b : buddies.Content) (s : tables.Content) (t f : ℕ) → IsSteady r b s t
     → spaces.superblock_at r.slots t (f / 2 ^ s.top) ≡ None → StepsMachine (content_of r b s) t (Command.Free f) (content_of r b s) (Refused NotABlock)
 unfolding command_step
@@ -116,20 +115,20 @@ free_unheld r b s t f st none = answered (content_of r b s) t (Command.Free f) (
     go None is = is
     go (Some k) is = absurd (false≢true (sym (ap is_some none) ∙ (st.sound.placed f k is).1))
 
--- at the frame begins a slab
+-- if a slab begins at the frame, a free is refused
 pub free_slab : (k : KernelContent) (t f : ℕ) → has_slab k.slabs (machine_frame_of k.slabs.top k.space.slots t f) ≡ true
     → StepsMachine k t (Command.Free f) k (Refused NotABlock)
 unfolding command_step
 free_slab k t f slab = answered k t (Command.Free f) (Refused NotABlock)
     (λ m shown. ap (with_body free_body) (not_freed f m (shown.blocks f ∙ ap (λ v. if v then None else buddies.taken_of (buddies.holding_of t k.buddy) f) slab)))
 
--- .. or none: then the parts agree ..
+-- if none does, the parts agree afterwards
 pub free_agrees : (r : spaces.Content) (b b' : buddies.Content) (s : tables.Content) (t f : ℕ) (x : Option ℕ) → Agree r b s
     → has_slab s (machine_frame_of s.top r.slots t f) ≡ false → IfNone x (b' ≡ b) → OnSome x (b' ≡ released t f b) → Agree r b' s
 free_agrees r b b' s t f None agree page same _ = subst (λ y. Agree r y s) (sym same) agree
 free_agrees r b b' s t f (Some o) agree page _ done = subst (λ y. Agree r y s) (sym done) (released_agrees r b s t f agree page).0
 
--- .. and there is a page block where a block is taken
+-- and if a taken block begins there, that page block is freed
 pub free_done : (r : spaces.Content) (b b' : buddies.Content) (s : tables.Content) (t f : ℕ) (x : Option ℕ) → Agree r b s
     → has_slab s (machine_frame_of s.top r.slots t f) ≡ false → x ≡ buddies.taken_of (buddies.holding_of t b) f
     → IfNone x (b' ≡ b) → OnSome x (b' ≡ released t f b)
@@ -152,12 +151,12 @@ free_done r b b' s t f (Some o) agree page is _ done =
 
 -- Bytes
 
--- parts that hold together, where this tenant is there
+-- the parts hold together, and the tenant exists
 pub record IsRequested (r : spaces.Content) (b : buddies.Content) (s : tables.Content) (t : ℕ) : Type 0 where
   pub together : HoldTogether r b s
   pub tenant : t < length b.tenants
 
--- the superblock under a range stands under the slot of its first place
+-- the superblock of a range is the one in the slot of its first place
 pub under_home : (r : spaces.Content) (t place len m : ℕ) → home_of r t place len ≡ Some m → spaces.superblock_at r.slots t (place / r.unit) ≡ Some m
 under_home r t place len m = go (is_in_slot r.unit place len)
   where
@@ -188,7 +187,7 @@ module _ (r : spaces.Content) (b : buddies.Content) (s : tables.Content) (t plac
   slot_is : spaces.superblock_at r.slots t (place / r.unit) ≡ spaces.superblock_at r.slots t (place / 4096 / 2 ^ s.top)
   slot_is = ap (spaces.superblock_at r.slots t) (slot_by_unit r.unit s.top place asked.together.agree.unit)
 
-  -- .. so none that begins in a slot that is not held is in reach ..
+  -- so no range that begins in a slot that is not held is in reach
   pub not_held : spaces.superblock_at r.slots t (place / 4096 / 2 ^ s.top) ≡ None → IsInReach r b s t place len → ⊥
   not_held none reach = go (is_in_slot r.unit place len) (held reach)
     where
@@ -196,7 +195,7 @@ module _ (r : spaces.Content) (b : buddies.Content) (s : tables.Content) (t plac
       go true is = false≢true (sym (ap is_some (slot_is ∙ none)) ∙ is)
       go false is = false≢true is
 
-  -- .. and it lies in the superblock that stands there
+  -- a range in reach lies in the superblock of that slot
   pub home_is : (m : ℕ) → spaces.superblock_at r.slots t (place / 4096 / 2 ^ s.top) ≡ Some m → IsInReach r b s t place len → home_of r t place len ≡ Some m
   home_is m at reach = go (is_in_slot r.unit place len) (held reach)
     where
@@ -204,7 +203,7 @@ module _ (r : spaces.Content) (b : buddies.Content) (s : tables.Content) (t plac
       go true is = slot_is ∙ at
       go false is = absurd (false≢true is)
 
--- .. which is so of the fields of parts where it is so of the parts
+-- what holds of a kernel's content holds of the fields
 pub asked_opened : (r : spaces.Content) (b : buddies.Content) (s : tables.Content) (k : KernelContent) (t : ℕ) → content_of r b s ≡ k → IsRequested k.space k.buddy k.slabs t
     → IsRequested r b s t
 asked_opened r b s k t is asked = subst (λ (x : KernelContent). IsRequested x.space x.buddy x.slabs t) (sym is) asked
@@ -232,7 +231,7 @@ read_is place len xs m good reach read = rw good (rw reach (rw read refl))
 good_length : (len : ℕ) → 1 ≤ len → len ≤ 64 → (nat_le 1 len && nat_le len 64) ≡ true
 good_length len low high = and_from (nat_le 1 len) (nat_le len 64) (le-leb 1 len low) (le-leb len 64 high)
 
--- no byte is asked for, or more than 64
+-- a length of 0 or above 64 is refused
 pub read_bad : (k : KernelContent) (t place len : ℕ) → (1 ≤ len → len ≤ 64 → ⊥) → StepsMachine k t (Command.Read place len) k (Refused BadLength)
 unfolding command_step
 read_bad k t place len bad = answered k t (Command.Read place len) (Refused BadLength)
@@ -257,7 +256,7 @@ read_done k t place len xs asked low high reach is = answered k t (Command.Read 
 
 -- Writing
 
--- the machine with these bytes from a place on
+-- the machine with these bytes written from a place on
 abbrev with_bytes : ℕ → List ℕ → Machine → Machine
 with_bytes place xs m = record m { bytes = written place xs m.bytes }
 

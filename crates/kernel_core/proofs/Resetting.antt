@@ -1,4 +1,4 @@
--- All that a tenant has is taken from it; and who owns each superblock.
+-- Resetting a tenant, and the table of owners.
 use Rattle.model_core.specs.declared.owner.Owner.{Owner}
 use Rattle.std.proofs.Common.{◌≡◌, ◌≢◌, ℕ, ◌+◌, ◌<◌, ◌≤◌, nat_lt, true, if◌then◌else◌, Option, Some, None, length, map, take, count_by, slice_index_or, slice_set, refl, sym, ap, ◌∙◌, ⊎_elim, arith, List, slice_get, subst}
 use Rattle.std.proofs.lemmas.Bool.{cases_eq, cases_lt, eq-eqb, lt-ltb, le-ltb}
@@ -38,7 +38,7 @@ use Rattle.kernel_core.specs.Shows.{Shows}
 use Rattle.kernel_core.specs.Steps.{Steps}
 use Rattle.kernel_core.proofs.Worlds.{steps_done, steps_answered, unnamed}
 
--- of the first m superblocks tenant t has given up its own, this many
+-- those of the first m superblocks that tenant t owned are taken back, `told` in number
 pub record IsGivingUp (old now : Content) (t m told : ℕ) : Type 0 where
   pub small : told ≤ m
   pub count : told ≡ count_by (is_of t) (take m old.owners)
@@ -59,7 +59,7 @@ next_less n m other = ⊎_elim
     (λ le. le-ltb n (m + 1) (omega (arith, other)) ∙ sym (le-ltb n m le))
     (cases_lt n m)
 
--- the next one is the tenant's, and taken back
+-- the next superblock is the tenant's, and is taken back
 pub giving_takes : (old now : Content) (t slot m told : ℕ) → IsGivingUp old now t m told → IsSpace now → OthersStay now → m < length old.owners → owner_at now.owners m ≡ Some (owned_by t slot)
     → IsGivingUp old (with_take_back now t slot m) t (m + 1) (told + 1)
 giving_takes old now t slot m told g space stay below own =
@@ -88,7 +88,7 @@ giving_takes old now t slot m told g space stay below own =
       others = λ u other. same_twice u old now (with_take_back now t slot m) (g.others u other) (stay.take_back t slot m u other);
     }
 
--- no owner is the tenant after the giving up
+-- afterwards tenant t owns no superblock
 never_own : (t slot : ℕ) (o : Option Owner) → owner_without t o ≡ Some (owned_by t slot) → ⊥
 never_own t slot None is = some_none (sym is)
 never_own t slot (Some o) is = ⊎_elim
@@ -135,7 +135,7 @@ giving_ends old now t told space g = record {
         absurd (never_own t slot (owner_at old.owners n)
         (sym (past_all old now t (length old.owners) told g (omega arith) n (owned_below n (owned_by t slot) own)) ∙ own))
 
--- tenant t has given up all its superblocks, this many, and has no cache any more
+-- all superblocks of tenant t are taken back, `told` in number, and the tenant has no cache
 pub record IsEmptying (r r' : spaces.Content) (b : buddies.Content) (s s' : tables.Content) (t told : ℕ) : Type 0 where
   pub together : HoldTogether r b s
   pub tenant : t < length b.tenants
@@ -173,13 +173,13 @@ does_reset r r' b s s' t told g =
       spare = λ m _. ap (λ banks. spaces.bank banks m) g.gives.banks;
     }
 
--- What it is to the world
+-- What a reset does to the world
 
--- the reply
+-- the reply to a reset
 abbrev pub reset_reply : ℕ → ℕ → Reply
 reset_reply t told = record { addressee = To.Admin; body = WasReset t told }
 
--- the world after it
+-- the world after a reset
 abbrev reset_world : World → ℕ → ℕ → List (Option Owner) → WorldStep
 reset_world w t told os = record { reply = reset_reply t told; world = record { owners = map (given_up (is_of t)) os; machines = slice_set w.machines t empty_machine } }
 
@@ -202,7 +202,7 @@ reset_without_tenant k t unknown =
     steps_answered k (On.Admin (Do.Reset t)) To.Admin (Refused NoTenant)
     (λ w shown. ap (λ o. reset_step t w o) (slice_get_past w.machines t (omega (arith, shown.tenants))))
 
--- who owns each superblock
+-- the reply with the owner of each superblock
 pub steps_told : (k : KernelContent) (owners : List (Option Owner)) → owners ≡ k.space.owners → Steps k (On.Admin Do.Pool) k (record { addressee = To.Admin; body = Owners (record { items = owners }) })
 unfolding world_step
 steps_told k owners same = steps_answered k (On.Admin Do.Pool) To.Admin (Owners (record { items = owners }))

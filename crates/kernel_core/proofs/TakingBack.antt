@@ -1,4 +1,4 @@
--- A superblock is taken back from a tenant.
+-- Taking back a superblock from a tenant.
 use Rattle.std.proofs.Common.{◌≡◌, ℕ, ◌<◌, true, false, Some, None, is_some, Result, Ok, Err, length, slice_set, refl, sym, ap, ◌∙◌, subst, arith, ◌≤◌, Option, List, map, slice_get}
 use Rattle.std.proofs.lemmas.Bool.{false_from_ne_true}
 use Rattle.std.proofs.lemmas.Option.{slice_get_past}
@@ -34,11 +34,11 @@ use Rattle.kernel_core.specs.Steps.{Steps}
 use Rattle.kernel_core.proofs.Worlds.{steps_done, steps_answered, unnamed}
 use Rattle.kernel_core.proofs.Owners.{is_under, found_under, given_up_one}
 
--- tenant t has frames of slot u taken
+-- some frame of slot u of tenant t is taken
 abbrev IsBusy : buddies.Content → ℕ → ℕ → Type 0
 IsBusy b t u = HasTaken (buddies.taken_of (buddies.holding_of t b)) (slot_block b.top u)
 
--- superblock m stands under slot u of tenant t, and no frame of the slot is taken
+-- superblock m is in slot u of tenant t, and no frame of the slot is taken
 pub record IsIdle (r : spaces.Content) (b : buddies.Content) (s : tables.Content) (t u m : ℕ) : Type 0 where
   pub together : HoldTogether r b s
   pub tenant : t < length b.tenants
@@ -54,7 +54,7 @@ pub changes : (r : spaces.Content) (b : buddies.Content) (s : tables.Content) (t
     → ChangesFor t r (with_take_back r t u m) b (buddy_after t u b) s s (after_take_back s.top u)
 changes r b s t u m g = taken_back_shows r b s t u m g.together (has_row r b s t g.together.agree g.tenant) g.here g.idle
 
--- What a take-back is to the machine
+-- What a take-back does to the machine
 
 no_slot_is : (order u : ℕ) (x : Machine) → holds x u ≡ false → take_back_step order u x ≡ record { answer = Err TakeBackRefusal.NoSlot; machine = x }
 unfolding take_back_step
@@ -68,12 +68,12 @@ done_is : (order u : ℕ) (x : Machine) → holds x u ≡ true → is_busy order
 unfolding take_back_step
 done_is order u x held idle = rw held (rw idle refl)
 
--- where the slot is not held
+-- if the slot is not held, a take-back is refused
 pub take_without_slot : (k : KernelContent) (t u : ℕ) → superblock_at k t u ≡ None → Does k t (take_back_step k.order u) k.space.owners k (Err TakeBackRefusal.NoSlot)
 take_without_slot k t u none =
     does_nothing k t (take_back_step k.order u) (Err TakeBackRefusal.NoSlot) (λ x shown. no_slot_is k.order u x (shown.slots u ∙ ap is_some none))
 
--- where a frame of the slot is taken
+-- if a frame of the slot is taken, a take-back is refused
 pub take_busy : (r : spaces.Content) (b : buddies.Content) (s : tables.Content) (t u m : ℕ) → HoldTogether r b s → t < length b.tenants
     → spaces.superblock_at r.slots t u ≡ Some m → IsBusy b t u
     → Does (content_of r b s) t (take_back_step b.top u) r.owners (content_of r b s) (Err TakeBackRefusal.SlotBusy)
@@ -106,7 +106,7 @@ does_taken r b s t u m g =
       spare = g.together.space.spare.take_back t u m;
     }
 
--- What it is to the world
+-- What a take-back does to the world
 
 slot_is : (k : KernelContent) (w : World) (t u : ℕ) (x : Machine) (told : Result (Unit {0}) TakeBackRefusal) → slice_get w.machines t ≡ Some x
     → told ≡ (take_back_step k.order u x).answer
@@ -120,7 +120,7 @@ take_without_tenant k t u unknown =
     steps_answered k (On.Admin (Do.TakeBack t u)) To.Admin (Refused NoTenant)
     (λ w shown. ap (λ o. slot_step k.order t u w o) (slice_get_past w.machines t (omega (arith, shown.tenants))))
 
--- the machine refuses
+-- if the machine refuses, so does the reply
 pub take_refused : (k : KernelContent) (t n u : ℕ) (refusal : TakeBackRefusal) → t ≡ n → t < k.tenants → Does k t (take_back_step k.order u) k.space.owners k (Err refusal)
     → Steps k (On.Admin (Do.TakeBack n u)) k (record { addressee = To.Admin; body = Refused (take_back_refusal refusal) })
 take_refused k t n u refusal same known does =
@@ -130,7 +130,7 @@ take_refused k t n u refusal same known does =
     let (x, here) = get_within w.machines t (omega (arith, shown.tenants)) in
     slot_is k w t u x (Err refusal) here (does.answer x (shown.machines t x here))))
 
--- the reply
+-- the reply to a take-back
 abbrev pub taken_reply : ℕ → Reply
 taken_reply m = record { addressee = To.Admin; body = TakenBack m }
 

@@ -1,4 +1,4 @@
--- Kernels before their first event show their opening world.
+-- A kernel before its first event shows its opening world.
 use Rattle.std.proofs.Common.{ℕ, ◌≤◌, refl, arith}
 use Rattle.std.proofs.lemmas.List.{length-replicate}
 use Rattle.model_core.specs.declared.limits.TheConstants.{MOST_SUPERBLOCKS, MOST_TENANTS}

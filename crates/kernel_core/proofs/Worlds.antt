@@ -1,4 +1,4 @@
--- From what one event does to a kernel to what it does to the world that it shows, which is the only one.
+-- What an event does to the world that a kernel shows follows from what it does to the kernel. The kernel shows only one world.
 use Rattle.model_core.specs.declared.owner.Owner.{Owner}
 use Rattle.std.proofs.Common.{◌≡◌, ◌≢◌, ℕ, ◌<◌, ◌≤◌, ◌==◌, false, Option, Some, List, length, slice_get, slice_set, refl, sym, ap, ◌∙◌, subst, ⊎_elim, arith, get_or}
 use Rattle.std.proofs.lemmas.Bool.{cases_eq, eq-eqb, both_ways}
@@ -29,11 +29,11 @@ use Rattle.kernel_core.proofs.Changing.{keeps_all, marks_kept}
 use Rattle.kernel_core.specs.Steps.{is_named, Steps, StepsMachine}
 use Rattle.machine_changes.proofs.PageOne.{one_machine}
 
--- parts that keep what a tenant has show the same machine for it
+-- if the parts keep all that a tenant has, they show the same machine for it
 pub keeps_shows : (k k' : KernelContent) (t : ℕ) (m : Machine) → Keeps k k' t → ShowsMachine k t m → ShowsMachine k' t m
 keeps_shows k k' t m keeps shown = kept_shows_same k.space k'.space k.buddy k'.buddy k.slabs k'.slabs t keeps m shown
 
--- one tenant's machine changes, and the owners
+-- the world after one tenant's machine and the owners change
 pub shows_changed : (k k' : KernelContent) (w : World) (t : ℕ) (m m' : Machine) (owners : List (Option Owner)) → Shows k w → PartsAgree k' → k'.tenants ≡ k.tenants → owners ≡ k'.space.owners
     → slice_get w.machines t ≡ Some m → ShowsMachine k' t m' → ((u : ℕ) → u ≢ t → Keeps k k' u) → Shows k' (record { owners = owners; machines = slice_set w.machines t m' })
 shows_changed k k' w t m m' owners shown agree same_tenants same_owners here shown' keeps = record {
@@ -50,7 +50,7 @@ shows_changed k k' w t m m' owners shown agree same_tenants same_owners here sho
       (cases_eq u t);
 }
 
--- an answer that changes nothing
+-- a reply to an event that changes nothing
 pub steps_answered : (k : KernelContent) (event : Event) (to : Addressee) (body : Body)
     → ((w : World) → Shows k w → world_step cache_limit k.order event w ≡ answer to body w)
     → Steps k event k (record { addressee = to; body = body })
@@ -65,7 +65,7 @@ steps_answered k event to body same = record {
   spare = λ _ _. refl;
 }
 
--- What a call for one tenant does to the parts is the event's step of the world: of that tenant's machine, and of the owners.
+-- A call for one tenant does the event's step of the world: it changes that tenant's machine and the owners.
 pub steps_done : {A : Type 0} (k k' : KernelContent) (event : Event) (reply : Reply) (t : ℕ) (step : Machine → Step A) (owned : List (Option Owner)) (told : A)
     → t < k.tenants → PartsAgree k' → Does k t step owned k' told
     → ((w : World) (m : Machine) → Shows k w → ShowsMachine k t m → slice_get w.machines t ≡ Some m
@@ -88,11 +88,11 @@ steps_done k k' event reply t step owned told known agree does same only done = 
   spare = does.spare;
 }
 
--- a tenant that is not named is another one
+-- a tenant that is not named is another tenant
 pub unnamed : (t u : ℕ) → (t == u) ≡ false → u ≢ t
 unnamed t u named same = both_ways (t == u) named (eq-eqb t u (sym same))
 
--- the tenant has no machine
+-- a tenant that does not exist is refused
 pub unknown_tenant : (k : KernelContent) (t : ℕ) (command : Command) → k.tenants ≤ t
     → Steps k (On.Tenant t command) k (record { addressee = To.Nobody; body = Refused NoTenant })
 unfolding world_step tenant_step

@@ -1,4 +1,4 @@
--- What is done with a kernel from outside, one thing after another, and what a tenant sees of it.
+-- Actions on a kernel from outside, one after the other, and what a tenant sees of them.
 use Rattle.std.specs.Prelude.{◌≡◌, ℕ, ◌<◌, ◌==◌, List, [], ◌∷◌, ◌++◌, Option, Some, map, if◌then◌else◌}
 use Rattle.model_core.specs.Machine.{Machine, empty_machine}
 use Rattle.model_core.specs.Operations.{write_step}
@@ -15,9 +15,9 @@ use Rattle.kernel_core.specs.Steps.{Steps}
 use Rattle.kernel_core.specs.Stores.{IsKernel, Stores, Loads}
 
 pub data Action : Type 0 where
-  -- an event is run, and answered
+  -- an event is run and gets this reply
   Runs : Event → Reply → Action
-  -- a tenant's bytes from a place on become these
+  -- a tenant stores these bytes from a place on
   StoresAt : ℕ → ℕ → List ℕ → Action
   -- a tenant loads the byte at a place
   LoadsAt : ℕ → ℕ → ℕ → Action
@@ -28,7 +28,7 @@ Acts k (Runs event reply) k' = Steps k event k' reply × IsKernel k'
 Acts k (StoresAt t place bytes) k' = Stores k t place bytes k'
 Acts k (LoadsAt t place byte) k' = Loads k t place byte × (k' ≡ k)
 
--- a list of actions does
+-- a list of actions leads from one kernel to another
 abbrev pub AllAct : KernelContent → List Action → KernelContent → Type 0
 AllAct k [] k' = k' ≡ k
 AllAct k (action ∷ actions) k' = (next : KernelContent) × Acts k action next × AllAct next actions k'
@@ -48,7 +48,7 @@ abbrev pub sights_of : ℕ → List Action → List Sight
 sights_of t [] = []
 sights_of t (action ∷ actions) = sights_in t action ++ sights_of t actions
 
--- all that reaches the machine of a tenant: an entry, bytes stored, a byte loaded
+-- all that reaches the machine of a tenant: entries, stores of bytes, and loads of a byte
 pub data Own : Type 0 where
   Enters : Entry → Own
   Stored : ℕ → List ℕ → Own
@@ -59,12 +59,12 @@ own_in t (Runs event reply) = map Enters (own_entries t event reply.body)
 own_in t (StoresAt named place bytes) = if named == t then Stored place bytes ∷ [] else []
 own_in t (LoadsAt named place byte) = if named == t then LoadedAt place ∷ [] else []
 
--- the tenant's own list. It has no byte that is loaded.
+-- the tenant's own list; it does not contain the bytes that are loaded
 abbrev pub own_actions : ℕ → List Action → List Own
 own_actions t [] = []
 own_actions t (action ∷ actions) = own_in t action ++ own_actions t actions
 
--- what is seen, and the machine after
+-- what is seen, and the machine afterwards
 pub record OwnSeen : Type 0 where
   pub sights : List Sight
   pub machine : Machine
@@ -77,7 +77,7 @@ own_step limit order (Enters entry) m = record {
 own_step limit order (Stored place bytes) m = record { sights = []; machine = (write_step place bytes m).machine }
 own_step limit order (LoadedAt place) m = record { sights = Loaded (m.bytes place) ∷ []; machine = m }
 
--- the private machine over an own list
+-- what the private machine does over an own list
 abbrev pub own_seen : ℕ → ℕ → List Own → Machine → OwnSeen
 own_seen limit order [] m = record { sights = []; machine = m }
 own_seen limit order (own ∷ owns) m = record {
@@ -85,21 +85,21 @@ own_seen limit order (own ∷ owns) m = record {
   machine = (own_seen limit order owns (own_step limit order own m).machine).machine;
 }
 
--- the kernel that boot made, of so many superblocks and tenants
+-- the kernel after boot, with these numbers of superblocks and tenants
 pub record IsBooted (k : KernelContent) (superblocks tenants : ℕ) : Type 0 where
   pub kernel : IsKernel k
   pub shows : Shows k (opening_world superblocks tenants)
 
--- Whatever the others do: from boot on, what a tenant sees is what its private machine gives to its own list, and that machine
--- is the one that the kernel shows.
+-- From boot on, a tenant sees what its private machine gives for its own list, and the kernel shows that machine for it. The
+-- others may do anything.
 abbrev pub OwnSights : Type 0
 OwnSights = (k k' : KernelContent) (superblocks tenants t : ℕ) (actions : List Action) →
     IsBooted k superblocks tenants → t < tenants → AllAct k actions k' →
     (sights_of t actions ≡ (own_seen cache_limit k.order (own_actions t actions) empty_machine).sights)
     × ShowsMachine k' t (own_seen cache_limit k.order (own_actions t actions) empty_machine).machine
 
--- So a tenant sees the same on two machines of one order, with any numbers of superblocks and tenants, where its own lists are
--- equal.
+-- So a tenant sees the same on two machines of one order if its own lists are equal. The numbers of superblocks and tenants may
+-- differ.
 abbrev pub SameSights : Type 0
 SameSights = (k k' l l' : KernelContent) (superblocks tenants superblocks' tenants' t : ℕ) (actions actions' : List Action) →
     IsBooted k superblocks tenants → IsBooted l superblocks' tenants' → l.order ≡ k.order → t < tenants → t < tenants' →

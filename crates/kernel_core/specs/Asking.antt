@@ -1,4 +1,4 @@
--- What a kernel is after a request, once the bytes that the answer lends are given back.
+-- The kernel after a request, once the borrow of the answer's bytes has ended.
 use Rattle.std.specs.Prelude.{◌≡◌, ℕ, Option, MatchOption}
 use Rattle.std.specs.Borrow.{Fml, MutBor}
 use Rattle.std.specs.Io.BufRead.{Rests}
@@ -26,7 +26,8 @@ abbrev pub RestsRequestedKnown : MutBor KernelContent → ℕ → Request → An
 RestsRequestedKnown kernel t request answer =
     Rests the_row kernel (λ after. Steps kernel.now (Event.Tenant t (command_of request)) after (reply_of_answer t answer))
 
--- the request of a tenant was a step of the world, with the answer to that tenant; if there is no such tenant, nobody gets one
+-- the request of a tenant was a step of the world, with the answer to that tenant; if there is no such tenant, nobody gets a
+-- reply
 abbrev pub HasAsked : KernelContent → ℕ → Request → Option (ℕ × Answer) → KernelContent → Type 0
 HasAsked before tenant request result after = MatchOption result
     (Steps before (Event.Tenant tenant (command_of request)) after (record { addressee = Addressee.Nobody; body = Body.Refused Refusal.NoTenant }))

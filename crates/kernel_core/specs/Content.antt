@@ -1,4 +1,4 @@
--- What a kernel is made of: the memory with its pool, the buddy systems of all tenants, and the tables of their caches.
+-- The parts of a kernel: the memory with its pool, the buddy systems of all tenants, and the tables of their caches.
 use Rattle.std.specs.Prelude.{◌≡◌, ℕ, ◌*◌, ◌^◌, ◌≤◌, Bool, true, false, Option, Some, None, List, length}
 use Rattle.model_core.specs.declared.owner.Owner.{Owner}
 use Rattle.model_core.specs.declared.limits.TheConstants.{FRAME_BYTES, MOST_ORDER, MOST_SUPERBLOCKS, MOST_TENANTS}
@@ -11,14 +11,14 @@ use Rattle.machine_changes.specs.Keeps as keeping
 pub record KernelContent : Type 0 where
   -- a superblock has 2 ^ order frames of 4096 bytes
   pub order : ℕ
-  -- how many superblocks there are, and how many tenants, numbered from 0
+  -- the numbers of superblocks and of tenants, both of which are numbered from 0
   pub superblocks : ℕ
   pub tenants : ℕ
   pub space : spaces.Content
   pub buddy : buddies.Content
   pub slabs : tables.Content
 
--- a memory with buddy systems, which tell the sizes, and caches
+-- the kernel of a memory, of buddy systems, which give the sizes, and of tables of caches
 abbrev pub content_of : spaces.Content → buddies.Content → tables.Content → KernelContent
 content_of space buddy slabs = record {
   order = buddy.top;
@@ -29,7 +29,7 @@ content_of space buddy slabs = record {
   slabs = slabs;
 }
 
--- the superblock under a tenant's slot
+-- the superblock in a tenant's slot
 abbrev pub superblock_at : KernelContent → ℕ → ℕ → Option ℕ
 superblock_at k t slot = spaces.superblock_at k.space.slots t slot
 
@@ -37,8 +37,8 @@ superblock_at k t slot = spaces.superblock_at k.space.slots t slot
 abbrev pub superblock_bytes : KernelContent → ℕ → List ℕ
 superblock_bytes k m = spaces.bank k.space.banks m
 
--- The parts agree: on their sizes, on the superblock under each slot of each tenant, and on each slab, which is a taken block of
--- its tenant with a record that tells its live objects. By `space` no two superblocks have the same owner and slot.
+-- The parts agree on their sizes, on the superblock in each slot of each tenant, and on each slab. A slab is a taken block of
+-- its tenant, and its record shows its live objects. By `space` no two superblocks have the same owner and slot.
 pub record PartsAgree (k : KernelContent) : Type 0 where
   pub space : spaces.IsSpace k.space
   pub order : k.order ≤ MOST_ORDER
@@ -60,26 +60,26 @@ opening_content order superblocks tenants = record {
   slabs = tables.empty_tables order superblocks tenants;
 }
 
--- the sizes are as they were
+-- the sizes are unchanged
 pub record SameSizes (old new : KernelContent) : Type 0 where
   pub order : new.order ≡ old.order
   pub superblocks : new.superblocks ≡ old.superblocks
   pub tenants : new.tenants ≡ old.tenants
 
--- The mark of a superblock, by its owners before and after and by its mark before: set where it lost its owner, cleared
--- where it got one.
+-- The mark of a superblock, from its owners before and after and its mark before. It is set if the superblock lost its owner,
+-- and cleared if it got one.
 abbrev pub mark_after : Option Owner → Option Owner → Bool → Bool
 mark_after (Some owner) None was = true
 mark_after None (Some owner) was = false
 mark_after None None was = was
 mark_after (Some owner) (Some next) was = was
 
--- the owners decide each superblock's mark
+-- each superblock's mark follows from its owners
 abbrev pub MarksFollow : spaces.Content → spaces.Content → Type 0
 MarksFollow old new = (m : ℕ) → spaces.mark_at new.marks m
     ≡ mark_after (spaces.owner_at old.owners m) (spaces.owner_at new.owners m) (spaces.mark_at old.marks m)
 
--- All that a tenant has is as it was: which superblocks stand under its slots, all bytes of these, control records included,
--- its taken blocks, its caches and its slabs.
+-- A tenant keeps everything: the superblocks in its slots with all their bytes and control records, its taken blocks, its
+-- caches and its slabs.
 abbrev pub Keeps : KernelContent → KernelContent → ℕ → Type 0
 Keeps old new t = keeping.Keeps old.space new.space old.buddy new.buddy old.slabs new.slabs t

@@ -8,9 +8,10 @@ use Rattle.space_core.specs.Laws.{SpareStays}
 use Rattle.kernel_core.specs.Content.{KernelContent, SameSizes, MarksFollow, Keeps, superblock_at}
 use Rattle.kernel_core.specs.Shows.{ShowsMachine}
 
--- The call answers, and makes of whichever machine the parts show for tenant t, what this step of a private machine does. All
--- other tenants keep everything. Afterwards these are the owners of the superblocks; a superblock is marked where it lost its
--- owner, unmarked where it got one, and keeps its bytes where it has none.
+-- The call does this step of a private machine: if the parts showed a machine for tenant t, they now show the machine after the
+-- step, and the call returns the step's answer. All other tenants keep everything. `owned` are the owners of the superblocks
+-- afterwards. A superblock that lost its owner is marked, one that got an owner is unmarked, and one without owner keeps its
+-- bytes.
 pub record Does {A : Type 0} (old : KernelContent) (t : ℕ) (step : Machine → Step A) (owned : List (Option Owner)) (new : KernelContent) (told : A) : Type 0 where
   pub sizes : SameSizes old new
   pub shows : (m : Machine) → ShowsMachine old t m → ShowsMachine new t (step m).machine
@@ -20,20 +21,20 @@ pub record Does {A : Type 0} (old : KernelContent) (t : ℕ) (step : Machine →
   pub marks : MarksFollow old.space new.space
   pub spare : SpareStays old.space new.space
 
--- The steps of the administrator's calls that no command of the tenant's own has
+-- The steps of the administrator's calls that are not commands of a tenant
 
--- a superblock granted, under the least slot that is not held
+-- a superblock is granted as the least slot that is not held
 abbrev pub slot_grant_step : ℕ → Machine → Step ℕ
 slot_grant_step order m = record { answer = next_slot m; machine = after_grant order m }
 
--- everything taken
+-- everything is taken back
 abbrev pub machine_reset_step : Machine → Step (Unit {0})
 machine_reset_step m = record { answer = tt; machine = empty_machine }
 
 abbrev pub no_step : Machine → Step (Unit {0})
 no_step m = record { answer = tt; machine = m }
 
--- slot u of tenant t stands over superblock `to` in place of the one that was under it, which has no owner any more
+-- slot u of tenant t is moved to superblock `to`; the superblock that was in it has no owner afterwards
 pub record Moves (old : KernelContent) (t u to : ℕ) (new : KernelContent) : Type 0 where
   pub from : ℕ
   pub under : superblock_at old t u ≡ Some from

@@ -1,4 +1,4 @@
--- What a frame of a private machine is.
+-- The kind of a frame of a private machine.
 use Rattle.std.specs.Prelude.{◌≡◌, ℕ, ◌+◌, ◌/◌, ◌^◌, ◌<◌, ◌≤◌, Bool, true, false, Some}
 use Rattle.model_core.specs.Blocks.{HasFrame, IsTaken, Taken}
 use Rattle.model_core.specs.Machine.{Slab, Cache, Machine, holds, order_in, taken_in, slab_block}
@@ -15,7 +15,7 @@ pub record IsInSlab (m : Machine) (f : ℕ) (test : Slab → Bool) : Type 0 wher
   pub here : HasFrame (slab_block cache slab) f
   pub passes : test slab ≡ true
 
--- what frame f of the machine is; a slot has 2 ^ order frames
+-- the kind of frame f of the machine; a slot has 2 ^ order frames
 abbrev pub IsFrame : ℕ → Machine → ℕ → FrameKind → Type 0
 IsFrame order m f FrameKind.NotHeld = holds m (f / 2 ^ order) ≡ false
 IsFrame order m f FrameKind.Free = (holds m (f / 2 ^ order) ≡ true) × (IsTaken (taken_in m) f → ⊥)
@@ -24,6 +24,6 @@ IsFrame order m f FrameKind.Full = IsInSlab m f is_full
 IsFrame order m f FrameKind.Partial = IsInSlab m f is_partial
 IsFrame order m f FrameKind.Empty = IsInSlab m f is_empty
 
--- each taken block that begins before a frame ends there or before
+-- each taken block that begins before frame x ends at or before x
 abbrev pub AreEndedBefore : Taken → ℕ → Type 0
 AreEndedBefore taken x = (f k : ℕ) → taken f ≡ Some k → f < x → f + 2 ^ k ≤ x

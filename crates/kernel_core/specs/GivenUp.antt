@@ -1,4 +1,4 @@
--- All superblocks of one tenant taken back.
+-- Taking back all superblocks of one tenant.
 use Rattle.std.specs.Prelude.{◌≡◌, ◌≢◌, ℕ, Option, None, length, map, count_by, if◌then◌else◌}
 use Rattle.model_core.specs.declared.owner.Owner.{Owner}
 use Rattle.model_core.specs.Owners.{is_of}
@@ -6,11 +6,11 @@ use Rattle.space_core.specs.Content.{Content, superblock_at}
 use Rattle.space_core.specs.Laws.{IsSameFor}
 use Rattle.kernel_core.specs.Content.{MarksFollow}
 
--- no owner, where the owner was tenant t
+-- the owner, or none if it was tenant t
 abbrev pub owner_without : ℕ → Option Owner → Option Owner
 owner_without t owner = if is_of t owner then None else owner
 
--- Tenant t has given up all its superblocks, this many: they are marked, and no byte changes. All other tenants keep
+-- All superblocks of tenant t are taken back, `told` in number. They are marked, and no byte changes. All other tenants keep
 -- theirs.
 pub record GivesUp (old new : Content) (t told : ℕ) : Type 0 where
   pub count : told ≡ count_by (is_of t) old.owners

@@ -1,4 +1,4 @@
--- Bytes lent where they lie: what a caller finds there, and what becomes of the parts when it hands them back.
+-- Bytes lent in place: what a caller finds there, and what the parts are when the borrow ends.
 use Rattle.std.specs.Prelude.{◌⊎◌, ◌≤◌, if◌then◌else◌, nat_lt, ◌≡◌, ℕ, ◌+◌, ◌*◌, ◌/◌, ◌^◌, ◌<◌, ◌++◌, true, List, [], Some, length, take, drop, unwrap_or, slice_index}
 use Rattle.std.specs.Borrow.{Lends, MutBor, Fml, Array, u8}
 use Rattle.words_core.specs.declared.reply.Addressee.{Addressee}
@@ -18,22 +18,22 @@ use Rattle.kernel_core.specs.Shows.{ShowsMachine}
 use Rattle.kernel_core.specs.declared.lending.Span.{Span}
 use Rattle.kernel_core.specs.contracts.kernel.Kernel.{the_row}
 
--- ws, cut or filled up from xs, so that it is as long as xs. What is left in a slice of these xs is as long already, and is itself
+-- ws, cut or extended by the end of xs to the length of xs; if ws is as long as xs, it is ws
 abbrev pub fit : List ℕ → List ℕ → List ℕ
 fit xs ws = take (length xs) (ws ++ drop (length ws) xs)
 
--- the bytes of tenant t from a place on, and the memory with these left there
+-- the `len` bytes of tenant t from the place on, or none if they do not lie in one held slot
 abbrev pub bytes_in : Content → ℕ → ℕ → ℕ → List ℕ
 bytes_in r t place len = unwrap_or (window_of r t place len) []
 
 abbrev pub LendsWithin : MutBor Content → ℕ → ℕ → ℕ → MutBor (List ℕ) → Fml
 LendsWithin s t place len r = Lends spaces.the_row (Array u8 0) s r (λ ws. with_window s.now t place len (fit (bytes_in s.now t place len) ws))
 
--- the parts with these bytes left in that range
+-- the parts with the bytes ws left in the range, cut or extended to its length
 abbrev pub with_left : KernelContent → ℕ → ℕ → ℕ → List ℕ → KernelContent
 with_left k t place len ws = record k { space = stored t place (fit (bytes_in k.space t place len) ws) k.space }
 
--- the bytes of the span end as the last value written through r, and all else stays
+-- when the borrow ends, the span has the last value written through r, and all else is as before
 abbrev pub LendsSpan : MutBor KernelContent → Span → MutBor (List ℕ) → Fml
 LendsSpan s span r = Lends the_row (Array u8 0) s r (with_left s.now span.tenant span.place span.bytes)
 
@@ -48,8 +48,8 @@ pub record HasBytes (m : Machine) (place : ℕ) (bytes : List ℕ) : Type 0 wher
   pub reach : in_reach m place (length bytes) ≡ true
   pub each : (i : ℕ) → i < length bytes → m.bytes (place + i) ≡ Some (slice_index bytes i)
 
--- These are the `len` bytes of tenant t from the place on, and the private machine's. As many that are left there are stored; where
--- these are left, nothing has changed.
+-- These are the `len` bytes of tenant t from the place on, and those of its private machine. If as many bytes are left there,
+-- they are stored. If the same bytes are left there, nothing changes.
 pub record IsLent (k : KernelContent) (t place len : ℕ) (bytes : List ℕ) : Type 0 where
   pub count : length bytes ≡ len
   pub reach : IsInReach k.space k.buddy k.slabs t place len
@@ -57,7 +57,7 @@ pub record IsLent (k : KernelContent) (t place len : ℕ) (bytes : List ℕ) : T
   pub left : (ws : List ℕ) → length ws ≡ len → with_left k t place len ws ≡ record k { space = stored t place ws k.space }
   pub kept : with_left k t place len bytes ≡ k
 
--- the machine has a live page block of `bytes` bytes from place `begin` on, and the place is in it
+-- the machine has a live page block of `bytes` bytes that begins at place `begin`, and the place is in it
 pub record HasBlock (m : Machine) (place begin bytes : ℕ) : Type 0 where
   pub first : ℕ
   pub order : ℕ
@@ -72,10 +72,10 @@ pub record IsBlockSpan (span : Span) (t frame order : ℕ) : Type 0 where
   pub place : span.place ≡ FRAME_BYTES * frame
   pub bytes : span.bytes ≡ FRAME_BYTES * 2 ^ order
 
--- nothing is lent: there is no such tenant, or this is why
+-- nothing is lent, because there is no such tenant, or because of `Why`
 abbrev pub IsNotLent : KernelContent → ℕ → (Refusal → Type 0) → Refusal → Type 0
 IsNotLent k tenant Why refusal = ((k.tenants ≤ tenant) × (refusal ≡ Refusal.NoTenant)) ⊎ ((tenant < k.tenants) × Why refusal)
 
--- the reply to a tenant, if there is one
+-- the reply to the tenant, or to nobody if there is no such tenant
 abbrev pub reply_for : KernelContent → ℕ → Body → Reply
 reply_for k tenant body = record { addressee = if nat_lt tenant k.tenants then Addressee.Tenant tenant else Addressee.Nobody; body = body }

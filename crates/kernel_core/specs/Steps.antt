@@ -1,4 +1,4 @@
--- What one event does to a kernel, and what one command of a tenant does to what that tenant has.
+-- What an event does to a kernel, and what a tenant's command does to the tenant's part of it.
 use Rattle.std.specs.Prelude.{◌≡◌, ℕ, ◌==◌, Bool, true, false, Result, Ok, Err}
 use Rattle.words_core.specs.declared.reply.Addressee.{Addressee}
 use Rattle.words_core.specs.declared.event.AdminCommand.{AdminCommand}
@@ -27,7 +27,7 @@ is_named t (Event.Admin (AdminCommand.Reset tenant)) = tenant == t
 is_named t (Event.Admin (AdminCommand.Move tenant slot)) = tenant == t
 is_named t (Event.Admin AdminCommand.Pool) = false
 
--- the pattern of a cache that the event asks for has 1 to 16 bytes
+-- the pattern of the cache that the event requests has 1 to 16 bytes
 abbrev pub HasPattern : Event → Type 0
 HasPattern (Event.Tenant t command) = AsksPattern command
 HasPattern (Event.Admin command) = Unit {0}
@@ -47,11 +47,11 @@ pub record StepsMachine (old : KernelContent) (t : ℕ) (command : Command) (new
   pub does : Does old t (command_step cache_limit old.order command) old.space.owners new body
   pub refused : is_refused body ≡ true → new ≡ old
 
--- what a reply says of what a command gave, or of why it was refused
+-- the body of a reply: what the command returned, or the refusal
 abbrev pub body_of : {A : Type 0} → (A → Body) → Result A Refusal → Body
 body_of said (Ok given) = said given
 body_of said (Err refusal) = Body.Refused refusal
 
--- the reply to the administrator: what its command gave, or why it was refused
+-- the reply to the administrator: what its command returned, or the refusal
 abbrev pub to_admin : Result Answer Refusal → Reply
 to_admin result = record { addressee = Addressee.Admin; body = body_of body_of_answer result }

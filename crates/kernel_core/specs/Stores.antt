@@ -1,4 +1,4 @@
--- What is done without a call to the bytes of a live page block or a live object: they are stored and loaded where they lie.
+-- Stores and loads, without a call, of the bytes of a live page block or a live object in place.
 use Rattle.std.specs.Prelude.{◌≡◌, ℕ, ◌<◌, List, Some, length, slice_get}
 use Rattle.model_core.specs.Machine.{Machine}
 use Rattle.words_core.specs.declared.reply.Addressee.{Addressee}
@@ -13,32 +13,31 @@ use Rattle.kernel_core.specs.Content.{KernelContent, PartsAgree}
 use Rattle.kernel_core.specs.Shows.{Shows}
 use Rattle.kernel_core.specs.Steps.{Steps}
 
--- what holds of the parts of every kernel
+-- the invariants of every kernel
 pub record IsKernel (k : KernelContent) : Type 0 where
   pub agree : PartsAgree k
   pub together : HoldTogether k.space k.buddy k.slabs
 
--- The bytes of tenant t from a place on, all inside one live page block or one live object, are these now, and nothing else
--- has changed.
+-- Tenant t stores these bytes from the place on, all inside one live page block or one live object. Nothing else changes.
 pub record Stores (k : KernelContent) (t place : ℕ) (bytes : List ℕ) (k' : KernelContent) : Type 0 where
   pub tenant : t < k.tenants
   pub reach : IsInReach k.space k.buddy k.slabs t place (length bytes)
   pub is : k' ≡ record k { space = stored t place bytes k.space }
 
--- tenant t has this byte at a place inside a live page block or a live object
+-- tenant t loads this byte at a place inside a live page block or a live object
 pub record Loads (k : KernelContent) (t place byte : ℕ) : Type 0 where
   pub tenant : t < k.tenants
   pub reach : IsInReach k.space k.buddy k.slabs t place 1
   pub is : byte_at k.space t place ≡ Some byte
 
--- a store is the step of the write of these bytes, however many, and leaves a kernel
+-- a store of any number of bytes is the step of a write of these bytes, and the kernel keeps its invariants
 abbrev pub StoresAreWrites : Type 0
 StoresAreWrites = (k k' : KernelContent) (t place : ℕ) (bytes : List ℕ) → IsKernel k → Stores k t place bytes k' →
     IsKernel k'
     × Steps k (Event.Tenant t (Command.Write place (record { items = bytes }))) k'
     (record { addressee = Addressee.Tenant t; body = Body.Written (length bytes) })
 
--- what is loaded is the byte of the private machine
+-- a loaded byte is the byte of the private machine
 abbrev pub LoadsAreOwn : Type 0
 LoadsAreOwn = (k : KernelContent) (w : World) (m : Machine) (t place byte : ℕ) → IsKernel k → Shows k w →
     slice_get w.machines t ≡ Some m → Loads k t place byte → m.bytes place ≡ Some byte

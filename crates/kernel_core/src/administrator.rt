@@ -18,9 +18,9 @@ use space_core::{MoveRefusal, PoolEmpty, Space};
 use words_core::{Addressee, Answer, Body, OWNERS, Refusal, Reply};
 
 impl Kernel {
-    /// Gives the tenant the least superblock without an owner, as the least slot that it does not hold.
+    /// Grants the tenant the first superblock without an owner, as the least slot that it does not hold.
     ///
-    /// Refused with `NoTenant`, then with `PoolEmpty` if every superblock has an owner.
+    /// Refuses with `NoTenant`, then with `PoolEmpty` if every superblock has an owner.
     pub(crate) fn grant(&mut self, tenant: u32) -> Result<Answer<'static>, Refusal>
         ensures steps { PartsAgree self.new
             → Steps self.old (On.Admin (Do.Grant tenant)) self.new (to_admin result) }
@@ -42,10 +42,10 @@ impl Kernel {
         })
     }
 
-    /// Takes a slot of the tenant back.
+    /// Takes back a slot of the tenant.
     ///
-    /// Refused with `NoTenant`, then with `NoSlot` if the tenant does not hold the slot, then with `SlotBusy` if a frame of it is
-    /// taken by a page block or by a slab, even an empty one.
+    /// Refuses with `NoTenant`, then with `NoSlot` if the tenant does not hold the slot, then with `SlotBusy` if a frame of it
+    /// is in a page block or in a slab, even an empty one.
     pub(crate) fn take_back(&mut self, tenant: u32, slot: u32) -> Result<Answer<'static>, Refusal>
         ensures steps { PartsAgree self.new
             → Steps self.old (On.Admin (Do.TakeBack tenant slot)) self.new (to_admin result) }
@@ -68,8 +68,8 @@ impl Kernel {
         Ok(Answer::TakenBack(superblock))
     }
 
-    /// Takes everything that the tenant has, including its caches, and returns the number of its superblocks. Refused only with
-    /// `NoTenant`.
+    /// Takes back everything that the tenant has, including its caches, and returns the number of its superblocks. Refuses only
+    /// with `NoTenant`.
     pub(crate) fn reset(&mut self, tenant: u32) -> Result<Answer<'static>, Refusal>
         ensures steps { PartsAgree self.new
             → Steps self.old (On.Admin (Do.Reset tenant)) self.new (to_admin result) }
@@ -89,9 +89,11 @@ impl Kernel {
         })
     }
 
-    /// Replaces the superblock in a slot by the least one without an owner, with all its bytes. Nothing changes for the tenant.
+    /// Moves a slot of the tenant to the first superblock without an owner. All its bytes are copied, so nothing changes for the
+    /// tenant.
     ///
-    /// Refused with `NoTenant`, then with `NoSlot`, then with `PoolEmpty`.
+    /// Refuses with `NoTenant`, then with `NoSlot` if the tenant does not hold the slot, then with `PoolEmpty` if every
+    /// superblock has an owner.
     pub(crate) fn move_slot(&mut self, tenant: u32, slot: u32) -> Result<Answer<'static>, Refusal>
         ensures steps { PartsAgree self.new
             → Steps self.old (On.Admin (Do.Move tenant slot)) self.new (to_admin result) }
@@ -128,7 +130,7 @@ impl Kernel {
         }
     }
 
-    /// Borrows the owners of all superblocks, in ascending order: the contents of the reply of [`Kernel::pool`].
+    /// Borrows the owners of all superblocks, indexed by superblock. They are the contents of the reply of [`Kernel::pool`].
     pub fn owners(&self) -> &[Option<Owner>]
         ensures steps { Steps self.now (On.Admin Do.Pool) self.now
             (record { addressee = Admin; body = Say.Owners (record { items = result.now }) }) }
@@ -150,7 +152,7 @@ fn copied(owners: &[Option<Owner>]) -> ArrayVec<Option<Owner>, OWNERS>
     copied
 }
 
-/// Takes back every superblock of tenant `t` and returns how many there were.
+/// Takes back every superblock of tenant `t` and returns their number.
 fn give_up(space: &mut Space, superblocks: u16, t: u8) -> u16
     requires tenant { t < length space.old.slots }
     requires all { superblocks ≡ length space.old.owners }

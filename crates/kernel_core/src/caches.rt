@@ -1,4 +1,4 @@
-//! Caches and objects of a tenant.
+//! A tenant's commands on caches and objects.
 
 ghost use Rattle.std.specs.Prelude.{◌≡◌, ◌<◌, IfOk, true, false};
 ghost use Rattle.model_core.specs.Layouts.{is_pattern};
@@ -16,8 +16,11 @@ use slab_core::Taken;
 use words_core::{Answer, Refusal};
 
 impl Kernel {
-    /// Makes a cache for objects of `size` bytes at multiples of `align` bytes, which are constructed with the pattern.
-    // Inlined: a call would leave its answer in memory, and every request would clear that memory and read its own answer from it.
+    /// Makes a cache for objects of `size` bytes at multiples of `align` bytes, constructed with the pattern.
+    ///
+    /// Refuses with `BadSize`, then with `BadAlign`, then with `NoCacheSlot` if all numbers are used.
+    // Always inlined: a call would leave its answer in memory, and every request would clear that memory and read its own answer
+    // from it.
     #[inline(always)]
     pub(crate) fn make_cache(
         &mut self,
@@ -71,8 +74,8 @@ impl Kernel {
         Ok(self.slabs.take(&mut self.space, &mut self.buddy, t, cache)?)
     }
 
-    /// The same as [`Kernel::take`], with all that a caller needs to lend the object.
-    // Inlined: what it returns is then kept in registers, and not written to memory and read again.
+    /// The same as [`Kernel::take`]. It also returns all that a caller needs to lend the object.
+    // Always inlined: its result is then kept in registers, not written to memory and read again.
     #[inline(always)]
     pub(crate) fn take_object(&mut self, t: u8, cache: u32) -> Result<Taken, Refusal>
         requires { t < self.old.tenants }

@@ -51,8 +51,9 @@ impl Kernel {
         }
     }
 
-    /// Sets cells to the kinds of the frames of a slot of tenant `t`, from its first frame on: [`Kernel::frame_at`] of each,
-    /// one block at a time. Cells behind those of the slot may be set to anything.
+    /// Sets cells to the kinds of the frames of a slot of tenant `t`, from its first frame on. Each is that of
+    /// [`Kernel::frame_at`], but this function looks up each block only once. Cells past those of the slot may be set to
+    /// anything.
     pub fn show_frames(&self, t: u8, slot: u16, cells: &mut [FrameKind])
         requires { t < self.now.tenants }
         ensures { (m : Machine) (k : ℕ) (cell : FrameKind) → ShowsMachine self.now t m → k < 2 ^ self.now.order
@@ -68,7 +69,7 @@ impl Kernel {
         }
     }
 
-    /// [`Kernel::show_frames`] for a slot with this superblock.
+    /// The same as [`Kernel::show_frames`] for a slot with this superblock.
     fn show_held(&self, superblock: u16, t: u8, slot: u16, cells: &mut [FrameKind])
         requires tenant { t < self.now.tenants }
         requires held { superblock_at self.now t slot ≡ Some superblock }
@@ -97,8 +98,9 @@ impl Kernel {
         u32::from(slot) << self.order()
     }
 
-    /// Returns the kind of a frame of tenant `t` that is not inside a block that begins before it, and the number of frames of
-    /// this kind from it on: those of the block that begins there, or one if none does. `order` is the order of that block.
+    /// Returns the kind of a frame of tenant `t`, and the number of frames of this kind from it on. These are the frames of the
+    /// taken block that begins there, or one free frame if none does. `order` is the order of that block. No block that begins
+    /// before the frame may contain it.
     fn run_at(&self, superblock: u16, t: u8, first: u32, order: Option<u8>) -> (FrameKind, usize)
         requires tenant { t < self.now.tenants }
         requires held { superblock_at self.now t (first / 2 ^ self.now.order) ≡ Some superblock }
@@ -139,7 +141,7 @@ impl Kernel {
         self.superblock_of(t, frame >> self.order()).is_some()
     }
 
-    /// Returns the list of the slab that begins at a frame of tenant `t`, if one does.
+    /// Returns the list of the slab that begins at a frame of tenant `t`, or `None` if none begins there.
     fn list_at(&self, t: u8, first: u32) -> Option<ListId>
         requires { t < self.now.tenants }
         ensures { MatchOption result
@@ -166,7 +168,7 @@ impl Kernel {
         Some(ListId { number })
     }
 
-    /// Returns the machine frame at a frame of tenant `t`, if it holds the slot.
+    /// Returns the machine frame at a frame of tenant `t`, or `None` if the tenant does not hold the slot.
     fn machine_frame_of(&self, t: u8, frame: u32) -> Option<u32>
         requires { t < self.now.tenants }
         ensures value { result ≡ machine_frame_of self.now.slabs.top self.now.space.slots t frame }
@@ -202,8 +204,8 @@ fn kind_in(list: ListId) -> FrameKind
     }
 }
 
-/// Sets the cells from `begin` up to `end`, which are free so far. Most blocks have one frame. Its cell is set without the loop
-/// for more, which is compiled to a call of `memset`.
+/// Sets the cells from `begin` up to `end`, which are `Free` before. Most blocks have one frame, and its cell is set without
+/// the loop, which is compiled to a call of `memset`.
 fn set_cells(cells: &mut [FrameKind], begin: usize, end: usize, kind: FrameKind)
     requires inside { end ≤ length cells.old }
     requires free { (k : ℕ) (cell : FrameKind) → begin ≤ k → k < end → slice_get cells.old k ≡ Some cell → cell ≡ Free }
@@ -232,7 +234,7 @@ fn set_cell(cells: &mut [FrameKind], at: usize, kind: FrameKind)
     cells[at] = kind;
 }
 
-/// Sets any number of cells.
+/// Sets the cells from `begin` up to `end`.
 fn set_more_cells(cells: &mut [FrameKind], begin: usize, end: usize, kind: FrameKind)
     requires { end ≤ length cells.old }
     ensures set { (k : ℕ) (cell : FrameKind) → begin ≤ k → k < end → slice_get cells.new k ≡ Some cell → cell ≡ kind }

@@ -12,11 +12,11 @@ use words_core::Refusal;
 /// A live object or a live page block.
 #[derive(Clone, Copy, Debug, PartialEq, Eq)]
 pub struct Holder {
-    /// The number of the object's cache. None of a page block.
+    /// The number of the object's cache, or `None` for a page block.
     pub cache: Option<u32>,
     /// The place of its first byte.
     pub place: u32,
-    /// How many bytes it has.
+    /// The number of its bytes.
     pub bytes: u32,
 }
 
@@ -27,7 +27,7 @@ impl Kernel {
 
     /// Returns the live object or the live page block of a tenant that the byte at `place` lies in.
     ///
-    /// Refuses with `NoTenant`, and with `OutOfReach` if the byte lies in none.
+    /// Refuses with `NoTenant`, then with `OutOfReach` if the byte lies in none.
     #[inline(always)]
     pub fn holder(&self, tenant: u32, place: u32) -> Result<Holder, Refusal>
         ensures tenant { IfOk result (λ holder. tenant < self.now.tenants) }
@@ -41,7 +41,7 @@ impl Kernel {
         self.holder_of(t, place).ok_or(Refusal::OutOfReach)
     }
 
-    /// The live object or the live page block of tenant `t` that a byte lies in, if it lies in one.
+    /// Returns the live object or the live page block of tenant `t` that a byte lies in, or `None` if it lies in none.
     #[inline(always)]
     fn holder_of(&self, t: u8, place: u32) -> Option<Holder>
         requires { t < self.now.tenants }

@@ -15,7 +15,7 @@ use std::marker::Model;
 use thiserror::Error;
 use words_core::{Addressee, AdminCommand, Answer, Body, Event, Refusal, Reply, Request};
 
-/// Why a kernel did not boot.
+/// The reason why a kernel did not boot.
 #[derive(Debug, Drop, Error)]
 pub enum BootError {
     /// A number of the configuration is out of its range. Nothing was allocated.
@@ -26,7 +26,8 @@ pub enum BootError {
     Memory,
 }
 
-/// A machine shared by tenants: its memory with the pool, and the buddy systems and caches of all tenants. Events run it.
+/// A machine shared by tenants: its memory with the pool, and the buddy systems and caches of all tenants. [`Kernel::step`]
+/// runs events on it.
 ///
 /// The memory and the buddy systems have the same superblock in each slot of each tenant, and each slab is a taken block of its
 /// tenant.
@@ -109,20 +110,21 @@ impl Kernel {
         requires pattern { HasPattern event.now }
         ensures sizes { SameSizes self.old self.new }
 
-        // The event is a step of the world, for any world that the kernel shows.
+        // The event is a step of each world that the kernel shows.
         ensures shows { (w : World) → Shows self.old w → Shows self.new (world_step cache_limit self.old.order event.now w).world }
         ensures reply { (w : World) → Shows self.old w → result ≡ (world_step cache_limit self.old.order event.now w).reply }
 
         ensures refused { is_refused result.body ≡ true → self.new ≡ self.old }
 
-        // All other tenants keep their slots with the superblocks and all their bytes, their blocks, caches and slabs.
+        // All other tenants keep their slots with their superblocks, all their bytes, and their blocks, caches and slabs.
         ensures others { (t : ℕ) → is_named t event.now ≡ false → Keeps self.old self.new t }
 
-        // A superblock that lost its owner is marked, and one that got an owner is unmarked. Without an owner it keeps its bytes.
+        // A superblock that lost its owner is marked, and one that got an owner is unmarked. A superblock without owner keeps
+        // its bytes.
         ensures marks { MarksFollow self.old.space self.new.space }
         ensures spare { SpareStays self.old.space self.new.space }
 
-        // In the memory, the last 32 bytes of each slab of small objects are the bitmap of its live objects.
+        // The last 32 bytes of each slab of small objects are the bitmap of its live objects.
         ensures records { RecordsStand self.new }
     {
         let reply = self.run_event(event);
@@ -174,8 +176,8 @@ impl Kernel {
         }
     }
 
-    /// Runs a command of the administrator other than `pool`: the same as [`Kernel::step`] of that event, with the answer to the
-    /// administrator as a small value.
+    /// Runs a command of the administrator other than `pool`. It does the same as [`Kernel::step`] of that event, and returns
+    /// the answer to the administrator as a small value.
     ///
     /// Returns `None` and does nothing if the table of owners is requested. [`Kernel::pool`] returns it.
     #[cold]
@@ -200,8 +202,8 @@ impl Kernel {
         })
     }
 
-    /// Runs a command of a tenant other than a report: the same as [`Kernel::step`] of that event, with the answer to the
-    /// tenant as a small value. It borrows the bytes of a read.
+    /// Runs a command of a tenant other than a report. It does the same as [`Kernel::step`] of that event, and returns the
+    /// tenant and the answer to it as a small value. The answer to a read borrows the bytes.
     ///
     /// Returns `None` and does nothing if there is no such tenant.
     #[inline(always)]
@@ -219,7 +221,7 @@ impl Kernel {
         Some((t, self.ask_known(t, request)))
     }
 
-    /// [`Kernel::ask`] for a tenant that exists.
+    /// The same as [`Kernel::ask`] for a tenant that exists.
     #[inline(always)]
     pub fn ask_known(&mut self, t: u8, request: Request<'_>) -> Answer<'_>
         requires tenant { t < self.old.tenants }

@@ -1,5 +1,5 @@
-//! The laws of whole runs, and of the world that a kernel shows. Each is the contract of an empty function, to be called where a
-//! proof needs the law.
+//! The laws of whole runs, and of the world that a kernel shows. Each is the contract of an empty function. A proof that needs
+//! the law calls the function.
 
 ghost use Rattle.kernel_core.specs.Actions.{OwnSights, SameSights};
 ghost use Rattle.kernel_core.specs.Shows.{OneWorld};
@@ -17,13 +17,13 @@ pub use world_core::laws::{
     own_lists_are_requests, own_run, own_shown, reached_machines, reached_objects, shown_stays,
 };
 
-/// A kernel shows at most one world. So what `step` says of each world that the kernel shows, it says of
-/// the one that `boot` and the steps since have made.
+/// A kernel shows at most one world. So what `step` says of each world that the kernel shows, it says of the world that `boot`
+/// and the steps since have made.
 pub fn one_world()
     ensures { OneWorld }
 {}
 
-/// The invariants of the parts of every kernel, which the laws of stores and actions require. The call does nothing.
+/// A law: the invariants of the parts of every kernel. The laws of stores and actions require them. The call does nothing.
 pub fn is_kernel(kernel: &Kernel)
     ensures { IsKernel kernel.now }
 {
@@ -42,7 +42,8 @@ pub fn loads_are_own()
 {}
 
 /// In any list of events, stores and loads from boot on, a tenant gets the replies and loads the bytes that its private machine
-/// gives to its own list. So it sees the same on two machines of one order if its own lists are equal. The others may do anything.
+/// gives for the tenant's own list. So if its own lists on two machines of one order are equal, it sees the same on both. The
+/// others may do anything.
 pub fn own_sights()
     ensures own { OwnSights }
     ensures same { SameSights }

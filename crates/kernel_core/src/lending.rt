@@ -1,4 +1,4 @@
-//! Bytes of a tenant lent where they lie, to be read and written.
+//! Lends bytes of a tenant in place, to be read and written.
 
 ghost use Rattle.std.specs.Prelude.{◌≡◌, ◌/◌, false, Some, IfOk, IfErr};
 ghost use Rattle.std.specs.Borrow.{sem};
@@ -21,15 +21,16 @@ use model_core::limits::FRAME_BYTES;
 use space_core::Space;
 use words_core::Refusal;
 
-/// Bytes of a tenant that lie inside one live page block or one live object. They can be lent until that is released, its slot is moved or its tenant is reset.
+/// Bytes of a tenant that lie inside one live page block or one live object. They can be lent until the block is freed or the
+/// object is given back, the slot is moved, or the tenant is reset.
 #[derive(Clone, Copy, Debug, PartialEq, Eq)]
 pub struct Span {
     pub tenant: u8,
     /// The first place.
     pub place: u32,
-    /// How many bytes they are.
+    /// The number of the bytes.
     pub bytes: u32,
-    /// The superblock that they lie in.
+    /// The superblock of the bytes.
     pub superblock: u16,
 }
 
@@ -38,8 +39,8 @@ impl Kernel {
     ghost use Rattle.kernel_core.specs.Steps.{Steps, body_of};
     ghost use Rattle.kernel_core.specs.Lending.{LendsSpan, IsLive, IsLent, HasBlock, IsBlockSpan, IsNotLent, reply_for};
 
-    /// Lends the bytes of a span, to be read and written where they lie. When the borrow ends they are what was left there, and all
-    /// else is as before.
+    /// Lends the bytes of a span in place, to be read and written. When the borrow ends, the span has the bytes that were left
+    /// there, and all else is as before.
     pub fn lend(&mut self, span: Span) -> &mut [u8]
         requires { IsLive self.old span }
         ensures* writes_back { sem 𝓛 (LendsSpan self.entry span result) }
@@ -57,8 +58,8 @@ impl Kernel {
 
     /// Returns the span of the `len` bytes of a tenant from `place` on.
     ///
-    /// Refuses with `NoTenant`, and with `OutOfReach` if `len` is 0 or the bytes do not lie inside one live page block or one live
-    /// object.
+    /// Refuses with `NoTenant`, then with `OutOfReach` if `len` is 0 or the bytes do not lie inside one live page block or one
+    /// live object.
     pub fn span(&self, tenant: u32, place: u32, len: u32) -> Result<Span, Refusal>
         ensures live { IfOk result (λ span. IsLive self.now span) }
         ensures asked { IfOk result (λ span. (span.tenant ≡ tenant) × ((span.place ≡ place) × (span.bytes ≡ len))) }
@@ -79,9 +80,9 @@ impl Kernel {
         })
     }
 
-    /// Returns the span of the live page block of a tenant around `place`, with all its bytes.
+    /// Returns the span of all bytes of the tenant's live page block around `place`.
     ///
-    /// Refuses with `NoTenant`, and with `OutOfReach` if `place` is in no live page block: the frames of a slab are in none.
+    /// Refuses with `NoTenant`, then with `OutOfReach` if `place` is in no live page block. A slab is not a page block.
     pub fn block_span(&self, tenant: u32, place: u32) -> Result<Span, Refusal>
         ensures live { IfOk result (λ span. IsLive self.now span) }
         ensures block { IfOk result (λ span. (span.tenant ≡ tenant)
@@ -112,9 +113,9 @@ impl Kernel {
         })
     }
 
-    /// Returns the span of the live object of a cache that begins at a place, with all its bytes.
+    /// Returns the span of all bytes of the live object of a cache that begins at `place`.
     ///
-    /// Refuses with `NoTenant`, and as a `give` of the object does: with `NoCache`, then with `NotAnObject`.
+    /// Refuses with `NoTenant`, then as a `give` of the object does: with `NoCache`, then with `NotAnObject`.
     pub fn object_span(&self, tenant: u32, cache: u32, place: u32) -> Result<Span, Refusal>
         ensures live { IfOk result (λ span. IsLive self.now span) }
         ensures object { IfOk result (λ span. (span.tenant ≡ tenant) × ((span.place ≡ place)
@@ -141,7 +142,7 @@ impl Kernel {
 
     /// Takes a page block of `2^order` frames for a tenant, and returns the span of all its bytes.
     ///
-    /// Refuses with `NoTenant`, and as an `alloc` does.
+    /// Refuses with `NoTenant`, then as an `alloc` does.
     pub fn alloc_span(&mut self, tenant: u32, order: u32) -> Result<Span, Refusal>
         ensures steps { Steps self.old (On.Tenant tenant (Command.Alloc order)) self.new
             (reply_for self.old tenant (body_of (λ span. Frame (span.place / FRAME_BYTES)) result)) }
@@ -165,7 +166,7 @@ impl Kernel {
 
     /// Takes an object of a cache for a tenant, and returns the span of all its bytes.
     ///
-    /// Refuses with `NoTenant`, and as a `take` does.
+    /// Refuses with `NoTenant`, then as a `take` does.
     #[inline(always)]
     pub fn take_span(&mut self, tenant: u32, cache: u32) -> Result<Span, Refusal>
         ensures steps { Steps self.old (On.Tenant tenant (Command.Take cache)) self.new
@@ -189,7 +190,7 @@ impl Kernel {
     }
 }
 
-/// Lends the bytes of a range of tenant `t` that lies in this superblock. What is left there has as many bytes as before.
+/// Lends the bytes of a range of tenant `t` that lies in this superblock. What is left there has the same length.
 #[inline(always)]
 fn lend_within(space: &mut Space, superblock: u16, t: u8, place: u32, len: u32) -> &mut [u8]
     requires { home_of space.old t place len ≡ Some superblock }

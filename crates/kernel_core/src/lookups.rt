@@ -14,7 +14,7 @@ use slab_core::Slabs;
 use space_core::Space;
 
 impl Kernel {
-    /// Returns the tenant with this number, if there is one.
+    /// Returns the tenant with this number, or `None` if there is none.
     #[inline(always)]
     pub fn tenant(&self, tenant: u32) -> Option<u8>
         ensures { MatchOption result (self.now.tenants ≤ tenant) (λ t. (t ≡ tenant) × (t < self.now.tenants)) }
@@ -25,7 +25,8 @@ impl Kernel {
         Some(tenant as u8)
     }
 
-    /// Returns the superblock in slot `slot` of tenant `t`, that is, the one with this owner.
+    /// Returns the superblock in slot `slot` of tenant `t`, or `None` if the tenant does not hold the slot. It is the
+    /// superblock with this owner.
     pub fn superblock_of(&self, t: u8, slot: u32) -> Option<u16>
         ensures value { result ≡ superblock_at self.now t slot }
         ensures owner { (m : ℕ) → (result ≡ Some m) ↔ (owner_at self.now.space.owners m ≡ Some (owned_by t slot)) }
@@ -46,7 +47,7 @@ impl Kernel {
         self.space.machine_bytes(superblock)
     }
 
-    /// Returns true if superblock `superblock` may have bytes of an earlier owner, so that it is zeroed before it is granted.
+    /// Returns true if superblock `superblock` may have bytes of an earlier owner. It is then zeroed before it is granted.
     pub fn is_marked(&self, superblock: u16) -> bool
         requires { superblock < self.now.superblocks }
         ensures { result ≡ mark_at self.now.space.marks superblock }
@@ -103,8 +104,8 @@ impl Kernel {
         self.laws();
     }
 
-    /// A law of every kernel, so also after [`Kernel::ask`]: the last 32 bytes of each slab of small objects are the bitmap of its
-    /// live objects. The call does nothing.
+    /// A law of every kernel, and so also after [`Kernel::ask`]: the last 32 bytes of each slab of small objects are the bitmap
+    /// of its live objects. The call does nothing.
     pub fn records_stand(&self)
         ensures { RecordsStand self.now }
     {

@@ -1,4 +1,4 @@
-//! Page blocks and bytes of a tenant.
+//! A tenant's commands on page blocks and bytes.
 
 ghost use Rattle.std.specs.Prelude.{◌≡◌, ◌↔◌, true, ◌*◌, ◌/◌, ◌^◌, ◌<◌, ◌≤◌, Some, length, IfOk, MatchOption};
 ghost use Rattle.model_core.specs.declared.limits.TheConstants.{MOST_ORDER};
@@ -34,7 +34,7 @@ impl Kernel {
             .ok_or(Refusal::NoFrames)
     }
 
-    /// Frees the page block that begins at a frame and returns its order. Its bytes stay.
+    /// Frees the page block that begins at a frame and returns its order. Its bytes stay as they are.
     #[inline(always)]
     pub(crate) fn free(&mut self, t: u8, frame: u32) -> Result<u8, Refusal>
         requires { t < self.old.tenants }
@@ -55,8 +55,8 @@ impl Kernel {
 
     /// Borrows the `len` bytes from `place` on.
     ///
-    /// Refused with `BadLength` unless `len` is 1 to 64, then with `OutOfReach` if the bytes are not inside one live page block or
-    /// one live object of the tenant.
+    /// Refuses with `BadLength` unless `len` is 1 to 64, then with `OutOfReach` if the bytes are not inside one live page block
+    /// or one live object of the tenant.
     #[inline(always)]
     pub(crate) fn read(&self, t: u8, place: u32, len: u32) -> Result<&[u8], Refusal>
         requires { t < self.now.tenants }
@@ -75,7 +75,7 @@ impl Kernel {
 
     /// Writes at most 64 bytes from `place` on and returns their number.
     ///
-    /// Refused with `OutOfReach` if there is no byte, or if they are not inside one live page block or one live object of the
+    /// Refuses with `OutOfReach` if there is no byte, or if they are not inside one live page block or one live object of the
     /// tenant. Then nothing is written.
     #[inline(always)]
     pub(crate) fn write(&mut self, t: u8, place: u32, bytes: &[u8]) -> Result<u32, Refusal>
@@ -93,8 +93,8 @@ impl Kernel {
         Ok(len)
     }
 
-    /// Returns the superblock that has a range of tenant `t`, or `None` if the range has no byte or is not inside one live page
-    /// block or one live object.
+    /// Returns the superblock of a range of tenant `t`, or `None` if the range has no byte or is not inside one live page block
+    /// or one live object.
     #[inline(always)]
     pub(crate) fn reached(&self, t: u8, place: u32, len: u32) -> Option<u16>
         requires { t < self.now.tenants }

@@ -27,7 +27,7 @@ struct Blocks {
     orders: ArrayVec<OrderRow, ORDERS>,
     /// The number of frames in taken blocks.
     live: u32,
-    /// The greatest order of a free block, if there is one.
+    /// The greatest order of a free block, or `None` if no block is free.
     top: Option<u8>,
 }
 
@@ -36,7 +36,7 @@ struct Blocks {
 pub struct BlockFigures {
     /// The number of frames in the tenant's slots.
     pub frames: u32,
-    /// The number of these in taken blocks: page blocks and slabs, including empty slabs.
+    /// The number of these frames in taken blocks: page blocks and slabs, including empty slabs.
     pub live: u32,
     /// The blocks of each order, from order 0 on.
     pub orders: ArrayVec<OrderRow, ORDERS>,
@@ -60,7 +60,7 @@ impl Kernel {
         }
     }
 
-    /// Returns the figures of tenant `t`'s memory: its frames, its blocks of each order, and its caches. These are the contents
+    /// Returns the figures of tenant `t`'s memory: its frames, its blocks of each order, and its caches. They are the contents
     /// of the reply of [`Kernel::report`], in half the bytes.
     pub fn figures(&self, t: u8) -> Report
         requires { t < self.now.tenants }
@@ -113,8 +113,8 @@ fn orders_of(buddy: &Buddy, t: u8) -> Blocks
     Blocks { orders, live, top }
 }
 
-/// Returns the share of the `free` frames outside one greatest free block, of order `top`, in thousandths. 0 if there is no free
-/// block.
+/// Returns the share of the `free` frames that are outside one greatest free block, in thousandths. `top` is the order of that
+/// block. Returns 0 if there is no free block.
 fn split_share(free: u32, top: Option<u8>) -> u32
     requires free { IfSome top (λ k. 0 < free) }
     requires order { IfSome top (λ k. k ≤ MOST_ORDER) }

@@ -24,7 +24,7 @@ asked c = record {
 page : (c : After-machine_of) → IsPageAt c.self.inside.space c.self.inside.buddy c.self.inside.slabs c.in-Some.t c.in_ok-first.first c.args.order
 page c = subst (λ (k : KernelContent). IsPageAt k.space k.buddy k.slabs c.in-Some.t c.in_ok-first.first c.args.order) (sym c.self.view_is) c.in_ok-first.ensures.page
 
--- what stands under the slot
+-- the superblock read is the one in the slot
 read : (c : After-machine_of) → superblock_at c.self.inside.space.slots c.in-Some.t (c.in_ok-first.first / 2 ^ c.self.inside.slabs.top) ≡ c.machine_of.result
 read c =
     let top = sym c.self.invariant.order ∙ (ap (λ (x : KernelContent). x.order) c.self.view_is ∙ sym c.order.ensures) in

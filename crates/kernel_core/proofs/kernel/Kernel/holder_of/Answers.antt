@@ -13,7 +13,7 @@ use Rattle.kernel_core.proofs.kernel.Kernel.holder_of.Goals.{After-machine_of, A
 asked : (c : After-machine_of) → IsRequested c.self.inside.space c.self.inside.buddy c.self.inside.slabs c.args.t
 asked c = record { together = opened _ _ _ _ c.self.view_is c.laws.ensures.together; tenant = known _ _ _ _ c.args.t c.self.view_is c.requires }
 
--- what stands under the slot
+-- the superblock read is the one in the slot
 read : (c : After-machine_of) → superblock_at c.self.inside.space.slots c.args.t (c.args.place / 4096 / 2 ^ c.self.inside.slabs.top) ≡ c.machine_of.result
 read c =
     let top = sym c.self.invariant.order ∙ (ap (λ (x : KernelContent). x.order) c.self.view_is ∙ sym c.order.ensures) in

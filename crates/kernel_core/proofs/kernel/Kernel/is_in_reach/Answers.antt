@@ -11,7 +11,7 @@ use Rattle.kernel_core.proofs.FrameKinds.{small_shift}
 use Rattle.kernel_core.proofs.kernel.Kernel.is_in_reach.Goals as goal
 use Rattle.kernel_core.proofs.kernel.Kernel.is_in_reach.Goals.{After-block_in, After-machine_frame_in-machine_frame, After-is_slab_in}
 
--- neither of the two
+-- if neither of two alternatives holds, their disjunction does not
 neither : {P Q : Type 0} → P ⊎ Q → (P → ⊥) → (Q → ⊥) → ⊥
 neither (inl p) first second = first p
 neither (inr q) first second = second q
@@ -43,7 +43,7 @@ told c =
     ap (has_slab c.self.inside.slabs) (ap (λ (k : KernelContent). machine_frame_of k.slabs.top k.space.slots c.args.t c.in-Some.first) c.self.view_is ∙ c.machine_frame_in-machine_frame.ensures.value)
     ∙ sym c.is_slab_in.ensures
 
--- it lies in the slot of the range
+-- the block lies in the slot of the range
 pub machine_frame_in-machine_frame-requires : goal.machine_frame_in-machine_frame-requires
 machine_frame_in-machine_frame-requires c =
     let k = c.self.inside in
