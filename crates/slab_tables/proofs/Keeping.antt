@@ -259,8 +259,8 @@ kept_read s t c first machine_frame k w p read =
     let lt = placed_within s.lists.places machine_frame (head_of t c p.kind, first) p.placed in
     get_or_read s.kept machine_frame k (omega (arith, w.paired)) read blank
 
--- what the code reads when it sets a slab's number of live objects: its cache's total and its stored state; the new total does
--- not overflow
+-- what the code reads when it sets a slab's number of live objects: its cache's total and its stored state; the new total neither
+-- overflows nor underflows
 pub record IsCounting (s : Content) (t c machine_frame count total : ℕ) (k : Kept) : Type 0 where
   pub total_is : total ≡ get_or s.live (index_of_cache t c) 0
   pub kept_is : k ≡ kept_at s.kept machine_frame

@@ -1,4 +1,4 @@
--- How many objects of a cache are live, as the places of slabs and what is kept of them change.
+-- The number of live objects of a cache, as the places and the stored states of slabs change.
 use Rattle.std.proofs.Common.{◌≡◌, ℕ, zero, suc, ◌+◌, ◌*◌, ◌/◌, ◌<◌, ◌≤◌, false, cond, eqb, List, [], ◌∷◌, Option, Some, None, length, set, refl, ap, ◌∙◌, subst, arith}
 use Rattle.std.proofs.lemmas.Bool.{cond_both}
 use Rattle.std.proofs.lemmas.List.{set-get_or}
@@ -6,11 +6,11 @@ use Rattle.klist_core.specs.Places.{place_at}
 use Rattle.slab_tables.specs.declared.cache.Kept.{Kept}
 use Rattle.slab_tables.specs.Content.{blank, kept_at, is_of_index, live_total}
 
--- what a machine frame adds to the total of cache n of all
+-- what a machine frame adds to the total of the cache with index n
 abbrev pub part : ℕ → Option (ℕ × ℕ) → Kept → ℕ
 part n p k = cond (is_of_index n p) k.live 0
 
--- one machine frame is replaced
+-- the total after the place and the stored state at one machine frame are replaced
 pub total_set : (n i : ℕ) (p : Option (ℕ × ℕ)) (k : Kept) (ps : List (Option (ℕ × ℕ))) (ks : List Kept) → i < length ps → i < length ks
     → live_total n (set ps i p) (set ks i k) + part n (place_at ps i) (kept_at ks i) ≡ live_total n ps ks + part n p k
 total_set n i p k [] ks lt there = absurd (omega arith)
@@ -18,7 +18,7 @@ total_set n i p k (q ∷ ps) [] lt there = absurd (omega arith)
 total_set n zero p k (q ∷ ps) (l ∷ ks) lt there = omega arith
 total_set n (suc i) p k (q ∷ ps) (l ∷ ks) lt there = let h = total_set n i p k ps ks (omega arith) (omega arith) in omega (arith, h)
 
--- only its place is replaced
+-- the total after only the place is replaced
 pub total_placed : (n i : ℕ) (p : Option (ℕ × ℕ)) (ps : List (Option (ℕ × ℕ))) (ks : List Kept) → i < length ps → i < length ks
     → live_total n (set ps i p) ks + part n (place_at ps i) (kept_at ks i) ≡ live_total n ps ks + part n p (kept_at ks i)
 total_placed n i p ps ks lt there =
@@ -26,12 +26,12 @@ total_placed n i p ps ks lt there =
     subst (λ (xs : List Kept). live_total n (set ps i p) xs + part n (place_at ps i) (kept_at ks i) ≡ live_total n ps ks + part n p (kept_at ks i)) same
     (total_set n i p (kept_at ks i) ps ks lt there)
 
--- a machine frame adds no more than the total
+-- a machine frame's part is at most the total
 pub part_within : (n i : ℕ) (ps : List (Option (ℕ × ℕ))) (ks : List Kept) → i < length ps → i < length ks
     → part n (place_at ps i) (kept_at ks i) ≤ live_total n ps ks
 part_within n i ps ks lt there = let h = total_placed n i None ps ks lt there in omega (arith, h)
 
--- the same machine frames are the cache's
+-- the total is the same if the same machine frames are the cache's
 pub total_along : (n : ℕ) (ps qs : List (Option (ℕ × ℕ))) (ks : List Kept) → length qs ≡ length ps
     → ((i : ℕ) → is_of_index n (place_at qs i) ≡ is_of_index n (place_at ps i)) → live_total n qs ks ≡ live_total n ps ks
 total_along n [] [] ks same along = refl
@@ -43,7 +43,7 @@ total_along n (p ∷ ps) (q ∷ qs) (k ∷ ks) same along =
     let rest = total_along n ps qs ks (omega arith) (λ i. along (suc i)) in
     ap (λ b. cond b k.live 0 + live_total n qs ks) here ∙ ap (λ x. cond (is_of_index n p) k.live 0 + x) rest
 
--- no machine frame is the cache's
+-- the total is 0 if no machine frame is the cache's
 pub total_none : (n : ℕ) (ps : List (Option (ℕ × ℕ))) (ks : List Kept) → ((i : ℕ) → is_of_index n (place_at ps i) ≡ false) → live_total n ps ks ≡ 0
 total_none n [] ks none = refl
 total_none n (p ∷ ps) [] none = refl
@@ -51,7 +51,7 @@ total_none n (p ∷ ps) (k ∷ ks) none =
     let here : is_of_index n p ≡ false = none 0 in
     ap (λ b. cond b k.live 0 + live_total n ps ks) here ∙ (omega (arith, total_none n ps ks (λ i. none (suc i))))
 
--- no slab has more than 256 objects
+-- if no slab has more than 256 live objects, the total is at most 256 for each machine frame
 pub total_few : (n : ℕ) (ps : List (Option (ℕ × ℕ))) (ks : List Kept)
     → ((i head key : ℕ) → place_at ps i ≡ Some (head, key) → (kept_at ks i).live ≤ 256) → live_total n ps ks ≤ 256 * length ps
 total_few n [] ks few = omega arith

@@ -15,14 +15,14 @@ pub record Content : Type 0 where
   -- for each machine frame, the list and the first frame of the slab that begins there; each cache has three lists, one for
   -- each kind of slab
   pub lists : Placed
-  -- for each machine frame, the state of the slab that begins there
+  -- for each machine frame, the stored state of the slab that begins there, if one does
   pub kept : List Kept
   -- for each tenant and number, its cache
   pub caches : List (Option Cache)
   -- for each tenant and number, how many objects of the cache are live
   pub live : List ℕ
 
--- the stored state if no slab begins at the machine frame
+-- the stored state of a machine frame at which no slab has begun yet
 abbrev pub blank : Kept
 blank = record { colour = 0; live = 0; outside = 0 }
 

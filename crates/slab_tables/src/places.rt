@@ -260,7 +260,8 @@ impl SlabLists {
         self.near_in_groups(head, key, step)
     }
 
-    /// Returns the machine frame of the list's last slab in the last group before the key's that has one.
+    /// Searches the last group before the key's that has a slab of the list, from its end. Returns the machine frame of the first slab
+    /// of the list that it finds, or `None` if it finds none.
     #[inline(never)]
     fn near_in_groups(&self, head: u32, key: u32, step: u32) -> Option<u32>
         requires head { head < self.now.heads }

@@ -25,7 +25,7 @@ pub struct Tables {
     kept: Vec<Kept>,
     caches: Vec<Option<Cache>>,
     live: Vec<u32>,
-    /// For each tenant, the number above its highest cache.
+    /// For each tenant, a number above those of all its caches.
     below: Vec<u8>,
 }
 
