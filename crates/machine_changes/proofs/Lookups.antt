@@ -1,4 +1,4 @@
--- Lookups by key in lists of which one element is replaced, inserted, or removed.
+-- Lookups by key in lists in which one element is replaced, inserted, or removed.
 use Rattle.std.proofs.Common.{◌≡◌, ◌≢◌, ℕ, Bool, true, false, not, cond, eqb, ltb, List, [], ◌∷◌, map, Some, None, refl, sym, ap, ◌∙◌, ⊎_elim}
 use Rattle.std.specs.Prelude.{find, filter, Option, option_map}
 use Rattle.std.proofs.lemmas.Bool.{false≢true, eqb-true, eq-eqb, ne_eqb, cases_eq}

@@ -27,7 +27,7 @@ module _ (r : spaces.Content) (b : buddies.Content) (s : Content) (h : HoldToget
     pub cache : own.Cache
     pub cached : cache_in s.caches (head / 3) ≡ Some cache
     pub agreed : IsAgreed r b s n head key cache
-    -- the superblock that it lies on
+    -- the superblock that has it
     pub superblock : ℕ
     pub under : spaces.superblock_at r.slots (head / 3 / MOST_CACHES) (key / 2 ^ s.top) ≡ Some superblock
     pub machine_frame : n ≡ superblock * 2 ^ s.top + key % 2 ^ s.top
@@ -48,7 +48,7 @@ module _ (r : spaces.Content) (b : buddies.Content) (s : Content) (h : HoldToget
         is = ap (λ x. x / 2 ^ s.top) there.2 ∙ superblock_of_machine_frame s.top there.0 key;
       }
 
-  -- a superblock under a slot has an owner
+  -- a superblock in a slot has an owner
   pub is_owned : (t u m : ℕ) → spaces.superblock_at r.slots t u ≡ Some m → spaces.owner_at r.owners m ≡ None → ⊥
   is_owned t u m under none = some_none (sym ((h.space.facts.agree t u m).0 under) ∙ none)
 
