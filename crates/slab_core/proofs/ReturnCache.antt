@@ -147,7 +147,7 @@ among_all r b s t c a tenant small =
     let tables = a.tenants in
     omega arith
 
--- the state after the slabs of an unused cache are freed: the cache still exists, but has no slab
+-- the state after the slabs of an unused cache are freed: the cache has no slab, and its index lies within the table
 pub record IsLeft (s : Content) (t c : ℕ) : Type 0 where
   pub bare : IsBare s (index_of_cache t c)
   pub small : c < MOST_CACHES

@@ -39,7 +39,7 @@ pub record IsWhole (b : buddies.Content) (t f k : ℕ) : Type 0 where
 abbrev pub IsUnusedBlock : spaces.Content → buddies.Content → Content → ℕ → ℕ → ℕ → Type 0
 IsUnusedBlock r b s t f k = (x : ℕ) → HasFrame (block f k) x → IsUnusedFrame r b s t x
 
--- some empty slab of cache c begins in an aligned block of order k of which no frame is taken, except by empty slabs
+-- some empty slab of cache c begins in an aligned block of order k whose frames are not taken, except by empty slabs
 pub record WouldFitAround (r : spaces.Content) (b : buddies.Content) (s : Content) (t c k : ℕ) : Type 0 where
   pub first : ℕ
   pub machine_frame : ℕ

@@ -105,7 +105,7 @@ impl View<'_> {
         self.has_empty_slab() && self.would_fit_around(refused, k)
     }
 
-    /// Returns true if some slab is empty.
+    /// Returns true if some slab of the tenant is empty.
     fn has_empty_slab(self) -> bool
         requires { IsTenant self.tables.now self.tenant }
         ensures { (result ≡ false) ↔ ((c : ℕ) → c < MOST_CACHES

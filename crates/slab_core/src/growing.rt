@@ -26,8 +26,8 @@ use space_core::Space;
 impl Slabs {
     /// Makes the next slab of a cache whose slabs are all full.
     ///
-    /// Frees the tenant's empty slabs first if no block is found otherwise. Returns `None` and changes nothing if no block is
-    /// found even then.
+    /// Frees the tenant's empty slabs first if a block is found only then. Returns `None` and changes nothing if no block would
+    /// be found even then.
     #[inline(always)]
     pub(crate) fn grow(
         &mut self,

@@ -19,7 +19,7 @@ impl Slabs {
     /// Takes a page block of order `k` for tenant `t` and returns its first frame. If a block is found only after all empty slabs
     /// of the tenant are freed, it frees them first.
     ///
-    /// Returns `None` and changes nothing if no block is found even then.
+    /// Returns `None` and changes nothing if no block would be found even then.
     #[inline(always)]
     pub fn reserve_by_need(
         &mut self,
