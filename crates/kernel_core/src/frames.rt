@@ -99,8 +99,8 @@ impl Kernel {
     }
 
     /// Returns the kind of a frame of tenant `t`, and the number of frames of this kind from it on. These are the frames of the
-    /// taken block that begins there, or one free frame if none does. `order` is the order of that block. No block that begins
-    /// before the frame may contain it.
+    /// taken block that begins there, or one free frame if none does. `order` is the order of that block. The result is only
+    /// valid if no block that begins before the frame contains it.
     fn run_at(&self, superblock: u16, t: u8, first: u32, order: Option<u8>) -> (FrameKind, usize)
         requires tenant { t < self.now.tenants }
         requires held { superblock_at self.now t (first / 2 ^ self.now.order) ≡ Some superblock }

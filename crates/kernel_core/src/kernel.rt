@@ -105,7 +105,7 @@ impl Kernel {
 
     /// Runs one event and returns the reply. A refused event changes nothing.
     ///
-    /// The pattern of a `cache` command must have at least one byte. Every pattern that `read_line` returns has.
+    /// The pattern of a `cache` command must have at least one byte, as every pattern that `read_line` returns does.
     pub fn step(&mut self, event: &Event) -> Reply
         requires pattern { HasPattern event.now }
         ensures sizes { SameSizes self.old self.new }
