@@ -130,8 +130,8 @@ impl Groups {
         }
     }
 
-    /// Returns the first frame of the last group that comes before the frame's group and has a slab of the list. Returns `None` if
-    /// there is no such group.
+    /// Returns the first frame of the last group that comes before the frame's group and has a slab of the list. Returns `None`
+    /// if there is no such group.
     pub(crate) fn before(&self, list: u32, frame: u32) -> Option<u32> {
         let group = frame >> self.group;
         let own = self.word(list, group / 64) & !(u64::MAX << (group % 64));
@@ -147,8 +147,8 @@ impl Groups {
         None
     }
 
-    /// Returns the machine frame that a frame of the list's tenant had when a slab was last made in its slot, or `None` if the slot
-    /// is out of range.
+    /// Returns the machine frame that a frame of the list's tenant had when a slab was last made in its slot, or `None` if the
+    /// slot is out of range.
     pub(crate) fn seen_at(&self, list: u32, frame: u32) -> Option<u32> {
         let superblock = *self.superblocks.get(self.slot_of(list, frame))?;
         Some(superblock << self.order | frame % (1 << self.order))

@@ -218,8 +218,8 @@ impl SlabLists {
         }
     }
 
-    /// The same as [`Lists::insert`] for a list that is not short. Inserts the slab behind one that comes before it, if it finds one
-    /// nearby.
+    /// The same as [`Lists::insert`] for a list that is not short. Inserts the slab behind one that comes before it, if it
+    /// finds one nearby.
     #[inline(always)]
     fn insert_among(&mut self, head: u32, machine_frame: u32, key: u32, step: u32)
         requires head { head < self.old.heads }
@@ -238,11 +238,12 @@ impl SlabLists {
         }
     }
 
-    /// Returns the machine frame of a slab of the list, most likely with a key that is below this one and not far from it. Returns
-    /// `None` if it finds none.
+    /// Returns the machine frame of a slab of the list, most likely with a key that is below this one and not far from it.
+    /// Returns `None` if it finds none.
     ///
-    /// It searches below `machine_frame` in its group first. The number of frames that it tries there is at most a quarter of the
-    /// list's length, since a walk over a short list costs less. Then it searches in the last earlier group with a slab of the list.
+    /// It searches below `machine_frame` in its group first. The number of frames that it tries there is at most a quarter of
+    /// the list's length, since a walk over a short list costs less. Then it searches in the last earlier group with a slab of
+    /// the list.
     fn near(&self, head: u32, machine_frame: u32, key: u32, step: u32) -> Option<u32>
         requires head { head < self.now.heads }
         requires machine_frame { machine_frame < length self.now.places }
@@ -260,8 +261,8 @@ impl SlabLists {
         self.near_in_groups(head, key, step)
     }
 
-    /// Searches the last group before the key's that has a slab of the list, from its end. Returns the machine frame of the first slab
-    /// of the list that it finds, or `None` if it finds none.
+    /// Searches the last group before the key's that has a slab of the list, from its end. Returns the machine frame of the
+    /// first slab of the list that it finds, or `None` if it finds none.
     #[inline(never)]
     fn near_in_groups(&self, head: u32, key: u32, step: u32) -> Option<u32>
         requires head { head < self.now.heads }
