@@ -3,7 +3,8 @@
 
 ghost use Rattle.klist_core.specs.Laws.{ListsRise, ListsHoldPlaces, KeysHoldPlaces, ListsCountPlaces, InsertionChangesOneList, RemovalChangesOneList};
 
-/// Each list is in ascending order of keys.
+/// Each list, as contracts see it, is in ascending order of keys. Every third list is loose: its links have the order in which the
+/// nodes were inserted.
 pub fn lists_rise()
     ensures { ListsRise }
 {}

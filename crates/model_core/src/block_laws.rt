@@ -26,8 +26,8 @@ pub fn taken_stays_sound()
     ensures take_back { TakeBackStaysSound }
 {}
 
-/// `is_free` decides whether a block is free. `choose` finds the block that a request is served from, or
-/// `None` if no free block is large enough. There is at most one such block.
+/// `is_free` decides whether a block is free. Given a bound above every held slot, `choose` finds the block that a
+/// request is served from, or `None` if no free block is large enough. There is at most one such block.
 pub fn choice_is_found()
     ensures tested { FreeIsTested }
     ensures found { ChoiceIsFound }

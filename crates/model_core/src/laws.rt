@@ -62,8 +62,9 @@ pub fn constructed_first()
 
 /// No byte changes if a page block is allocated without freeing slabs, if one is freed, if an object is taken from an existing
 /// slab, or if one is given back. Over whole runs a place keeps its byte unless it is written, a slab is made or freed there, or
-/// its slot is taken away. So objects and page blocks come back as they were left. Only writes change bytes that are
-/// within reach before and after. A slab that is freed leaves zeros, if its slot stays.
+/// its slot is granted or taken away. If none of these happens, objects and page blocks come back as they were left. An operation
+/// changes a byte that is within reach before and after it only if it writes that byte. A slab that is freed leaves zeros, if its
+/// slot stays.
 pub fn bytes_stay()
     ensures alloc { AllocKeeps }
     ensures free { FreeKeeps }

@@ -21,8 +21,8 @@ pub fn confined()
     ensures { Confined }
 {}
 
-/// A request for a block of at most a slot's order can either be granted or be refused with `NoFrames`, and never both. So
-/// after any allowed replies the request has an allowed reply.
+/// In every state, an existing tenant's request for a block of at most a slot's order can either be granted or be refused with
+/// `NoFrames`, and never both. So the request has an allowed reply after any allowed replies.
 pub fn refused_for_cause()
     ensures { RefusedForCause }
 {}
