@@ -34,7 +34,7 @@ has_first b = (omega arith, omega (arith, pow_pos b.order))
 pub apart_first : (a b : Block) → IsApart a b → a.first ≡ b.first → ⊥
 apart_first a b h e = h a.first (has_first a) (subst (λ x. HasFrame b x) (sym e) (has_first b))
 
--- a place in a block is in none apart from it
+-- a place in a block is in no block that is apart from it
 pub apart_place : (place : ℕ) (a b : Block) → IsApart a b → in_block place a ≡ true → in_block place b ≡ false
 apart_place place a b h e = false_from_ne_true (in_block place b) (λ f. h (place / FRAME_BYTES) (in_block-true place a e) (in_block-true place b f))
 
@@ -60,7 +60,7 @@ pub across_put : (cs bs : List Block) (b : Block) → Across cs bs → Each (IsA
 across_put [] bs b c e = tt
 across_put (a ∷ cs) bs b (f, c) (h, e) = ((apart_turned b a h, f), across_put cs bs b c e)
 
--- one more that is apart from all
+-- a block that is apart from all can be added
 pub apart_put : (cs bs : List Block) (b : Block) → AreApart (cs ++ bs) → Each (IsApart b) (cs ++ bs) → AreApart (cs ++ b ∷ bs)
 apart_put cs bs b h e =
     let p : AreApart cs × AreApart bs × Across cs bs = apart_parts cs bs h in
@@ -74,7 +74,7 @@ apart_filter {X} f p (x ∷ xs) (e, h) = go (p x) (apart_filter f p xs h)
     go true rest = (each_map (IsApart (f x)) f (filter p xs) (each_filter (λ y. IsApart (f x) (f y)) p xs (each_unmap (IsApart (f x)) f xs e)), rest)
     go false rest = rest
 
--- what two elements share a frame with is one
+-- two elements whose blocks share a frame are the same
 pub one_holder : {X : Type 0} (f : X → Block) (xs : List X) (a b : X) (x : ℕ) → AreApart (map f xs) → IsIn a xs → IsIn b xs → HasFrame (f a) x → HasFrame (f b) x → a ≡ b
 one_holder f [] a b x h i j p q = elim i [ ]
 one_holder f (y ∷ ys) a b x (e, h) (inl s) (inl t) p q = sym s ∙ t
@@ -84,7 +84,7 @@ one_holder f (y ∷ ys) a b x (e, h) (inr i) (inl t) p q =
     absurd (each_in (λ z. IsApart (f y) (f z)) a ys (each_unmap (IsApart (f y)) f ys e) i x (subst (λ z. HasFrame (f z) x) (sym t) q) p)
 one_holder f (y ∷ ys) a b x (e, h) (inr i) (inr j) p q = one_holder f ys a b x h i j p q
 
--- of the elements that pass a test and of those that fail it not both have the place
+-- a place is not both in a block that passes a test and in one that fails it
 pub one_side : {X : Type 0} (f : X → Block) (p : X → Bool) (xs : List X) (place : ℕ) → AreApart (map f xs)
     → list_any (λ x. in_block place (f x)) (filter p xs) ≡ true → list_any (λ x. in_block place (f x)) (filter (λ x. not (p x)) xs) ≡ false
 one_side {X} f p xs place h e = false_from_ne_true (list_any (λ x. in_block place (f x)) (filter (λ x. not (p x)) xs)) (λ k.

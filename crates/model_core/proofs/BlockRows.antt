@@ -1,4 +1,4 @@
--- Worked rows of the choice, by computation. All have slots of order 3, of 8 frames.
+-- Worked examples of the choice, by computation. Slots have order 3, which is 8 frames.
 use Rattle.std.proofs.Common.{◌≡◌, refl, ℕ, Bool, Some, None, Option, List, [], ◌∷◌}
 use Rattle.std.specs.Prelude.{map, filter, ◌++◌, nat_lt, ◌==◌}
 use Rattle.model_core.specs.Blocks.{Block, block, buddy, around, Taken, with_taken, without_taken}
@@ -28,7 +28,7 @@ abbrev serve_rest : Taken → ℕ → Option Block → (Taken → List (Option �
 serve_rest taken k None rest = None ∷ rest taken
 serve_rest taken k (Some b) rest = Some b.first ∷ rest (with_taken taken b.first k)
 
--- what requests of these orders get in turn where n slots are held: the first frame, or None
+-- what requests for these orders get in turn if n slots are held: the first frame, or None
 abbrev serve : ℕ → Taken → List ℕ → List (Option ℕ)
 serve n taken [] = []
 serve n taken (k ∷ ks) = serve_rest taken k (choose 3 (first_slots n) taken n k) (λ after. serve n after ks)
@@ -45,11 +45,11 @@ splits_then_exhaustion = refl
 upper_halves : filter (λ b. is_free 3 (first_slots 1) (blocks_of (block 0 0 ∷ [])) b) all_blocks ≡ block 1 0 ∷ block 2 1 ∷ block 4 2 ∷ []
 upper_halves = refl
 
--- frames 0 to 7 in four blocks, given back in this order: joined with each buddy that is free
+-- frames 0 to 7 in four blocks, released in this order: each is joined with its buddy if that is free
 joins : choose 3 (first_slots 1) (without_taken (without_taken (without_taken (without_taken full 0) 1) 2) 4) 1 0 ≡ Some (block 0 3)
 joins = refl
 
--- frame 0 is given back while its buddy, frame 1, is taken: not joined
+-- frame 0 is released while its buddy, frame 1, is taken: they are not joined
 not_joined : filter (λ b. is_free 3 (first_slots 1) (without_taken full 0) b) all_blocks ≡ block 0 0 ∷ []
 not_joined = refl
 

@@ -1,4 +1,5 @@
--- Blocks by their frames against blocks by number: frames of an aligned block, the tests of taken and available frames, free blocks and open ones.
+-- Blocks by their frames and blocks by number: the frames of an aligned block, the tests of taken and available frames, and free
+-- blocks as open ones.
 use Rattle.std.proofs.Common.{◌≡◌, ◌⊎◌, inl, inr, refl, sym, ◌∙◌, ap, ℕ, zero, suc, ◌+◌, ◌-◌, ◌*◌, ◌/◌, ◌%◌, ◌^◌, ◌<◌, ◌≤◌, Bool, true, false, not, Option, Some, None, add-one, arith}
 use Rattle.std.proofs.Math.Nat.{pow-suc, div-div-eq-div-mul, div-eq_of_lt-le, div-mul-le_self, lt-div-mul-add, mul-mod_left, mul-div_cancel}
 use Rattle.std.proofs.lemmas.Nat.{pow_pos, pow-add, shr_split}
@@ -20,7 +21,7 @@ first_is f k aligned =
     let split : f / 2 ^ k * 2 ^ k + f % 2 ^ k ≡ f = shr_split f k in
     ap (λ n. n * 2 ^ k) (number_is k f) ∙ omega arith
 
--- two aligned blocks of one order and one number begin at one frame
+-- two aligned blocks of the same order and number begin at the same frame
 pub same_first : (f g k : ℕ) → f % 2 ^ k ≡ 0 → g % 2 ^ k ≡ 0 → number_at k f ≡ number_at k g → f ≡ g
 same_first f g k at_f at_g same = sym (first_is f k at_f) ∙ ap (λ n. n * 2 ^ k) same ∙ first_is g k at_g
 
@@ -120,7 +121,7 @@ module _ (top : ℕ) (held : ℕ → Bool) (taken : Taken) where
   pub available_is : (x : ℕ) → held (x / 2 ^ top) ≡ true → (IsTaken taken x → ⊥) → is_available top held taken x ≡ true
   available_is x on off = and_from _ _ on (not_from_false _ (untaken_is taken x off))
 
-  -- a frame of a held slot that is not available is taken
+  -- a frame in a held slot is taken if it is not available
   pub unavailable_tells : (x : ℕ) → held (x / 2 ^ top) ≡ true → is_available top held taken x ≡ false → IsTaken taken x
   unavailable_tells x on e = go (and_cases _ _ e)
     where

@@ -1,4 +1,4 @@
--- Reaping by need: what serves a request is the machine itself, or what is left when all its empty slabs are given back.
+-- Reaping on demand: a request is served by the machine itself, or by the machine after all its empty slabs are freed.
 use Rattle.std.proofs.Common.{◌≡◌, ℕ, Bool, true, false, Option, Some, None, refl, sym, ap, ◌∙◌}
 use Rattle.std.specs.Prelude.{if◌then◌else◌}
 use Rattle.std.proofs.lemmas.Bool.{le-ltb}
@@ -8,7 +8,7 @@ use Rattle.model_core.specs.Operations.{alloc_step}
 use Rattle.model_core.specs.CacheOperations.{take_step}
 use Rattle.model_core.specs.Laws.{AllocReaps, TakeReaps}
 
--- what the machine has, reaped or not, it has by need
+-- what holds of the machine and of the reaped machine holds of the one that serves the request
 pub by_need_keeps : (P : Machine → Type 0) (order k : ℕ) (m : Machine) → P m → P (reaped m) → P (by_need order k m)
 unfolding by_need
 by_need_keeps P order k m p q = go _
@@ -29,7 +29,7 @@ pub by_need_stays : (order k : ℕ) (m : Machine) → choice order m k ≡ None 
 unfolding by_need
 by_need_stays order k m none still = simp (none, still)
 
--- a request that gets nothing leaves the machine
+-- a request that gets nothing leaves the machine unchanged
 pub by_need_none : (order k : ℕ) (m : Machine) → choice_by_need order k m ≡ None → by_need order k m ≡ m
 by_need_none order k m none = go (choice order m k) refl (choice order (reaped m) k) refl
   where

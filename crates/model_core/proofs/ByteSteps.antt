@@ -1,4 +1,4 @@
--- Bytes written: the machine stays well formed.
+-- After a write the machine stays well formed.
 use Rattle.std.proofs.Common.{◌≡◌, ℕ, ◌+◌, ◌-◌, ◌<◌, ◌≤◌, Bool, true, false, ◌&&◌, ltb, leb, List, length, refl, sym, ap, ◌∙◌, arith}
 use Rattle.std.specs.Prelude.{if◌then◌else◌, is_some, slice_get}
 use Rattle.std.proofs.lemmas.Option.{slice_get-get_or}
@@ -9,7 +9,7 @@ use Rattle.model_core.specs.Operations.{written}
 use Rattle.model_core.specs.WellFormed.{IsWellFormed}
 use Rattle.model_core.proofs.Objects.{reached, reached_mapped}
 
--- where bytes are written there were bytes
+-- places that are written had bytes before
 written_some : {limit : ℕ} (order place : ℕ) (new : List ℕ) (m : Machine) → IsWellFormed limit order m → in_reach m place (length new) ≡ true → (p : ℕ) → is_some (written place new m.bytes p) ≡ is_some (m.bytes p)
 written_some order place new m w e p = go (leb place p && ltb p (place + length new)) refl
   where

@@ -58,11 +58,11 @@ give_keeps number place m = go (cache_of m number)
 
 -- The byte at a place
 
--- where the place is in a slab of n exactly where it is in one of m, both have the same byte there
+-- if the place is in a slab of both machines or of neither, both have the same byte there
 abbrev Same : ℕ → Machine → Machine → Type 0
 Same place m n = in_slab n place ≡ in_slab m place → n.bytes place ≡ m.bytes place
 
--- slabs given back
+-- freed slabs
 same_given_back : (place : ℕ) (q : Laid → Bool) (ls : List Laid) (bytes : ℕ → Option ℕ) → AreApart (map laid_block ls)
     → list_any (in_laid place) (filter (λ l. not (q l)) ls) ≡ list_any (in_laid place) ls → zeroed (map laid_block (filter q ls)) bytes place ≡ bytes place
 same_given_back place q ls bytes apart same = ap (λ b. if b then Some 0 else bytes place) (any_map (in_block place) laid_block (filter q ls)
@@ -108,7 +108,7 @@ same_destroyed order place c m w in_c same =
 
 -- Slots
 
--- the slot of the place is held in n exactly where it is in m
+-- the slot of the place is held in both machines or in neither
 abbrev SameSlot : ℕ → ℕ → Machine → Machine → Type 0
 SameSlot order place m n = holds n (slot_of order place) ≡ holds m (slot_of order place)
 

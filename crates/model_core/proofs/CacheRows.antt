@@ -1,4 +1,4 @@
--- Worked examples of caches and slabs, by computation: slots of 8 frames.
+-- Worked examples of caches and slabs, by computation. Slots have 8 frames.
 use Rattle.std.proofs.Common.{◌≡◌, refl, List, [], ◌∷◌, ◌++◌, map, replicate, Some, None, Ok, Err}
 use Rattle.std.specs.List.{range_with_len}
 use Rattle.model_core.specs.declared.limits.TheConstants.{MOST_CACHES}
@@ -16,19 +16,19 @@ use Rattle.model_core.specs.CacheOperations.{create_step, cache_step, next_numbe
 use Rattle.model_core.specs.Runs.{Operation, Alloc, Free, Write, Create, Take, Give, Destroy, Reap, Grant, TakeBack}
 use Rattle.model_core.proofs.RowAnswers.{number_of, numbers, machine_after}
 
--- twenty objects of 200 bytes fill a slab; the next slab's first object is 8 bytes, one colour, into its frame
+-- twenty objects of 200 bytes fill a slab; in the next slab the first object is at offset 8, which is one colour
 colours : numbers (Grant ∷ Create 200 8 (165 ∷ []) ∷ replicate 21 (Take 0))
     ≡ Some 0 ∷ Some 0 ∷ (map (λ i. Some i) (0 ∷ 200 ∷ 400 ∷ 600 ∷ 800 ∷ 1000 ∷ 1200 ∷ 1400 ∷ 1600 ∷ 1800 ∷ 2000 ∷ 2200 ∷ 2400 ∷ 2600 ∷ 2800 ∷ 3000 ∷ 3200 ∷ 3400 ∷ 3600 ∷ 3800 ∷ []) ++ Some 4104 ∷ [])
 unfolding number_of layout_of cache_step create_step next_number take_step grown_cache grown slab_to_use fresh_byte by_need reaped choice taken_blocks empty_machine next_slot after_grant
 colours = refl
 
--- a large slab has four frames, and so has the next
+-- a slab of large objects has four frames, and so has the next
 large_slabs : numbers (Grant ∷ Create 3000 8 (1 ∷ []) ∷ replicate 6 (Take 0))
     ≡ Some 0 ∷ Some 0 ∷ Some 0 ∷ Some 3000 ∷ Some 6000 ∷ Some 9000 ∷ Some 12000 ∷ Some 16392 ∷ []
 unfolding number_of layout_of cache_step create_step next_number take_step grown_cache grown slab_to_use fresh_byte by_need reaped choice taken_blocks empty_machine next_slot after_grant
 large_slabs = refl
 
--- a partial slab is used before an empty one of a lesser frame would be, and an object keeps its bytes
+-- a partial slab is used before an empty one at a lower frame, and an object keeps its bytes
 abbrev three_taken : List Operation
 three_taken = Grant ∷ Create 2048 8 (17 ∷ []) ∷ Take 0 ∷ Take 0 ∷ Take 0 ∷ Write 2048 (34 ∷ []) ∷ Give 0 4096 ∷ Give 0 2048 ∷ Take 0 ∷ []
 
@@ -49,7 +49,7 @@ given_and_destroyed : numbers (three_taken ++ (Give 0 0 ∷ Give 0 2048 ∷ Dest
 unfolding number_of layout_of cache_step create_step next_number take_step give_step destroy_step destroyed write_step in_reach grown_cache grown slab_to_use fresh_byte by_need reaped choice taken_blocks empty_machine next_slot after_grant
 given_and_destroyed = refl
 
--- an object is constructed, and what lies between objects is out of reach
+-- an object is constructed, and the bytes between objects are out of reach
 abbrev one_object : List Operation
 one_object = Grant ∷ Create 100 8 (90 ∷ []) ∷ Take 0 ∷ []
 
@@ -65,7 +65,7 @@ given : (read_step 0 1 (machine_after (one_object ++ (Give 0 0 ∷ [])))).answer
 unfolding layout_of cache_step create_step next_number take_step give_step read_step in_reach grown_cache grown slab_to_use fresh_byte by_need reaped choice taken_blocks empty_machine next_slot after_grant
 given = refl
 
--- a slab given back is zero, up to and in its control record
+-- a freed slab reads as zero, up to its control record and in it
 abbrev reaped_and_taken : List Operation
 reaped_and_taken = one_object ++ (Give 0 0 ∷ Reap ∷ Alloc 0 ∷ [])
 
@@ -81,7 +81,7 @@ record_reads_zero : (read_step 4064 2 (machine_after reaped_and_taken)).answer �
 unfolding layout_of cache_step create_step next_number take_step give_step reap_step reaped alloc_step read_step in_reach grown_cache grown slab_to_use fresh_byte by_need choice taken_blocks empty_machine next_slot after_grant
 record_reads_zero = refl
 
--- a slab is no page block, and an object is given back once, by its first byte, to its cache
+-- a slab cannot be freed as a page block, and an object is given back once, by its first byte, to its own cache
 abbrev a_slab : List Operation
 a_slab = Grant ∷ Alloc 0 ∷ Free 0 ∷ Create 64 8 (0 ∷ []) ∷ Take 0 ∷ []
 
@@ -115,7 +115,7 @@ no_cache_slot : (cache_step MOST_CACHES 16 8 (0 ∷ []) (machine_after all_cache
 unfolding cache_step create_step next_number empty_machine
 no_cache_slot = refl
 
--- the size is looked at before the alignment
+-- the size is checked before the alignment
 bad_size : (cache_step MOST_CACHES 0 12 (0 ∷ []) empty_machine).answer ≡ Err CacheRefusal.BadSize
 unfolding cache_step create_step
 bad_size = refl

@@ -1,4 +1,4 @@
--- A flag of an object set, and growth: the machine stays well formed.
+-- After an object's flag is set, and after growth, the machine stays well formed.
 use Rattle.std.proofs.Common.{◌≡◌, ◌≢◌, ℕ, ◌+◌, ◌-◌, ◌*◌, ◌<◌, Bool, true, false, List, [], ◌∷◌, ◌++◌, map, length, Some, None, refl, sym, ap, ◌∙◌, subst, inl, inr, arith}
 use Rattle.std.specs.Prelude.{if◌then◌else◌, is_some, slice_set}
 use Rattle.std.specs.List.{AllByRecursion as Each}
@@ -26,11 +26,11 @@ in_all_laid c s [] i j = elim i [ ]
 in_all_laid c s (d ∷ cs) (inl e) j = in_left (laid c s) (laid_in d) (all_laid cs) (subst (λ x. IsIn (laid c s) (laid_in x)) (sym e) (in_map (laid c) s c.slabs j))
 in_all_laid c s (d ∷ cs) (inr i) j = in_right (laid c s) (laid_in d) (all_laid cs) (in_all_laid c s cs i j)
 
--- another element with the same key
+-- a list has the same keys if an element is replaced by one with its key
 pub same_keys : {X : Type 0} (key : X → ℕ) (before later : List X) (x y : X) → key y ≡ key x → map key (before ++ y ∷ later) ≡ map key (before ++ x ∷ later)
 same_keys key before later x y e = map-append key before (y ∷ later) ∙ (ap (λ n. map key before ++ n ∷ map key later) e ∙ sym (map-append key before (x ∷ later)))
 
--- another cache with the same number has one within the limit too
+-- numbers stay within the limit if a cache is replaced by one with its number
 renumbered : (limit : ℕ) (before later was is : List Cache) (c d : Cache) → d.number ≡ c.number → was ≡ before ++ c ∷ later → is ≡ before ++ d ∷ later
     → Each (Numbered limit) was → Each (Numbered limit) is
 renumbered limit before later was is c d same from to h =
@@ -38,9 +38,9 @@ renumbered limit before later was is c d same from to h =
     subst (Each (Numbered limit)) (sym to) (each_put (Numbered limit) before later d (each_less (Numbered limit) before later c old)
     (subst (λ n. n < limit) (sym same) (each_middle (Numbered limit) before later c old)))
 
--- One flag set
+-- One flag is set
 
--- what it does to the slabs
+-- how the slabs change
 pub record IsFlagged (c : Cache) (s : Slab) (i : ℕ) (b : Bool) (m : Machine) : Type 0 where
   pub xs : List Laid
   pub ys : List Laid
@@ -96,7 +96,7 @@ fresh_some : (b : Bool) (n : ℕ) → is_some (if b then Some n else None) ≡ b
 fresh_some true n = refl
 fresh_some false n = refl
 
--- what growth does to the caches
+-- how growth changes the caches and slabs
 pub record IsGrown (first : ℕ) (c : Cache) (m : Machine) : Type 0 where
   pub xs : List Laid
   pub ys : List Laid
@@ -157,7 +157,7 @@ grown_kept {limit} order first c m w in_c e =
     (record { fit = layouts_fit c.size c.align is_c.sized is_c.aligned; count = count; colour_is = (c.made, refl) })
     (λ place. fresh_some (in_object (layout c) c.size s.colour (place - FRAME_BYTES * first)) _)))
 
--- a slab that is made by need
+-- a slab that is made on demand
 pub record IsMade (limit order first : ℕ) (c : Cache) (m : Machine) : Type 0 where
   pub served : IsWellFormed limit order (by_need order (layout c).order m)
   pub formed : IsWellFormed limit order (grown first c (by_need order (layout c).order m))

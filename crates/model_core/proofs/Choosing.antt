@@ -1,4 +1,4 @@
--- The choice: `is_free` tests for free blocks, `choose` finds the choice, and there is one at most.
+-- The choice: `is_free` tests for free blocks, `choose` finds the choice, and there is at most one.
 use Rattle.std.proofs.Common.{◌≡◌, ◌⊎◌, inl, inr, refl, sym, ◌∙◌, ap, ℕ, zero, suc, ◌*◌, ◌/◌, ◌%◌, ◌^◌, ◌<◌, ◌≤◌, Bool, true, false, not, Option, Some, None, eq-eqb, arith}
 use Rattle.std.specs.Prelude.{◌==◌, ◌&&◌, ◌||◌, nat_le, if◌then◌else◌, is_some, MatchOption}
 use Rattle.std.specs.Option.{option_and_then, option_map}
@@ -11,7 +11,7 @@ use Rattle.model_core.specs.Choice.{found_or, least, is_available, is_free, firs
 use Rattle.model_core.specs.BlockLaws.{FreeIsTested, ChoiceIsFound, OneChoice}
 use Rattle.model_core.proofs.BlocksByNumber.{number_is, free_is_open, open_is_free}
 
--- what the least number below n that passes is
+-- i is the least number below n that passes
 abbrev pub IsLeast : (ℕ → Bool) → ℕ → ℕ → Type 0
 IsLeast p n i = (i < n) × (p i ≡ true) × ((m : ℕ) → m < i → p m ≡ false)
 
@@ -34,7 +34,7 @@ least_says p (suc n) = go (least p n) (least_says p n)
     go None below = here (p n) refl below
     go (Some i) (lt, pass, below) = (omega arith, pass, below)
 
--- where a number below n passes, there is a least one
+-- if a number below n passes, there is a least one
 pub least_found : (p : ℕ → Bool) (n m : ℕ) → m < n → p m ≡ true → is_some (least p n) ≡ true
 least_found p n m lt pass = go (least p n) (least_says p n)
   where

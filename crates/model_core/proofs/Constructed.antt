@@ -23,7 +23,7 @@ use Rattle.model_core.proofs.PageSteps.{not_busy}
 use Rattle.model_core.proofs.CacheSteps.{in_all_laid, IsFlagged, flagged, IsGrown, grown_is}
 use Rattle.model_core.proofs.Objects.{IsByte, IsByteOf, byte_is_of, IsPageByte, IsLiveByte, reached, live_byte, page_apart}
 
--- an object of the slab that begins at the place is not live and reads as the pattern
+-- if an object of the slab begins at the place, it is not live and reads as the pattern
 abbrev pub IsFresh : (ℕ → Option ℕ) → ℕ → Laid → Type 0
 IsFresh bytes place l = (i : ℕ) → i < (laid_layout l).count → place ≡ object_place (laid_layout l) l.first l.colour i
     → (get_or l.live i false ≡ false) × ((j : ℕ) → j < l.size → bytes (place + j) ≡ Some (pattern_byte l.pattern j))
@@ -31,7 +31,7 @@ IsFresh bytes place l = (i : ℕ) → i < (laid_layout l).count → place ≡ ob
 abbrev pub AllFresh : ℕ → Machine → Type 0
 AllFresh place m = Each (IsFresh m.bytes place) (all_laid m.caches)
 
--- an object of the slab that begins at the place reads as the pattern, live or not
+-- if an object of the slab begins at the place, it reads as the pattern, live or not
 abbrev pub IsConstructed : (ℕ → Option ℕ) → ℕ → Laid → Type 0
 IsConstructed bytes place l = (i : ℕ) → i < (laid_layout l).count → place ≡ object_place (laid_layout l) l.first l.colour i
     → (j : ℕ) → j < l.size → bytes (place + j) ≡ Some (pattern_byte l.pattern j)
@@ -45,13 +45,13 @@ fresh_constructed place m h = each_weaker (IsFresh m.bytes place) (IsConstructed
 byte_at : (l : Laid) (i j place : ℕ) → i < (laid_layout l).count → j < l.size → place ≡ object_place (laid_layout l) l.first l.colour i → IsByte l i j (place + j)
 byte_at l i j place lt in_size e = record { index_in = lt; byte_in = in_size; at = ap (λ n. n + j) e }
 
--- the slab of an object has its first place
+-- the first place of an object lies in its slab
 begins_in : (l : Laid) → IsCutLaid l → (i place : ℕ) → i < (laid_layout l).count → place ≡ object_place (laid_layout l) l.first l.colour i → in_laid place l ≡ true
 begins_in l c i place lt at =
     let here : place + 0 ≡ place = omega arith in
     subst (λ p. in_laid p l ≡ true) here (byte_is_of l c i 0 (place + 0) (byte_at l i 0 place lt c.fit.sized at)).in_slab
 
--- bytes that stay, of objects that are not live
+-- if the bytes of objects that are not live stay, these objects stay fresh
 pub fresh_same : (bytes new : ℕ → Option ℕ) (place : ℕ) (l : Laid) → ((i j p : ℕ) → IsByte l i j p → get_or l.live i false ≡ false → new p ≡ bytes p) → IsFresh bytes place l → IsFresh new place l
 fresh_same bytes new place l same h i lt at = ((h i lt at).0, λ j in_size. same i j (place + j) (byte_at l i j place lt in_size at) (h i lt at).0 ∙ (h i lt at).1 j in_size)
 
@@ -87,7 +87,7 @@ fresh_written order place begin new m w e h = each_same m.bytes (written begin n
     stays l in_ls i j p b dead true is = absurd (dead_byte order m l i j p w in_ls b dead (reached m begin (length new) p e
         (leb-true begin p (and_parts (leb begin p) (ltb p (begin + length new)) is).0) (ltb-true p (begin + length new) (and_parts (leb begin p) (ltb p (begin + length new)) is).1)))
 
--- One flag set, at another place if it is set to live
+-- One flag is set. If it is set to live, its object begins at another place.
 
 pub fresh_flagged : {limit : ℕ} (order place : ℕ) (c : Cache) (s : Slab) (i : ℕ) (b : Bool) (m : Machine) → IsWellFormed limit order m → IsIn c m.caches → IsIn s c.slabs
     → (b ≡ true → object_place (layout c) s.first s.colour i ≢ place) → AllFresh place m → AllFresh place (with_cache (with_slab (with_live i b s) c) m)
@@ -152,9 +152,9 @@ fresh_grown order place first c m w in_c e h =
           grown_byte first c m (place + j) true b.in_slab ∙ (fresh_byte_is c (new_slab c first) (place + j) b.in_one ∙ ap (λ n. Some (pattern_byte c.pattern n)) b.byte_is),
     )))
 
--- Slabs given back
+-- Freed slabs
 
--- the bytes of the slabs that stay are not among those given back
+-- the bytes of the slabs that stay are not in freed slabs
 pub not_gone : (q : Laid → Bool) (ls : List Laid) (p : ℕ) (l : Laid) → AreApart (map laid_block ls) → IsIn l (filter (λ x. not (q x)) ls) → in_laid p l ≡ true
     → list_any (in_block p) (map laid_block (filter q ls)) ≡ false
 not_gone q ls p l apart in_kept here = false_from_ne_true (list_any (in_block p) (map laid_block (filter q ls))) (λ e.

@@ -1,4 +1,4 @@
--- How many numbers below a bound pass a test.
+-- The number of numbers below a bound that pass a test.
 use Rattle.std.proofs.Common.{◌≡◌, ◌⊎◌, inl, inr, refl, sym, ◌∙◌, ap, ℕ, zero, suc, ◌+◌, ◌*◌, ◌/◌, ◌^◌, ◌<◌, ◌≤◌, Bool, true, false, arith}
 use Rattle.std.specs.Prelude.{if◌then◌else◌}
 use Rattle.std.proofs.Math.Nat.{div-lt_iff_lt-mul}
@@ -44,7 +44,7 @@ count_past p n (suc m) le none = go (cases_lt m n) (count_past p n m)
         let before : count_below p m ≡ count_below p n = rest past none in
         omega arith
 
--- two bounds past which none passes give one count
+-- two bounds past which no number passes give the same count
 pub count_either : (p : ℕ → Bool) (n m : ℕ) → ((f : ℕ) → n ≤ f → p f ≡ false) → ((f : ℕ) → m ≤ f → p f ≡ false) → count_below p n ≡ count_below p m
 count_either p n m past_n past_m = go (cases_lt n m)
   where

@@ -1,4 +1,4 @@
--- The free blocks: each available frame lies in one, and what a reservation does to them.
+-- The free blocks: each available frame lies in one of them, and a reservation changes them as `Splits` says.
 use Rattle.std.proofs.Common.{◌≡◌, ◌⊎◌, inl, inr, refl, sym, ◌∙◌, ap, subst, ℕ, suc, ◌+◌, ◌*◌, ◌/◌, ◌%◌, ◌^◌, ◌<◌, ◌≤◌, Bool, true, false, Some, None, eq-eqb, arith}
 use Rattle.std.specs.Prelude.{◌==◌}
 use Rattle.std.proofs.Math.Nat.{pow-suc, add-div_right, add-mod_right}
@@ -13,7 +13,7 @@ use Rattle.model_core.proofs.Halves.{open_around, one_open, same_above}
 use Rattle.model_core.proofs.TakeOut.{TakesOut, IsOtherHalf, open_after, open_stays, open_half}
 use Rattle.model_core.proofs.BlocksByNumber.{number_is, first_is, same_first, number_first, aligned_first, number_around, aligned_below, number_of_frame, frame_of_number, same_slot, available_tells, available_is, taken_is_unavailable, free_is_open, open_is_free}
 
--- aligned blocks of one order and one number are one
+-- aligned blocks of the same order and number are the same
 pub same_block : (b c : Block) → b.first % 2 ^ b.order ≡ 0 → c.first % 2 ^ c.order ≡ 0 → b.order ≡ c.order → number_at b.order b.first ≡ number_at b.order c.first → b ≡ c
 same_block b c at_b at_c orders numbers =
     ap (λ f. block f b.order) (same_first b.first c.first b.order at_b (ap (λ n. c.first % 2 ^ n) orders ∙ at_c) numbers) ∙ ap (λ n. block c.first n) orders
@@ -41,7 +41,7 @@ without_here taken f = cond-true (f == f) None (taken f) (eq-eqb f f refl)
 pub without_other : (taken : Taken) (f g : ℕ) → (g ≡ f → ⊥) → without_taken taken f g ≡ taken g
 without_other taken f g ne = cond-false (g == f) None (taken g) (ne_eqb g f ne)
 
--- a frame that is taken after a reservation was taken, or is one of the new block's
+-- a frame that is taken after a reservation was taken before, or is in the new block
 pub taken_before : (taken : Taken) (f k x : ℕ) → IsTaken (with_taken taken f k) x → HasFrame (block f k) x ⊎ IsTaken taken x
 taken_before taken f k x (g, j, e, has) = go (cases_eq g f)
   where
@@ -49,7 +49,7 @@ taken_before taken f k x (g, j, e, has) = go (cases_eq g f)
     go (inl same) = inl (subst (λ b. HasFrame b x) (ap (λ n. block n j) same ∙ ap (block f) (same_Some j k (sym e ∙ ap (with_taken taken f k) same ∙ with_here taken f k))) has)
     go (inr ne) = inr (g, j, sym (with_other taken f k g ne) ∙ e, has)
 
--- a frame that was taken is taken after a release, or is one of the block's
+-- a frame that was taken is still taken after a release, or is in the released block
 pub taken_after : (taken : Taken) (f k x : ℕ) → taken f ≡ Some k → IsTaken taken x → HasFrame (block f k) x ⊎ IsTaken (without_taken taken f) x
 taken_after taken f k x here (g, j, e, has) = go (cases_eq g f)
   where
@@ -57,7 +57,7 @@ taken_after taken f k x here (g, j, e, has) = go (cases_eq g f)
     go (inl same) = inl (subst (λ b. HasFrame b x) (ap (λ n. block n j) same ∙ ap (block f) (same_Some j k (sym e ∙ ap taken same ∙ here))) has)
     go (inr ne) = inr (g, j, without_other taken f g ne ∙ e, has)
 
--- what is taken after a release was taken by another block
+-- a frame that is taken after a release was taken by another block
 pub released_taken : (taken : Taken) (f x : ℕ) → IsTaken (without_taken taken f) x → (g j : ℕ) × (g ≡ f → ⊥) × (taken g ≡ Some j) × HasFrame (block g j) x
 released_taken taken f x (g, j, e, has) = go (cases_eq g f)
   where
@@ -79,7 +79,7 @@ each_frame_in_one top held taken x on off = go (open_around (is_available top he
             let orders : c.order ≡ j = one_open (is_available top held taken) top c.order j x (subst (IsOpen (is_available top held taken) top c.order) (sym number) (free_is_open top held taken c free)) is_open in
             same_block c (around x j) free.0.1 (aligned_first _ j) orders (sym number ∙ ap (λ n. number_at n x) orders ∙ sym (number_around x j) ∙ ap (λ n. number_at n (x / 2 ^ j * 2 ^ j)) (sym orders))
 
--- what is reserved out of a free block
+-- a block that is reserved out of a free block is aligned, and its frames are held and not taken
 pub reserved_is_untaken : ReservedIsUntaken
 reserved_is_untaken top held taken f j k free le = ((omega (arith, free.0.0), aligned), frames)
   where
@@ -92,7 +92,7 @@ reserved_is_untaken top held taken f j k free le = ((omega (arith, free.0.0), al
         number : number_at j x ≡ number_at j f
         number = same_above x f k j le (number_of_frame f k x aligned has)
 
--- the number of an aligned block of the next order, at the order below
+-- if f is aligned for order i + 1, its number at order i is twice its number at order i + 1
 pub even_number : (f i : ℕ) → f % 2 ^ suc i ≡ 0 → number_at i f ≡ 2 * number_at (suc i) f
 even_number f i aligned = ap (number_at i) parts ∙ number_first (2 * number_at (suc i) f) i
   where
@@ -105,7 +105,7 @@ even_number f i aligned = ap (number_at i) parts ∙ number_first (2 * number_at
 pub number_plus : (f i : ℕ) → number_at i (f + 2 ^ i) ≡ number_at i f + 1
 number_plus f i = number_is i (f + 2 ^ i) ∙ add-div_right f (pow_pos i) ∙ ap (λ n. n + 1) (sym (number_is i f))
 
--- the upper half of an aligned block is the other half of the one around its first frame, and the only one
+-- the upper half of an aligned block is the other half of the block at its first frame, and the only one
 pub upper_half : (f i : ℕ) → f % 2 ^ suc i ≡ 0 → IsOtherHalf f i (f + 2 ^ i)
 upper_half f i aligned =
     let even : number_at i f ≡ 2 * number_at (suc i) f = even_number f i aligned in

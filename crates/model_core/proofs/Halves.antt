@@ -4,7 +4,7 @@ use Rattle.std.specs.Prelude.{◌&&◌}
 use Rattle.std.proofs.lemmas.Bool.{both_ways, and_parts, and_from, and_cases, cases_Bool, cases_lt, cases_eq}
 use Rattle.model_core.specs.Numbered.{number_at, is_clear, IsOpen}
 
--- a number is one of the two halves of its half
+-- a number is twice its half, or one more
 pub halves : (q : ℕ) → (q ≡ 2 * (q / 2)) ⊎ (q ≡ 2 * (q / 2) + 1)
 halves q = go (cases_eq q (2 * (q / 2)))
   where
@@ -27,7 +27,7 @@ clear_half ok k q clear = go (halves q)
     go (inl e) = ap (is_clear ok k) e ∙ parts.0
     go (inr e) = ap (is_clear ok k) e ∙ parts.1
 
--- a block is clear whose two halves are
+-- a block is clear if its two halves are
 pub clear_whole : (ok : ℕ → Bool) (k q r : ℕ) → q / 2 ≡ r / 2 → (q ≡ r → ⊥) → is_clear ok k q ≡ true → is_clear ok k r ≡ true → is_clear ok (suc k) (q / 2) ≡ true
 clear_whole ok k q r same ne clear_q clear_r = go (halves q) (halves r)
   where
@@ -37,7 +37,7 @@ clear_whole ok k q r same ne clear_q clear_r = go (halves q) (halves r)
     go (inl e) (inr d) = and_from _ _ (ap (is_clear ok k) (sym e) ∙ clear_q) (ap (λ n. is_clear ok k (2 * n + 1)) same ∙ ap (is_clear ok k) (sym d) ∙ clear_r)
     go (inr e) (inl d) = and_from _ _ (ap (λ n. is_clear ok k (2 * n)) same ∙ ap (is_clear ok k) (sym d) ∙ clear_r) (ap (is_clear ok k) (sym e) ∙ clear_q)
 
--- the same, i orders down
+-- the blocks around a frame are clear i orders below a clear one
 clear_down : (ok : ℕ → Bool) (x i k m : ℕ) → m ≡ i + k → is_clear ok m (number_at m x) ≡ true → is_clear ok k (number_at k x) ≡ true
 clear_down ok x zero k m e clear =
     let same : m ≡ k = omega arith in
@@ -46,7 +46,7 @@ clear_down ok x (suc i) k m e clear =
     let same : m ≡ suc (i + k) = omega arith in
     clear_down ok x i k (i + k) refl (clear_half ok (i + k) (number_at (i + k) x) (subst (λ n. is_clear ok n (number_at n x) ≡ true) same clear))
 
--- of the blocks around a frame each is clear below a clear one
+-- each block around a frame is clear if a larger one around it is
 pub clear_below : (ok : ℕ → Bool) (x i k : ℕ) → i ≤ k → is_clear ok k (number_at k x) ≡ true → is_clear ok i (number_at i x) ≡ true
 clear_below ok x i k le clear = clear_down ok x (k - i) i k (omega arith) clear
 
@@ -65,7 +65,7 @@ same_up x y (suc i) k m e same =
     next : (n : ℕ) → number_at n x ≡ number_at n y → number_at (suc n) x ≡ number_at (suc n) y
     next n e = ap (λ m. m / 2) e
 
--- two frames of one block are in one block of each greater order
+-- two frames in one block are in the same block of each greater order
 pub same_above : (x y i k : ℕ) → i ≤ k → number_at i x ≡ number_at i y → number_at k x ≡ number_at k y
 same_above x y i k le same = same_up x y (k - i) i k (omega arith) same
 
@@ -76,7 +76,7 @@ clear_same a b (suc k) q agree =
     ap (λ t. t && is_clear a k (2 * q + 1)) (clear_same a b k (2 * q) (λ x e. agree x (ap (λ n. n / 2) e ∙ omega arith)))
     ∙ ap (λ t. is_clear b k (2 * q) && t) (clear_same a b k (2 * q + 1) (λ x e. agree x (ap (λ n. n / 2) e ∙ omega arith)))
 
--- a block is clear whose frames all pass
+-- a block is clear if all its frames pass
 pub clear_from : (ok : ℕ → Bool) (k q : ℕ) → ((x : ℕ) → number_at k x ≡ q → ok x ≡ true) → is_clear ok k q ≡ true
 clear_from ok zero q all = all q refl
 clear_from ok (suc k) q all = and_from _ _
@@ -98,7 +98,7 @@ clear_fails ok (suc k) q fails = go (and_cases _ _ fails) (clear_fails ok k (2 *
     go (inl low) left right = up (2 * q) (omega arith) (left low)
     go (inr high) left right = up (2 * q + 1) (omega arith) (right high)
 
--- where more frames pass, a clear block stays clear
+-- a clear block stays clear if more frames pass
 pub clear_more : (a b : ℕ → Bool) (k x : ℕ) → ((y : ℕ) → a y ≡ true → b y ≡ true) → is_clear a k (number_at k x) ≡ true → is_clear b k (number_at k x) ≡ true
 clear_more a b k x more clear = clear_from b k (number_at k x) (λ y e. more y (clear_at a k y (ap (is_clear a k) e ∙ clear)))
 
@@ -122,7 +122,7 @@ open_is_greatest ok top i j x (le, clear, end) within greater = go (cases_lt i j
     go (inl above) (inl e) = absurd (omega arith)
     go (inl above) (inr fails) = absurd (both_ways _ fails (clear_below ok x (suc i) j (omega arith) greater))
 
--- a frame lies in one open block
+-- a frame lies in at most one open block
 pub one_open : (ok : ℕ → Bool) (top i j x : ℕ) → IsOpen ok top i (number_at i x) → IsOpen ok top j (number_at j x) → i ≡ j
 one_open ok top i j x at_i at_j =
     let below = open_is_greatest ok top i j x at_i at_j.0 at_j.1 in

@@ -1,4 +1,4 @@
--- Lists: what holds of each element, of the elements with one put in or replaced, and of lists that rise by key.
+-- Lists: what holds of each element, also once one is added or replaced, and lists that rise by key.
 use Rattle.std.proofs.Common.{◌≡◌, ◌≢◌, ℕ, zero, suc, ◌+◌, ◌<◌, ◌≤◌, Bool, true, false, not, ◌||◌, cond, eqb, ltb, List, [], ◌∷◌, ◌++◌, map, get_or, replicate, Option, None, Some, refl, sym, ap, ◌∙◌, subst, ◌⊎◌, inl, inr, arith}
 use Rattle.std.specs.Prelude.{if◌then◌else◌, is_some, filter, find, flat_map}
 use Rattle.std.specs.List.{list_any, AllByRecursion as Each}
@@ -37,7 +37,7 @@ pub each_right : {X : Type 0} (P : X → Type 0) (xs ys : List X) → Each P (xs
 each_right P [] ys a = a
 each_right P (x ∷ xs) ys (p, a) = each_right P xs ys a
 
--- one more in the middle, or another in the place of one
+-- an element is added in the middle, or replaced
 pub each_put : {X : Type 0} (P : X → Type 0) (xs ys : List X) (x : X) → Each P (xs ++ ys) → P x → Each P (xs ++ x ∷ ys)
 each_put P xs ys x a p = each_append P xs (x ∷ ys) (each_left P xs ys a) (p, each_right P xs ys a)
 
@@ -193,7 +193,7 @@ any_in p x [] i is = elim i [ ]
 any_in p x (y ∷ ys) (inl e) is = or_left (p y) (list_any p ys) (ap p e ∙ is)
 any_in p x (y ∷ ys) (inr i) is = or_right (p y) (list_any p ys) (any_in p x ys i is)
 
--- what passes a test or fails it
+-- an element that passes p either passes q or fails it
 pub any_split : {X : Type 0} (p q : X → Bool) (xs : List X) → list_any p xs ≡ (list_any p (filter q xs) || list_any p (filter (λ x. not (q x)) xs))
 any_split p q [] = refl
 any_split p q (x ∷ xs) = go (q x) (any_split p q xs)
@@ -257,7 +257,7 @@ map_others : {X : Type 0} (key : X → ℕ) (n : ℕ) (y : X) (xs : List X) → 
 map_others key n y [] a = refl
 map_others key n y (x ∷ xs) (e, a) = ap (λ b. (if b then y else x) ∷ map (λ z. if eqb (key z) n then y else z) xs) e ∙ ap (λ zs. x ∷ zs) (map_others key n y xs a)
 
--- what passes the test is put in the place of the element with its key
+-- the element with this key is replaced
 pub found_replaced : {X : Type 0} (key : X → ℕ) (x : X) (xs : List X) (f : Found key x xs) (y : X) (n : ℕ) → n ≡ key x
     → map (λ z. if eqb (key z) n then y else z) xs ≡ f.before ++ y ∷ f.later
 found_replaced {X} key x xs f y n e =
@@ -291,7 +291,7 @@ put_in {X} key x (y ∷ ys) = go (ltb (key x) (key y)) refl (put_in key x ys)
       is = ap (λ b. if b then x ∷ (y ∷ ys) else y ∷ put_rising key x ys) e ∙ ap (λ zs. y ∷ zs) p.is;
     }
 
--- what is in the list then
+-- an element of the longer list is the new one or was in the list
 pub in_put : {X : Type 0} (key : X → ℕ) (x y : X) (ys : List X) → IsIn y (put_rising key x ys) → (x ≡ y) ⊎ IsIn y ys
 in_put key x y [] i = i
 in_put {X} key x y (z ∷ zs) i = go (ltb (key x) (key z)) i (in_put key x y zs)
@@ -311,11 +311,11 @@ put_has {X} key x y (z ∷ zs) i = go (ltb (key x) (key z)) (put_has key x y zs)
     go false more (inr (inl e)) = inl e
     go false more (inr (inr i)) = inr (more (inr i))
 
--- if one passed, one passes
+-- if an element passes the test, one of the longer list does
 pub any_with : {X : Type 0} (p : X → Bool) (key : X → ℕ) (x : X) (xs : List X) → list_any p xs ≡ true → list_any p (put_rising key x xs) ≡ true
 any_with p key x xs e = let s = some_any p xs e in any_in p s.0 (put_rising key x xs) (put_has key x s.0 xs (inr s.1)) s.2
 
--- an element with a new key is put so that the list rises
+-- if the key is new, the longer list rises too
 pub put_rises : {X : Type 0} (key : X → ℕ) (n : ℕ) (x : X) (xs : List X) → RisesFrom n (map key xs) → n ≤ key x → Each (λ y. key y ≢ key x) xs
     → RisesFrom n (map key (put_rising key x xs))
 put_rises key n x [] r le a = (le, tt)
@@ -334,7 +334,7 @@ filter_rises {X} key p n (x ∷ xs) (l, r) = go (p x) (filter_rises key p (key x
     go true rest = (l, rest)
     go false rest = rises_more (key x + 1) n (map key (filter p xs)) (omega arith) rest
 
--- the least number that is missing is missing
+-- the least missing number is at least n, and it is missing
 pub least_above : (n : ℕ) (xs : List ℕ) → n ≤ least_missing n xs
 least_above n [] = omega arith
 least_above n (x ∷ xs) = go (eqb x n) (least_above (n + 1) xs)

@@ -1,4 +1,4 @@
--- What each kind of change keeps of a machine's memory.
+-- What stays true of a machine's memory after each kind of change.
 use Rattle.std.proofs.Common.{◌≡◌, ◌≢◌, ℕ, ◌-◌, ◌*◌, ◌/◌, ◌^◌, Bool, true, false, not, ◌&&◌, ◌||◌, eqb, List, [], ◌∷◌, ◌++◌, map, length, Option, Some, None, refl, sym, ap, ◌∙◌, subst}
 use Rattle.std.specs.Prelude.{if◌then◌else◌, is_some, filter}
 use Rattle.std.specs.List.{list_any, AllByRecursion as Each}
@@ -20,7 +20,7 @@ use Rattle.model_core.proofs.Laid.{Laid, laid_layout, laid_block, in_laid, in_la
 pub any_put : {X : Type 0} (p : X → Bool) (xs ys : List X) (x : X) → list_any p (xs ++ x ∷ ys) ≡ (p x || list_any p (xs ++ ys))
 any_put p xs ys x = any_append p xs (x ∷ ys) ∙ (or_turned (list_any p xs) (p x) (list_any p ys) ∙ ap (λ b. p x || b) (sym (any_append p xs ys)))
 
--- a place that no slab has is in no object
+-- a place in no slab is in no object
 pub no_object : (place : ℕ) (ls : List Laid) → list_any (in_laid place) ls ≡ false → list_any (in_laid_object place) ls ≡ false
 no_object place ls e = any_none (in_laid_object place) ls (each_weaker (λ l. in_laid place l ≡ false) (λ l. in_laid_object place l ≡ false) (λ l h. and_left (in_laid place l) _ h) ls (none_any (in_laid place) ls e))
 
@@ -38,7 +38,7 @@ slab_held order slots place ls h e =
     let s : (l : Laid) × IsIn l ls × (in_laid place l ≡ true) = some_any (in_laid place) ls e in
     place_held order slots place (laid_block s.0) (each_in (λ l. Placed order slots (laid_block l)) s.0 ls h s.1) s.2
 
--- A page block more, or fewer
+-- One page block is added or removed
 
 pub block_put : (order : ℕ) (slots : List ℕ) (xs ys : List Block) (b : Block) (ls : List Laid) (bytes : ℕ → Option ℕ)
     → IsLaidOut order slots (xs ++ ys) ls bytes → Placed order slots b → Each (IsApart b) (xs ++ ys) → Each (IsApart b) (map laid_block ls) → IsLaidOut order slots (xs ++ b ∷ ys) ls bytes
@@ -147,7 +147,7 @@ slab_put order slots bs xs ys l bytes fresh h p e f c made = record {
         ∙ (ap (λ b. (held place && not b) || list_any (in_laid_object place) (xs ++ ys)) (sym (any_slab place ∙ ap (λ b. b || list_any (in_laid place) (xs ++ ys)) is))
         ∙ ap (λ b. (held place && not (list_any (in_laid place) (xs ++ l ∷ ys))) || b) (sym (any_object place ∙ ap (λ b. b || list_any (in_laid_object place) (xs ++ ys)) (and_left (in_laid place l) _ is))))
 
--- Slabs given back
+-- Freed slabs
 
 pub given_back : (order : ℕ) (slots : List ℕ) (bs : List Block) (q : Laid → Bool) (ls : List Laid) (bytes : ℕ → Option ℕ)
     → IsLaidOut order slots bs ls bytes → IsLaidOut order slots bs (filter (λ l. not (q l)) ls) (zeroed (map laid_block (filter q ls)) bytes)
@@ -182,7 +182,7 @@ given_back order slots bs q ls bytes h = record {
         ∙ (ap (λ b. (held place && not b) || list_any (in_laid_object place) ls) (any_split (in_laid place) q ls ∙ ap (λ b. b || list_any (in_laid place) kept) is)
         ∙ ap (λ b. (held place && not (list_any (in_laid place) kept)) || b) (any_split (in_laid_object place) q ls ∙ ap (λ b. b || list_any (in_laid_object place) kept) (no_object place gone is)))
 
--- A slot more
+-- A slot is added
 
 pub slot_put : (order : ℕ) (xs ys : List ℕ) (u : ℕ) (bs : List Block) (ls : List Laid) (bytes : ℕ → Option ℕ) → list_any (λ v. eqb v u) (xs ++ ys) ≡ false
     → IsLaidOut order (xs ++ ys) bs ls bytes → IsLaidOut order (xs ++ u ∷ ys) bs ls (λ place. if eqb (slot_of order place) u then Some 0 else bytes place)
@@ -215,7 +215,7 @@ slot_put order xs ys u bs ls bytes new h = record {
         ∙ ap (λ b. (b && not (list_any (in_laid place) ls)) || list_any (in_laid_object place) ls)
         (sym (held (slot_of order place) ∙ ap (λ b. b || list_any (λ w. eqb w (slot_of order place)) (xs ++ ys)) (ne_eqb u (slot_of order place) (λ e. eqb-false (slot_of order place) u is (sym e)))))
 
--- A slot fewer, in which no block lies
+-- A slot without blocks is removed
 
 pub slot_gone : (order : ℕ) (slots : List ℕ) (u : ℕ) (bs : List Block) (ls : List Laid) (bytes : ℕ → Option ℕ)
     → Each (λ b. b.first / 2 ^ order ≢ u) bs → Each (λ l. l.first / 2 ^ order ≢ u) ls

@@ -65,7 +65,7 @@ pub record IsLive (c : Cache) (o : LiveObject) : Type 0 where
   pub live : get_or o.slab.live o.index false ≡ true
   pub at : o.place ≡ object_place (layout c) o.slab.first o.slab.colour o.index
 
--- of the flags from n on
+-- an object that is live by the flags from n on
 record IsLiveFrom (c : Cache) (s : Slab) (n : ℕ) (flags : List Bool) (o : LiveObject) : Type 0 where
   slab_is : o.slab ≡ s
   low : n ≤ o.index
@@ -164,7 +164,7 @@ reached m place len p e low high = elim (or_cases (list_any (within_block place 
       })
 ]
 
--- a byte of a live object is one of its laid slab's
+-- a byte of a live object is a byte of its laid slab
 pub live_byte : (m : Machine) (place : ℕ) (h : IsLiveByte m place) → IsCutLaid (laid h.cache h.slab) → IsByte (laid h.cache h.slab) h.index h.byte place
 live_byte m place h c = record { index_in = subst (λ n. h.index < n) c.count h.index_in; byte_in = h.byte_in; at = h.at }
 

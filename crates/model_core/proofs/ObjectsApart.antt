@@ -1,4 +1,4 @@
--- Taken blocks share no frame, objects no byte, and control records no byte with objects.
+-- Taken blocks share no frame, objects share no byte, and control records share no byte with objects.
 use Rattle.std.proofs.Common.{◌≡◌, ℕ, zero, suc, ◌+◌, ◌-◌, ◌*◌, ◌/◌, ◌<◌, ◌≤◌, List, [], ◌∷◌, map, length, get_or, sym, ap, ◌∙◌, subst, inl, inr, arith}
 use Rattle.std.specs.Prelude.{Contains, AllPairs}
 use Rattle.std.specs.List.{AllByRecursion as Each}
@@ -44,7 +44,7 @@ in_contains x [] i = elim i [ ]
 in_contains x (y ∷ ys) (inl e) = (0, omega arith, e)
 in_contains x (y ∷ ys) (inr i) = let c : Contains ys x = in_contains x ys i in (suc c.0, omega (arith, c.1), c.2)
 
--- of a list that rises, what has one key is one
+-- two elements of a rising list with the same key are the same
 pub one_key : {X : Type 0} (key : X → ℕ) (n : ℕ) (xs : List X) (x y : X) → RisesFrom n (map key xs) → IsIn x xs → IsIn y xs → key x ≡ key y → x ≡ y
 one_key key n [] x y r i j e = elim i [ ]
 one_key key n (z ∷ xs) x y (l, r) (inl a) (inl b) e = sym a ∙ b
@@ -56,7 +56,7 @@ one_key key n (z ∷ xs) x y (l, r) (inr i) (inl b) e =
     absurd (omega (arith, ap key b))
 one_key key n (z ∷ xs) x y (l, r) (inr i) (inr j) e = one_key key (key z + 1) xs x y r i j e
 
--- an object as its slab lies in memory
+-- an object, with its slab as it lies in memory
 pub record IsLaidObject (order : ℕ) (m : Machine) (o : Object) : Type 0 where
   pub cache_in : IsIn o.cache m.caches
   pub slab_in : IsIn o.slab o.cache.slabs

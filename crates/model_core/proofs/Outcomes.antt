@@ -1,4 +1,4 @@
--- What an operation leaves of a machine: the machine itself where it is refused, else what one change leaves.
+-- The machine after an operation: unchanged if it is refused, else with one change.
 use Rattle.std.proofs.Common.{◌≡◌, ℕ, ◌<◌, Bool, true, false, not, cond, eqb, ltb, leb, List, [], ◌∷◌, length, Option, Some, None, Result, Ok, refl, sym, ap, ◌∙◌, subst}
 use Rattle.std.specs.Prelude.{if◌then◌else◌, OnErr, find, filter, is_some, option_map, option_and_then}
 use Rattle.std.specs.List.{list_any}
@@ -31,7 +31,7 @@ used_in c s e = go (find is_partial c.slabs) refl e
     go None f e = (find_in is_empty s c.slabs e).0
     go (Some t) f e = (find_in is_partial s c.slabs (f ∙ e)).0
 
--- a cache that grows has no empty slab, so it stands among those of the reaped machine as it was
+-- a cache that grows has no empty slab, so it is unchanged in the reaped machine
 kept_all : {X : Type 0} (p : X → Bool) (xs : List X) → find p xs ≡ None → filter (λ x. not (p x)) xs ≡ xs
 kept_all p [] e = refl
 kept_all {X} p (x ∷ xs) e = go (p x) e (kept_all p xs)
@@ -56,9 +56,9 @@ stands_reaped c m i e = subst (λ ss. IsIn (record c { slabs = ss }) (reaped m).
 pub stands_by_need : (order k : ℕ) (c : Cache) (m : Machine) → IsIn c m.caches → slab_to_use (find is_partial c.slabs) (find is_empty c.slabs) ≡ None → IsIn c (by_need order k m).caches
 stands_by_need order k c m i e = by_need_keeps (λ n. IsIn c n.caches) order k m i (stands_reaped c m i e)
 
--- Steps that answer
+-- Steps with answers
 
--- a page block is taken by need, or the request is refused
+-- a page block is allocated on demand, or the request is refused
 pub alloc_outcome : (order k : ℕ) (m : Machine) (Q : Step (Result ℕ AllocRefusal) → Type 0) → ((refusal : AllocRefusal) → Q (refuse refusal m))
     → ((first : ℕ) → choice_by_need order k m ≡ Some first → Q (record { answer = Ok first; machine = with_block (block first k) (by_need order k m) }))
     → Q (alloc_step order k m)
@@ -70,7 +70,7 @@ alloc_outcome order k m Q refused found = go (ltb order k) (choice_by_need order
     go false None e = subst (λ n. Q (refuse AllocRefusal.NoFrames n)) (sym (by_need_none order k m e)) (refused AllocRefusal.NoFrames)
     go false (Some first) e = found first e
 
--- an object of a slab that stands is handed out, or the first of one that is made by need; the block is the new slab's
+-- an object of an existing slab is handed out, or the first of a slab that is made on demand; the block is the new slab's
 pub take_outcome : (order number : ℕ) (m : Machine) (Q : Option Block → Step (Result ℕ TakeRefusal) → Type 0) → ((refusal : TakeRefusal) → Q None (refuse refusal m))
     → ((c : Cache) (s : Slab) → IsIn c m.caches → IsIn s c.slabs → Q None (hand_out c s m))
     → ((c : Cache) (first : ℕ) → let n = by_need order (layout c).order m in IsIn c n.caches → choice_by_need order (layout c).order m ≡ Some first
@@ -101,7 +101,7 @@ refusals_stay order n m = (
 
 -- All operations
 
--- what holds of each operation and what it leaves
+-- Q holds of each operation and the machine after it
 pub record Outcomes (limit order : ℕ) (m : Machine) (Q : Operation → Machine → Type 0) : Type 0 where
   pub refused : (operation : Operation) → made_block order operation m ≡ None → Q operation m
   pub page_taken : (k first : ℕ) → choice_by_need order k m ≡ Some first → Q (Alloc k) (with_block (block first k) (by_need order k m))

@@ -1,4 +1,4 @@
--- Worked examples of page blocks, by computation: slots of 8 frames.
+-- Worked examples of page blocks, by computation. Slots have 8 frames.
 use Rattle.std.proofs.Common.{◌≡◌, refl, List, [], ◌∷◌, ◌++◌, Some, None, Ok, Err}
 use Rattle.model_core.specs.declared.refusals.AllocRefusal.{AllocRefusal}
 use Rattle.model_core.specs.declared.refusals.ReadRefusal.{ReadRefusal}
@@ -10,12 +10,12 @@ use Rattle.model_core.specs.Operations.{alloc_step, free_step, read_step, write_
 use Rattle.model_core.specs.Runs.{Operation, Alloc, Free, Write, Grant, TakeBack, Reset}
 use Rattle.model_core.proofs.RowAnswers.{number_of, numbers, machine_after}
 
--- nothing can be taken of a machine without slots
+-- a machine without slots refuses every page block
 no_slots : (alloc_step 3 0 empty_machine).answer ≡ Err AllocRefusal.NoFrames
 unfolding alloc_step by_need reaped choice taken_blocks empty_machine
 no_slots = refl
 
--- splits, until single frames are left: 0, then 2 of order 1, then 4 of order 2, then 1
+-- splits, until single frames are left: frame 0, then order 1 at frame 2, then order 2 at frame 4, then frame 1
 abbrev four_blocks : List Operation
 four_blocks = Grant ∷ Alloc 0 ∷ Alloc 1 ∷ Alloc 2 ∷ Alloc 0 ∷ []
 
@@ -31,13 +31,13 @@ above_the_order : (alloc_step 3 4 (machine_after four_blocks)).answer ≡ Err Al
 unfolding alloc_step by_need reaped choice taken_blocks empty_machine next_slot after_grant
 above_the_order = refl
 
--- all released, the halves are one block of order 3 again
+-- once all are freed, the halves are one block of order 3 again
 joins : numbers (four_blocks ++ (Free 0 ∷ Free 1 ∷ Free 2 ∷ Free 4 ∷ Alloc 3 ∷ []))
     ≡ Some 0 ∷ Some 0 ∷ Some 2 ∷ Some 4 ∷ Some 1 ∷ Some 0 ∷ Some 0 ∷ Some 1 ∷ Some 2 ∷ Some 0 ∷ []
 unfolding number_of alloc_step free_step by_need reaped choice taken_blocks empty_machine next_slot after_grant
 joins = refl
 
--- frame 0 is free, but too small; then it is of the least order
+-- frame 0 is free, but too small for order 1; for order 0 it is the free block of least order
 too_small : numbers (four_blocks ++ (Free 0 ∷ Free 4 ∷ Alloc 1 ∷ Alloc 0 ∷ []))
     ≡ Some 0 ∷ Some 0 ∷ Some 2 ∷ Some 4 ∷ Some 1 ∷ Some 0 ∷ Some 2 ∷ Some 4 ∷ Some 0 ∷ []
 unfolding number_of alloc_step free_step by_need reaped choice taken_blocks empty_machine next_slot after_grant
@@ -58,7 +58,7 @@ not_held : (take_back_step 3 1 (machine_after (Grant ∷ Alloc 0 ∷ []))).answe
 unfolding alloc_step take_back_step by_need reaped choice taken_blocks empty_machine next_slot after_grant
 not_held = refl
 
--- a fresh block reads as zero, and a block released and taken again has its bytes
+-- a fresh block reads as zero, and a block that is freed and allocated again has its bytes
 abbrev written_and_released : List Operation
 written_and_released = Grant ∷ Alloc 0 ∷ Write 0 (10 ∷ 11 ∷ []) ∷ Free 0 ∷ Alloc 0 ∷ []
 
@@ -66,7 +66,7 @@ own_bytes : (read_step 0 3 (machine_after written_and_released)).answer ≡ Ok (
 unfolding alloc_step free_step write_step read_step in_reach by_need reaped choice taken_blocks empty_machine next_slot after_grant
 own_bytes = refl
 
--- a slot that comes back is zero
+-- a slot that is taken back and granted again reads as zero
 scrubbed : (read_step 0 3 (machine_after (Grant ∷ Alloc 0 ∷ Write 0 (10 ∷ 11 ∷ []) ∷ Free 0 ∷ TakeBack 0 ∷ Grant ∷ Alloc 0 ∷ []))).answer ≡ Ok (0 ∷ 0 ∷ 0 ∷ [])
 unfolding alloc_step free_step write_step read_step take_back_step is_busy after_take_back in_reach by_need reaped choice taken_blocks empty_machine next_slot after_grant
 scrubbed = refl
@@ -95,7 +95,7 @@ too_many : (read_step 4294967295 65 (machine_after two_frames)).answer ≡ Err R
 unfolding alloc_step read_step by_need reaped choice taken_blocks empty_machine next_slot after_grant
 too_many = refl
 
--- a block is released once
+-- a block is freed only once, and only by its first frame
 released_twice : numbers (Grant ∷ Alloc 0 ∷ Free 1 ∷ Free 0 ∷ Free 0 ∷ []) ≡ Some 0 ∷ Some 0 ∷ None ∷ Some 0 ∷ None ∷ []
 unfolding number_of alloc_step free_step by_need reaped choice taken_blocks empty_machine next_slot after_grant
 released_twice = refl

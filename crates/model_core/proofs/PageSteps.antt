@@ -1,4 +1,4 @@
--- Page blocks, slots and whole caches: the machine stays well formed.
+-- After changes of page blocks, slots and whole caches the machine stays well formed.
 use Rattle.std.proofs.Common.{◌≡◌, ◌≢◌, ℕ, ◌+◌, ◌*◌, ◌/◌, ◌^◌, ◌<◌, ◌≤◌, true, false, not, eqb, ltb, List, [], ◌∷◌, ◌++◌, map, Some, refl, sym, ap, ◌∙◌, subst, arith}
 use Rattle.std.specs.Prelude.{filter}
 use Rattle.std.specs.List.{list_any, AllByRecursion as Each}
@@ -34,7 +34,7 @@ empty_kept order = well_formed order empty_machine tt tt tt tt tt (record {
   mapped = λ place. refl;
 })
 
--- Empty slabs given back
+-- Empty slabs are freed
 
 without_empty_is : (c : Cache) → IsCache c → IsCache (without_empty c)
 without_empty_is c h = record {
@@ -152,7 +152,7 @@ new_kept {limit} order size align pattern m w sized aligned below patterned =
     (subst (Each IsCache) (sym p.is) (each_put IsCache p.before p.later c (subst (Each IsCache) p.was w.caches) is))
     (subst (λ ls. IsLaidOut order m.slots m.blocks ls m.bytes) (ap all_laid p.was ∙ (sym (laid_without p.before p.later c refl) ∙ ap all_laid (sym p.is))) (laid_out order m w))
 
--- the slabs of one cache given back
+-- the slabs of one cache are freed
 pub gone_kept : {limit : ℕ} (order : ℕ) (c : Cache) (m : Machine) → IsWellFormed limit order m → IsIn c m.caches → IsWellFormed limit order (destroyed c m)
 unfolding destroyed
 gone_kept {limit} order c m w i =

@@ -1,4 +1,4 @@
--- Worked examples of reaping by need, by computation: slots of 8 frames.
+-- Worked examples of reaping on demand, by computation. Slots have 8 frames.
 use Rattle.std.proofs.Common.{◌≡◌, refl, List, [], ◌∷◌, ◌++◌, map, replicate, Some, None, Ok, arith}
 use Rattle.model_core.specs.declared.refusals.AllocRefusal.{AllocRefusal}
 use Rattle.model_core.specs.Blocks.{block}
@@ -12,7 +12,7 @@ use Rattle.model_core.specs.Runs.{Operation, Alloc, Create, Take, Give, Reap, Gr
 use Rattle.model_core.proofs.ByNeed.{alloc_reaps}
 use Rattle.model_core.proofs.RowAnswers.{number_of, numbers, machine_after}
 
--- a page block is refused while an object is live in its frames, and gets them once the object is given back
+-- a page block is refused while an object is live in its frames, and is allocated once the object is given back
 abbrev object_in_the_way : List Operation
 object_in_the_way = Grant ∷ Create 64 8 (0 ∷ []) ∷ Take 0 ∷ Alloc 3 ∷ Give 0 0 ∷ Alloc 3 ∷ []
 
@@ -29,7 +29,7 @@ record_reads_zero : (read_step 4064 2 (machine_after object_in_the_way)).answer 
 unfolding layout_of alloc_step cache_step create_step next_number take_step give_step read_step in_reach grown_cache grown slab_to_use fresh_byte choice by_need reaped taken_blocks empty_machine next_slot after_grant
 record_reads_zero = refl
 
--- where the empty slab would not make room enough it is not given back
+-- if freeing the empty slab does not give enough space, it is not freed
 abbrev block_in_the_way : List Operation
 block_in_the_way = Grant ∷ Alloc 0 ∷ Create 64 8 (0 ∷ []) ∷ Take 0 ∷ Give 0 4096 ∷ []
 
@@ -41,7 +41,7 @@ slab_stays : numbers (block_in_the_way ++ (Alloc 3 ∷ Reap ∷ [])) ≡ Some 0 
 unfolding number_of layout_of alloc_step cache_step create_step next_number take_step give_step reap_step grown_cache grown slab_to_use fresh_byte choice by_need reaped taken_blocks empty_machine next_slot after_grant
 slab_stays = refl
 
--- where a block is free the empty slab is not given back either
+-- if a block is free, the empty slab is not freed either
 block_beside : numbers (Grant ∷ Create 64 8 (0 ∷ []) ∷ Take 0 ∷ Give 0 0 ∷ Alloc 2 ∷ Reap ∷ []) ≡ Some 0 ∷ Some 0 ∷ Some 0 ∷ Some 0 ∷ Some 4 ∷ Some 1 ∷ []
 unfolding number_of layout_of alloc_step cache_step create_step next_number take_step give_step reap_step grown_cache grown slab_to_use fresh_byte choice by_need reaped taken_blocks empty_machine next_slot after_grant
 block_beside = refl

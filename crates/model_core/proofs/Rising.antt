@@ -1,4 +1,5 @@
--- Lists that rise by key: two with the same members are one, and what a list of blocks tells with one more.
+-- Lists that rise by key, and look-ups in a list of blocks once one is added. Two lists that rise by key and have the same
+-- members are the same.
 use Rattle.std.proofs.Common.{◌≡◌, ◌≢◌, ℕ, ◌+◌, ◌<◌, Bool, true, false, ◌||◌, eqb, List, [], ◌∷◌, ◌++◌, map, Option, Some, None, refl, sym, ap, ◌∙◌, subst, ◌⊎◌, inl, inr, arith}
 use Rattle.std.specs.Prelude.{if◌then◌else◌}
 use Rattle.std.specs.List.{list_any, AllByRecursion as Each}
@@ -26,7 +27,7 @@ in_has u xs i = any_in (λ v. eqb v u) u xs i (eq-eqb u u refl)
 has_in : (u : ℕ) (xs : List ℕ) → has u xs ≡ true → IsIn u xs
 has_in u xs e = let r : (v : ℕ) × IsIn v xs × (eqb v u ≡ true) = some_any (λ v. eqb v u) xs e in subst (λ v. IsIn v xs) (eqb-true r.0 u r.2) r.1
 
--- two lists that rise by key are one if they have the same members
+-- two lists that rise by key are the same if they have the same members
 pub same_keyed : {X : Type 0} (key : X → ℕ) (n : ℕ) (xs ys : List X) → RisesFrom n (map key xs) → RisesFrom n (map key ys)
     → ((x : X) → IsIn x xs → IsIn x ys) → ((x : X) → IsIn x ys → IsIn x xs) → xs ≡ ys
 same_keyed key n [] [] r s f g = refl
@@ -48,7 +49,7 @@ same_keyed {X} key n (x ∷ xs) (y ∷ ys) (lx, r) (ly, s) f g = same (f x (inl 
     same (inr i) (inl e) more = tails (sym e) more
     same (inr i) (inr j) more = absurd (let u = key_above key (key y + 1) x ys s i in let v = key_above key (key x + 1) y xs r j in omega arith)
 
--- .. as rising lists of numbers, by membership and by a test of it
+-- .. for rising lists of numbers, by membership and by a test of it
 pub same_members : (n : ℕ) (xs ys : List ℕ) → RisesFrom n xs → RisesFrom n ys → ((u : ℕ) → IsIn u xs → IsIn u ys) → ((u : ℕ) → IsIn u ys → IsIn u xs) → xs ≡ ys
 same_members n xs ys r q there back =
     same_keyed (λ u. u) n xs ys (subst (λ us. RisesFrom n us) (sym (map-id xs)) r) (subst (λ us. RisesFrom n us) (sym (map-id ys)) q) there back
@@ -75,12 +76,12 @@ order_in-middle (x ∷ xs) ys b (ne, e) f = go (eqb x.first f) refl (order_in-mi
     go true is ih = sym (ap (λ t. if t then Some b.order else Some x.order) (ne_eqb f b.first (λ same. ne (eqb-true x.first f is ∙ same))))
     go false is ih = ih
 
--- where no block begins a look-up finds nothing ..
+-- if no block begins at f, a look-up finds nothing ..
 pub none_found : (f : ℕ) (bs : List Block) → Each (λ b. b.first ≢ f) bs → order_in bs f ≡ None
 none_found f [] others = refl
 none_found f (b ∷ bs) (other, others) = ap (λ t. if t then Some b.order else order_in bs f) (ne_eqb b.first f other) ∙ none_found f bs others
 
--- .. and where it finds nothing none begins
+-- .. and if it finds nothing, no block begins there
 none_begins : (f : ℕ) (bs : List Block) → order_in bs f ≡ None → Each (λ b. b.first ≢ f) bs
 none_begins f [] none = tt
 none_begins f (b ∷ bs) none = go (eqb b.first f) refl none (none_begins f bs)

@@ -1,4 +1,5 @@
--- Room: taken blocks with fewer frames than the held slots have aligned blocks of some order leave one of these vacant.
+-- Space: if the taken blocks have fewer frames than the held slots have aligned blocks of some order, one of these blocks is
+-- vacant.
 use Rattle.std.proofs.Common.{◌≡◌, ℕ, zero, suc, ◌+◌, ◌-◌, ◌*◌, ◌/◌, ◌^◌, ◌<◌, ◌≤◌, Bool, true, false, not, cond, eqb, List, [], ◌∷◌, ◌++◌, map, length, Option, Some, None, Ok, refl, sym, ap, ◌∙◌, subst, inl, inr, ⊎_elim, arith}
 use Rattle.std.specs.Prelude.{if◌then◌else◌, option_map, is_some, filter, find, flat_map}
 use Rattle.std.specs.List.{list_any, range_with_len}
@@ -25,7 +26,7 @@ use Rattle.model_core.proofs.Vacant.{IsVacant, some_choice}
 
 -- Lists of numbers
 
--- a range has the numbers from its first on
+-- a number from `a` on and below a + n is in the range of n numbers from `a`
 pub in_range : (x a n : ℕ) → a ≤ x → x < a + n → IsIn x (range_with_len a n)
 in_range x a zero low high = absurd (omega arith)
 in_range x a (suc n) low high = ⊎_elim (λ same. inl same) (λ other. inr (in_range x (a + 1) n (omega arith) (omega arith))) (cases_eq a x)
@@ -35,7 +36,7 @@ range_in x a zero i = elim i [ ]
 range_in x a (suc n) (inl same) = (omega arith, omega arith)
 range_in x a (suc n) (inr i) = let rest = range_in x (a + 1) n i in (omega (arith, rest.0), omega (arith, rest.1))
 
--- the numbers of a list that rises are at least its bound
+-- the numbers in a list that rises from n are at least n
 pub rises_in : (n x : ℕ) (xs : List ℕ) → RisesFrom n xs → IsIn x xs → n ≤ x
 rises_in n x [] r i = elim i [ ]
 rises_in n x (y ∷ ys) (l, r) (inl same) = omega arith
@@ -65,7 +66,7 @@ others_fewer x (y ∷ ys) i = go (eqb y x) refl i (others_most x ys) (others_few
     go false is (inl same) le more = absurd (false≢true (sym is ∙ eq-eqb y x same))
     go false is (inr j) le more = let less = more j in omega arith
 
--- a list that rises is no longer than one that has all its numbers
+-- a list that rises is no longer than a list that has all its numbers
 no_longer : (n : ℕ) (xs ys : List ℕ) → RisesFrom n xs → ((x : ℕ) → IsIn x xs → IsIn x ys) → length xs ≤ length ys
 unfolding others
 no_longer n [] ys r all = omega arith
@@ -75,7 +76,7 @@ no_longer n (x ∷ xs) ys (l, r) all =
     in_filter (λ y. not (eqb y x)) z ys (all z (inr i)) (ap not (ne_eqb z x (λ same. let above : x + 1 ≤ z = rises_in (x + 1) z xs r i in absurd (omega arith))))) in
     omega arith
 
--- The aligned blocks of one order in these slots, by number: w of them in each
+-- The aligned blocks of one order in these slots, by number. Each slot has w of them.
 
 blocks_in : ℕ → List ℕ → List ℕ
 blocks_in w slots = flat_map (λ u. range_with_len (u * w) w) slots
@@ -130,7 +131,7 @@ count_frames (b ∷ bs) =
     length-append (range_with_len b.first (2 ^ b.order)) (frames_in bs)
     ∙ (ap (λ n. n + length (frames_in bs)) (length-range_with_len b.first (2 ^ b.order)) ∙ ap (λ n. 2 ^ b.order + n) (count_frames bs))
 
--- a frame of a block that begins at f is one of these
+-- a frame of a block that begins at f is one of these frames
 found_in : (bs : List Block) (f k x : ℕ) → order_in bs f ≡ Some k → HasFrame (block f k) x → IsIn x (frames_in bs)
 unfolding frames_in
 found_in [] f k x e has = absurd (cc)
@@ -183,7 +184,7 @@ module _ (order k : ℕ) (slots : List ℕ) (bs : List Block) (rises : RisesFrom
         false≢true (sym (not-true (is_met q) unmet) ∙ any_in (λ p. eqb p q) (x / 2 ^ k) met listed (eq-eqb (x / 2 ^ k) q number));
   }
 
-  -- not all blocks are met
+  -- some block has no taken frame
   all_met : list_any (λ q. not (is_met q)) (blocks_in share slots) ≡ false → ⊥
   all_met none =
       let within : length (blocks_in share slots) ≤ length met = no_longer (0 * share) (blocks_in share slots) met (blocks_rise share 0 slots rises) (λ q i.
@@ -207,7 +208,7 @@ some_first : (o : Option Block) → is_some o ≡ true → (first : ℕ) × (opt
 some_first None e = absurd (false≢true e)
 some_first (Some b) e = (b.first, refl)
 
--- a machine whose taken blocks leave room chooses a block
+-- a machine whose taken blocks leave space chooses a block
 room_chosen : (order k : ℕ) (m : Machine) → RisesFrom 0 m.slots → k ≤ order → frames_of (taken_blocks m) < length m.slots * 2 ^ (order - k)
     → (first : ℕ) × (choice order m k ≡ Some first)
 unfolding choice

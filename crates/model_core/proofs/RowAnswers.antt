@@ -1,4 +1,4 @@
--- What the worked rows look at: the number that each operation of a list answers, None where it is refused.
+-- What the worked examples compare: the number in each operation's answer, or None if it is refused.
 use Rattle.std.specs.Prelude.{ℕ, List, [], ◌∷◌, length, Option, Some}
 use Rattle.std.specs.Result.{result_ok}
 use Rattle.model_core.specs.declared.limits.TheConstants.{MOST_CACHES}

@@ -1,4 +1,4 @@
--- A slab given back leaves zeroes.
+-- A freed slab leaves zeros.
 use Rattle.std.proofs.Common.{◌≡◌, ℕ, Bool, true, false, not, ◌||◌, eqb, List, ◌∷◌, ◌++◌, map, Option, Some, refl, sym, ap, ◌∙◌}
 use Rattle.std.specs.Prelude.{if◌then◌else◌, filter, slice_set}
 use Rattle.std.specs.List.{list_any}
@@ -25,7 +25,7 @@ use Rattle.model_core.proofs.Constructed.{grown_byte}
 abbrev Still : ℕ → Machine → Type 0
 Still place m = in_slab m place ≡ true
 
--- it is, or it reads as zero
+-- the place is still in a slab, or it reads as zero
 abbrev Left : ℕ → Machine → Type 0
 Left place m = in_slab m place ≡ false → m.bytes place ≡ Some 0
 
@@ -55,7 +55,7 @@ left_grown order place first c m w in_c h e =
     (sym (any_put (in_laid place) g.xs g.ys new) ∙ (ap (λ ls. list_any (in_laid place) ls) (sym g.is) ∙ (sym (in_slab_laid (grown first c m) place) ∙ e))) in
     grown_byte first c m place false parts.0 ∙ h (in_slab_laid m place ∙ (ap (λ ls. list_any (in_laid place) ls) g.was ∙ parts.1))
 
--- slabs given back
+-- freed slabs
 left_kept : (place : ℕ) (q : Laid → Bool) (ls : List Laid) (bytes : ℕ → Option ℕ) → list_any (in_laid place) ls ≡ true → list_any (in_laid place) (filter (λ l. not (q l)) ls) ≡ false
     → zeroed (map laid_block (filter q ls)) bytes place ≡ Some 0
 left_kept place q ls bytes h e = ap (λ b. if b then Some 0 else bytes place) (any_map (in_block place) laid_block (filter q ls)

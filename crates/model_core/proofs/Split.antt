@@ -1,4 +1,4 @@
--- Where a slab stands among all slabs of a machine, and what is left of them when some are given back.
+-- Where a slab is among all slabs of a machine, and which slabs are left when some are freed.
 use Rattle.std.proofs.Common.{◌≡◌, ℕ, Bool, true, false, not, cond, eqb, List, [], ◌∷◌, ◌++◌, map, refl, sym, ap, ◌∙◌, append_assoc, inl, inr}
 use Rattle.std.specs.Prelude.{flat_map, filter}
 use Rattle.std.specs.List.{list_any, AllByRecursion as Each}
@@ -16,7 +16,7 @@ pub in_middle : {X : Type 0} (xs ys : List X) (x : X) → IsIn x (xs ++ x ∷ ys
 in_middle [] ys x = inl refl
 in_middle (y ∷ xs) ys x = inr (in_middle xs ys x)
 
--- the slabs with those of one cache in two parts
+-- all slabs, with the slabs of one cache cut in two
 pub laid_parts : (before later : List Cache) (c : Cache) (ss ts : List Slab) → c.slabs ≡ ss ++ ts
     → all_laid (before ++ c ∷ later) ≡ (all_laid before ++ map (laid c) ss) ++ (map (laid c) ts ++ all_laid later)
 laid_parts before later c ss ts e =
@@ -54,7 +54,7 @@ filter_none : (n : ℕ) (cs : List Cache) → Each (λ c. eqb c.number n ≡ fal
 filter_none n [] h = refl
 filter_none n (c ∷ cs) (e, h) = ap (λ b. cond b (c ∷ filter (λ c. eqb c.number n) cs) (filter (λ c. eqb c.number n) cs)) e ∙ filter_none n cs h
 
--- one cache has its number
+-- only one cache has this number
 pub filter_found : (c : Cache) (cs : List Cache) → Found (λ c. c.number) c cs → filter (λ x. eqb x.number c.number) cs ≡ c ∷ []
 filter_found c cs f = ap (λ xs. filter (λ x. eqb x.number c.number) xs) f.is
     ∙ (filter-append (λ x. eqb x.number c.number) f.before (c ∷ f.later)

@@ -1,10 +1,12 @@
--- Taking one block out of the frames that pass: what becomes of the open blocks. Read forwards this is a reservation with its splits, read backwards a release with its joins; with the whole slot it is a slot that comes or goes.
+-- How the open blocks change when one block is taken out of the frames that pass. Read forwards this is a reservation with its
+-- splits, read backwards a release with its joins. If the block is a whole slot, the slot is granted or taken back.
 use Rattle.std.proofs.Common.{◌≡◌, ◌⊎◌, inl, inr, refl, sym, ◌∙◌, ap, ℕ, suc, ◌/◌, ◌<◌, ◌≤◌, Bool, true, false, arith}
 use Rattle.std.proofs.lemmas.Bool.{both_ways, cases_lt, cases_eq, false_from_ne_true}
 use Rattle.model_core.specs.Numbered.{number_at, is_clear, IsOpen}
 use Rattle.model_core.proofs.Halves.{clear_below, clear_at, same_above, clear_same, clear_more, one_open}
 
--- `small` passes where `large` does but for the block of order k around f, which lies in the open block of order j around f
+-- `small` passes the frames that `large` passes, except the block of order k around f, which lies in the open block of order j
+-- around f
 pub record TakesOut (large small : ℕ → Bool) (top f k j : ℕ) : Type 0 where
   pub order : k ≤ j
   pub open_block : IsOpen large top j (number_at j f)
@@ -35,7 +37,7 @@ module _ (large small : ℕ → Bool) (top f k j : ℕ) (out : TakesOut large sm
       go (inl same) = absurd (both_ways (small y) (out.inside y same) pass)
       go (inr ne) = sym (out.outside y ne) ∙ pass
 
-  -- of the blocks around f those above the open one are not clear
+  -- the blocks around f above the open one are not clear
   not_above : (i : ℕ) → j < i → i ≤ top → is_clear large i (number_at i f) ≡ true → ⊥
   not_above i above le clear = go out.open_block.2
     where
@@ -43,7 +45,7 @@ module _ (large small : ℕ → Bool) (top f k j : ℕ) (out : TakesOut large sm
       go (inl e) = omega arith
       go (inr fails) = both_ways _ fails (clear_below large f (suc j) i (omega arith) clear)
 
-  -- an open block was open, and is not the one that was taken from; or it is the other half at one of the splits
+  -- an open block was open before and is not the block that was taken from, or it is the other half at one of the splits
   pub open_after : (i x : ℕ) → IsOpen small top i (number_at i x)
       → (IsOpen large top i (number_at i x) × (i ≡ j → number_at i x ≡ number_at i f → ⊥)) ⊎ ((k ≤ i) × (i < j) × IsOtherHalf f i x)
   open_after i x (le, clear, end) = go (cases_lt i k)
@@ -75,7 +77,7 @@ module _ (large small : ℕ → Bool) (top f k j : ℕ) (out : TakesOut large sm
       go (inl lt) = below lt end (λ same. both_ways (small x) (out.inside x same) (clear_at small i x clear))
       go (inr up) = above up end (cases_eq (number_at (suc i) x) (number_at (suc i) f))
 
-  -- a block that was open stays open, but for the one that was taken from
+  -- every block that was open stays open, except the one that was taken from
   pub open_stays : (i x : ℕ) → IsOpen large top i (number_at i x) → (i ≡ j → number_at i x ≡ number_at i f → ⊥) → IsOpen small top i (number_at i x)
   open_stays i x (le, clear, end) other = (le, still (cases_lt i k), ending end)
     where
@@ -104,7 +106,7 @@ module _ (large small : ℕ → Bool) (top f k j : ℕ) (out : TakesOut large sm
       ending (inl e) = inl e
       ending (inr fails) = inr (false_from_ne_true _ (λ full. both_ways _ fails (clear_more small large (suc i) x fewer full)))
 
-  -- the other half at each of the splits is open
+  -- the other half at each split is open
   pub open_half : (i x : ℕ) → k ≤ i → i < j → IsOtherHalf f i x → IsOpen small top i (number_at i x)
   open_half i x up lt half = (omega (arith, out.open_block.0), off_above i x up half.other ∙ was_clear, inr (false_from_ne_true _ (λ full. without_f (suc i) x full half.one_whole)))
     where

@@ -1,4 +1,4 @@
--- The taken blocks of a machine are sound, and a page block taken or released is one more or one fewer.
+-- The taken blocks of a machine are sound, and a page block that is allocated or freed adds or removes one.
 use Rattle.std.proofs.Common.{◌≡◌, ◌≢◌, ℕ, Bool, true, false, not, cond, eqb, List, [], ◌∷◌, ◌++◌, map, Option, Some, None, Ok, append_assoc, refl, sym, ap, ◌∙◌, subst, ◌⊎◌, inl, inr}
 use Rattle.std.specs.Prelude.{if◌then◌else◌, filter}
 use Rattle.std.specs.List.{AllByRecursion as Each}
@@ -38,7 +38,7 @@ taken_sound limit order m w = record {
       (subst AreApart (sym (map-id (taken_blocks m))) w.apart) (order_in_is (taken_blocks m) f k e) (order_in_is (taken_blocks m) g j d) in_f in_g);
 }
 
--- One more
+-- One is added
 
 pub apart_firsts : (b : Block) (bs : List Block) → Each (IsApart b) bs → Each (λ x. x.first ≢ b.first) bs
 apart_firsts b bs h = each_weaker (IsApart b) (λ x. x.first ≢ b.first) (λ x a same. apart_first b x a (sym same)) bs h
@@ -64,7 +64,7 @@ alloc_takes limit order k first m w e = alloc_outcome order k m (λ step. step.a
     slabs : List Block
     slabs = map laid_block (all_laid n.caches)
 
--- One fewer
+-- One is removed
 
 order_in_filter : (first : ℕ) (xs ys : List Block) → Each (λ y. y.first ≢ first) ys → (f : ℕ) → order_in (filter (λ x. not (eqb x.first first)) xs ++ ys) f ≡ without_taken (order_in (xs ++ ys)) first f
 order_in_filter first [] ys h f = go (cases_eq f first)

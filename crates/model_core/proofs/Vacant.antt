@@ -1,4 +1,4 @@
--- Vacant blocks: where an aligned block of a held slot has no taken frame, a request of its order is served.
+-- Vacant blocks: if an aligned block of a held slot has no taken frame, a request for its order is served.
 use Rattle.std.proofs.Common.{◌≡◌, ℕ, ◌+◌, ◌/◌, ◌^◌, ◌<◌, ◌≤◌, Bool, true, Option, Some, None, refl, sym, ◌∙◌, ◌⊎◌, inl, inr, ⊎_elim, arith}
 use Rattle.std.specs.Prelude.{is_some, MatchOption}
 use Rattle.std.proofs.lemmas.Bool.{cases_lt, false≢true}
@@ -10,7 +10,7 @@ use Rattle.model_core.proofs.Halves.{same_above}
 use Rattle.model_core.proofs.FreeBlocks.{has_first, each_frame_in_one, reserved_is_untaken}
 use Rattle.model_core.proofs.Choosing.{choice_is_found}
 
--- an aligned block in a held slot of which no frame is taken
+-- an aligned block in a held slot, without a taken frame
 pub record IsVacant (top : ℕ) (held : ℕ → Bool) (taken : Taken) (f k : ℕ) : Type 0 where
   pub aligned : IsAligned top (block f k)
   pub slot : held (f / 2 ^ top) ≡ true
@@ -31,7 +31,7 @@ module _ (top : ℕ) (held : ℕ → Bool) (taken : Taken) (slots : ℕ) (below 
           same_above f z.first z.order next (omega arith) (number_of_frame z.first z.order f free.0.1 has) in
           v.untaken x (frame_of_number f k x v.aligned.1 (same_above x f next k (omega arith) (x_number ∙ sym f_number))) is
 
-  -- where a block is vacant there is a choice ..
+  -- if a block is vacant, there is a choice ..
   pub some_choice : (f k : ℕ) → IsVacant top held taken f k → is_some (choose top held taken slots k) ≡ true
   some_choice f k v = go (choose top held taken slots k) (choice_is_found top held taken slots k below)
     where
@@ -41,7 +41,7 @@ module _ (top : ℕ) (held : ℕ → Bool) (taken : Taken) (slots : ℕ) (below 
           absurd (none there.0 there.1 (as_large f k v there.0 there.1 there.2))
       go (Some z) is = refl
 
-  -- .. and a choice is vacant
+  -- .. and if there is a choice, a block is vacant
   pub choice_vacant : (k : ℕ) → is_some (choose top held taken slots k) ≡ true → (f : ℕ) × IsVacant top held taken f k
   choice_vacant k some = go (choose top held taken slots k) (choice_is_found top held taken slots k below) some
     where

@@ -1,5 +1,5 @@
--- For each law of the machine an instance: its premises, met by a machine of a few operations. All have slots of order 3, of 8
--- frames.
+-- One instance of each law of the machine: a machine after a few operations meets its premises. All slots have order 3, which is
+-- 8 frames.
 use Rattle.std.proofs.Common.{◌≡◌, ℕ, ◌<◌, ◌/◌, Bool, true, List, [], ◌∷◌, ◌++◌, Some, None, Ok, refl, arith}
 use Rattle.std.specs.Prelude.{◌==◌, if◌then◌else◌}
 use Rattle.std.proofs.lemmas.Bool.{eqb-true}
@@ -68,7 +68,7 @@ ChoiceIsUntaken-met : ChoiceIsUntaken
 unfolding layout_of alloc_step cache_step create_step next_number take_step grown_cache grown slab_to_use by_need reaped choice taken_blocks empty_machine next_slot after_grant
 ChoiceIsUntaken-met law = law 3 1 2 machine refl
 
--- another account of what the machine holds and has taken
+-- another representation of the machine's taken blocks
 abbrev frames_0_and_1 : Taken
 frames_0_and_1 f = if 1 == f then Some 0 else if 0 == f then Some 0 else None
 
@@ -92,7 +92,7 @@ ChoicesMeet-met law = (
   (law 3 3 slot_0 frames_0_and_1 machine same_slots same_taken).1 (choice_is_found 3 slot_0 frames_0_and_1 1 3 slot_0_below),
 )
 
--- Reaping by need
+-- Reaping on demand
 
 AllocReaps-met : AllocReaps
     → (alloc_step 3 2 emptied ≡ record { answer = Ok 4; machine = with_block (block 4 2) emptied })
@@ -137,7 +137,7 @@ TakenApart-met law = law MOST_CACHES 3 machine is_well_formed 0 1 (block 0 0) (o
 TakenSound-met : TakenSound → IsSound 3 (holds machine) (taken_in machine)
 TakenSound-met law = law MOST_CACHES 3 machine is_well_formed
 
--- a block that is found, and one that is found once the slab is given back
+-- a block that is found, and one that is found once the slab is freed
 AllocTakes-met : AllocTakes → (taken_in (alloc_step 3 1 machine).machine 2 ≡ Some 1) × (taken_in (alloc_step 3 3 emptied).machine 0 ≡ Some 3)
 unfolding layout_of alloc_step cache_step create_step next_number take_step give_step grown_cache grown slab_to_use by_need reaped choice taken_blocks empty_machine next_slot after_grant
 AllocTakes-met law = (law MOST_CACHES 3 1 2 machine is_well_formed refl 2, law MOST_CACHES 3 3 0 emptied emptied_well_formed refl 0)
@@ -157,9 +157,9 @@ ReapReleases-met : ReapReleases → (taken_in emptied 0 ≡ Some 0) × (taken_in
 unfolding layout_of alloc_step cache_step create_step next_number take_step give_step grown_cache grown slab_to_use by_need reaped choice taken_blocks empty_machine next_slot after_grant
 ReapReleases-met law = (refl, law MOST_CACHES 3 emptied emptied_well_formed 0, law MOST_CACHES 3 machine is_well_formed 0)
 
--- Room
+-- Space for a block
 
--- two frames are taken, so the slot has room for a block of order 1: it has four of them
+-- two frames are taken, so the slot has space for a block of order 1: it has four of them
 BlockIsPromised-met : BlockIsPromised → (first : ℕ) × (choice_by_need 3 1 machine ≡ Some first)
 unfolding layout_of alloc_step cache_step create_step next_number take_step grown_cache grown slab_to_use by_need reaped choice taken_blocks empty_machine next_slot after_grant
 BlockIsPromised-met law = law MOST_CACHES 3 1 machine is_well_formed (record { of_slot = omega arith; fewer = omega arith })

@@ -1,4 +1,4 @@
--- For each law of blocks an instance, over the slots and the taken blocks of a machine with slots of order 3, of 8 frames.
+-- One instance of each law of blocks, over the slots and the taken blocks of a machine. Slots have order 3, which is 8 frames.
 use Rattle.std.proofs.Common.{◌≡◌, ◌⊎◌, ℕ, zero, suc, ◌/◌, ◌^◌, ◌<◌, ◌≤◌, Bool, true, false, [], ◌∷◌, Some, None, refl, sym, ap, ◌∙◌, inl, inr, arith}
 use Rattle.std.specs.Prelude.{◌==◌, ◌||◌, if◌then◌else◌}
 use Rattle.std.proofs.lemmas.Bool.{eqb-true, eqb-false, or_right, false≢true}
@@ -17,7 +17,7 @@ use Rattle.model_core.proofs.TakenSteps.{taken_sound}
 use Rattle.model_core.proofs.Witnesses.{well_formed_left, machine, is_well_formed}
 use Rattle.model_core.proofs.RowAnswers.{machine_after}
 
--- Of slot 0 frame 0 is a slab and frame 1 a page block; blocks of order 1 at frame 2 and of order 2 at frame 4 are free.
+-- In slot 0, frame 0 is a slab and frame 1 a page block. Blocks of order 1 at frame 2 and of order 2 at frame 4 are free.
 
 abbrev held : ℕ → Bool
 held = holds machine
@@ -48,14 +48,14 @@ OneChoice-met : OneChoice → (b : Block) → IsChoice 3 held taken 0 b → b �
 unfolding layout_of alloc_step cache_step create_step next_number take_step grown_cache grown slab_to_use by_need reaped choice taken_blocks empty_machine next_slot after_grant
 OneChoice-met law b is = law 3 held taken 0 b (block 2 1) is (choice_is_found 3 held taken 1 0 slot_0_below)
 
--- frame 5 lies in the free block at frame 4 alone
+-- frame 5 lies only in the free block at frame 4
 EachFrameInOne-met : EachFrameInOne → (b : Block) → IsFree 3 held taken b → HasFrame b 5 → b ≡ block 4 2
 unfolding layout_of alloc_step cache_step create_step next_number take_step grown_cache grown slab_to_use by_need reaped choice taken_blocks empty_machine next_slot after_grant
 EachFrameInOne-met law b free has =
     let only = law 3 held taken 5 refl ((choice_is_untaken 3 2 4 machine refl).1 5 (omega arith, omega arith)).1 in
     only.3 b free has ∙ sym (only.3 (block 4 2) upper_half_free (omega arith, omega arith))
 
--- an order 0 reserved there leaves the upper halves of both splits
+-- reserving order 0 there leaves the upper halves of both splits
 Splits-met : Splits → IsFree 3 held (with_taken taken 4 0) (block 5 0) × IsFree 3 held (with_taken taken 4 0) (block 6 1)
 Splits-met law = (
   (law 3 held taken 4 2 0 upper_half_free (omega arith) (block 5 0)).1 (inr (0, omega arith, omega arith, refl)),
@@ -75,7 +75,7 @@ ReleaseStaysSound-met law = law 3 held taken 1 sound
 GrantStaysSound-met : GrantStaysSound → IsSound 3 (λ u. (u == 1) || held u) taken
 GrantStaysSound-met law = law 3 held (λ u. (u == 1) || held u) taken sound (λ u is. or_right (u == 1) (held u) is)
 
--- Frame 0 alone is taken, in slot 0 of slots 0 and 1.
+-- Slots 0 and 1 are held, and only frame 0 is taken.
 
 abbrev one_frame : Machine
 one_frame = machine_after (Grant ∷ Grant ∷ Alloc 0 ∷ [])

@@ -1,5 +1,5 @@
--- For each law of objects and bytes an instance: its premises, met by a machine of a few operations. All have slots of order 3,
--- of 8 frames.
+-- One instance of each law of objects and bytes: a machine after a few operations meets its premises. All slots have order 3,
+-- which is 8 frames.
 use Rattle.std.proofs.Common.{◌≡◌, ℕ, ◌+◌, ◌*◌, ◌<◌, ◌≤◌, Bool, true, false, List, [], ◌∷◌, ◌++◌, map, Some, replicate, refl, sym, ap, ◌∙◌, arith}
 use Rattle.model_core.specs.declared.limits.TheConstants.{MOST_CACHES}
 use Rattle.model_core.specs.Layouts.{layout_of}
@@ -42,7 +42,7 @@ its_byte : HasByte second_object 203
 unfolding layout_of
 its_byte = (omega arith, omega arith)
 
--- what object has the byte is the second, so the first has not
+-- every object that has the byte is the second, so the first does not have it
 ObjectsApart-met : ObjectsApart → ((a : Object) → IsObject machine a → HasByte a 203 → a ≡ second_object) × (HasByte first_object 203 → ⊥)
 ObjectsApart-met law =
     let only : (a : Object) → IsObject machine a → HasByte a 203 → a ≡ second_object = λ a there has.
@@ -53,8 +53,8 @@ RecordsFree-met : RecordsFree → (0 ≤ 203) × (203 < 4064)
 unfolding layout_of
 RecordsFree-met law = law MOST_CACHES 3 machine is_well_formed second_object second_is_there refl 203 its_byte
 
--- A slab that is made anew on the frame of an empty slab, which is given back by need in the same step: all objects of the first
--- cache are handed out, one of them is written, and all are given back before the second cache makes a slab.
+-- A slab is made on the frame of an empty slab, which is freed on demand in the same step. All objects of the first cache are
+-- handed out, one of them is written, and all are given back before the second cache makes a slab.
 
 abbrev sixteen : List ℕ
 sixteen = 0 ∷ 1 ∷ 2 ∷ 3 ∷ 4 ∷ 5 ∷ 6 ∷ 7 ∷ 8 ∷ 9 ∷ 10 ∷ 11 ∷ 12 ∷ 13 ∷ 14 ∷ 15 ∷ []
@@ -81,7 +81,7 @@ can_be_requested = (
 abbrev anew : Machine
 anew = machine_after eight_slabs
 
--- the slab of the second cache, once its first object is handed out, and once its second is
+-- the slab of the second cache after its first object is handed out, and after its second is
 abbrev new_slab_with : Bool → Slab
 new_slab_with second = record { first = 0; colour = 0; live = true ∷ second ∷ [] }
 
@@ -91,23 +91,23 @@ new_cache_with second = record { number = 1; size = 2048; align = 8; pattern = 2
 abbrev object_anew : Bool → ℕ → Object
 object_anew second index = record { cache = new_cache_with second; slab = new_slab_with second; index = index }
 
--- before the slab is made anew the object at place 2048 has been handed out once
+-- before the new slab is made, the object at place 2048 has been handed out once
 handed_out_before : hand_outs MOST_CACHES 3 2048 eight_slabs empty_machine 0 ≡ 1
 unfolding layout_of cache_step create_step next_number take_step give_step write_step in_reach grown_cache grown slab_to_use fresh_byte by_need reaped choice taken_blocks empty_machine next_slot after_grant
 handed_out_before = refl
 
--- .. and a byte of it that was written reads so
+-- .. and the byte that was written to it reads as written
 written_before : anew.bytes 2048 ≡ Some 99
 unfolding layout_of cache_step create_step next_number take_step give_step write_step in_reach grown_cache grown slab_to_use fresh_byte by_need reaped choice taken_blocks empty_machine next_slot after_grant
 written_before = refl
 
--- once its slab is made it has not been handed out since, and reads as the new pattern
+-- after the new slab is made, the object has not been handed out since, and reads as the new pattern
 ConstructedFirst-met : ConstructedFirst → (machine_after (eight_slabs ++ Take 1 ∷ [])).bytes (2048 + 0) ≡ Some 22
 unfolding layout_of cache_step create_step next_number take_step give_step write_step in_reach grown_cache grown slab_to_use fresh_byte by_need reaped choice taken_blocks empty_machine next_slot after_grant
 ConstructedFirst-met law = law MOST_CACHES 3 (eight_slabs ++ Take 1 ∷ []) (object_anew false 1) 0 (each_append IsPossible eight_slabs (Take 1 ∷ []) can_be_requested (tt, tt))
     (record { cache_in = (1, omega arith, refl); slab_in = (0, omega arith, refl); index_in = omega arith }) (omega arith) refl
 
--- so do the object that the take answers which makes the slab, and the one that the next take answers
+-- so does the object of the take that makes the slab, and so does that of the next take
 ConstructedWhenTaken-met : ConstructedWhenTaken
     → ((take_step 3 1 anew).machine.bytes (0 + 5) ≡ Some 22) × ((take_step 3 1 (machine_after (eight_slabs ++ Take 1 ∷ []))).machine.bytes (2048 + 0) ≡ Some 22)
 unfolding layout_of cache_step create_step next_number take_step give_step write_step in_reach grown_cache grown slab_to_use fresh_byte by_need reaped choice taken_blocks empty_machine next_slot after_grant
@@ -127,7 +127,7 @@ AllocKeeps-met law = law 3 1 2 machine refl
 FreeKeeps-met : FreeKeeps → (free_step 1 machine).machine.bytes ≡ machine.bytes
 FreeKeeps-met law = law 1 machine
 
--- the slab of the first cache stands, with an object that is not live
+-- the first cache has a slab with an object that is not live
 TakeKeeps-met : TakeKeeps → (take_step 3 0 machine).machine.bytes ≡ machine.bytes
 unfolding layout_of alloc_step cache_step create_step next_number take_step grown_cache grown slab_to_use by_need reaped choice taken_blocks empty_machine next_slot after_grant
 TakeKeeps-met law = law 3 0 machine refl
@@ -135,7 +135,7 @@ TakeKeeps-met law = law 3 0 machine refl
 GiveKeeps-met : GiveKeeps → (give_step 0 0 machine).machine.bytes ≡ machine.bytes
 GiveKeeps-met law = law 0 0 machine
 
--- a place of a held slot is left alone where it is in a slab before and after, or before and after in none
+-- a place of a held slot is left alone if it is in a slab both before and after, or in none both before and after
 left_alone : (operation : Operation) (m : Machine) (place : ℕ) (slab : Bool) → writes operation place ≡ false → makes_slab_at 3 operation m place ≡ false
     → in_slab m place ≡ slab → in_slab (after MOST_CACHES 3 operation m) place ≡ slab
     → holds m (slot_of 3 place) ≡ true → holds (after MOST_CACHES 3 operation m) (slot_of 3 place) ≡ true → IsLeftAlone MOST_CACHES 3 operation m place
@@ -157,7 +157,7 @@ written = machine_after both_written
 written_well_formed : IsWellFormed MOST_CACHES 3 written
 written_well_formed = well_formed_left both_written (tt, (refl, (tt, (tt, (tt, (tt, tt))))))
 
--- .. and both are handed out again after they were given back
+-- .. and both are given back and handed out again
 abbrev back_and_forth : List Operation
 back_and_forth = Give 0 0 ∷ Free 1 ∷ Take 0 ∷ Alloc 0 ∷ []
 

@@ -1,4 +1,4 @@
--- What is in reach before and after an operation is changed by a write to it alone.
+-- A byte that is in reach before and after an operation changes only if the operation writes it.
 use Rattle.std.proofs.Common.{◌≡◌, ◌-◌, ◌≢◌, ℕ, zero, suc, ◌/◌, ◌^◌, ◌<◌, Bool, true, false, not, eqb, List, [], ◌∷◌, ◌++◌, map, length, get_or, Some, None, refl, sym, ap, ◌∙◌, subst, ◌⊎◌, inl, inr, arith}
 use Rattle.std.specs.Prelude.{slice_get, if◌then◌else◌, filter}
 use Rattle.std.specs.List.{list_any, AllByRecursion as Each}
@@ -53,7 +53,7 @@ holder_of order m place w (inr h) = record {
 holder_placed : {limit : ℕ} (order : ℕ) (m : Machine) (place : ℕ) → IsWellFormed limit order m → (h : IsHolder m place) → Placed order m.slots h.holder
 holder_placed order m place w h = each_in (Placed order m.slots) h.holder (m.blocks ++ map laid_block (all_laid m.caches)) (subst (Each (Placed order m.slots)) (taken_laid m) w.placed) h.holder_in
 
--- growth leaves it
+-- growth leaves the byte of a place in reach
 reached_grown : {limit : ℕ} (order first : ℕ) (c : Cache) (m : Machine) (place : ℕ) → IsWellFormed limit order m → choice order m (layout c).order ≡ Some first → Reached m place → (grown first c m).bytes place ≡ m.bytes place
 reached_grown order first c m place w e r =
     let h : IsHolder m place = holder_of order m place w r in
@@ -61,7 +61,7 @@ reached_grown order first c m place w e r =
     let apart : IsApart b h.holder = each_in (IsApart b) h.holder (m.blocks ++ map laid_block (all_laid m.caches)) (subst (Each (IsApart b)) (taken_laid m) (chosen_apart order (layout c).order first m w.apart e)) h.holder_in in
     grown_byte first c m place false (apart_place place h.holder b (λ x p q. apart x q p) h.here)
 
--- slabs given back leave it, if it is in none of them
+-- freed slabs leave the byte, if the place is in none of them
 reached_kept : {limit : ℕ} (order : ℕ) (q : Laid → Bool) (m : Machine) (place : ℕ) → IsWellFormed limit order m → (r : Reached m place)
     → ((h : IsLiveByte m place) → q (laid h.cache h.slab) ≡ false) → list_any (in_block place) (map laid_block (filter q (all_laid m.caches))) ≡ false
 reached_kept order q m place w (inl h) kept =
@@ -93,7 +93,7 @@ same_reaped order place m w r = ap (λ b. if b then Some 0 else m.bytes place) (
 same_by_need : {limit : ℕ} (order k place : ℕ) (m : Machine) → IsWellFormed limit order m → Reached m place → Same place m (by_need order k m)
 same_by_need order k place m w r = by_need_keeps (Same place m) order k m refl (same_reaped order place m w r)
 
--- what is in reach is in reach of the reaped machine
+-- a place in reach stays in reach of the reaped machine
 reached_reaped : (m : Machine) (place : ℕ) → Reached m place → Reached (reaped m) place
 unfolding reaped
 reached_reaped m place (inl h) = inl (record { page = h.page; page_in = h.page_in; in_page = h.in_page })

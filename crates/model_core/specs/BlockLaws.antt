@@ -8,8 +8,8 @@ abbrev pub EachFrameInOne : Type 0
 EachFrameInOne = (top : ℕ) (held : ℕ → Bool) (taken : Taken) (x : ℕ) → held (x / 2 ^ top) ≡ true → (IsTaken taken x → ⊥)
     → (b : Block) × IsFree top held taken b × HasFrame b x × ((c : Block) → IsFree top held taken c → HasFrame c x → c ≡ b)
 
--- What is free once order k is reserved out of the free block of order j at f: the free blocks lose that
--- block and gain the upper halves of the splits, of the orders from k to j - 1.
+-- The free blocks once order k is reserved out of the free block of order j at f: that block is gone, and the upper halves of the
+-- splits, of the orders from k to j - 1, are added.
 abbrev pub IsFreeOnceSplit : (Block → Type 0) → ℕ → ℕ → ℕ → Block → Type 0
 IsFreeOnceSplit WasFree f j k b = (WasFree b × (b ≡ block f j → ⊥)) ⊎ ((i : ℕ) × (k ≤ i) × (i < j) × (b ≡ block (f + 2 ^ i) i))
 
@@ -26,8 +26,8 @@ pub record JoinsTo (top : ℕ) (held : ℕ → Bool) (taken : Taken) (f k j : �
   pub joined : (i : ℕ) → k ≤ i → i < j → IsFree top held taken (buddy (around f i))
   pub stops : (j ≡ top) ⊎ (IsFree top held taken (buddy (around f j)) → ⊥)
 
--- What is free once the block of order k at f is released and joined up to order j: the free blocks lose
--- the buddies that it is joined with and gain the block that the joins give.
+-- The free blocks once the block of order k at f is released and joined up to order j: the buddies that it is joined with are
+-- gone, and the joined block is added.
 abbrev pub IsFreeOnceJoined : (Block → Type 0) → ℕ → ℕ → ℕ → Block → Type 0
 IsFreeOnceJoined WasFree f k j b = (b ≡ around f j) ⊎ (WasFree b × ((i : ℕ) → k ≤ i → i < j → b ≡ buddy (around f i) → ⊥))
 
@@ -37,43 +37,43 @@ Joins = (top : ℕ) (held : ℕ → Bool) (taken : Taken) (f k : ℕ) → IsSoun
     → (j : ℕ) × JoinsTo top held taken f k j × ((b : Block)
     → (IsFree top held (without_taken taken f) b ↔ IsFreeOnceJoined (IsFree top held taken) f k j b))
 
--- what is reserved out of a free block is aligned, and all its frames lie in held slots and are not taken
+-- a block that is reserved out of a free block is aligned, and all its frames lie in held slots and are not taken
 abbrev pub ReservedIsUntaken : Type 0
 ReservedIsUntaken = (top : ℕ) (held : ℕ → Bool) (taken : Taken) (f j k : ℕ) → IsFree top held taken (block f j) → k ≤ j
     → IsAligned top (block f k) × ((x : ℕ) → HasFrame (block f k) x → (held (x / 2 ^ top) ≡ true) × (IsTaken taken x → ⊥))
 
--- The taken blocks stay aligned, in held slots and apart: where one is reserved out of a free block ..
+-- The taken blocks stay aligned, in held slots and apart, if one is reserved out of a free block ..
 abbrev pub ReserveStaysSound : Type 0
 ReserveStaysSound = (top : ℕ) (held : ℕ → Bool) (taken : Taken) (f j k : ℕ) → IsSound top held taken
     → IsFree top held taken (block f j) → k ≤ j
     → IsSound top held (with_taken taken f k)
 
--- .. where one is released ..
+-- .. if one is released ..
 abbrev pub ReleaseStaysSound : Type 0
 ReleaseStaysSound = (top : ℕ) (held : ℕ → Bool) (taken : Taken) (f : ℕ) → IsSound top held taken
     → IsSound top held (without_taken taken f)
 
--- .. where slots are granted ..
+-- .. if slots are granted ..
 abbrev pub GrantStaysSound : Type 0
 GrantStaysSound = (top : ℕ) (held more : ℕ → Bool) (taken : Taken) → IsSound top held taken
     → ((u : ℕ) → held u ≡ true → more u ≡ true) → IsSound top more taken
 
--- .. and where slots without a taken frame are taken back.
+-- .. and if slots without a taken frame are taken back.
 abbrev pub TakeBackStaysSound : Type 0
 TakeBackStaysSound = (top : ℕ) (held fewer : ℕ → Bool) (taken : Taken) → IsSound top held taken
     → ((u : ℕ) → held u ≡ true → (fewer u ≡ true) ⊎ (HasTaken taken (slot_block top u) → ⊥)) → IsSound top fewer taken
 
--- the test `is_free` is true of the free blocks alone
+-- the test `is_free` is true of exactly the free blocks
 abbrev pub FreeIsTested : Type 0
 FreeIsTested = (top : ℕ) (held : ℕ → Bool) (taken : Taken) (b : Block)
     → (is_free top held taken b ≡ true) ↔ IsFree top held taken b
 
--- `choose` finds the choice, or answers None where no free block is large enough
+-- with `slots` above every held slot, `choose` finds the choice, or None if no free block is large enough
 abbrev pub ChoiceIsFound : Type 0
 ChoiceIsFound = (top : ℕ) (held : ℕ → Bool) (taken : Taken) (slots k : ℕ) → ((u : ℕ) → held u ≡ true → u < slots)
     → MatchOption (choose top held taken slots k) (IsWithout top held taken k) (IsChoice top held taken k)
 
--- there is one choice at most
+-- there is at most one choice
 abbrev pub OneChoice : Type 0
 OneChoice = (top : ℕ) (held : ℕ → Bool) (taken : Taken) (k : ℕ) (b c : Block) → IsChoice top held taken k b
     → IsChoice top held taken k c → b ≡ c

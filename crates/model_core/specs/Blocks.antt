@@ -1,7 +1,6 @@
--- Blocks of frames, as a binary buddy system has them: which blocks are aligned, taken and free, and
--- which free block a request gets. Frames and slots are numbered from 0. `top` is the order of a
--- slot: slot u has the frames from u * 2 ^ top to u * 2 ^ top + 2 ^ top - 1. `held` tells which slots
--- are held. Free blocks are not kept anywhere: they follow from the held slots and the taken blocks.
+-- The blocks of frames of a binary buddy system: which blocks are aligned, taken and free, and which free block a request gets.
+-- Frames and slots are numbered from 0. `top` is the order of a slot: slot u has 2 ^ top frames, from frame u * 2 ^ top on.
+-- `held` is true of the held slots. Free blocks are stored nowhere: they follow from the held slots and the taken blocks.
 use Rattle.std.specs.Prelude.{◌≡◌, ◌⊎◌, ℕ, ◌+◌, ◌-◌, ◌*◌, ◌/◌, ◌%◌, ◌^◌, ◌<◌, ◌≤◌, Bool, true, ◌==◌, if◌then◌else◌, Option, Some, None}
 
 -- the 2 ^ order frames from the first on
@@ -52,15 +51,14 @@ IsTaken taken x = (f k : ℕ) × (taken f ≡ Some k) × HasFrame (block f k) x
 abbrev pub HasTaken : Taken → Block → Type 0
 HasTaken taken b = (x : ℕ) × HasFrame b x × IsTaken taken x
 
--- An aligned block of a held slot without a taken frame, that is a whole slot or lies in an aligned
--- block of the next order that has one: the free blocks when halves are joined at every release.
+-- An aligned block in a held slot, without a taken frame, that is a whole slot or lies in an aligned block of the next order with
+-- a taken frame. These are the free blocks if halves are joined at every release.
 abbrev pub IsFree : ℕ → (ℕ → Bool) → Taken → Block → Type 0
 IsFree top held taken b = IsAligned top b × (held (b.first / 2 ^ top) ≡ true) × (HasTaken taken b → ⊥)
     × ((b.order ≡ top) ⊎ HasTaken taken (around b.first (b.order + 1)))
 
--- The free block that a request of order k is served from: of the free blocks of order at least k
--- one of the least order, and of these the one of least first frame. The request gets the first
--- 2 ^ k frames of it.
+-- The free block that a request for order k is served from. Of the free blocks of order at least k it has the least order, and of
+-- these the least first frame. The request gets its first 2 ^ k frames.
 abbrev pub IsChoice : ℕ → (ℕ → Bool) → Taken → ℕ → Block → Type 0
 IsChoice top held taken k b = IsFree top held taken b × (k ≤ b.order)
     × ((c : Block) → IsFree top held taken c → k ≤ c.order → (b.order < c.order) ⊎ ((b.order ≡ c.order) × (b.first ≤ c.first)))
@@ -73,5 +71,5 @@ IsWithout top held taken k = (c : Block) → IsFree top held taken c → k ≤ c
 pub record IsSound (top : ℕ) (held : ℕ → Bool) (taken : Taken) : Type 0 where
   -- each is aligned and lies in a held slot
   pub placed : (f k : ℕ) → taken f ≡ Some k → IsAligned top (block f k) × (held (f / 2 ^ top) ≡ true)
-  -- two that share a frame are one
+  -- two that share a frame are the same
   pub apart : (f k g j x : ℕ) → taken f ≡ Some k → taken g ≡ Some j → HasFrame (block f k) x → HasFrame (block g j) x → f ≡ g

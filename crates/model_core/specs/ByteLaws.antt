@@ -8,20 +8,20 @@ use Rattle.model_core.specs.Runs.{Operation, ArePossible, after, run}
 use Rattle.model_core.specs.WellFormed.{in_slab, IsWellFormed}
 use Rattle.model_core.specs.Laws.{made_block, makes_slab_at}
 
--- a page block that is taken where one is found at once changes no byte ..
+-- no byte changes if a page block is allocated without freeing slabs ..
 abbrev pub AllocKeeps : Type 0
 AllocKeeps = (order k first : ℕ) (m : Machine) → choice order m k ≡ Some first → (alloc_step order k m).machine.bytes ≡ m.bytes
 
--- .. nor does one that is released ..
+-- .. if a page block is freed ..
 abbrev pub FreeKeeps : Type 0
 FreeKeeps = (first : ℕ) (m : Machine) → (free_step first m).machine.bytes ≡ m.bytes
 
--- .. nor an object that is taken out of an existing slab ..
+-- .. if a take makes no slab ..
 abbrev pub TakeKeeps : Type 0
 TakeKeeps = (order number : ℕ) (m : Machine) → made_block order (Operation.Take number) m ≡ None
     → (take_step order number m).machine.bytes ≡ m.bytes
 
--- .. nor one that is given back
+-- .. or if an object is given back
 abbrev pub GiveKeeps : Type 0
 GiveKeeps = (number place : ℕ) (m : Machine) → (give_step number place m).machine.bytes ≡ m.bytes
 
@@ -39,15 +39,15 @@ writes Operation.Grant place = false
 writes (Operation.TakeBack slot) place = false
 writes Operation.Reset place = false
 
--- The operation leaves the place alone: it does not write it, no slab is made or given back there, and its slot neither comes
--- nor goes.
+-- The operation leaves the place alone: it does not write it, no slab is made or freed there, and its slot is neither granted nor
+-- taken away.
 pub record IsLeftAlone (limit order : ℕ) (operation : Operation) (m : Machine) (place : ℕ) : Type 0 where
   pub unwritten : writes operation place ≡ false
   pub unmade : makes_slab_at order operation m place ≡ false
   pub same_slab : in_slab (after limit order operation m) place ≡ in_slab m place
   pub same_slot : holds (after limit order operation m) (slot_of order place) ≡ holds m (slot_of order place)
 
--- then the byte there stays, live or not, in reach or not ..
+-- the byte of a place that is left alone stays, live or not, in reach or not ..
 abbrev pub BytesStay : Type 0
 BytesStay = (limit order : ℕ) (operation : Operation) (m : Machine) (place : ℕ) → IsWellFormed limit order m
     → IsLeftAlone limit order operation m place → (after limit order operation m).bytes place ≡ m.bytes place
@@ -58,20 +58,21 @@ AllLeaveAlone limit order [] m place = ⊤
 AllLeaveAlone limit order (operation ∷ operations) m place =
     IsLeftAlone limit order operation m place × AllLeaveAlone limit order operations (after limit order operation m) place
 
--- .. and so over whole runs: an object is handed out again as it was left when it was given back, and a page block is taken as
--- it was left when it was released.
+-- .. also over whole runs. So an object that is left alone is handed out again as it was when it was given back, and a page block
+-- is allocated as it was when it was freed.
 abbrev pub RunsKeepBytes : Type 0
 RunsKeepBytes = (limit order : ℕ) (operations : List Operation) (m : Machine) (place : ℕ) → ArePossible operations
     → IsWellFormed limit order m → AllLeaveAlone limit order operations m place
     → (run limit order operations m).bytes place ≡ m.bytes place
 
--- what is in reach before and after an operation, in a page block or in a live object, is changed by a write to it alone
+-- a byte that is in reach before and after an operation, in a page block or in a live object, changes only if the operation
+-- writes it
 abbrev pub WritesAlone : Type 0
 WritesAlone = (limit order : ℕ) (operation : Operation) (m : Machine) (place : ℕ) → IsWellFormed limit order m
     → in_reach m place 1 ≡ true → in_reach (after limit order operation m) place 1 ≡ true → writes operation place ≡ false
     → (after limit order operation m).bytes place ≡ m.bytes place
 
--- a place whose slab is given back reads as zero
+-- a place whose slab is freed reads as zero, if its slot stays
 abbrev pub SlabsLeaveZeroes : Type 0
 SlabsLeaveZeroes = (limit order : ℕ) (operation : Operation) (m : Machine) (place : ℕ) → IsWellFormed limit order m
     → in_slab m place ≡ true → in_slab (after limit order operation m) place ≡ false

@@ -1,5 +1,5 @@
--- What can be done to the caches of a private machine, and to their objects: each step answers, and leaves a machine.
--- A refused step leaves it as it was.
+-- The steps on the caches and objects of a private machine. Each has an answer, and the machine after it. A refused step leaves
+-- the machine unchanged.
 use Rattle.std.specs.Prelude.{ℕ, ◌+◌, ◌^◌, true, false, not, List, [], ◌∷◌, map, find, flat_map, Option, Some, None, Result, Ok, ok_or, if◌then◌else◌, nat_le, ◌==◌}
 use Rattle.std.specs.List.{list_any}
 use Rattle.model_core.specs.declared.refusals.CacheRefusal.{CacheRefusal}
@@ -22,7 +22,7 @@ created number size align pattern m = record m {
 unfoldable pub next_number : Machine → ℕ
 next_number m = least_missing 0 (map (λ c. c.number) m.caches)
 
--- a cache made, of a size and an alignment that are in order: its number; refused if all numbers below the limit are used
+-- Makes a cache of an accepted size and alignment. The answer is its number, or None if all numbers below the limit are used.
 unfoldable pub create_step : ℕ → ℕ → ℕ → List ℕ → Machine → Step (Option ℕ)
 create_step limit size align pattern m =
     if nat_le limit (next_number m) then record { answer = None; machine = m }
@@ -31,21 +31,21 @@ create_step limit size align pattern m =
 abbrev pub cache_answer : Step (Option ℕ) → Step (Result ℕ CacheRefusal)
 cache_answer step = record { answer = ok_or step.answer CacheRefusal.NoCacheSlot; machine = step.machine }
 
--- a cache made, of any size and alignment
+-- makes a cache, or refuses its size or its alignment
 unfoldable pub cache_step : ℕ → ℕ → ℕ → List ℕ → Machine → Step (Result ℕ CacheRefusal)
 cache_step limit size align pattern m =
     if not (is_size size) then refuse CacheRefusal.BadSize m
     else (if not (is_alignment align) then refuse CacheRefusal.BadAlign m
     else cache_answer (create_step limit size align pattern m))
 
--- the least object of the slab that is not live is handed out
+-- hands out the first object of the slab that is not live
 abbrev pub hand_out : Cache → Slab → Machine → Step (Result ℕ TakeRefusal)
 hand_out c s m = record {
   answer = Ok (object_place (layout c) s.first s.colour (next_object s));
   machine = with_cache (with_slab (with_live (next_object s) true s) c) m;
 }
 
--- the first object of a new slab, on the block that was chosen, is handed out
+-- hands out the first object of a new slab on the chosen block, or refuses if there is no such block
 abbrev pub take_new : Cache → Machine → Option ℕ → Step (Result ℕ TakeRefusal)
 take_new c m None = refuse TakeRefusal.NoFrames m
 take_new c m (Some first) = hand_out (grown_cache first c) (new_slab c first) (grown first c m)
@@ -58,8 +58,8 @@ abbrev pub take_of : ℕ → Machine → Option Cache → Step (Result ℕ TakeR
 take_of order m None = refuse TakeRefusal.NoCache m
 take_of order m (Some c) = take_from order c m (slab_to_use (find is_partial c.slabs) (find is_empty c.slabs))
 
--- an object of the cache with this number taken, with empty slabs given back on demand where a new slab is made: its
--- first place; slots have 2 ^ order frames
+-- Takes an object of the cache with this number. The answer is its first place. If a new slab is needed, empty slabs are freed on
+-- demand. Slots have 2 ^ order frames.
 unfoldable pub take_step : ℕ → ℕ → Machine → Step (Result ℕ TakeRefusal)
 take_step order number m = take_of order m (cache_of m number)
 
@@ -74,11 +74,11 @@ abbrev pub give_of : ℕ → Machine → Option Cache → Step (Result (Unit {0}
 give_of place m None = refuse GiveRefusal.NoCache m
 give_of place m (Some c) = give_object c m (find (λ object. object.place == place) (live_objects c))
 
--- the object of the cache that begins at this place given back, its bytes kept
+-- gives back the object of the cache that begins at this place, whose bytes stay
 unfoldable pub give_step : ℕ → ℕ → Machine → Step (Result (Unit {0}) GiveRefusal)
 give_step number place m = give_of place m (cache_of m number)
 
--- how many frames these blocks have
+-- the number of frames of these blocks
 abbrev pub frames_of : List Block → ℕ
 frames_of [] = 0
 frames_of (b ∷ bs) = 2 ^ b.order + frames_of bs
@@ -89,10 +89,10 @@ destroy_of m (Some c) =
     if list_any (λ s. not (is_empty s)) c.slabs then refuse DestroyRefusal.CacheInUse m
     else record { answer = Ok (frames_of (slab_blocks c)); machine = destroyed c m }
 
--- the cache with this number destroyed, its slabs given back: how many frames that are
+-- destroys the cache with this number and frees its slabs; the answer is the number of their frames
 unfoldable pub destroy_step : ℕ → Machine → Step (Result ℕ DestroyRefusal)
 destroy_step number m = destroy_of m (cache_of m number)
 
--- all empty slabs of all caches given back: how many frames that are
+-- frees all empty slabs of all caches; the answer is the number of their frames
 unfoldable pub reap_step : Machine → Step ℕ
 reap_step m = record { answer = frames_of (flat_map empty_blocks m.caches); machine = reaped m }

@@ -1,5 +1,5 @@
--- The free block that a request gets, and the number of free blocks, computed. `slots` is any number
--- above all held slots; the answers do not depend on it.
+-- The free block that a request gets, and the number of free blocks, computed. `slots` is any number above all held slots; the
+-- results do not depend on it.
 use Rattle.std.specs.Prelude.{ℕ, zero, suc, ◌+◌, ◌*◌, ◌/◌, ◌%◌, ◌^◌, Bool, false, not, ◌&&◌, ◌||◌, ◌==◌, nat_lt, nat_le, if◌then◌else◌, Option, Some, None, is_some}
 use Rattle.std.specs.Option.{option_and_then, option_map}
 use Rattle.model_core.specs.Blocks.{Block, block, Taken}
@@ -47,16 +47,16 @@ first_free top held taken slots j = least (λ f. is_free top held taken (block f
 abbrev pub first_order : ℕ → (ℕ → Bool) → Taken → ℕ → ℕ → Option ℕ
 first_order top held taken slots k = least (λ j. nat_le k j && is_some (first_free top held taken slots j)) (suc top)
 
--- the block of `IsChoice`, or None where there is none
+-- the block of `IsChoice`, or None if there is none
 abbrev pub choose : ℕ → (ℕ → Bool) → Taken → ℕ → ℕ → Option Block
 choose top held taken slots k =
     option_and_then (λ j. option_map (λ f. block f j) (first_free top held taken slots j)) (first_order top held taken slots k)
 
--- how many numbers below n pass
+-- the number of numbers below n that pass
 abbrev pub count_below : (ℕ → Bool) → ℕ → ℕ
 count_below p zero = 0
 count_below p (suc n) = count_below p n + (if p n then 1 else 0)
 
--- how many free blocks of order k there are
+-- the number of free blocks of order k
 abbrev pub free_blocks : ℕ → (ℕ → Bool) → Taken → ℕ → ℕ → ℕ
 free_blocks top held taken slots k = count_below (λ f. is_free top held taken (block f k)) (slots * 2 ^ top)

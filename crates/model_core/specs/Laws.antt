@@ -20,31 +20,30 @@ ChoiceIsUntaken = (order k first : ℕ) (m : Machine) → choice order m k ≡ S
     → IsAligned order (block first k)
     × ((x : ℕ) → HasFrame (block first k) x → (holds m (x / 2 ^ order) ≡ true) × (IsTaken (taken_in m) x → ⊥))
 
--- what another account of the held slots and the taken blocks chooses is what the machine chooses
+-- any other representation of the held slots and the taken blocks chooses what the machine chooses
 abbrev pub ChoicesMeet : Type 0
 ChoicesMeet = (order k : ℕ) (held : ℕ → Bool) (taken : Taken) (m : Machine) → ((u : ℕ) → holds m u ≡ held u)
     → ((f : ℕ) → taken_in m f ≡ taken f)
     → ((first j : ℕ) → IsChoice order held taken k (block first j) → choice order m k ≡ Some first)
     × (IsWithout order held taken k → choice order m k ≡ None)
 
--- What a request for a block of order k does: `served first n` is the step where it gets the block at frame `first` of
--- the machine n.
+-- What a request for a block of order k does. `served first n` is the step that gives it the block at frame `first` of machine n.
 pub record IsByNeed {A : Type 0} (order k : ℕ) (m : Machine) (served : ℕ → Machine → Step A)
     (refused step : Step A) : Type 0 where
-  -- where a block is found nothing is given back
+  -- if a block is found, no slab is freed
   pub found : (first : ℕ) → choice order m k ≡ Some first → step ≡ served first m
-  -- where one is found only after all empty slabs are given back, exactly that comes first
+  -- if one is found only after all empty slabs are freed, exactly these are freed first
   pub reaps : (first : ℕ) → choice order m k ≡ None → choice order (reaped m) k ≡ Some first → step ≡ served first (reaped m)
-  -- where none is found then either, the request is refused
+  -- if none is found then either, the request is refused
   pub stays : choice order m k ≡ None → choice order (reaped m) k ≡ None → step ≡ refused
 
--- a page block is taken on demand ..
+-- an alloc frees empty slabs only on demand ..
 abbrev pub AllocReaps : Type 0
 AllocReaps = (order k : ℕ) (m : Machine) → k ≤ order → IsByNeed order k m
     (λ first n. record { answer = Ok first; machine = with_block (block first k) n })
     (refuse AllocRefusal.NoFrames m) (alloc_step order k m)
 
--- .. and so is the block of a new slab, where a cache has neither a partial slab nor an empty one
+-- .. and so does a take from a cache that has neither a partial slab nor an empty one
 abbrev pub TakeReaps : Type 0
 TakeReaps = (order number : ℕ) (m : Machine) (c : Cache) → cache_of m number ≡ Some c
     → slab_to_use (find is_partial c.slabs) (find is_empty c.slabs) ≡ None
@@ -52,18 +51,18 @@ TakeReaps = (order number : ℕ) (m : Machine) (c : Cache) → cache_of m number
     (λ first n. hand_out (grown_cache first c) (new_slab c first) (grown first c n))
     (refuse TakeRefusal.NoFrames m) (take_step order number m)
 
--- what is refused leaves the machine as it was, slabs included
+-- a refused alloc or take leaves the machine as it was, slabs included
 abbrev pub RefusalsStay : Type 0
 RefusalsStay = (order n : ℕ) (m : Machine)
     → OnErr (alloc_step order n m).answer ((alloc_step order n m).machine ≡ m)
     × OnErr (take_step order n m).answer ((take_step order n m).machine ≡ m)
 
--- each operation that can be asked for keeps a machine well formed ..
+-- each operation that can be requested keeps a machine well formed ..
 abbrev pub KeepsWellFormed : Type 0
 KeepsWellFormed = (limit order : ℕ) (operation : Operation) (m : Machine) → IsPossible operation
     → IsWellFormed limit order m → IsWellFormed limit order (after limit order operation m)
 
--- .. so every machine that a list of them leaves is
+-- .. so the machine after any list of them, from the empty one on, is well formed
 abbrev pub RunsWellFormed : Type 0
 RunsWellFormed = (limit order : ℕ) (operations : List Operation) → ArePossible operations
     → IsWellFormed limit order (run limit order operations empty_machine)
@@ -72,27 +71,27 @@ RunsWellFormed = (limit order : ℕ) (operations : List Operation) → ArePossib
 abbrev pub TakenApart : Type 0
 TakenApart = (limit order : ℕ) (m : Machine) → IsWellFormed limit order m → AllPairs IsApart (taken_blocks m)
 
--- the taken blocks of a well formed machine are aligned, in held slots and apart, as the laws of blocks want them
+-- the taken blocks of a well formed machine are aligned, in held slots and apart, as the laws of blocks require
 abbrev pub TakenSound : Type 0
 TakenSound = (limit order : ℕ) (m : Machine) → IsWellFormed limit order m → IsSound order (holds m) (taken_in m)
 
--- a page block that is taken is one more taken block, after what is given back on demand ..
+-- an alloc adds its page block to the taken blocks, after slabs are freed on demand ..
 abbrev pub AllocTakes : Type 0
 AllocTakes = (limit order k first : ℕ) (m : Machine) → IsWellFormed limit order m → (alloc_step order k m).answer ≡ Ok first
     → (f : ℕ) → taken_in (alloc_step order k m).machine f ≡ with_taken (taken_in (by_need order k m)) first k f
 
--- .. one that is released is one fewer ..
+-- .. a free removes its page block ..
 abbrev pub FreeReleases : Type 0
 FreeReleases = (limit order first k : ℕ) (m : Machine) → IsWellFormed limit order m → (free_step first m).answer ≡ Some k
     → (f : ℕ) → taken_in (free_step first m).machine f ≡ without_taken (taken_in m) first f
 
--- .. the block of a slab that is made is one more ..
+-- .. growth adds the block of the new slab ..
 abbrev pub GrowthTakes : Type 0
 GrowthTakes = (limit order first : ℕ) (c : Cache) (m : Machine) → IsWellFormed limit order m
     → Contains m.caches c → choice order m (layout c).order ≡ Some first
     → (f : ℕ) → taken_in (grown first c m) f ≡ with_taken (taken_in m) first (layout c).order f
 
--- .. and those of the empty slabs that are given back are fewer
+-- .. and a reap removes the blocks of the empty slabs
 abbrev pub ReapReleases : Type 0
 ReapReleases = (limit order : ℕ) (m : Machine) → IsWellFormed limit order m
     → (f : ℕ) → taken_in (reaped m) f ≡ (if is_some (order_in (flat_map empty_blocks m.caches) f) then None else taken_in m f)
@@ -101,7 +100,7 @@ ReapReleases = (limit order : ℕ) (m : Machine) → IsWellFormed limit order m
 pub record Object : Type 0 where
   pub cache : Cache
   pub slab : Slab
-  -- which of the slab's
+  -- its index in the slab
   pub index : ℕ
 
 pub record IsObject (m : Machine) (object : Object) : Type 0 where
@@ -117,7 +116,7 @@ place_of object = object_place (layout object.cache) object.slab.first object.sl
 abbrev pub HasByte : Object → ℕ → Type 0
 HasByte object place = (place_of object ≤ place) × (place < place_of object + object.cache.size)
 
--- two objects that share a byte are one
+-- two objects that share a byte are the same
 abbrev pub ObjectsApart : Type 0
 ObjectsApart = (limit order : ℕ) (m : Machine) → IsWellFormed limit order m → (a b : Object) → IsObject m a → IsObject m b
     → (place : ℕ) → HasByte a place → HasByte b place → a ≡ b
@@ -129,7 +128,7 @@ RecordsFree = (limit order : ℕ) (m : Machine) → IsWellFormed limit order m �
     → (place : ℕ) → HasByte object place
     → (FRAME_BYTES * object.slab.first ≤ place) × (place < FRAME_BYTES * object.slab.first + RECORD_OFFSET)
 
--- the place that a take answers
+-- the place that a take returns
 abbrev pub taken_place : ℕ → Operation → Machine → Option ℕ
 taken_place order (Operation.Take number) m = result_ok (take_step order number m).answer
 taken_place order (Operation.Alloc k) m = None
@@ -143,8 +142,8 @@ taken_place order Operation.Grant m = None
 taken_place order (Operation.TakeBack slot) m = None
 taken_place order Operation.Reset m = None
 
--- the block of the slab that the cache makes for a take: it makes one where none of its slabs is partial or empty and a block is
--- found on demand
+-- The block of the slab that the cache makes for a take. It makes one if none of its slabs is partial or empty and a block is
+-- found on demand.
 abbrev pub block_of_growth : ℕ → Machine → Cache → Option Block
 block_of_growth order m c =
     if is_some (slab_to_use (find is_partial c.slabs) (find is_empty c.slabs)) then None
@@ -168,26 +167,26 @@ made_block order Operation.Reset m = None
 abbrev pub makes_slab_at : ℕ → Operation → Machine → ℕ → Bool
 makes_slab_at order operation m place = option_map_or (in_block place) (made_block order operation m) false
 
--- it hands out the object that begins at the place
+-- the operation hands out the object that begins at the place
 abbrev pub hands_out : ℕ → Operation → Machine → ℕ → Bool
 hands_out order operation m place = option_map_or (λ p. p == place) (taken_place order operation m) false
 
 -- How often the object that begins at a place has been handed out since its slab was made: n times before the operations, which
--- begin at the machine m. Where they make a slab that has the place the count begins anew, each take that answers the place adds
+-- begin at machine m. The count begins anew when they make a slab that has the place, and each take that returns the place adds
 -- one.
 abbrev pub hand_outs : ℕ → ℕ → ℕ → List Operation → Machine → ℕ → ℕ
 hand_outs limit order place [] m n = n
 hand_outs limit order place (operation ∷ operations) m n = hand_outs limit order place operations (after limit order operation m)
     ((if makes_slab_at order operation m place then 0 else n) + (if hands_out order operation m place then 1 else 0))
 
--- An object that was not handed out since its slab was made reads as its cache's pattern, whatever was done ..
+-- An object that was not handed out since its slab was made reads as its cache's pattern, after any operations ..
 abbrev pub ConstructedFirst : Type 0
 ConstructedFirst = (limit order : ℕ) (operations : List Operation) (object : Object) (j : ℕ) → ArePossible operations
     → let m = run limit order operations empty_machine in IsObject m object → j < object.cache.size
     → hand_outs limit order (place_of object) operations empty_machine 0 ≡ 0
     → m.bytes (place_of object + j) ≡ Some (pattern_byte object.cache.pattern j)
 
--- .. and so does one that a take has just handed out for the first time, that of a growth included.
+-- .. and so does one that a take has just handed out for the first time, also if that take makes the slab.
 abbrev pub ConstructedWhenTaken : Type 0
 ConstructedWhenTaken = (limit order number : ℕ) (operations : List Operation) (object : Object) (j : ℕ) → ArePossible operations
     → let step = take_step order number (run limit order operations empty_machine) in step.answer ≡ Ok (place_of object)

@@ -1,38 +1,38 @@
--- How a slab is cut into objects: numbers in bytes, unless frames are said.
+-- How a slab is cut into objects. Numbers are in bytes unless they are called frames.
 use Rattle.std.specs.Prelude.{◌≡◌, ℕ, ◌+◌, ◌-◌, ◌*◌, ◌/◌, ◌%◌, ◌^◌, ◌<◌, ◌≤◌, Bool, true, List, [], ◌∷◌, length, max, slice_index, if◌then◌else◌, nat_lt, nat_le, ◌&&◌, ◌==◌}
 use Rattle.std.specs.List.{list_any}
 use Rattle.model_core.specs.declared.limits.TheConstants.{FRAME_BYTES, RECORD_BYTES, RECORD_OFFSET, MOST_SIZE, MOST_PATTERN}
 
--- the sizes of objects
+-- objects may have this size
 abbrev pub is_size : ℕ → Bool
 is_size size = nat_le 1 size && nat_le size MOST_SIZE
 
--- the alignments of objects
+-- objects may have this alignment
 abbrev pub is_alignment : ℕ → Bool
 is_alignment align = list_any (λ n. n == align) (8 ∷ 16 ∷ 32 ∷ 64 ∷ 128 ∷ 256 ∷ [])
 
 -- the layout of a cache's slabs
 pub record Layout : Type 0 where
-  -- from the first byte of an object to that of the next
+  -- bytes from the beginning of one object to that of the next
   pub chunk : ℕ
   -- a slab has 2 ^ order frames
   pub order : ℕ
-  -- what objects and colour offsets may use of a slab
+  -- bytes of a slab that its objects and its colour offset may use
   pub room : ℕ
-  -- objects of a slab
+  -- the number of objects of a slab
   pub count : ℕ
-  -- colour offsets
+  -- the number of colour offsets
   pub colours : ℕ
 
 -- the size rounded up to a multiple of the alignment, and at least 16
 abbrev pub chunk_of : ℕ → ℕ → ℕ
 chunk_of size align = max 16 ((size + align - 1) / align * align)
 
--- the slabs of small objects have one frame, whose last RECORD_BYTES bytes are kept for the control record
+-- the slabs of small objects have one frame, whose last RECORD_BYTES bytes are reserved for the control record
 abbrev pub is_small : ℕ → Bool
 is_small chunk = nat_lt chunk 512
 
--- the bytes of 2 ^ order frames
+-- the number of bytes in 2 ^ order frames
 abbrev pub bytes_of_order : ℕ → ℕ
 bytes_of_order order = FRAME_BYTES * 2 ^ order
 
@@ -40,13 +40,13 @@ bytes_of_order order = FRAME_BYTES * 2 ^ order
 abbrev pub is_thrifty : ℕ → ℕ → Bool
 is_thrifty chunk order = nat_le (bytes_of_order order % chunk) (bytes_of_order order / 8)
 
--- the order of a slab: the least that is thrifty, for large objects (order 3 always is)
+-- the order of a slab: 0 for small objects, else the least order that is thrifty (order 3 always is)
 abbrev pub slab_order : ℕ → ℕ
 slab_order chunk =
     if is_small chunk then 0
     else if is_thrifty chunk 0 then 0 else if is_thrifty chunk 1 then 1 else if is_thrifty chunk 2 then 2 else 3
 
--- the room of a slab
+-- the bytes of a slab that its objects and its colour offset may use
 abbrev pub usable_bytes : ℕ → ℕ
 usable_bytes chunk = if is_small chunk then RECORD_OFFSET else bytes_of_order (slab_order chunk)
 
@@ -62,11 +62,11 @@ layout_of size align =
 abbrev pub colour_offset : ℕ → ℕ → Layout → ℕ
 colour_offset align made l = align * (made % l.colours)
 
--- where object i begins, from the slab's first byte on
+-- the offset of object i in its slab
 abbrev pub object_offset : Layout → ℕ → ℕ → ℕ
 object_offset l colour i = colour + i * l.chunk
 
--- where object i of the slab at this frame begins
+-- the first place of object i of the slab at this frame
 abbrev pub object_place : Layout → ℕ → ℕ → ℕ → ℕ
 object_place l frame colour i = FRAME_BYTES * frame + object_offset l colour i
 
@@ -75,8 +75,8 @@ abbrev pub in_object : Layout → ℕ → ℕ → ℕ → Bool
 in_object l size colour offset =
     nat_le colour offset && (nat_lt ((offset - colour) / l.chunk) l.count && nat_lt ((offset - colour) % l.chunk) size)
 
--- a slab with this colour offset holds its objects: they end within the room, and the room within the slab, below the
--- control record if that is in the frame
+-- A slab with this colour offset has space for its objects: they end within `room`, and `room` ends within the slab, before the
+-- control record if that is in the frame.
 pub record IsFit (l : Layout) (colour : ℕ) : Type 0 where
   pub chunked : 16 ≤ l.chunk
   pub some : 0 < l.count
@@ -94,14 +94,14 @@ pub record IsLayout (size align : ℕ) (l : Layout) : Type 0 where
   pub order : l.order ≤ 3
   pub fits : (made : ℕ) → IsFit l (colour_offset align made l)
 
--- for each size and alignment the objects of every colour offset are aligned, have their size and end within the room
+-- for each allowed size and alignment, the objects of every colour offset are aligned, have their size and end within `room`
 abbrev pub LayoutsFit : Type 0
 LayoutsFit = (size align : ℕ) → is_size size ≡ true → is_alignment align ≡ true → IsLayout size align (layout_of size align)
 
--- a constructor: 1 to MOST_PATTERN bytes, over and over
+-- a pattern has 1 to MOST_PATTERN bytes; a constructed object repeats it
 abbrev pub is_pattern : List ℕ → Bool
 is_pattern pattern = nat_le 1 (length pattern) && nat_le (length pattern) MOST_PATTERN
 
--- byte j of an object that is constructed
+-- byte j of a constructed object
 abbrev pub pattern_byte : List ℕ → ℕ → ℕ
 pattern_byte pattern j = slice_index pattern (j % length pattern)

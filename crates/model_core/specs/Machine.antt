@@ -19,7 +19,7 @@ pub record Cache : Type 0 where
   -- size and alignment of the objects
   pub size : ℕ
   pub align : ℕ
-  -- the constructor of the objects
+  -- the pattern of constructed objects
   pub pattern : List ℕ
   -- slabs made since its creation, modulo the number of colours
   pub made : ℕ
@@ -39,7 +39,7 @@ pub record Machine : Type 0 where
 unfoldable pub empty_machine : Machine
 empty_machine = record { slots = []; blocks = []; caches = []; bytes = λ place. None }
 
--- x put at its place into a list that rises by key
+-- a list that rises by key, with x inserted at its place
 abbrev pub put_rising : {X : Type 0} → (X → ℕ) → X → List X → List X
 put_rising key x [] = x ∷ []
 put_rising key x (y ∷ ys) = if nat_lt (key x) (key y) then x ∷ (y ∷ ys) else y ∷ put_rising key x ys
@@ -80,7 +80,7 @@ slab_blocks c = map (slab_block c) c.slabs
 unfoldable pub taken_blocks : Machine → List Block
 taken_blocks m = m.blocks ++ flat_map slab_blocks m.caches
 
--- the order of the first block listed that begins at frame f
+-- the order of the first block in the list that begins at frame f
 abbrev pub order_in : List Block → Taken
 order_in [] f = None
 order_in (b ∷ bs) f = if b.first == f then Some b.order else order_in bs f

@@ -1,5 +1,5 @@
--- What can be done to page blocks, bytes and slots of a private machine: each step answers, and leaves a machine. A
--- refused step leaves it as it was.
+-- The steps on page blocks, bytes and slots of a private machine. Each has an answer, and the machine after it. A refused step
+-- leaves the machine unchanged.
 use Rattle.std.specs.Prelude.{ℕ, ◌+◌, ◌^◌, Bool, not, List, length, filter, filter_map, Option, Some, None, Result, Ok, Err, slice_get, if◌then◌else◌, nat_le, nat_lt, ◌&&◌, ◌-◌, ◌==◌}
 use Rattle.std.specs.List.{list_any, range_with_len}
 use Rattle.model_core.specs.declared.limits.TheConstants.{MOST_BYTES}
@@ -30,7 +30,7 @@ abbrev pub alloc_at : ℕ → Machine → Option ℕ → Step (Result ℕ AllocR
 alloc_at k m None = refuse AllocRefusal.NoFrames m
 alloc_at k m (Some first) = record { answer = Ok first; machine = with_block (block first k) m }
 
--- a page block of order k taken, with empty slabs given back on demand: its first frame; slots have 2 ^ order frames
+-- Allocates a page block of order k, and frees empty slabs on demand. The answer is its first frame. Slots have 2 ^ order frames.
 unfoldable pub alloc_step : ℕ → ℕ → Machine → Step (Result ℕ AllocRefusal)
 alloc_step order k m =
     if nat_lt order k then refuse AllocRefusal.BadOrder m
@@ -40,24 +40,24 @@ abbrev pub free_at : ℕ → Machine → Option ℕ → Step (Option ℕ)
 free_at first m None = record { answer = None; machine = m }
 free_at first m (Some order) = record { answer = Some order; machine = without_block first m }
 
--- the page block that begins at this frame released, its bytes kept: its order; refused unless there is one
+-- Frees the page block that begins at this frame, whose bytes stay. The answer is its order, or None if there is no such block.
 unfoldable pub free_step : ℕ → Machine → Step (Option ℕ)
 free_step first m = free_at first m (order_in m.blocks first)
 
 -- Bytes
 
--- the bytes of a range; 1 to MOST_BYTES are read at once
+-- reads the bytes of a range, 1 to MOST_BYTES of them
 unfoldable pub read_step : ℕ → ℕ → Machine → Step (Result (List ℕ) ReadRefusal)
 read_step place len m =
     if not (nat_le 1 len && nat_le len MOST_BYTES) then refuse ReadRefusal.BadLength m
     else (if not (in_reach m place len) then refuse ReadRefusal.OutOfReach m
     else record { answer = Ok (filter_map m.bytes (range_with_len place len)); machine = m })
 
--- these bytes from a place on, and the others as before
+-- the bytes after `new` is written from a place on
 abbrev pub written : ℕ → List ℕ → (ℕ → Option ℕ) → ℕ → Option ℕ
 written place new bytes p = if nat_le place p && nat_lt p (place + length new) then slice_get new (p - place) else bytes p
 
--- bytes written: how many; refused out of reach
+-- Writes bytes from a place on. The answer is their number, or None if the range is out of reach.
 unfoldable pub write_step : ℕ → List ℕ → Machine → Step (Option ℕ)
 write_step place new m =
     if in_reach m place (length new)
@@ -70,7 +70,7 @@ write_step place new m =
 unfoldable pub next_slot : Machine → ℕ
 next_slot m = least_missing 0 m.slots
 
--- a superblock granted: the least slot that is not held is held, and its places read as zero
+-- after a grant the least slot that was not held is held, and its places read as zero
 unfoldable pub after_grant : ℕ → Machine → Machine
 after_grant order m = record m {
   slots = put_rising (λ u. u) (next_slot m) m.slots;
@@ -85,14 +85,14 @@ overlaps a b = nat_lt a.first (b.first + 2 ^ b.order) && nat_lt b.first (a.first
 unfoldable pub is_busy : ℕ → Machine → ℕ → Bool
 is_busy order m slot = list_any (overlaps (slot_block order slot)) (taken_blocks m)
 
--- the slot is not held any more, and its places are gone
+-- after a take-back the slot is no longer held, and its places have no bytes
 unfoldable pub after_take_back : ℕ → ℕ → Machine → Machine
 after_take_back order slot m = record m {
   slots = filter (λ u. not (u == slot)) m.slots;
   bytes = λ place. if slot_of order place == slot then None else m.bytes place;
 }
 
--- a slot taken back
+-- takes back a slot, or refuses because it is not held or has a taken frame
 unfoldable pub take_back_step : ℕ → ℕ → Machine → Step (Result (Unit {0}) TakeBackRefusal)
 take_back_step order slot m =
     if not (holds m slot) then refuse TakeBackRefusal.NoSlot m

@@ -1,16 +1,16 @@
--- Who owns which superblock: by superblock its owner, if it has one.
+-- The owner of a superblock is one slot of one tenant. A superblock may have none.
 use Rattle.std.specs.Prelude.{ℕ, ◌==◌, ◌&&◌, Bool, false, Option, Some, None}
 use Rattle.model_core.specs.declared.owner.Owner.{Owner}
 
 abbrev pub owned_by : ℕ → ℕ → Owner
 owned_by tenant slot = record { tenant = tenant; slot = slot }
 
--- the superblock is the tenant's
+-- the superblock is one of the tenant's
 abbrev pub is_of : ℕ → Option Owner → Bool
 is_of t None = false
 is_of t (Some owner) = owner.tenant == t
 
--- the superblock is the tenant's, under this slot
+-- the superblock is in this slot of the tenant
 abbrev pub is_owner : ℕ → ℕ → Option Owner → Bool
 is_owner t slot None = false
 is_owner t slot (Some owner) = owner.tenant == t && owner.slot == slot

@@ -1,4 +1,4 @@
--- The figures of a private machine, as a report tells them. Slots have 2 ^ order frames.
+-- The figures of a private machine that a report gives. Slots have 2 ^ order frames.
 use Rattle.std.specs.Prelude.{ℕ, zero, suc, ◌+◌, ◌-◌, ◌*◌, ◌/◌, ◌^◌, ◌==◌, if◌then◌else◌, List, [], ◌∷◌, ◌++◌, length, map, filter, Option, Some, None}
 use Rattle.model_core.specs.declared.report.OrderRow.{OrderRow}
 use Rattle.model_core.specs.declared.report.CacheRow.{CacheRow}
@@ -7,7 +7,7 @@ use Rattle.model_core.specs.Machine.{Cache, Machine, beyond, holds, taken_blocks
 use Rattle.model_core.specs.Slabs.{is_full, is_partial, is_empty, live_objects}
 use Rattle.model_core.specs.CacheOperations.{frames_of}
 
--- the frames of the held slots, those of them in taken blocks, and the others
+-- the number of frames of the held slots, of those in taken blocks, and of the others
 
 abbrev pub frames_held : ℕ → Machine → ℕ
 frames_held order m = length m.slots * 2 ^ order
@@ -18,7 +18,7 @@ frames_taken m = frames_of (taken_blocks m)
 abbrev pub frames_free : ℕ → Machine → ℕ
 frames_free order m = frames_held order m - frames_taken m
 
--- how many blocks of order k are free, and how many are taken
+-- the number of free and of taken blocks of order k
 
 abbrev pub free_count : ℕ → Machine → ℕ → ℕ
 free_count order m k = free_blocks order (holds m) (taken_in m) (beyond m.slots) k
@@ -39,17 +39,16 @@ abbrev pub greatest : (ℕ → ℕ) → ℕ → Option ℕ
 greatest count zero = None
 greatest count (suc k) = if count k == 0 then greatest count k else Some k
 
--- the greatest order of a free block, where a frame is free
+-- the greatest order of a free block, or None if no frame is free
 abbrev pub greatest_free : ℕ → Machine → Option ℕ
 greatest_free order m = if frames_free order m == 0 then None else greatest (free_count order m) (order + 1)
 
--- The share of the free frames, in thousandths, that lie outside one greatest free block: what keeps them from being used
--- as one.
+-- The share of the free frames that lies outside one greatest free block, in thousandths, rounded up. It measures fragmentation.
 abbrev pub split_share : ℕ → Option ℕ → ℕ
 split_share free None = 0
 split_share free (Some k) = 1000 - 1000 * 2 ^ k / free
 
--- a cache: its slabs of each kind, and its live objects
+-- the row of a cache: the number of its slabs of each kind, and of its live objects
 abbrev pub row_of_cache : Cache → CacheRow
 row_of_cache c = record {
   cache = c.number;
@@ -59,6 +58,6 @@ row_of_cache c = record {
   live = length (live_objects c);
 }
 
--- by rising number
+-- the rows of all caches, by rising number
 abbrev pub rows_of_caches : Machine → List CacheRow
 rows_of_caches m = map row_of_cache m.caches

@@ -1,4 +1,4 @@
--- The room that a machine has for a block, however its taken blocks lie.
+-- When a machine has space for a block, for any positions of its taken blocks.
 use Rattle.std.specs.Prelude.{◌≡◌, ℕ, ◌-◌, ◌*◌, ◌^◌, ◌<◌, ◌≤◌, length, Some, Ok}
 use Rattle.model_core.specs.Machine.{Cache, Machine, layout}
 use Rattle.model_core.specs.Slabs.{cache_of, reaped, choice_by_need}
@@ -13,17 +13,17 @@ pub record IsAmple (order k : ℕ) (m : Machine) : Type 0 where
   pub of_slot : k ≤ order
   pub fewer : frames_taken (reaped m) < length m.slots * 2 ^ (order - k)
 
--- then a request for a block of order k gets one, whatever was done before ..
+-- then a request for a block of order k gets one, in any well formed machine ..
 abbrev pub BlockIsPromised : Type 0
 BlockIsPromised = (limit order k : ℕ) (m : Machine) → IsWellFormed limit order m → IsAmple order k m
     → (first : ℕ) × (choice_by_need order k m ≡ Some first)
 
--- .. so a page block is never refused ..
+-- .. so a page block of this order is not refused ..
 abbrev pub AllocIsPromised : Type 0
 AllocIsPromised = (limit order k : ℕ) (m : Machine) → IsWellFormed limit order m → IsAmple order k m
     → (first : ℕ) × ((alloc_step order k m).answer ≡ Ok first)
 
--- .. nor an object of a cache whose slabs have this order
+-- .. and neither is an object of a cache whose slabs have this order
 abbrev pub TakeIsPromised : Type 0
 TakeIsPromised = (limit order number : ℕ) (m : Machine) (c : Cache) → IsWellFormed limit order m → cache_of m number ≡ Some c
     → IsAmple order (layout c).order m → (place : ℕ) × ((take_step order number m).answer ≡ Ok place)

@@ -1,4 +1,4 @@
--- Lists of operations, and what they leave of a machine.
+-- Operations, and the machine after a list of them.
 use Rattle.std.specs.Prelude.{◌≡◌, ℕ, true, List, [], ◌∷◌, ⊤}
 use Rattle.std.specs.List.{AllByRecursion}
 use Rattle.model_core.specs.Layouts.{is_pattern}
@@ -6,32 +6,32 @@ use Rattle.model_core.specs.Machine.{Machine, empty_machine}
 use Rattle.model_core.specs.Operations.{alloc_step, free_step, write_step, after_grant, take_back_step}
 use Rattle.model_core.specs.CacheOperations.{cache_step, take_step, give_step, destroy_step, reap_step}
 
--- all that can change a machine
+-- the operations that can change a machine
 pub data Operation : Type 0 where
-  -- a page block of this order taken
+  -- allocates a page block of this order
   Alloc : ℕ → Operation
-  -- the page block at this frame released
+  -- frees the page block at this frame
   Free : ℕ → Operation
-  -- bytes written from a place on
+  -- writes bytes from a place on
   Write : ℕ → List ℕ → Operation
-  -- a cache made, of a size, an alignment and a pattern
+  -- makes a cache of a size, an alignment and a pattern
   Create : ℕ → ℕ → List ℕ → Operation
-  -- an object of this cache taken
+  -- takes an object of this cache
   Take : ℕ → Operation
-  -- the object of a cache at a place given back
+  -- gives back the object of a cache at a place
   Give : ℕ → ℕ → Operation
-  -- this cache destroyed
+  -- destroys this cache
   Destroy : ℕ → Operation
-  -- all empty slabs given back
+  -- frees all empty slabs
   Reap : Operation
-  -- a slot granted
+  -- grants a slot
   Grant : Operation
-  -- this slot taken back
+  -- takes back this slot
   TakeBack : ℕ → Operation
-  -- everything taken away
+  -- takes away everything
   Reset : Operation
 
--- the operation can be asked for: a cache is made with a pattern
+-- the operation can be requested: a new cache has an allowed pattern
 abbrev pub IsPossible : Operation → Type 0
 IsPossible (Create size align pattern) = is_pattern pattern ≡ true
 IsPossible (Alloc k) = ⊤
@@ -45,11 +45,11 @@ IsPossible Grant = ⊤
 IsPossible (TakeBack slot) = ⊤
 IsPossible Reset = ⊤
 
--- each of the operations can
+-- each of the operations can be requested
 abbrev pub ArePossible : List Operation → Type 0
 ArePossible operations = AllByRecursion IsPossible operations
 
--- the machine after an operation; `limit` is on the number of caches, slots have 2 ^ order frames
+-- the machine after an operation; `limit` is the largest number of caches, slots have 2 ^ order frames
 abbrev pub after : ℕ → ℕ → Operation → Machine → Machine
 after limit order (Alloc k) m = (alloc_step order k m).machine
 after limit order (Free first) m = (free_step first m).machine

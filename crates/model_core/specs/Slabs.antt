@@ -1,4 +1,4 @@
--- Slabs and caches (Bonwick's object-caching allocator): kinds of slab, live objects, growth, handing out, giving back.
+-- Slabs and caches (Bonwick's object-caching allocator): kinds of slab, live objects, growth, handing out, freeing.
 use Rattle.std.specs.Prelude.{ℕ, ◌+◌, ◌-◌, ◌*◌, ◌%◌, Bool, false, not, List, [], ◌∷◌, map, filter, find, flat_map, replicate, Option, Some, None, is_some, is_none, slice_set, if◌then◌else◌, ◌&&◌, ◌||◌, ◌==◌}
 use Rattle.std.specs.List.{list_any, list_all, position_or_len}
 use Rattle.model_core.specs.declared.limits.TheConstants.{FRAME_BYTES}
@@ -63,7 +63,7 @@ abbrev pub new_slab : Cache → ℕ → Slab
 new_slab c first =
     record { first = first; colour = colour_offset c.align c.made (layout c); live = replicate (layout c).count false }
 
--- the byte at a place of the slab when it is made: every object is constructed, and nothing else is there
+-- the byte at a place of a new slab: every object is constructed, and other places have no byte
 unfoldable pub fresh_byte : Cache → Slab → ℕ → Option ℕ
 fresh_byte c s place =
     if in_object (layout c) c.size s.colour (place - FRAME_BYTES * s.first)
@@ -83,16 +83,16 @@ grown first c m = with_cache (grown_cache first c) (record m {
       if in_block place (slab_block c (new_slab c first)) then fresh_byte c (new_slab c first) place else m.bytes place;
 })
 
--- the partial slab of least frame, else the empty one of least frame
+-- the partial slab if there is one, else the empty one
 unfoldable pub slab_to_use : Option Slab → Option Slab → Option Slab
 slab_to_use (Some partial) empty = Some partial
 slab_to_use None empty = empty
 
--- the least object of a slab that is not live
+-- the index of the first object that is not live
 abbrev pub next_object : Slab → ℕ
 next_object s = position_or_len not s.live
 
--- the bytes after these blocks were slabs and are given back
+-- the bytes after slabs on these blocks are freed
 abbrev pub zeroed : List Block → (ℕ → Option ℕ) → ℕ → Option ℕ
 zeroed blocks bytes place = if list_any (in_block place) blocks then Some 0 else bytes place
 
@@ -103,12 +103,12 @@ without_empty c = record c { slabs = filter (λ s. not (is_empty s)) c.slabs }
 abbrev pub empty_blocks : Cache → List Block
 empty_blocks c = map (slab_block c) (filter is_empty c.slabs)
 
--- all empty slabs of all caches given back
+-- the machine after all empty slabs of all caches are freed
 unfoldable pub reaped : Machine → Machine
 reaped m = record m { caches = map without_empty m.caches; bytes = zeroed (flat_map empty_blocks m.caches) m.bytes }
 
--- the machine out of which a request for a block of order k is served: all empty slabs are given back where a block is
--- found only then, else none is
+-- The machine that serves a request for a block of order k. If a block is found only after all empty slabs are freed, they are
+-- freed. Otherwise it is the machine itself.
 unfoldable pub by_need : ℕ → ℕ → Machine → Machine
 by_need order k m = if is_some (choice order m k) || is_none (choice order (reaped m) k) then m else reaped m
 
@@ -116,6 +116,6 @@ by_need order k m = if is_some (choice order m k) || is_none (choice order (reap
 abbrev pub choice_by_need : ℕ → ℕ → Machine → Option ℕ
 choice_by_need order k m = choice order (by_need order k m) k
 
--- the cache and its slabs given back
+-- the machine without the cache, after its slabs are freed
 unfoldable pub destroyed : Cache → Machine → Machine
 destroyed c m = record m { caches = filter (λ x. not (x.number == c.number)) m.caches; bytes = zeroed (slab_blocks c) m.bytes }

@@ -1,4 +1,4 @@
--- What holds of every machine that operations leave.
+-- What holds of every machine after any operations.
 use Rattle.std.specs.Prelude.{◌≡◌, ℕ, ◌+◌, ◌-◌, ◌*◌, ◌/◌, ◌^◌, ◌<◌, ◌≤◌, Bool, true, not, List, [], ◌∷◌, map, flat_map, length, is_some, ⊤, ◌&&◌, ◌||◌}
 use Rattle.std.specs.List.{list_any, AllByRecursion}
 use Rattle.model_core.specs.declared.limits.TheConstants.{FRAME_BYTES}
@@ -15,7 +15,7 @@ RisesFrom n (x ∷ xs) = (n ≤ x) × RisesFrom (x + 1) xs
 abbrev pub IsApart : Block → Block → Type 0
 IsApart a b = (x : ℕ) → HasFrame a x → HasFrame b x → ⊥
 
--- no two of the blocks do
+-- no two of the blocks have a frame in common
 abbrev pub AreApart : List Block → Type 0
 AreApart [] = ⊤
 AreApart (b ∷ bs) = AllByRecursion (IsApart b) bs × AreApart bs
@@ -53,7 +53,7 @@ in_cache place c = list_any (in_object_of place c) c.slabs
 abbrev pub is_mapped : ℕ → Machine → ℕ → Bool
 is_mapped order m place = (holds m (slot_of order place) && not (in_slab m place)) || list_any (in_cache place) m.caches
 
--- `limit` is on the number of caches, slots have 2 ^ order frames
+-- `limit` is the largest number of caches, slots have 2 ^ order frames
 pub record IsWellFormed (limit order : ℕ) (m : Machine) : Type 0 where
   pub slots_rise : RisesFrom 0 m.slots
   pub blocks_rise : RisesFrom 0 (map (λ b. b.first) m.blocks)

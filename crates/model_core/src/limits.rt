@@ -1,15 +1,15 @@
 //! The sizes and limits of a machine and of requests.
 
-/// The bytes of a frame.
+/// The size of a frame, in bytes.
 pub const FRAME_BYTES: u32 = 4096;
 
-/// The bytes of the control record of a slab of small objects. It is at the end of the slab's frame.
+/// The size of the control record of a slab of small objects, in bytes. It is at the end of the slab's frame.
 pub const RECORD_BYTES: u32 = 32;
 
 /// The offset of the control record in its frame, in bytes. The objects lie before it.
 pub const RECORD_OFFSET: u32 = 4064;
 
-/// The largest size of an object in bytes. The least is 1.
+/// The largest size of an object, in bytes. The least is 1.
 pub const MOST_SIZE: u32 = 4096;
 
 /// The least order of a superblock, which has `2^order` frames.
