@@ -5,7 +5,7 @@ use Rattle.std.proofs.Math.Nat.{div-mul-le_self}
 use Rattle.layout_core.specs.Cut.{Cut, numbers_of}
 use Rattle.layout_core.specs.Objects.{Begins, Holds, IsOnly}
 
--- what a division says of an offset that lies `inside` bytes behind the first of chunk i
+-- what a division gives for an offset that lies `inside` bytes after the beginning of chunk i
 pub record IsAt (colour offset chunk i inside : ℕ) : Type 0 where
   pub behind : colour ≤ offset
   pub chunk_of : (offset - colour) / chunk ≡ i
@@ -34,7 +34,7 @@ chunk_begins l chunk from i same is =
     let least : from / (numbers_of l).chunk * (numbers_of l).chunk ≤ from = div-mul-le_self from (numbers_of l).chunk in
     omega arith
 
--- the chunk that a byte is in, counted by either of two equal chunk sizes
+-- the chunk that a byte is in is the same by either of two equal chunk sizes
 same_chunk : (l : Cut) (chunk colour offset from i j : ℕ) → chunk ≡ (numbers_of l).chunk → i ≡ from / (numbers_of l).chunk → from ≡ offset - colour
     → (offset - colour) / chunk ≡ j → j ≡ i
 same_chunk l chunk colour offset from i j same is from_is at =
@@ -56,7 +56,7 @@ begins_only l chunk colour offset from i same some below is behind from_is whole
       only = λ j b. same_chunk l chunk colour offset from i j same is from_is (begins_at l chunk colour offset j same some b).chunk_of;
     }
 
--- the chunk that a byte is in begins with it, if an object does
+-- if an object begins at a byte, so does the chunk that the byte is in
 pub begins_whole : (l : Cut) (chunk colour offset from i j : ℕ) → chunk ≡ (numbers_of l).chunk → 0 < chunk → i ≡ from / (numbers_of l).chunk
     → from ≡ offset - colour → Begins l colour offset j → i * chunk ≡ from
 begins_whole l chunk colour offset from i j same some is from_is b =
@@ -87,7 +87,7 @@ holds_only l chunk colour offset len from i same sized below is behind from_is s
       only = λ j h. same_chunk l chunk colour offset from i j same is from_is (holds_at l chunk colour offset len j same sized h).1.chunk_of;
     }
 
--- the chunk that a byte is in has the range, if an object does
+-- if an object holds the range, the range ends within `size` bytes of its chunk
 pub holds_within : (l : Cut) (chunk colour offset len from i j : ℕ) → chunk ≡ (numbers_of l).chunk → l.size ≤ chunk → i ≡ from / (numbers_of l).chunk
     → from ≡ offset - colour → Holds l colour offset len j → from - i * chunk + len ≤ l.size
 holds_within l chunk colour offset len from i j same sized is from_is h =

@@ -1,4 +1,4 @@
--- A multiplication by the reciprocal finds a chunk, as the division does.
+-- Multiplying by the reciprocal finds the same chunk as dividing.
 use Rattle.std.proofs.Common.{◌≡◌, ℕ, ◌+◌, ◌-◌, ◌*◌, ◌/◌, ◌%◌, ◌^◌, ◌<◌, ◌≤◌, arith, ap, ◌∙◌, inl, inr}
 use Rattle.std.proofs.lemmas.Bool.{cases_lt}
 use Rattle.std.proofs.lemmas.Nat.{div-add-mod', le-div}
@@ -15,7 +15,7 @@ product_reaches whole chunk m from over =
     let columns : from / chunk * chunk * m ≤ from * m = mul-le-mul_right m (omega arith) in
     omega arith
 
--- and none behind it, as long as `more`, added up over the chunks, is less than the reciprocal
+-- and no chunk after it, if `more`, times the number of chunks up to the right one, is less than the reciprocal
 product_stays : (whole chunk m more from : ℕ) → 0 < chunk → m * chunk ≡ whole + more → (from / chunk + 1) * more < m
     → from * m < (from / chunk + 1) * whole
 product_stays whole chunk m more from some is few =
@@ -37,7 +37,7 @@ is_near chunk some =
     let below : 2 ^ 32 % chunk < chunk = mod-lt (2 ^ 32) some in
     record { more = chunk - 2 ^ 32 % chunk; is = omega arith; few = omega arith }
 
--- at a byte of a slab the product is the quotient
+-- for a byte of a slab the product gives the quotient
 exact : (chunk from : ℕ) → 0 < chunk → chunk ≤ 32768 → from < 32768 → from * reciprocal_of chunk / 2 ^ 32 ≡ from / chunk
 exact chunk from some few below =
     let near = is_near chunk some in
@@ -74,7 +74,7 @@ found chunk count from some within below =
     let rows : (from / chunk + 1) * chunk ≤ count * chunk = mul-le-mul_right chunk (omega arith) in
     exact chunk from some within.one (omega (arith, mod-lt from some, within.all))
 
--- if it finds none of them, the byte is behind the last
+-- if it finds no chunk of the slab, the byte is after the last one
 missed : (chunk count from : ℕ) → 0 < chunk → IsWithin chunk count → count ≤ from * reciprocal_of chunk / 2 ^ 32 → count ≤ from / chunk
 missed chunk count from some within above = elim (cases_lt (from / chunk) count) [
   | inl below ↦

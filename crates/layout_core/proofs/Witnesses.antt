@@ -1,4 +1,4 @@
--- For each law an instance of its premises, and what it says there.
+-- One instance of each law: numbers that meet its premises, and what it says of them.
 use Rattle.std.proofs.Common.{◌≡◌, ℕ, ◌≤◌, refl, arith}
 use Rattle.model_core.specs.Layouts.{LayoutsFit, IsLayout, layout_of}
 use Rattle.layout_core.specs.Cut.{cut}

@@ -17,11 +17,11 @@ pub record AreLayoutFields (size align chunk order count colours reciprocal : �
   pub some : 0 < chunk
   pub sized : size ≤ chunk
 
--- 16 bytes that begin with these and go on with zeroes
+-- these bytes, padded with zeros to 16
 abbrev pub padded_to_16 : List ℕ → List ℕ
 padded_to_16 xs = take 16 (xs ++ replicate 16 0)
 
--- the fields of a `Pattern`: 16 bytes, all 0 behind the first `len`
+-- the fields of a `Pattern`: 16 bytes, all 0 after the first `len`
 pub record IsHeld (bytes : List ℕ) (len : ℕ) : Type 0 where
   pub some : 0 < len
   pub few : len ≤ 16

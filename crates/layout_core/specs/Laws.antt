@@ -4,7 +4,7 @@ use Rattle.model_core.specs.Layouts.{layout_of, is_size, is_alignment, is_small,
 use Rattle.layout_core.specs.Cut.{cut}
 use Rattle.layout_core.specs.Objects.{Holds}
 
--- what a slab's order is: 0 for small chunks, and else the least that leaves at most an eighth of the slab unused
+-- the order of a slab: 0 for small chunks, else the least that leaves at most an eighth of the slab unused
 pub record IsLeastOrder (chunk order : ℕ) : Type 0 where
   pub few : order ≤ 3
   pub small : is_small chunk ≡ true → order ≡ 0
@@ -15,7 +15,7 @@ abbrev pub EverySizeHasAnOrder : Type 0
 EverySizeHasAnOrder = (size align : ℕ) → is_size size ≡ true → is_alignment align ≡ true
     → IsLeastOrder (layout_of size align).chunk (layout_of size align).order
 
--- a byte that two objects hold is one object's
+-- two objects that hold the same byte are the same
 abbrev pub OffsetsApart : Type 0
 OffsetsApart = (size align colour offset i j : ℕ) → is_size size ≡ true → is_alignment align ≡ true
     → Holds (cut size align) colour offset 1 i → Holds (cut size align) colour offset 1 j → i ≡ j

@@ -13,16 +13,15 @@ use std::marker::Model;
 pub enum LayoutRefusal {
     /// The size is 0 or above 4096 bytes.
     BadSize,
-    /// The alignment is none of 8, 16, 32, 64, 128 and 256 bytes.
+    /// The alignment is not 8, 16, 32, 64, 128 or 256 bytes.
     BadAlign,
 }
 
 /// Chunks below this many bytes are small.
 const SMALL: u32 = 512;
 
-/// How the slabs of a cache are cut into objects: an object size and an alignment, with the numbers that follow from
-/// them. All are bytes, but for the order, the count, the colours and the reciprocal. It takes 24 bytes, since the alignment
-/// and the order share four.
+/// How the slabs of a cache are cut into objects: the size and alignment of an object, and the numbers that follow from them. The
+/// size, the alignment and the chunk are in bytes. A layout takes 24 bytes, since the alignment and the order share four.
 #[derive(Clone, Copy, Debug)]
 pub struct Layout {
     size: u32,
@@ -31,7 +30,7 @@ pub struct Layout {
     chunk: u32,
     count: u32,
     colours: u32,
-    /// `2^32 / chunk`, rounded down, and one more: multiplying by it takes less time than dividing by the chunk.
+    /// `2^32 / chunk`, rounded down, plus 1. Multiplying by it takes less time than dividing by the chunk.
     reciprocal: u32,
 }
 
@@ -49,7 +48,8 @@ impl Model for Layout {
 }
 
 impl Layout {
-    /// The layout for objects of `size` bytes, 1 to 4096, at multiples of `align`. The size is tested first.
+    /// Returns the layout for objects of `size` bytes, 1 to 4096, at multiples of `align` bytes: 8, 16, 32, 64, 128 or 256.
+    /// Returns `BadSize` or `BadAlign` for any other number. The size is tested first.
     pub fn of(size: u32, align: u32) -> Result<Layout, LayoutRefusal>
         ensures { result ≡ layout_or_refusal size align }
     {
@@ -75,57 +75,57 @@ impl Layout {
         })
     }
 
-    /// The bytes of an object, 1 to 4096.
+    /// Returns the size of an object, in bytes, 1 to 4096.
     pub fn size(&self) -> u32
         ensures { result ≡ self.now.size }
     {
         self.size
     }
 
-    /// What each object's first byte is a multiple of: 8, 16, 32, 64, 128 or 256.
+    /// Returns the alignment of objects, in bytes: 8, 16, 32, 64, 128 or 256. Each object begins at a multiple of it.
     pub fn align(&self) -> u32
         ensures { result ≡ self.now.align }
     {
         self.align.into()
     }
 
-    /// A slab has `2^order` frames, and this is 0 to 3.
+    /// Returns the order of a slab, 0 to 3. A slab has `2^order` frames.
     pub fn order(&self) -> u8
         ensures { result ≡ (numbers_of self.now).order }
     {
         self.order
     }
 
-    /// The bytes from the first of an object to the first of the next.
+    /// Returns the number of bytes from the beginning of one object to that of the next, at least 16.
     pub fn chunk(&self) -> u32
         ensures { result ≡ (numbers_of self.now).chunk }
     {
         self.chunk
     }
 
-    /// The objects of a slab.
+    /// Returns the number of objects of a slab, 1 to 254.
     pub fn count(&self) -> u32
         ensures { result ≡ (numbers_of self.now).count }
     {
         self.count
     }
 
-    /// How many colour offsets there are: the multiples of the alignment from 0 on.
+    /// Returns the number of colour offsets, at least 1. They are the multiples of the alignment from 0 on.
     pub fn colours(&self) -> u32
         ensures { result ≡ (numbers_of self.now).colours }
     {
         self.colours
     }
 
-    /// The objects are small: a slab is one frame, and its control record stands in the last 32 bytes.
+    /// Returns true if the objects are small: a slab is one frame, and its control record is in the last 32 bytes.
     pub fn in_page(&self) -> bool
         ensures { result ≡ is_small (numbers_of self.now).chunk }
     {
         self.chunk < SMALL
     }
 
-    /// The laws that every layout lends its holder: its size and its alignment are accepted ones, and at each colour offset
-    /// the objects end within the slab, and before the control record if that is in the frame. The call does nothing.
+    /// A law: the size and the alignment of every layout are accepted ones, and at each colour offset the objects end within the
+    /// slab, and before the control record if that is in the frame. The call does nothing.
     pub fn laws(&self)
         ensures fits { IsLayout self.now.size self.now.align (numbers_of self.now) }
         ensures size { is_size self.now.size ≡ true }
@@ -134,7 +134,7 @@ impl Layout {
         let _ = &self.size;
     }
 
-    /// Where object `i` begins, in bytes from the first of a slab with this colour offset.
+    /// Returns the offset of object `i` in a slab with this colour offset. Offsets are in bytes.
     pub fn offset(&self, colour: u32, i: u32) -> u32
         requires colour { IsColour self.now colour }
         requires object { i < (numbers_of self.now).count }
@@ -143,7 +143,7 @@ impl Layout {
         colour + i * self.chunk
     }
 
-    /// The object that begins at this offset of a slab, if one does.
+    /// Returns the index of the object that begins at this offset of a slab, or `None` if no object begins there.
     pub fn index_of(&self, colour: u32, offset: u32) -> Option<u32>
         ensures { MatchOption result ((i : ℕ) → ¬ Begins self.now colour offset i) (IsOnly (Begins self.now colour offset)) }
     {
@@ -157,7 +157,8 @@ impl Layout {
         }
     }
 
-    /// The object whose bytes hold the range of `len` bytes from this offset on, if one does; none holds a range of no bytes.
+    /// Returns the index of the object that holds the `len` bytes from this offset on, or `None` if no object does. No object
+    /// holds a range of 0 bytes.
     pub fn holder(&self, colour: u32, offset: u32, len: u32) -> Option<u32>
         ensures { MatchOption result ((i : ℕ) → ¬ Holds self.now colour offset len i) (IsOnly (Holds self.now colour offset len)) }
     {
@@ -172,8 +173,8 @@ impl Layout {
         }
     }
 
-    /// Returns the number of the chunk that byte `from` is in, counted from the first object of a slab on, or `None` behind
-    /// the last chunk. In a slab, of at most 32,768 bytes, the product finds the chunk that a division would.
+    /// Returns the number of the chunk that holds byte `from`, counted from the first object of a slab, or `None` after the last
+    /// chunk. A slab has at most 32,768 bytes, so the multiplication finds the chunk that a division would.
     #[inline(always)]
     fn chunk_at(&self, from: u32) -> Option<u32>
         ensures { MatchOption result ((numbers_of self.now).count ≤ from / (numbers_of self.now).chunk)
@@ -188,7 +189,7 @@ impl Layout {
     }
 }
 
-/// The size rounded up to a multiple of the alignment, and at least 16 bytes.
+/// Returns the size rounded up to a multiple of the alignment, and at least 16. All are in bytes.
 fn chunk_of(size: u32, align: u32) -> u32
     requires size { is_size size ≡ true }
     requires align { is_alignment align ≡ true }
@@ -197,7 +198,7 @@ fn chunk_of(size: u32, align: u32) -> u32
     ((size + align - 1) / align * align).max(16)
 }
 
-/// Returns `2^32 / chunk`, rounded down, and one more.
+/// Returns `2^32 / chunk`, rounded down, plus 1.
 fn reciprocal_of(chunk: u32) -> u32
     requires { 16 ≤ chunk }
     ensures { result ≡ model_reciprocal_of chunk }
@@ -205,7 +206,7 @@ fn reciprocal_of(chunk: u32) -> u32
     ((1 << 32) / u64::from(chunk) + 1) as u32
 }
 
-/// Chunks leave at most an eighth of a slab of `2^order` frames unused.
+/// Returns true if chunks leave at most an eighth of a slab of `2^order` frames unused.
 fn is_thrifty(chunk: u32, order: u8) -> bool
     requires chunk { 0 < chunk }
     requires order { order ≤ 3 }
@@ -215,7 +216,7 @@ fn is_thrifty(chunk: u32, order: u8) -> bool
     bytes % chunk <= bytes / 8
 }
 
-/// The order of a slab: 0 for small objects, else the least that leaves at most an eighth unused.
+/// Returns the order of a slab: 0 for small objects, else the least that leaves at most an eighth unused.
 fn slab_order(chunk: u32) -> u8
     requires { 0 < chunk }
     ensures order { result ≡ model_slab_order chunk }
@@ -232,7 +233,7 @@ fn slab_order(chunk: u32) -> u8
     }
 }
 
-/// What objects and colour offsets may use of a slab.
+/// Returns the number of bytes of a slab that its objects and its colour offset may use.
 fn usable_bytes(chunk: u32, order: u8) -> u32
     requires order { order ≡ model_slab_order chunk }
     requires few { order ≤ 3 }
