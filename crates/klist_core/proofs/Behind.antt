@@ -1,4 +1,4 @@
--- A walk up a list beside the node before, to where a key comes.
+-- A walk up a list, with the node before, to the place of a key.
 use Rattle.std.proofs.Common.{◌≡◌, ℕ, ◌+◌, ◌-◌, ◌^◌, ◌<◌, ◌≤◌, true, Option, Some, None, IsSome, is_some, ap, ◌∙◌, inl, inr, arith}
 use Rattle.std.specs.Prelude.{◌≢◌, IfSome}
 use Rattle.std.proofs.lemmas.Bool.{cases_lt, cases_eq, eqb-true, false≢true}
@@ -13,7 +13,7 @@ pub in_placed : (h : ℕ) (o : Option (ℕ × ℕ)) → is_in h o ≡ true → (
 in_placed h None e = absurd (false≢true e)
 in_placed h (Some (g, k)) e = (k, ap (λ (x : ℕ). Some (x, k)) (eqb-true g h e))
 
--- node i stands in list h under a lesser key, and o is the node after it
+-- node i is in list h under a lesser key, and o is the node after it
 pub record IsBehind (place : ℕ → Option (ℕ × ℕ)) (h key i : ℕ) (o : Option ℕ) : Type 0 where
   pub own : ℕ
   pub here : place i ≡ Some (h, own)

@@ -1,4 +1,4 @@
--- What is known in an insertion and in a removal before their writes.
+-- What holds in an insertion and in a removal before their writes.
 use Rattle.std.proofs.Common.{◌≡◌, ℕ, ◌+◌, ◌-◌, ◌%◌, ◌^◌, ◌<◌, ◌≤◌, List, [], Option, Some, None, ◌++◌, take, length, get_or, set, refl, ap, ap₂, sym, ◌∙◌, subst, inl, inr, arith}
 use Rattle.std.specs.Prelude.{◌≢◌, MatchOption}
 use Rattle.std.proofs.Math.ListN.{get_or-map}
@@ -18,7 +18,7 @@ use Rattle.klist_core.proofs.Rewired.{IsWithin, IsRewired, rewired, length_after
 use Rattle.klist_core.proofs.Linked.{nearest_within, ranked_before, shown_rewired, linked_inserted, linked_removed, linked_replaced}
 use Rattle.klist_core.proofs.Ranks.{rank_in, by_time, by_key, ranked_there, nearest_ranked, nearest_limit, next_limit, rank_is_new}
 
--- node n, which was read as x, stands in list h
+-- node n, which was read as x, is in list h
 pub record IsRemoval (heads : List Head) (nodes : List Node) (n : ℕ) (x : Node) (h : ℕ) : Type 0 where
   pub linked : IsLinked heads nodes
   pub read : x ≡ node_at nodes n
@@ -62,7 +62,7 @@ removal_known heads nodes n x h t within got is = record {
     fitting : (o : Option ℕ) → IsWithin o (length (places_of nodes)) → IsWithin o (length nodes)
     fitting o w = record { below = λ i e. omega (arith, w.below i e, length-map nodes place_in) }
 
--- between these two nodes node n is linked into list h under the key k: in the gap, or at the end of a loose list
+-- node n is linked into list h under the key k between these two nodes: in the gap, or at the end of a loose list
 pub record IsLinkPlace (heads : List Head) (nodes : List Node) (h k : ℕ) (t : IsLinked heads nodes) (g : Option ℕ × Option ℕ) : Type 0 where
   pub before : IsNearest (back_from (t.now + 1)) (ranks t.came (places_of nodes)) h (back_from (t.now + 1) (rank_in h t.now k) + 1) g.0
   pub after : IsNearest up (ranks t.came (places_of nodes)) h (up (rank_in h t.now k) + 1) g.1
@@ -89,7 +89,7 @@ pub link_place : (heads : List Head) (nodes : List Node) (h k : ℕ) (t : IsLink
 link_place heads nodes h k t None g lt fits loose is = subst (λ x. IsLinkPlace heads nodes h k t x) (sym is) (at_end heads nodes h k t lt loose)
 link_place heads nodes h k t (Some x) g lt fits gap is = subst (λ y. IsLinkPlace heads nodes h k t y) (sym is) (in_gap heads nodes h k t x fits gap)
 
--- node n stands in no list, and is to come into list h under the key k between these two nodes
+-- node n is in no list, and will be inserted into list h under the key k between these two nodes
 pub record IsInsertion (heads : List Head) (nodes : List Node) (h n k : ℕ) (g : Option ℕ × Option ℕ) : Type 0 where
   pub linked : IsLinked heads nodes
   pub in_heads : h < length heads
@@ -201,10 +201,10 @@ shown_over heads nodes n j x h r within =
     w : IsRewired heads (heads_unlinked heads h x.previous x.next) nodes (nodes_unlinked nodes n x.previous x.next) h n free_node x.previous x.next x.next x.previous ((head_at heads h).len - 1)
     w = without heads nodes n x h r
 
--- what a slice of the whole list leaves in it
+-- xs with a rest after it, cut at the length of xs, is xs
 pub seam : {A : Type 0} (xs rest : List A) (len : ℕ) → len ≡ length xs → take len (xs ++ rest) ≡ xs
 seam xs rest len e = ap (λ n. take n (xs ++ rest)) e ∙ take-append_seam xs rest
 
--- .. so tables that are linked are linked when they are back
+-- .. so linked tables are still linked after the borrow of their slices
 pub linked_back : (heads heads' : List Head) (nodes nodes' : List Node) → heads' ≡ heads → nodes' ≡ nodes → IsLinked heads nodes → IsLinked heads' nodes'
 linked_back heads heads' nodes nodes' e f t = rw (e, f) t

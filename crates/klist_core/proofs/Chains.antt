@@ -1,4 +1,4 @@
--- What an insertion and a removal leave of a chain of links, in one direction.
+-- A chain of links, in one direction, after an insertion and after a removal.
 use Rattle.std.proofs.Common.{◌≡◌, ℕ, ◌+◌, ◌<◌, ◌≤◌, Option, Some, None, refl, ap, sym, ◌∙◌, subst, ◌⊎◌, inl, inr, arith}
 use Rattle.std.specs.Prelude.{◌≢◌}
 use Rattle.std.proofs.lemmas.Bool.{cases_lt, cases_eq}
@@ -6,14 +6,14 @@ use Rattle.klist_core.specs.Links.{IsNearest, IsAfter, IsChain}
 use Rattle.klist_core.proofs.Directions.{IsDirection, IsKeyed, IsGreatest, IsLastBelow}
 use Rattle.klist_core.proofs.Changes.{IsPut, IsBetween, same_list, same_key, others_kept_large, others_kept_small, kept_large, kept_small, joined_large, joined_small}
 
--- the link after `before` in list h is `to` now, and of the others only that of node n has changed
+-- the link after `before` in list h is now `to`, and of the other links only that of node n has changed
 pub record IsRelinked (ends links ends' links' : ℕ → Option ℕ) (h n : ℕ) (before to : Option ℕ) : Type 0 where
   pub begin : before ≡ None → ends' h ≡ to
   pub other_begin : (g : ℕ) → (g ≡ h → before ≢ None) → ends' g ≡ ends g
   pub link : (i : ℕ) → before ≡ Some i → links' i ≡ to
   pub other_link : (i : ℕ) → i ≢ n → before ≢ Some i → links' i ≡ links i
 
--- no two nodes of list h have one key, and its keys are below the limit
+-- no two nodes of list h have the same key, and its keys are below the limit
 pub record IsApart (limit : ℕ) (place : ℕ → Option (ℕ × ℕ)) (h : ℕ) : Type 0 where
   pub keyed : IsKeyed limit place h
   pub apart : (i j k : ℕ) → place i ≡ Some (h, k) → place j ≡ Some (h, k) → i ≡ j
@@ -115,7 +115,7 @@ chain_inserted limit rank back d small large heads h n k p a ends links ends' li
         subst (λ f. IsNearest rank large f (rank k' + 1) (links' n)) list
         (subst (λ y. IsNearest rank large h (rank y + 1) (links' n)) key (kept_large rank small large h n k p (rank k + 1) (links' n) (inl (omega arith)) after))
 
--- node n is taken out from between `before` and `after`
+-- node n is removed from between `before` and `after`
 pub chain_removed : (limit : ℕ) (rank back : ℕ → ℕ) → IsDirection limit rank back → (small large : ℕ → Option (ℕ × ℕ)) (heads h n k : ℕ) → k < limit → IsPut small large h n k → IsApart limit small h
     → (ends links ends' links' : ℕ → Option ℕ) (before after : Option ℕ) → IsRelinked ends links ends' links' h n before after
     → IsLastBelow rank small h (rank k) before → IsNearest rank large h (rank k + 1) after

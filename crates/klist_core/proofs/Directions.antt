@@ -1,4 +1,4 @@
--- The two directions of a list: what is nearest in one, seen from the other.
+-- The two directions of a list: nearest nodes in one direction, found from the other.
 use Rattle.std.proofs.Common.{◌≡◌, ℕ, ◌+◌, ◌<◌, ◌≤◌, Option, Some, None, ap, ◌∙◌, inl, inr, arith}
 use Rattle.std.specs.Prelude.{MatchOption, ◌≢◌}
 use Rattle.std.proofs.lemmas.Bool.{cases_lt, cases_eq}
@@ -61,7 +61,7 @@ last_below {limit} rank back place h k (Some j) d keyed small v = record { is = 
       | inr le ↦ le
     ]
 
--- the node before a new key is the one before the node after it, or the last one where that is missing
+-- the node before a new key is the one before the node after it, or the last node if no node comes after it
 across_none : {limit : ℕ} (rank back : ℕ → ℕ) (place : ℕ → Option (ℕ × ℕ)) (h k : ℕ) (o : Option ℕ) → IsDirection limit rank back → IsKeyed limit place h → k < limit → ((i : ℕ) → place i ≢ Some (h, k))
     → NoneFrom rank place h (rank k + 1) → IsNearest back place h 0 o → IsNearest back place h (back k + 1) o
 across_none {limit} rank back place h k None d keyed small fresh after v = record { is = λ i k' e. let v' = v.is i k' e in absurd (omega arith) }

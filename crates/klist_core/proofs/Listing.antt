@@ -1,4 +1,4 @@
--- The lists as pairs of key and node: what is in them, that they rise, how long they are.
+-- The lists as pairs of key and node: their elements, their order and their length.
 use Rattle.std.proofs.Common.{◌≡◌, ℕ, suc, zero, ◌+◌, ◌≤◌, Bool, true, false, cond, eqb, ltb, List, [], ◌∷◌, Option, Some, None, length, map, refl, ap, sym, ◌∙◌, subst, ◌⊎◌, inl, inr, arith, add-zero}
 use Rattle.std.specs.Prelude.{◌≢◌, ◌↔◌, count_by, if◌then◌else◌, not, slice_get}
 use Rattle.std.proofs.lemmas.Bool.{eq-eqb, ne_eqb, eqb-true, eqb-false, not-true}
@@ -12,12 +12,12 @@ use Rattle.klist_core.specs.Places.{place_at, is_in, IsEmpty}
 use Rattle.klist_core.specs.Lists.{put_by_key, with_node, list_from, list_of, keys_of, without_node}
 use Rattle.klist_core.specs.Laws.{ListsCountPlaces}
 
--- the pair is put as the elements of other lists that rise are
+-- `put_by_key` is `put_rising` by the key of a pair
 put_is : (p : ℕ × ℕ) (qs : List (ℕ × ℕ)) → put_by_key p qs ≡ put_rising (λ (q : ℕ × ℕ). q.0) p qs
 put_is p [] = refl
 put_is p (q ∷ qs) = ap (λ (zs : List (ℕ × ℕ)). if ltb p.0 q.0 then p ∷ (q ∷ qs) else q ∷ zs) (put_is p qs)
 
--- what is in a list with one pair more
+-- the elements of a list with one more pair
 pub among_put : (x p : ℕ × ℕ) (qs : List (ℕ × ℕ)) → IsIn x (put_by_key p qs) → (p ≡ x) ⊎ IsIn x qs
 among_put x p qs a = in_put (λ (q : ℕ × ℕ). q.0) p x qs (subst (λ (zs : List (ℕ × ℕ)). IsIn x zs) (put_is p qs) a)
 
@@ -29,7 +29,7 @@ rises_put n p qs le f r =
     subst (λ (zs : List (ℕ × ℕ)). RisesFrom n (map (λ q. q.0) zs)) (sym (put_is p qs))
     (put_rises (λ (q : ℕ × ℕ). q.0) n p qs r le (each_from (λ (q : ℕ × ℕ). q.0 ≢ p.0) qs f))
 
--- list h has the pairs of the nodes that stand in it; the nodes are numbered from i on
+-- list h has the pairs of its nodes, which are numbered from i on
 pub among_places : (h i : ℕ) (places : List (Option (ℕ × ℕ))) (k j : ℕ) → IsIn (k, j) (list_from h i places) → (d : ℕ) × ((j ≡ i + d) × (place_at places d ≡ Some (h, k)))
 among_places h i [] k j a = absurd a
 among_places h i (place ∷ places) k j a = go place (among_places h (i + 1) places k j) a
@@ -77,7 +77,7 @@ in_list places h k i a = let w = among_places h 0 places k i a in let same : w.0
 pub listed : (places : List (Option (ℕ × ℕ))) (h k i : ℕ) → place_at places i ≡ Some (h, k) → IsIn (k, i) (list_of places h)
 listed places h k i e = subst (λ x. IsIn (k, x) (list_of places h)) (omega arith) (places_among h 0 places k i e)
 
--- no two nodes of list h have one key
+-- no two nodes of list h have the same key
 pub record IsDistinct (h : ℕ) (places : List (Option (ℕ × ℕ))) : Type 0 where
   pub apart : (i j k : ℕ) → place_at places i ≡ Some (h, k) → place_at places j ≡ Some (h, k) → i ≡ j
 
@@ -96,7 +96,7 @@ list_rises h i (place ∷ places) d = go place (λ j k. d.apart 0 (suc j) k) (li
             let w = among_places h (i + 1) places x.0 x.1 a in
             let u = f w.0 k' (ap (λ (y : ℕ). Some (y, k')) (eqb-true g h e)) (w.1.1 ∙ ap (λ (y : ℕ). Some (h, y)) q) in omega arith) r
 
--- how long a list is
+-- the length of a list
 length_put : (p : ℕ × ℕ) (qs : List (ℕ × ℕ)) → length (put_by_key p qs) ≡ suc (length qs)
 length_put p [] = refl
 length_put p (q ∷ qs) = go (ltb p.0 q.0) (length_put p qs)
@@ -123,7 +123,7 @@ first_of_rising n k j [] r a f = absurd a
 first_of_rising n k j (q ∷ qs) (le, r) (inl e) f = ap Some e
 first_of_rising n k j (q ∷ qs) (le, r) (inr a) f = absurd (let u : q.0 + 1 ≤ k = key_above (λ (p : ℕ × ℕ). p.0) (q.0 + 1) (k, j) qs r a in let v = f q (inl refl) in omega arith)
 
--- what a filter by node keeps
+-- the elements of a list without node i
 pub among_without : (i : ℕ) (x : ℕ × ℕ) (qs : List (ℕ × ℕ)) → IsIn x (without_node i qs) → IsIn x qs × (x.1 ≢ i)
 among_without i x qs a = let w = filter_in (λ (q : ℕ × ℕ). not (eqb q.1 i)) x qs a in (w.0, eqb-false x.1 i (not-true (eqb x.1 i) w.1))
 
@@ -136,11 +136,11 @@ key_among k [] a = absurd a
 key_among k (q ∷ qs) (inl e) = (q.1, inl (ap (λ (x : ℕ). (x, q.1)) e))
 key_among k (q ∷ qs) (inr a) = let w = key_among k qs a in (w.0, inr w.1)
 
--- a list is as long as there are nodes in it
+-- the length of a list is the number of its nodes
 pub lists_count_places : ListsCountPlaces
 lists_count_places places h = (length_list h 0 places, length-map (list_of places h) (λ p. p.0) ∙ length_list h 0 places)
 
--- and has none where nobody stands in it
+-- a list of length 0 has no element
 none_among : (x : ℕ × ℕ) (qs : List (ℕ × ℕ)) → length qs ≡ 0 → IsIn x qs → ⊥
 none_among x [] e a = a
 none_among x (q ∷ qs) e a = omega (arith, e)

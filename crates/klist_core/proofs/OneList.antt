@@ -11,7 +11,7 @@ use Rattle.klist_core.proofs.Changes.{IsPut, raised, lowered, others_lowered}
 use Rattle.klist_core.proofs.Tables.{put_by_insertion, put_by_removal, apart_large}
 use Rattle.klist_core.proofs.Listing.{IsDistinct, among_put, put_among, rises_put, in_list, listed, list_rises, among_without, without_among}
 
--- two lists are one where the same nodes stand in them under the same keys
+-- two lists are equal if they have the same nodes under the same keys
 same_nodes : (old new : List (Option (ℕ × ℕ))) (g : ℕ) → IsDistinct g old → IsDistinct g new
     → ((i k : ℕ) → place_at old i ≡ Some (g, k) → place_at new i ≡ Some (g, k)) → ((i k : ℕ) → place_at new i ≡ Some (g, k) → place_at old i ≡ Some (g, k))
     → list_of new g ≡ list_of old g

@@ -1,4 +1,4 @@
--- The ranks by which nodes are linked, beside their keys.
+-- The ranks by which nodes are linked, and their keys.
 use Rattle.std.proofs.Common.{◌≡◌, ℕ, ◌+◌, ◌-◌, ◌%◌, ◌<◌, ◌≤◌, Bool, true, false, cond, eqb, List, Option, Some, None, set, refl, ap, sym, ◌∙◌, inl, inr, arith}
 use Rattle.std.proofs.lemmas.Bool.{cases_lt, cases_eq, eq-eqb, ne_eqb}
 use Rattle.std.specs.Prelude.{◌≢◌}
@@ -6,7 +6,7 @@ use Rattle.klist_core.specs.Places.{IsByKey, place_at}
 use Rattle.klist_core.specs.Links.{IsLeastFrom, IsNearest, IsChain, back_from, ranked, ranks}
 use Rattle.klist_core.proofs.Changes.{IsPut, same_list, same_key, nearest_same}
 
--- the rank of a node that comes into list h now, under the key k
+-- the rank of a node that is now inserted into list h under the key k
 abbrev pub rank_in : ℕ → ℕ → ℕ → ℕ
 rank_in h now k = cond (eqb (h % 3) 0) now k
 
@@ -52,7 +52,7 @@ rank_below came now places before keyed i h r e =
       | inr other ↦ omega (arith, is, by_key h (came i) w.0 (omega (arith, other)), keyed i h w.0 w.1)
     ]
 
--- what is nearest from the limit on, for another limit
+-- a nearest node by ranks down from one limit is also nearest by ranks down from another
 pub nearest_limit : (l l' : ℕ) (place : ℕ → Option (ℕ × ℕ)) (h b b' : ℕ) (o : Option ℕ) → ((i r : ℕ) → place i ≡ Some (h, r) → (r < l) × (r < l'))
     → ((r : ℕ) → r < l → r < l' → b ≤ l - r → b' ≤ l' - r) → ((r : ℕ) → r < l → r < l' → b' ≤ l' - r → b ≤ l - r)
     → IsNearest (back_from l) place h b o → IsNearest (back_from l') place h b' o
@@ -93,7 +93,7 @@ chain_limit l l' place heads ends links below c = record {
   goes_on = λ i h k e. let w = below i h k e in next_limit l l' place h k (links i) w.0 w.1 (λ j r. below j h r) (c.goes_on i h k e);
 }
 
--- node n has this time
+-- the times of all nodes, with this time for node n
 abbrev pub come : (ℕ → ℕ) → ℕ → ℕ → ℕ → ℕ
 come came time n i = cond (eqb i n) time (came i)
 
@@ -104,7 +104,7 @@ come_before came now time n i le lt = go (eqb i n)
     go true = omega (arith, le)
     go false = omega (arith, lt)
 
--- no node has the rank of a key that a list does not have, or of the present time
+-- no node of the list has the rank of a key that the list does not have, nor that of the present time
 pub rank_is_new : (came : ℕ → ℕ) (now : ℕ) (places : List (Option (ℕ × ℕ))) → ((i h r : ℕ) → ranks came places i ≡ Some (h, r) → r < now) → (h k : ℕ) → ((i : ℕ) → place_at places i ≢ Some (h, k))
     → (i : ℕ) → ranks came places i ≢ Some (h, rank_in h now k)
 rank_is_new came now places below h k fresh i e = elim (cases_eq (h % 3) 0) [
@@ -112,7 +112,7 @@ rank_is_new came now places below h k fresh i e = elim (cases_eq (h % 3) 0) [
   | inr other ↦ fresh i (key_ranked (came i) h k (place_at places i) (omega (arith, other)) (e ∙ ap (λ (r : ℕ). Some (h, r)) (by_key h now k (omega (arith, other)))))
 ]
 
--- node n comes into list h, with a rank that the list does not have
+-- node n is inserted into list h, with a rank that the list does not have
 pub put_ranked : (came : ℕ → ℕ) (time : ℕ) (places : List (Option (ℕ × ℕ))) (h n k : ℕ) → IsPut (place_at places) (place_at (set places n (Some (h, k)))) h n k
     → ((i : ℕ) → ranks came places i ≢ Some (h, rank_in h time k)) → IsPut (ranks came places) (ranks (come came time n) (set places n (Some (h, k)))) h n (rank_in h time k)
 put_ranked came time places h n k p fresh = record {
@@ -122,7 +122,7 @@ put_ranked came time places h n k p fresh = record {
   fresh = fresh;
 }
 
--- node n goes, which stood in list h under the rank r
+-- node n is removed, which was in list h under the rank r
 pub put_unranked : (came : ℕ → ℕ) (places : List (Option (ℕ × ℕ))) (h n k : ℕ) → IsPut (place_at (set places n None)) (place_at places) h n k
     → ((i j g r : ℕ) → ranks came places i ≡ Some (g, r) → ranks came places j ≡ Some (g, r) → i ≡ j)
     → IsPut (ranks came (set places n None)) (ranks came places) h n (rank_in h (came n) k)

@@ -1,4 +1,4 @@
--- What the links say of the lists, where these are linked by key, and of any list.
+-- What the links say of lists that are linked by key, and of any list.
 use Rattle.std.proofs.Common.{◌≡◌, ℕ, ◌^◌, ◌<◌, true, List, Option, Some, None, length, refl, ap, ◌∙◌, arith}
 use Rattle.std.specs.Prelude.{MatchOption}
 use Rattle.std.proofs.lemmas.Bool.{eq-eqb}

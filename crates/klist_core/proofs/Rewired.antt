@@ -1,4 +1,4 @@
--- What the writes of an insertion and of a removal leave in the tables of heads and nodes.
+-- The tables of heads and nodes after the writes of an insertion and of a removal.
 use Rattle.std.proofs.Common.{◌≡◌, ℕ, ◌<◌, List, Option, Some, None, [], length, set, get_or, refl, ap, sym, ◌∙◌, subst, arith}
 use Rattle.std.specs.Prelude.{◌≢◌}
 use Rattle.std.proofs.Math.ListN.{get_or-map}
@@ -10,11 +10,11 @@ use Rattle.klist_core.specs.declared.Head.{Head}
 use Rattle.klist_core.specs.declared.Node.{Node}
 use Rattle.klist_core.proofs.Chains.{IsRelinked}
 
--- the node is one of the table, where there is one
+-- the node, if there is one, is in the table
 pub record IsWithin (o : Option ℕ) (len : ℕ) : Type 0 where
   pub below : (i : ℕ) → o ≡ Some i → i < len
 
--- a write that a field does not show
+-- a write that does not change the field f
 unseen : {X Y : Type 0} (f : X → Y) (xs : List X) (i j : ℕ) (y d : X) → f y ≡ f (get_or xs i d) → f (get_or (set xs i y) j d) ≡ f (get_or xs j d)
 unseen {X} {Y} f xs i j y d e = sym (get_or-map f (set xs i y) j d) ∙ (ap (λ (zs : List Y). get_or zs j (f d)) (map-set_same f xs i y d e) ∙ get_or-map f xs j d)
 
@@ -42,7 +42,7 @@ places_before : (o to : Option ℕ) (nodes : List Node) → places_of (nodes_lin
 places_before None to nodes = refl
 places_before (Some i) to nodes = map-set_same place_in nodes i (record (node_at nodes i) { previous = to }) (node_at [] 0) refl
 
--- what the writes in the other direction do not show
+-- writes in one direction do not change the links of the other
 next_before : (o to : Option ℕ) (nodes : List Node) (i : ℕ) → (node_at (nodes_linked_before o to nodes) i).next ≡ (node_at nodes i).next
 next_before None to nodes i = refl
 next_before (Some j) to nodes i = unseen (λ (n : Node). n.next) nodes j i (record (node_at nodes j) { previous = to }) (node_at [] 0) refl
@@ -67,7 +67,7 @@ len_before : (o : Option ℕ) (h : ℕ) (to : Option ℕ) (heads : List Head) (g
 len_before None h to heads g = unseen (λ (x : Head). x.len) heads h g (record (head_at heads h) { last = to }) (head_at [] 0) refl
 len_before (Some i) h to heads g = refl
 
--- what they do show, each in its own direction
+-- what they change, each in its own direction
 after_relinks : (o : Option ℕ) (h n : ℕ) (to : Option ℕ) (ends links : ℕ → Option ℕ) (heads : List Head) (nodes : List Node) → h < length heads → IsWithin o (length nodes)
     → ((g : ℕ) → (head_at heads g).first ≡ ends g) → ((i : ℕ) → i ≢ n → (node_at nodes i).next ≡ links i)
     → IsRelinked ends links (λ g. (head_at (heads_linked_after o h to heads) g).first) (λ i. (node_at (nodes_linked_after o to nodes) i).next) h n o to

@@ -1,11 +1,11 @@
--- The least key of a list, looked for among all nodes.
+-- The least key of a list, from a search over all nodes.
 use Rattle.std.proofs.Common.{◌≡◌, ℕ, ◌+◌, ◌^◌, ◌<◌, ◌≤◌, Option, Some, None, sym, ap, ◌∙◌, inl, inr, arith}
 use Rattle.std.specs.Prelude.{MatchOption}
 use Rattle.std.proofs.lemmas.Bool.{cases_eq}
 use Rattle.klist_core.specs.Links.{up, IsNearest}
 use Rattle.klist_core.proofs.Changes.{same_key}
 
--- of the nodes below n in list h, o has the least key, which is the bound
+-- o has the least key of the nodes of list h that are below n, and the bound is this key
 pub record IsLeastUntil (place : ℕ → Option (ℕ × ℕ)) (h n bound : ℕ) (o : Option ℕ) : Type 0 where
   pub found : MatchOption o (bound ≡ 2 ^ 32) (λ j. place j ≡ Some (h, bound))
   pub least : (i k : ℕ) → i < n → place i ≡ Some (h, k) → bound ≤ k

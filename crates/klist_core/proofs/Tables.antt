@@ -1,4 +1,4 @@
--- What an insertion and a removal leave of the places: the facts of a table, and how many nodes its lists have.
+-- The places after an insertion and after a removal: what holds of every table, and the number of nodes of each list.
 use Rattle.std.proofs.Common.{◌≡◌, ℕ, zero, suc, ◌+◌, ◌^◌, ◌<◌, Bool, cond, List, Option, Some, None, length, set, refl, ap, sym, ◌∙◌, inl, inr, arith}
 use Rattle.std.specs.Prelude.{◌≢◌, count_by, IsSome, is_some}
 use Rattle.std.proofs.lemmas.Bool.{cases_eq, eq-eqb, ne_eqb, cases_lt, false≢true}
@@ -7,7 +7,7 @@ use Rattle.std.proofs.lemmas.List.Sums.{sum_by-set}
 use Rattle.klist_core.specs.Places.{Placed, place_at, is_in, ArePlaces, inserted, removed}
 use Rattle.klist_core.proofs.Changes.{IsPut, raised, lowered}
 
--- a node that has a place is one of the table
+-- a node that has a place is in the table
 pub placed_within : (places : List (Option (ℕ × ℕ))) (i : ℕ) (q : ℕ × ℕ) → place_at places i ≡ Some q → i < length places
 placed_within places i q e = elim (cases_lt i (length places)) [ inl lt ↦ lt | inr le ↦ let past = get_or_past places i None le in absurd (let f : ◌≡◌ {A = Option (ℕ × ℕ)} None (Some q) = cc in cc) ]
 
@@ -35,7 +35,7 @@ put_by_removal s h n k t e = record { free = gone; here = e; others = λ i ne. s
       | inr ne ↦ ne (t.apart i n h k (sym (kept i ne) ∙ q) e)
     ]
 
--- with the node too no two nodes of a list have one key
+-- with the new node too, no two nodes of a list have the same key
 pub apart_large : {small large : ℕ → Option (ℕ × ℕ)} {h n k : ℕ} → IsPut small large h n k → ((i j g k' : ℕ) → small i ≡ Some (g, k') → small j ≡ Some (g, k') → i ≡ j)
     → (i j g k' : ℕ) → large i ≡ Some (g, k') → large j ≡ Some (g, k') → i ≡ j
 apart_large {small} {large} {h} {n} {k} p apart i j g k' e f = elim (lowered p i g k' e) [
@@ -64,7 +64,7 @@ table_removed s h n k t p = record {
   apart = λ i j g k' e f. t.apart i j g k' (raised p i (g, k') e) (raised p j (g, k') f);
 }
 
--- lengths: the named list has one node more or less, the others as many as before
+-- lengths: list h has one node more or one fewer, the other lists as many as before
 abbrev one : Bool → ℕ
 one b = cond b 1 0
 

@@ -1,14 +1,14 @@
--- A walk along a list, in one direction, to the first node of a rank or more.
+-- A walk along a list, in one direction, to the first node of at least a given rank.
 use Rattle.std.proofs.Common.{◌≡◌, ℕ, ◌+◌, ◌-◌, ◌^◌, ◌<◌, ◌≤◌, Option, Some, None, IsSome, IfSome, is_some, ap, arith}
 use Rattle.std.specs.Prelude.{MatchOption}
 use Rattle.klist_core.specs.Links.{NoneFrom, IsLeastFrom, IsNearest}
 
--- node j has the key k in list h, and no node of the bound or more has a lesser rank
+-- node j has the key k in list h, and no node of at least the bound has a lesser rank
 pub record IsNotPast (rank : ℕ → ℕ) (place : ℕ → Option (ℕ × ℕ)) (h bound j k : ℕ) : Type 0 where
   pub here : place j ≡ Some (h, k)
   pub least : (i k' : ℕ) → place i ≡ Some (h, k') → bound ≤ rank k' → rank k ≤ rank k'
 
--- the walk has come to o, and not past the first node of the bound or more
+-- the walk has come to o, and not past the first node of at least the bound
 pub record IsOnWay (rank : ℕ → ℕ) (place : ℕ → Option (ℕ × ℕ)) (h bound : ℕ) (o : Option ℕ) : Type 0 where
   pub is : MatchOption o (NoneFrom rank place h bound) (λ j. (k : ℕ) × IsNotPast rank place h bound j k)
 

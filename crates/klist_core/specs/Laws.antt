@@ -17,7 +17,7 @@ ListsHoldPlaces = (places : List (Option (ℕ × ℕ))) (h k i : ℕ) → Contai
 abbrev pub KeysHoldPlaces : Type 0
 KeysHoldPlaces = (places : List (Option (ℕ × ℕ))) (h k : ℕ) → Contains (keys_of places h) k ↔ ((i : ℕ) × (place_at places i ≡ Some (h, k)))
 
--- a list is as long as there are nodes in it
+-- the length of a list is the number of its nodes
 abbrev pub ListsCountPlaces : Type 0
 ListsCountPlaces = (places : List (Option (ℕ × ℕ))) (h : ℕ) → (length (list_of places h) ≡ count_by (is_in h) places) × (length (keys_of places h) ≡ count_by (is_in h) places)
 
@@ -27,7 +27,7 @@ pub record MayInsert (s : Placed) (h i k : ℕ) : Type 0 where
   pub free : place_at s.places i ≡ None
   pub fresh : (j : ℕ) → place_at s.places j ≢ Some (h, k)
 
--- the named list gains the pair at its place by key, and every other list stays
+-- list h gains the pair, at its place by key, and every other list stays
 abbrev pub InsertionChangesOneList : Type 0
 InsertionChangesOneList = (s : Placed) (h i k : ℕ) → ArePlaces s → MayInsert s h i k
     → (list_of (inserted s h i k).places h ≡ put_by_key (k, i) (list_of s.places h))

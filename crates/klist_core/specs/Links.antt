@@ -9,7 +9,7 @@ use Rattle.klist_core.specs.declared.Node.{Node}
 abbrev pub up : ℕ → ℕ
 up key = key
 
--- .. and the same ranks from the limit on, for numbers below it
+-- .. or the limit less the rank, for ranks below the limit
 abbrev pub back_from : ℕ → ℕ → ℕ
 back_from limit r = limit - r
 
@@ -20,13 +20,13 @@ down = back_from (2 ^ 32)
 abbrev pub NoneFrom : (ℕ → ℕ) → (ℕ → Option (ℕ × ℕ)) → ℕ → ℕ → Type 0
 NoneFrom rank place h bound = (i k : ℕ) → place i ≡ Some (h, k) → rank k < bound
 
--- node j is in list h under the key k, which has the least rank of bound or more
+-- node j is in list h under the key k, which has the lowest rank that is not below bound
 pub record IsLeastFrom (rank : ℕ → ℕ) (place : ℕ → Option (ℕ × ℕ)) (h bound j k : ℕ) : Type 0 where
   pub here : place j ≡ Some (h, k)
   pub from : bound ≤ rank k
   pub least : (i k' : ℕ) → place i ≡ Some (h, k') → bound ≤ rank k' → rank k ≤ rank k'
 
--- o is the first node of list h, in this direction, with a rank of bound or more
+-- o is the first node of list h, in this direction, with a rank that is not below bound
 pub record IsNearest (rank : ℕ → ℕ) (place : ℕ → Option (ℕ × ℕ)) (h bound : ℕ) (o : Option ℕ) : Type 0 where
   pub is : MatchOption o (NoneFrom rank place h bound) (λ j. (k : ℕ) × IsLeastFrom rank place h bound j k)
 
@@ -44,11 +44,11 @@ IsAfter rank place i o = (h k : ℕ) → place i ≡ Some (h, k) → IsNearest r
 abbrev pub IsFollowing : (ℕ → ℕ) → (ℕ → Option (ℕ × ℕ)) → ℕ → Option ℕ → Type 0
 IsFollowing rank place i o = (h k : ℕ) → IsByKey h → place i ≡ Some (h, k) → IsNearest rank place h (rank k + 1) o
 
--- o is a node of list h, and none only where the list is empty
+-- o is a node of list h, or None if the list is empty
 pub record IsStart (place : ℕ → Option (ℕ × ℕ)) (h : ℕ) (o : Option ℕ) : Type 0 where
   pub is : MatchOption o ((i k : ℕ) → place i ≢ Some (h, k)) (λ j. (k : ℕ) × (place j ≡ Some (h, k)))
 
--- in this direction `ends` are the nodes where lists begin and `links` the nodes after nodes
+-- in this direction `ends` are the first nodes of the lists, and `links` gives the node after each node
 pub record IsChain (rank : ℕ → ℕ) (place : ℕ → Option (ℕ × ℕ)) (heads : ℕ) (ends links : ℕ → Option ℕ) : Type 0 where
   pub begins : (h : ℕ) → h < heads → IsNearest rank place h 0 (ends h)
   pub goes_on : (i : ℕ) → IsAfter rank place i (links i)
@@ -74,19 +74,19 @@ places_of nodes = map place_in nodes
 abbrev pub shown : List Head → List Node → Placed
 shown heads nodes = record { heads = length heads; places = places_of nodes }
 
--- list and rank in the links of a node with this place: a loose list ranks by the time at which the node came, any other by key
+-- the list and rank of a node with this place: a loose list ranks its nodes by the time of their insertion, any other list by key
 abbrev pub ranked : ℕ → Option (ℕ × ℕ) → Option (ℕ × ℕ)
 ranked time None = None
 ranked time (Some p) = Some (p.0, if p.0 % 3 == 0 then time else p.1)
 
--- the same for all nodes, from when they came
+-- the same for all nodes, which were inserted at these times
 abbrev pub ranks : (ℕ → ℕ) → List (Option (ℕ × ℕ)) → ℕ → Option (ℕ × ℕ)
 ranks came places i = ranked (came i) (place_at places i)
 
 -- the links of a table and its lengths are those of its lists
 pub record IsLinked (heads : List Head) (nodes : List Node) : Type 0 where
   pub table : ArePlaces (shown heads nodes)
-  -- when each node came into its list, before now: any numbers that agree with the links of the loose lists
+  -- the time, before now, at which each node was inserted: any numbers that agree with the links of the loose lists
   pub came : ℕ → ℕ
   pub now : ℕ
   pub wide : 2 ^ 32 ≤ now

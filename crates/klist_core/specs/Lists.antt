@@ -11,7 +11,7 @@ abbrev pub with_node : ℕ → ℕ → Option (ℕ × ℕ) → List (ℕ × ℕ)
 with_node h i None qs = qs
 with_node h i (Some p) qs = if p.0 == h then put_by_key (p.1, i) qs else qs
 
--- the part of list h with nodes from number i on; their places are given
+-- the part of list h whose nodes have these places; the nodes are numbered from i on
 abbrev pub list_from : ℕ → ℕ → List (Option (ℕ × ℕ)) → List (ℕ × ℕ)
 list_from h i [] = []
 list_from h i (place ∷ places) = with_node h i place (list_from h (i + 1) places)

@@ -1,7 +1,7 @@
 -- Ordered lists of nodes: for each node its list and its key there.
 use Rattle.std.specs.Prelude.{◌≡◌, ◌≢◌, ℕ, ◌%◌, ◌==◌, ◌^◌, ◌<◌, ◌≤◌, Bool, false, List, Option, Some, None, length, slice_index_or, slice_set}
 
--- heads: how many lists there are, numbered from 0. places: by node, its list and its key
+-- `heads` is the number of lists, which are numbered from 0. `places` has each node's list and key.
 pub record Placed : Type 0 where
   pub heads : ℕ
   pub places : List (Option (ℕ × ℕ))
@@ -25,7 +25,7 @@ pub record IsPlacedByKey (places : List (Option (ℕ × ℕ))) (i : ℕ) : Type 
   pub here : place_at places i ≡ Some (list, key)
   pub by_key : IsByKey list
 
--- what holds of every table: its numbers fit 32 bits, and no two nodes of a list have one key
+-- what holds of every table: its numbers fit into 32 bits, and no two nodes of a list have the same key
 pub record ArePlaces (s : Placed) : Type 0 where
   pub few : s.heads < 2 ^ 32
   pub small : length s.places < 2 ^ 32

@@ -16,7 +16,7 @@ raw_stays raw = elim (cases_eq raw (2 ^ 32 - 1)) [
   | inr ne ↦ rw (ne_eqb raw (2 ^ 32 - 1) ne) refl
 ]
 
--- list and key of a node from what its fields say
+-- the list and key of a node with these fields
 abbrev pub raw_place : Option ℕ → ℕ → Option (ℕ × ℕ)
 raw_place None key = None
 raw_place (Some list) key = Some (list, key)

@@ -1,10 +1,10 @@
--- What writes of links leave.
+-- The tables after links are written.
 use Rattle.std.specs.Prelude.{ℕ, ◌+◌, ◌-◌, Option, Some, None, List, slice_set}
 use Rattle.klist_core.specs.Links.{head_at, node_at, free_node}
 use Rattle.klist_core.specs.declared.Head.{Head}
 use Rattle.klist_core.specs.declared.Node.{Node}
 
--- node `to` comes after node `previous`, or first in list h where there is none
+-- node `to` comes after node `previous`, or first in list h if that is None
 abbrev pub heads_linked_after : Option ℕ → ℕ → Option ℕ → List Head → List Head
 heads_linked_after None h to heads = slice_set heads h (record (head_at heads h) { first = to })
 heads_linked_after (Some i) h to heads = heads
@@ -13,7 +13,7 @@ abbrev pub nodes_linked_after : Option ℕ → Option ℕ → List Node → List
 nodes_linked_after None to nodes = nodes
 nodes_linked_after (Some i) to nodes = slice_set nodes i (record (node_at nodes i) { next = to })
 
--- node `to` comes before node `next`, or last in list h where there is none
+-- node `to` comes before node `next`, or last in list h if that is None
 abbrev pub heads_linked_before : Option ℕ → ℕ → Option ℕ → List Head → List Head
 heads_linked_before None h to heads = slice_set heads h (record (head_at heads h) { last = to })
 heads_linked_before (Some i) h to heads = heads
@@ -44,7 +44,7 @@ heads_linked heads h n previous next = heads_counted (heads_rewired heads h prev
 abbrev pub nodes_linked : List Node → (h n key : ℕ) → (previous next : Option ℕ) → List Node
 nodes_linked nodes h n key previous next = nodes_rewired nodes n (linked_node h key previous next) previous next (Some n) (Some n)
 
--- the tables after node n was freed, which was in list h between two nodes
+-- the tables after node n, which was in list h between two nodes, was freed
 abbrev pub heads_unlinked : List Head → (h : ℕ) → (previous next : Option ℕ) → List Head
 heads_unlinked heads h previous next = heads_counted (heads_rewired heads h previous next next previous) h ((head_at heads h).len - 1)
 

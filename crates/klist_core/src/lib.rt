@@ -213,7 +213,7 @@ impl Lists {
         }
     }
 
-    /// The same as [`Lists::first`] for a list that is not loose, in constant time.
+    /// Returns the same as [`Lists::first`] for a list that is not loose, in constant time.
     #[inline(always)]
     pub fn first_by_key(&self, head: u32) -> Option<(u32, u32)>
         requires head { head < self.now.heads }
@@ -287,7 +287,7 @@ impl Lists {
         self.put(head, node, key, gap);
     }
 
-    /// The same as [`Lists::insert`] for a loose list.
+    /// Does the same as [`Lists::insert`] for a loose list.
     #[inline(always)]
     pub fn append(&mut self, head: u32, node: u32, key: u32)
         requires head { head < self.old.heads }
@@ -300,8 +300,8 @@ impl Lists {
         self.put(head, node, key, None);
     }
 
-    /// The same as [`Lists::insert`] for a list that is not loose, but the search begins at the node `near` if that is in the
-    /// list. Takes constant time if `near` becomes a neighbour. A wrong hint only costs steps.
+    /// Does the same as [`Lists::insert`] for a list that is not loose, but the search begins at the node `near` if that is in
+    /// the list. Takes constant time if `near` becomes a neighbour. A wrong hint only costs steps.
     pub fn insert_near(&mut self, head: u32, node: u32, key: u32, near: u32)
         requires head { head < self.old.heads }
         requires by_key { IsByKey head }
@@ -320,7 +320,7 @@ impl Lists {
         }
     }
 
-    /// The same as [`Lists::insert_near`] if the caller knows that `near` is in the list.
+    /// Does the same as [`Lists::insert_near`] if the caller knows that `near` is in the list.
     #[inline(always)]
     pub fn insert_by(&mut self, head: u32, node: u32, key: u32, near: u32)
         requires head { head < self.old.heads }
@@ -375,8 +375,8 @@ impl Lists {
         unlink_node(heads, nodes, head, node, previous, next);
     }
 
-    /// Inserts a node between two neighbours of the list, or without a gap at the end of a loose list. In a gap `None` is an end
-    /// of the list.
+    /// Inserts a node into a gap between two neighbours of the list, or at the end of a loose list if there is no gap. `None` in
+    /// a gap means an end of the list.
     fn put(&mut self, head: u32, node: u32, key: u32, gap: Option<(Option<u32>, Option<u32>)>)
         requires head { head < self.old.heads }
         requires node { node < length self.old.places }
@@ -392,7 +392,7 @@ impl Lists {
         link_node(heads, nodes, head, node, key, previous, next);
     }
 
-    /// Returns the nodes between which a new key belongs. Tries the ends of the list first.
+    /// Returns the nodes between which a new key belongs; `None` means an end of the list. Tries the ends of the list first.
     #[inline(always)]
     fn gap(&self, head: u32, key: u32) -> (Option<u32>, Option<u32>)
         requires head { head < self.now.heads }
@@ -415,7 +415,8 @@ impl Lists {
         self.neighbours(head, key, Some(first))
     }
 
-    /// Returns the nodes between which a new key belongs. The search begins at a node of the list.
+    /// Returns the nodes between which a new key belongs; `None` means an end of the list. The search begins at a node of the
+    /// list.
     fn neighbours(&self, head: u32, key: u32, start: Option<u32>) -> (Option<u32>, Option<u32>)
         requires head { head < self.now.heads }
         requires by_key { IsByKey head }
@@ -606,7 +607,7 @@ fn link_place(
     }
 }
 
-/// Writes a node of the list, and links it between two nodes. None is an end of the list.
+/// Writes a node of the list, and links it between two nodes. `None` means an end of the list.
 #[inline(always)]
 fn link_node(
     heads: &mut [Head],
@@ -638,7 +639,7 @@ fn link_node(
     heads[head as usize].len += 1;
 }
 
-/// Frees a node of the list, and links its neighbours to each other. None is an end of the list.
+/// Frees a node of the list, and links its neighbours to each other. `None` means an end of the list.
 #[inline(always)]
 fn unlink_node(
     heads: &mut [Head],

@@ -37,7 +37,7 @@ nodes_freed c =
     c.unlink_node.ensures.nodes ∙ ap (λ (ns : List Node). nodes_unlinked ns c.args.node c.get-previous.result c.get-next.result) c.deref_mut-nodes.ensures.value
     ∙ ap₂ (λ p q. nodes_unlinked c.self.inside.nodes.items c.args.node p q) c.get-previous.ensures c.get-next.ensures
 
--- the tables as they are when they are back
+-- the tables after the borrow of their slices
 heads_back : (c : After-unlink_node) (rest : List Head) → take c.self.inside.heads.len (c.unlink_node.new.heads ++ rest) ≡ heads_unlinked c.self.inside.heads.items c.in-Some.head c.index-nodes-node.result.previous c.index-nodes-node.result.next
 heads_back c rest =
     seam _ rest c.self.inside.heads.len (omega (arith, c.unlink_node.auto.heads, ap (λ (hs : List Head). length hs) c.deref_mut-heads.ensures.value, c.self.inside.heads.ok.0))

@@ -37,7 +37,7 @@ nodes_freed c =
     c.unlink_node.ensures.nodes ∙ ap (λ (ns : List Node). nodes_unlinked ns c.args.node c.get-previous.result c.get-next.result) c.deref_mut-nodes.ensures.value
     ∙ ap₂ (λ p q. nodes_unlinked c.self.inside.nodes.items c.args.node p q) c.get-previous.ensures c.get-next.ensures
 
--- there are as many as before
+-- the number of nodes stays
 nodes_kept : (c : After-unlink_node) → length c.unlink_node.new.nodes ≡ length c.self.inside.nodes.items
 nodes_kept c = ap (λ (ns : List Node). length ns) (nodes_freed c) ∙ nodes_stay c.self.inside.nodes.items c.args.node c.index-nodes-node.result.previous c.index-nodes-node.result.next
 
@@ -51,7 +51,7 @@ link_node-requires-clause-next c = λ i e.
     let g = goal.at.link_node-requires-clause-next c in
     let k = known g.In-Some in omega (arith, nodes_kept g.After-unlink_node, k.right.below i (sym c.get-next.ensures ∙ e))
 
--- the tables as they are when they are back
+-- the tables after the borrow of their slices
 heads_back : (c : After-link_node) (rest : List Head) → c.unlink_node.new.heads ≡ heads_unlinked c.self.inside.heads.items c.in-Some.head c.index-nodes-node.result.previous c.index-nodes-node.result.next
     → take c.self.inside.heads.len (c.link_node.new.heads ++ rest) ≡ heads_replaced c.self.inside.heads.items c.in-Some.head c.args.by c.index-nodes-node.result
 heads_back c rest freed =
