@@ -22,7 +22,7 @@ with_bank s m bytes = record s { banks = set s.banks m bytes }
 abbrev pub with_banks : Content → List (List ℕ) → Content
 with_banks s banks = record s { banks = banks }
 
--- the bytes of an owned superblock may be any
+-- an owned superblock may have any bytes
 pub with_bank-IsSpace : {s : Content} → IsSpace s → (m : ℕ) → owner_at s.owners m ≢ None → m < length s.owners → (bytes : List ℕ) → length bytes ≡ s.unit → IsSpace (with_bank s m bytes)
 with_bank-IsSpace {s} facts m owned within bytes size = record {
   some = facts.some;
@@ -38,7 +38,7 @@ with_bank-IsSpace {s} facts m owned within bytes size = record {
   spare = λ n lt none unmarked. after-set (λ (xs : List ℕ). xs ≡ replicate s.unit 0) s.banks m bytes n [] (omega (arith, facts.paired)) (λ same. absurd (owned (ap (owner_at s.owners) (sym same) ∙ none))) (λ _. facts.spare n (omega (arith, length-set s.banks m bytes)) none unmarked);
 }
 
--- what a vector holds once a part of it was written
+-- the items of a vector after a part of it was written
 pub items-with_items_from : (read : Vec ℕ) (i : ℕ) (w : List ℕ) → i ≤ read.len → (with_items_from read i w).items ≡ put_within read.items i w
 items-with_items_from read i w within =
     let xs = read.items in

@@ -14,7 +14,7 @@ use Rattle.space_core.proofs.Mapping.{within_from_some, superblock-lt}
 use Rattle.space_core.proofs.Reading.{not_unowned}
 use Rattle.space_core.proofs.Mapped.{superblock_at-with_entry, length-row_of-with_slot, counted-set, agree-set}
 
--- only a tenant has a slot with something under it
+-- only a tenant has a slot with a superblock in it
 pub tenant-lt : (slots : List (List (Option ℕ))) (t u m : ℕ) → superblock_at slots t u ≡ Some m → t < length slots
 tenant-lt slots t u m under =
     elim (cases_lt t (length slots)) [

@@ -18,7 +18,7 @@ no_superblock tenants n t u =
       | inr past ↦ ap (λ (r : List (Option ℕ)). get_or r u None) (get_or_past (replicate tenants row) t [] (omega (arith, length-replicate tenants row)))
     ]
 
--- no copy counts
+-- copies of an entry that fails the test are not counted
 count_by-copies : {A : Type 0} (p : A → Bool) (n : ℕ) (x : A) → p x ≡ false → count_by p (replicate n x) ≡ zero
 count_by-copies p n x fails =
     sum_by-replicate (λ y. cond (p y) 1 0) n x ∙ (ap (λ b. n * cond b 1 0) fails ∙ omega arith)

@@ -1,4 +1,4 @@
--- A slot and its superblock changed together keep the mapping the same both ways.
+-- If a slot and the owner of its superblock change together, owners and slots still agree.
 use Rattle.std.proofs.Common.{◌≡◌, ◌≢◌, ◌⊎◌, ◌↔◌, ℕ, ◌+◌, ◌<◌, Bool, true, false, cond, List, [], Option, Some, None, is_some, length, get_or, count_by, sym, ◌∙◌, ap, subst, inl, inr, arith}
 use Rattle.std.proofs.Math.ListN.{set}
 use Rattle.std.proofs.lemmas.List.{get_or-set_same, get_or-set_other, length-set}
@@ -25,7 +25,7 @@ length-row_of-with_slot slots t u x k lt =
       | inr differ ↦ ap length (row_of_other-with_slot slots t u x k differ)
     ]
 
--- the slot itself, and every other one
+-- the entry of the slot itself, and of every other slot
 pub superblock_at-with_entry : (slots : List (List (Option ℕ))) (t u : ℕ) (x : Option ℕ) → t < length slots → u < length (slots_of slots t) → superblock_at (with_entry slots t u x) t u ≡ x
 superblock_at-with_entry slots t u x lt short =
     ap (λ (row : List (Option ℕ)). get_or row u None) (row_of-with_slot slots t u x lt) ∙ get_or-set_same (slots_of slots t) u x None short
@@ -68,7 +68,8 @@ same_owner first second = λ i. owned_by (first i) (second i)
 pub count_by-set : {A : Type 0} (p : A → Bool) (xs : List A) (i : ℕ) (x d : A) → i < length xs → count_by p (set xs i x) + cond (p (get_or xs i d)) 1 0 ≡ count_by p xs + cond (p x) 1 0
 count_by-set p xs i x d lt = sum_by-set (λ y. cond (p y) 1 0) xs i x d lt
 
--- where slot and owner change alike for t and stay no other tenant's, each tenant still has as many slots as superblocks
+-- if slot and owner change alike for t and are no other tenant's before and after, each tenant still has as many slots as
+-- superblocks
 pub counted-set : {s : Content} → IsSpace s → (t u m : ℕ) (x : Option ℕ) (o : Option Owner) → t < length s.slots → u < length s.owners → m < length s.owners
     → is_some (superblock_at s.slots t u) ≡ is_of t (owner_at s.owners m) → is_some x ≡ is_of t o
     → ((k : ℕ) → k ≢ t → is_of k (owner_at s.owners m) ≡ false) → ((k : ℕ) → k ≢ t → is_of k o ≡ false)
@@ -88,7 +89,7 @@ counted-set {s} facts t u m x o tenant slot within was is others other k lt =
           ∙ omega (arith, owners, facts.counted k lt, ap one_if (others k differ), ap one_if (other k differ))
     ]
 
--- slot u of tenant t and the owner of superblock m changed to x and o, where both say the same before and after
+-- slot u of tenant t and the owner of superblock m change to x and o, and both say the same before and after
 pub agree-set : {s : Content} → IsSpace s → (t u m : ℕ) (x : Option ℕ) (o : Option Owner) → t < length s.slots → u < length s.owners → m < length s.owners
     → ((n : ℕ) → x ≡ Some n → (n ≡ m) × (o ≡ Some (owned_by t u))) → ((k v : ℕ) → o ≡ Some (owned_by k v) → (k ≡ t) × (v ≡ u) × (x ≡ Some m))
     → ((k v : ℕ) → superblock_at s.slots k v ≡ Some m → (k ≡ t) × (v ≡ u)) → ((n : ℕ) → superblock_at s.slots t u ≡ Some n → n ≡ m)

@@ -10,7 +10,7 @@ pub within_from_some : {A : Type 0} (xs : List (Option A)) (i : ℕ) (x : A) →
 within_from_some xs i x is =
     elim (cases_lt i (length xs)) [ inl lt ↦ lt | inr past ↦ let none = get_or_past xs i None past in cc ]
 
--- a superblock under a slot is one of the superblocks
+-- the number of a superblock in a slot is below the number of superblocks
 pub superblock-lt : {s : Content} → IsSpace s → (t u m : ℕ) → superblock_at s.slots t u ≡ Some m → m < length s.owners
 superblock-lt {s} facts t u m under = within_from_some s.owners m (owned_by t u) ((facts.agree t u m).0 under)
 

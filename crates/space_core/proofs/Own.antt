@@ -41,7 +41,7 @@ home_is s t place len m = go (is_in_slot s.unit place len) refl
 byte_is : (s : Content) (t p i m : ℕ) → superblock_at s.slots t (p / s.unit) ≡ Some m → p % s.unit ≡ i → byte_at s t p ≡ Some (get_or (bank s.banks m) i 0)
 byte_is s t p i m under place = ap (byte_under s.banks (p % s.unit)) under ∙ ap (λ (j : ℕ). Some (get_or (bank s.banks m) j 0)) place
 
--- a superblock stands under one slot
+-- a superblock is in only one slot of a tenant
 same_slot_number : {s : Content} → IsSpace s → (t u v m : ℕ) → superblock_at s.slots t u ≡ Some m → superblock_at s.slots t v ≡ Some m → u ≡ v
 same_slot_number facts t u v m here there = (same_parts t u t v (sym ((facts.agree t u m).0 here) ∙ (facts.agree t v m).0 there)).1
 
@@ -68,7 +68,7 @@ own_read {s} facts t place len bytes = go (home_of s t place len) refl
               byte_is s t (place + i) (from + i) m (ap (superblock_at s.slots t) at.0 ∙ home.2) at.1 ∙ ap Some (sym (get_or-slice_range xs from len i lt) ∙ ap (λ ys. get_or ys i 0) is);
         }
 
--- one superblock rewritten: a place whose byte stays the same there reads as before
+-- if one superblock is rewritten, a place whose byte stays the same there reads as before
 byte_at_kept-with_bank : (s : Content) (t m : ℕ) (xs : List ℕ) (p : ℕ) → m < length s.banks → (superblock_at s.slots t (p / s.unit) ≡ Some m → get_or xs (p % s.unit) 0 ≡ get_or (bank s.banks m) (p % s.unit) 0) → byte_at (with_bank s m xs) t p ≡ byte_at s t p
 byte_at_kept-with_bank s t m xs p within kept = go (superblock_at s.slots t (p / s.unit)) refl
   where
@@ -80,7 +80,7 @@ byte_at_kept-with_bank s t m xs p within kept = go (superblock_at s.slots t (p /
           | inr differ ↦ ap (λ (ys : List ℕ). Some (get_or ys (p % s.unit) 0)) (get_or-set_other s.banks m n xs [] differ)
         ]
 
--- a place of the rewritten superblock reads from what it was given
+-- a place of the rewritten superblock reads its new byte
 byte_at-with_bank : (s : Content) (t m i : ℕ) (xs : List ℕ) (p : ℕ) → m < length s.banks → superblock_at s.slots t (p / s.unit) ≡ Some m → p % s.unit ≡ i → byte_at (with_bank s m xs) t p ≡ Some (get_or xs i 0)
 byte_at-with_bank s t m i xs p within under place =
     byte_is (with_bank s m xs) t p i m under place ∙ ap (λ (ys : List ℕ). Some (get_or ys i 0)) (get_or-set_same s.banks m xs [] within)
@@ -137,7 +137,7 @@ own_byte {s} facts t place b held p = go (superblock_at s.slots t (place / s.uni
               ∙ sym (if_false (p == place) _ _ (grind (arith, nat_tests)))
         ]
 
--- where the superblock of a place and its bytes stay, so does the byte
+-- a place keeps its byte if its superblock keeps its bytes
 byte_under_kept : (banks banks' : List (List ℕ)) (i : ℕ) (o : Option ℕ) → ((m : ℕ) → o ≡ Some m → bank banks' m ≡ bank banks m) → byte_under banks' i o ≡ byte_under banks i o
 byte_under_kept banks banks' i None kept = refl
 byte_under_kept banks banks' i (Some m) kept = ap (λ (ys : List ℕ). Some (get_or ys i 0)) (kept m refl)
@@ -172,7 +172,7 @@ own_take_back {s} facts t u m under p =
           ∙ sym (if_false (p / s.unit == u) _ _ (grind (arith, nat_tests)))
     ]
 
--- the slot that with_move has the bytes of the superblock that it stood over, and each other one stays
+-- the slot that moves has the bytes of its old superblock, and each other slot stays
 pub own_move : {s : Content} → IsSpace s → (t u from to : ℕ) → superblock_at s.slots t u ≡ Some from → to < length s.owners → owner_at s.owners to ≡ None → ReadsSame t s (with_move s t u from to)
 own_move {s} facts t u from to under within unowned =
     let tenant = tenant-lt s.slots t u from under in

@@ -5,12 +5,12 @@ use Rattle.std.proofs.lemmas.Nat.{same_from_place}
 use Rattle.std.proofs.Math.Nat.{div-add-mod}
 use Rattle.space_core.specs.Windows.{put_within}
 
--- i places on, where that stays in the slot
+-- the place i bytes on, if it is in the same slot
 pub place-add : (unit place i : ℕ) → 0 < unit → place % unit + i < unit → ((place + i) / unit ≡ place / unit) × ((place + i) % unit ≡ place % unit + i)
 place-add unit place i some within =
     same_from_place ((place + i) / unit) ((place + i) % unit) (place / unit) (place % unit + i) unit (omega arith) within (omega (arith, div-add-mod (place + i) unit, div-add-mod place unit))
 
--- two places of one slot are as far apart as they are there
+-- two places of one slot are as far apart as their offsets
 pub same_slot : (unit place p : ℕ) → 0 < unit → p / unit ≡ place / unit → p + place % unit ≡ place + p % unit
 same_slot unit place p some same = omega (arith, div-add-mod p unit, div-add-mod place unit, ap (λ q. unit * q) same)
 

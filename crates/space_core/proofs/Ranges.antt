@@ -29,8 +29,8 @@ block_end top first order small aligned =
     let below' : last < first / 2 ^ top * 2 ^ top + 2 ^ top = subst (λ n. last < n * 2 ^ top + 2 ^ top) same below in
     omega arith
 
--- a range with a byte, inside the block of 2 ^ order frames from frame first on, lies in one held slot where the tenant
--- holds the slot of that frame
+-- a range that is not empty, inside the block of 2 ^ order frames from frame first on, lies in one held slot if the tenant holds
+-- the slot of that frame
 pub range_held : (s : Content) (t top first order place len : ℕ) → s.unit ≡ FRAME_BYTES * 2 ^ top → order ≤ top → first % 2 ^ order ≡ 0 → IsSome (superblock_at s.slots t (first / 2 ^ top))
     → 0 < len → FRAME_BYTES * first ≤ place → place + len ≤ FRAME_BYTES * (first + 2 ^ order) → IsSome (home_of s t place len)
 range_held s t top first order place len unit small aligned held some begins ends =

@@ -27,7 +27,7 @@ pub length-or_zeros : (unit : ℕ) (bytes : List ℕ) → 0 < unit → 0 < lengt
 length-or_zeros unit [] some = omega (arith, length-replicate {A = ℕ} unit 0)
 length-or_zeros unit (x ∷ xs) some = omega arith
 
--- bytes that are some are not none
+-- a list with a length above 0 is not empty
 pub full-from_length : (bytes : List ℕ) → 0 < length bytes → bytes ≢ []
 full-from_length [] lt = absurd (omega arith)
 full-from_length (x ∷ xs) lt = λ e. cc
@@ -48,12 +48,12 @@ shown-set unit stored m bytes = map-set (or_zeros unit) stored m bytes
 pub bank-shown : (unit : ℕ) (stored : List (List ℕ)) (m : ℕ) → m < length stored → get_or (shown_banks unit stored) m [] ≡ or_zeros unit (get_or stored m [])
 bank-shown unit stored m lt = get_or-map (or_zeros unit) stored m [] [] lt
 
--- superblocks with no bytes yet
+-- superblocks without stored bytes
 pub shown-none : (unit n : ℕ) → shown_banks unit (replicate n []) ≡ replicate n (replicate unit 0)
 shown-none unit zero = refl
 shown-none unit (suc n) = ap (λ (banks : List (List ℕ)). replicate unit 0 ∷ banks) (shown-none unit n)
 
--- the bytes of a superblock that has some
+-- the bytes of a superblock that has stored bytes
 pub bank-shown_full : (unit : ℕ) (stored : List (List ℕ)) (m : ℕ) → get_or stored m [] ≢ [] → get_or (shown_banks unit stored) m [] ≡ get_or stored m []
 bank-shown_full unit stored m full =
     elim (cases_lt m (length stored)) [
@@ -61,7 +61,7 @@ bank-shown_full unit stored m full =
       | inr past ↦ absurd (full (get_or_past stored m [] past))
     ]
 
--- the zeros that a superblock reads as, written out
+-- a superblock reads the same after its zeros are written out
 pub shown-written_out : (unit : ℕ) (stored : List (List ℕ)) (m : ℕ) → shown_banks unit (set stored m (or_zeros unit (get_or stored m []))) ≡ shown_banks unit stored
 shown-written_out unit stored m = elim (cases_lt m (length stored)) [
   | inl lt ↦
@@ -70,33 +70,33 @@ shown-written_out unit stored m = elim (cases_lt m (length stored)) [
   | inr past ↦ ap (shown_banks unit) (set_past stored m (or_zeros unit (get_or stored m [])) past)
 ]
 
--- and then they are there
+-- and then it has stored bytes
 pub written_out-full : (unit : ℕ) (stored : List (List ℕ)) (m : ℕ) → 0 < unit → m < length stored → get_or (set stored m (or_zeros unit (get_or stored m []))) m [] ≢ []
 written_out-full unit stored m some lt =
     full-from_length (get_or (set stored m (or_zeros unit (get_or stored m []))) m [])
     (omega (arith, ap length (get_or-set_same stored m (or_zeros unit (get_or stored m [])) [] lt), length-or_zeros unit (get_or stored m []) some))
 
--- one byte written where there are bytes
+-- one byte is written to a superblock that has stored bytes
 pub shown-set_byte : (unit : ℕ) (stored : List (List ℕ)) (m i byte : ℕ) → get_or stored m [] ≢ [] → shown_banks unit (set stored m (set (get_or stored m []) i byte)) ≡ set (shown_banks unit stored) m (set (get_or (shown_banks unit stored) m []) i byte)
 shown-set_byte unit stored m i byte full =
     let bytes = get_or stored m [] in
     shown-set unit stored m (set bytes i byte)
     ∙ (ap (λ xs. set (shown_banks unit stored) m xs) (or_zeros-full unit (set bytes i byte) (set-full bytes i byte full)) ∙ ap (λ xs. set (shown_banks unit stored) m (set xs i byte)) (sym (bank-shown_full unit stored m full)))
 
--- a superblock that an index gave: its bytes
+-- the bytes of the superblock at an index
 pub shown-read : (unit : ℕ) (banks : List (Vec ℕ)) (m : ℕ) (read : Vec ℕ) → m < length banks → read ≡ get_or banks m read → get_or (lists_of banks) m [] ≢ [] → get_or (shown_banks unit (lists_of banks)) m [] ≡ read.items
 shown-read unit banks m read lt is full = bank-shown_full unit (lists_of banks) m full ∙ get_or-lists_of banks m read lt is
 
--- and how many they are
+-- and the number of these bytes
 pub length-shown_read : {s : Content} → IsSpace s → (banks : List (Vec ℕ)) → s.banks ≡ shown_banks s.unit (lists_of banks) → (m : ℕ) (read : Vec ℕ) → m < length s.owners → get_or s.banks m [] ≡ read.items → length read.items ≡ s.unit
 length-shown_read {s} facts banks same m read lt here = ap length (sym here) ∙ facts.sized m (omega (arith, facts.paired))
 
--- the bytes of a superblock copied to another one
+-- the bytes of a superblock are copied to another one
 pub shown-copied : (unit : ℕ) (stored : List (List ℕ)) (from to : ℕ) → from < length stored → shown_banks unit (set stored to (get_or stored from [])) ≡ set (shown_banks unit stored) to (get_or (shown_banks unit stored) from [])
 shown-copied unit stored from to lt =
     shown-set unit stored to (get_or stored from []) ∙ ap (λ bytes. set (shown_banks unit stored) to bytes) (sym (bank-shown unit stored from lt))
 
--- as many bytes are stored as are shown_banks, or none
+-- a superblock has at most as many stored bytes as it shows
 pub stored-short : (unit : ℕ) (stored : List (List ℕ)) (m : ℕ) → m < length stored → length (get_or stored m []) ≤ length (get_or (shown_banks unit stored) m [])
 stored-short unit stored m lt = subst (λ (bytes : List ℕ). length (get_or stored m []) ≤ length bytes) (sym (bank-shown unit stored m lt)) (go (get_or stored m []))
   where

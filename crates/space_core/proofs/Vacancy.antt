@@ -1,4 +1,4 @@
--- Where a superblock has no owner, each tenant has a slot for it.
+-- If a superblock has no owner, each tenant has a slot for it.
 use Rattle.std.proofs.Common.{◌≡◌, ℕ, ◌<◌, ◌≤◌, zero, true, false, cond, List, [], ◌∷◌, Option, Some, None, IsSome, is_some, is_none, length, position, count_by, ◌∙◌, ap, inl, inr, refl, arith}
 use Rattle.std.proofs.Math.ListN.{set}
 use Rattle.std.specs.List.{position_or_len}
@@ -22,7 +22,7 @@ some_from_test : {A : Type 0} (o : Option A) → is_none o ≡ false → IsSome 
 some_from_test None e = cc
 some_from_test (Some x) e = refl
 
--- where no entry is None each is counted
+-- if no entry is None, each is counted
 count_by_full : {A : Type 0} (xs : List (Option A)) → length xs ≤ position_or_len is_none xs → count_by is_some xs ≡ length xs
 count_by_full [] full = refl
 count_by_full (None ∷ xs) full = absurd (omega arith)
@@ -32,7 +32,7 @@ full_from_none : {A : Type 0} (xs : List (Option A)) → position is_none xs ≡
 full_from_none xs none =
     elim (cases_lt (position_or_len is_none xs) (length xs)) [ inl lt ↦ grind (arith, nat_tests) | inr le ↦ le ]
 
--- a list with a None has an entry that is no tenant's
+-- if an owner is None, not every entry is the tenant's
 count_by-lt-length : (t : ℕ) (owners : List (Option Owner)) (m : ℕ) → m < length owners → owner_at owners m ≡ None → count_by (is_of t) owners < length owners
 count_by-lt-length t owners m within none =
     let o : Option Owner = Some (owned_by t zero) in
@@ -40,7 +40,7 @@ count_by-lt-length t owners m within none =
     let bound = count_by-le-length (is_of t) (set owners m o) in
     omega (arith, one_more, bound, length-set owners m o, ap (λ p. one_if (is_of t p)) none, ap one_if (is_of_self t zero))
 
--- a superblock without owner, where the search finds one
+-- if the search finds something, there is a superblock without owner
 pub unowned_from_pool : (owners : List (Option Owner)) → IsSome (position is_none owners) → (m : ℕ) × (m < length owners) × (owner_at owners m ≡ None)
 unowned_from_pool owners pool = go (position is_none owners) refl pool
   where

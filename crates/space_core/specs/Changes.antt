@@ -8,7 +8,7 @@ pub record IsLeastSlot (slots : List (List (Option ℕ))) (t u : ℕ) : Type 0 w
   pub vacant : superblock_at slots t u ≡ None
   pub below : (v : ℕ) → v < u → IsSome (superblock_at slots t v)
 
--- the entry of tenant t and slot u replaced
+-- the slots, with the entry of tenant t and slot u replaced
 abbrev pub with_entry : List (List (Option ℕ)) → ℕ → ℕ → Option ℕ → List (List (Option ℕ))
 with_entry slots t u x = slice_set slots t (slice_set (slots_of slots t) u x)
 
@@ -21,7 +21,7 @@ with_grant s t u m = record s {
   marks = slice_set s.marks m false;
 }
 
--- superblock m, slot u of tenant t, loses its owner: it keeps its bytes and has a mark
+-- superblock m, slot u of tenant t, loses its owner: it keeps its bytes and gets a mark
 abbrev pub with_take_back : Content → ℕ → ℕ → ℕ → Content
 with_take_back s t u m = record s {
   owners = slice_set s.owners m None;
@@ -29,8 +29,8 @@ with_take_back s t u m = record s {
   marks = slice_set s.marks m true;
 }
 
--- slot u of tenant t, which stood over superblock `from`, stands over superblock `to`, with the same bytes and no mark.
--- Superblock `from` loses its owner: it keeps its bytes and has a mark
+-- Slot u of tenant t moves from superblock `from` to superblock `to`, which gets the same bytes and has no mark. Superblock
+-- `from` loses its owner: it keeps its bytes and gets a mark.
 abbrev pub with_move : Content → ℕ → ℕ → ℕ → ℕ → Content
 with_move s t u from to = record s {
   owners = slice_set (slice_set s.owners from None) to (Some (owned_by t u));

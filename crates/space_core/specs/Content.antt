@@ -4,9 +4,8 @@ use Rattle.model_core.specs.declared.limits.TheConstants.{FRAME_BYTES, MOST_ORDE
 use Rattle.model_core.specs.declared.owner.Owner.{Owner}
 use Rattle.model_core.specs.Owners.{owned_by, is_of}
 
--- unit: bytes of a superblock. owners: by superblock, the tenant that has it and the slot that it is there.
--- slots: by tenant and slot, the superblock. banks: by superblock, its bytes.
--- marks: by superblock, whether it still has to be scrubbed
+-- `unit` is the number of bytes of a superblock. `owners` has the tenant and the slot of each superblock, `slots` the superblock
+-- of each tenant and slot, and `banks` the bytes of each superblock. `marks` is true of those that still have to be scrubbed.
 pub record Content : Type 0 where
   pub unit : ℕ
   pub owners : List (Option Owner)
@@ -30,7 +29,7 @@ mark_at marks m = slice_index_or marks m false
 abbrev pub slots_of : List (List (Option ℕ)) → ℕ → List (Option ℕ)
 slots_of slots t = slice_index_or slots t []
 
--- the superblock under slot u of tenant t
+-- the superblock in slot u of tenant t
 abbrev pub superblock_at : List (List (Option ℕ)) → ℕ → ℕ → Option ℕ
 superblock_at slots t u = slice_index_or (slots_of slots t) u None
 
@@ -44,11 +43,11 @@ pub record IsSpace (s : Content) : Type 0 where
   pub flagged : length s.marks ≡ length s.owners
   pub rows : (t : ℕ) → t < length s.slots → length (slots_of s.slots t) ≡ length s.owners
   pub sized : (m : ℕ) → m < length s.banks → length (bank s.banks m) ≡ s.unit
-  -- owners and slots say the same, so no two superblocks stand under one slot and no superblock under two
+  -- owners and slots agree, so no slot has two superblocks and no superblock is in two slots
   pub agree : (t u m : ℕ) → (superblock_at s.slots t u ≡ Some m) ↔ (owner_at s.owners m ≡ Some (owned_by t u))
-  -- a tenant holds as many slots as superblocks, so where a superblock is without owner each tenant has a slot for it
+  -- a tenant holds as many slots as superblocks, so if a superblock has no owner, each tenant has a slot for it
   pub counted : (t : ℕ) → t < length s.slots → count_by is_some (slots_of s.slots t) ≡ count_by (is_of t) s.owners
-  -- what has no owner and no mark reads as zero
+  -- a superblock that has neither an owner nor a mark reads as zero
   pub spare : (m : ℕ) → m < length s.banks → owner_at s.owners m ≡ None → mark_at s.marks m ≡ false
       → bank s.banks m ≡ replicate s.unit 0
 

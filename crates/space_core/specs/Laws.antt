@@ -5,7 +5,7 @@ use Rattle.space_core.specs.Content.{Content, IsSpace, bank, superblock_at, owne
 use Rattle.space_core.specs.Windows.{slot_bytes, home_of, window_of, with_window, byte_at, with_byte}
 use Rattle.space_core.specs.Changes.{with_grant, with_take_back, with_move}
 
--- no two superblocks stand under one slot, and no superblock under two
+-- no slot has two superblocks, and no superblock is in two slots
 pub record IsOneToOne (s : Content) : Type 0 where
   pub superblocks : (t u m n : ℕ) → owner_at s.owners m ≡ Some (owned_by t u) → owner_at s.owners n ≡ Some (owned_by t u) → m ≡ n
   pub slots : (t u v w m : ℕ) → superblock_at s.slots t u ≡ Some m → superblock_at s.slots v w ≡ Some m → (t ≡ v) × (u ≡ w)
@@ -17,13 +17,13 @@ pub record IsSameFor (t : ℕ) (s s' : Content) : Type 0 where
   pub bytes : (place : ℕ) → byte_at s' t place ≡ byte_at s t place
   pub windows : (place len : ℕ) → window_of s' t place len ≡ window_of s t place len
 
--- tenant t holds the same slots in s' as in s and reads the same there, whichever superblocks stand under them
+-- tenant t holds the same slots in s' as in s and reads the same there, whichever superblocks are in them
 pub record ReadsSame (t : ℕ) (s s' : Content) : Type 0 where
   pub slots : (u : ℕ) → slot_bytes s' t u ≡ slot_bytes s t u
   pub bytes : (place : ℕ) → byte_at s' t place ≡ byte_at s t place
   pub windows : (place len : ℕ) → window_of s' t place len ≡ window_of s t place len
 
--- what is done for tenant t keeps every other tenant's slots and bytes
+-- a call for tenant t keeps every other tenant's slots and bytes
 pub record OthersStay (s : Content) : Type 0 where
   pub window : (t place len : ℕ) (w : List ℕ) (other : ℕ) → other ≢ t → IsSameFor other s (with_window s t place len w)
   pub byte : (t place b other : ℕ) → other ≢ t → IsSameFor other s (with_byte s t place b)
@@ -35,7 +35,7 @@ pub record OthersStay (s : Content) : Type 0 where
 abbrev pub SpareStays : Content → Content → Type 0
 SpareStays s s' = (m : ℕ) → owner_at s'.owners m ≡ None → bank s'.banks m ≡ bank s.banks m
 
--- only superblocks that have an owner then are written
+-- a call writes only superblocks that have an owner after it
 pub record SpareBytes (s : Content) : Type 0 where
   pub window : (t place len : ℕ) (w : List ℕ) → SpareStays s (with_window s t place len w)
   pub byte : (t place b : ℕ) → SpareStays s (with_byte s t place b)
@@ -43,12 +43,12 @@ pub record SpareBytes (s : Content) : Type 0 where
   pub take_back : (t u m : ℕ) → SpareStays s (with_take_back s t u m)
   pub move : (t u from to : ℕ) → to < length s.owners → SpareStays s (with_move s t u from to)
 
--- bytes are those of tenant t from place on, len of them
+-- `bytes` are the `len` bytes of tenant t from place on
 pub record AreBytesAt (s : Content) (t place len : ℕ) (bytes : List ℕ) : Type 0 where
   pub count : length bytes ≡ len
   pub each : (i : ℕ) → i < len → byte_at s t (place + i) ≡ Some (slice_index bytes i)
 
--- what the named tenant then reads at each place p
+-- what tenant t reads at each place p after each call
 pub record OwnBytes (s : Content) : Type 0 where
   pub read : (t place len : ℕ) (bytes : List ℕ) → window_of s t place len ≡ Some bytes → AreBytesAt s t place len bytes
   pub window : (t place len : ℕ) (w : List ℕ) → IsSome (home_of s t place len) → length w ≡ len
@@ -63,7 +63,7 @@ pub record OwnBytes (s : Content) : Type 0 where
   pub move : (t u from to : ℕ) → superblock_at s.slots t u ≡ Some from → to < length s.owners
       → owner_at s.owners to ≡ None → ReadsSame t s (with_move s t u from to)
 
--- which slots the named tenant then holds
+-- which slots tenant t holds after each call
 pub record OwnSlots (s : Content) : Type 0 where
   pub grant : (t u m : ℕ) → t < length s.slots → u < length s.owners
       → (v : ℕ) → superblock_at (with_grant s t u m).slots t v ≡ (if v == u then Some m else superblock_at s.slots t v)

@@ -1,10 +1,11 @@
--- How the bytes of RAM are stored: a superblock has none from a grant to the first write, and reads as zero until then.
+-- How the bytes of RAM are stored: a superblock has no stored bytes from a grant to the first write, and reads as zero until
+-- then.
 use Rattle.std.specs.Prelude.{◌≡◌, ℕ, ◌^◌, ◌<◌, ◌≤◌, List, [], ◌∷◌, map, replicate}
 use Rattle.std.specs.List.{All}
 use Rattle.std.specs.Global.{Vec}
 use Rattle.std.specs.Vec.{vec_capacity}
 
--- what a superblock of unit bytes reads as
+-- the `unit` bytes that a superblock with these stored bytes reads as
 abbrev pub or_zeros : ℕ → List ℕ → List ℕ
 or_zeros unit [] = replicate unit 0
 or_zeros unit (x ∷ xs) = x ∷ xs
@@ -16,7 +17,7 @@ shown_banks unit stored = map (or_zeros unit) stored
 abbrev pub HaveCapacity : ℕ → List (Vec ℕ) → Type 0
 HaveCapacity unit banks = All (λ bank. unit ≤ vec_capacity bank) banks
 
--- what is true of the vectors of every `Space`, and of the bits of a byte's number inside a superblock
+-- what is true of the vectors of every `Space`, and of the number of bits of an offset in a superblock
 pub record IsStored (unit bits : ℕ) (banks : List (Vec ℕ)) (zeros : List ℕ) : Type 0 where
   pub few : bits < 32
   pub size : unit ≡ 2 ^ bits

@@ -1,11 +1,11 @@
--- Tables kept as a vector of vectors, seen as lists.
+-- Tables that are stored as a vector of vectors, as lists.
 use Rattle.std.specs.Prelude.{ℕ, List, Option, map}
 use Rattle.std.specs.Global.{Vec}
 
--- the slots by tenant
+-- the slots of each tenant
 abbrev pub stored_slots : Vec (Vec (Option ℕ)) → List (List (Option ℕ))
 stored_slots rows = map (λ row. row.items) rows.items
 
--- the bytes by superblock, none where nothing was written yet
+-- the stored bytes of each superblock, none if nothing was written yet
 abbrev pub stored_bytes : Vec (Vec ℕ) → List (List ℕ)
 stored_bytes banks = map (λ bank. bank.items) banks.items

@@ -2,15 +2,15 @@
 use Rattle.std.specs.Prelude.{ℕ, ◌+◌, ◌/◌, ◌%◌, Bool, ◌&&◌, nat_lt, nat_le, if◌then◌else◌, List, ◌++◌, Option, Some, None, option_map, length, take, drop, slice_index, slice_range, slice_set}
 use Rattle.space_core.specs.Content.{Content, bank, superblock_at}
 
--- the bytes under slot u of tenant t, where t holds the slot
+-- the bytes of slot u of tenant t, if t holds the slot
 abbrev pub slot_bytes : Content → ℕ → ℕ → Option (List ℕ)
 slot_bytes s t u = option_map (bank s.banks) (superblock_at s.slots t u)
 
--- a range of len bytes from place on has a byte and lies in one slot
+-- a range of len bytes from place on is not empty and lies in one slot
 abbrev pub is_in_slot : ℕ → ℕ → ℕ → Bool
 is_in_slot unit place len = nat_lt 0 len && nat_le (place % unit + len) unit
 
--- the superblock under such a range of tenant t, where t holds the slot
+-- the superblock of such a range of tenant t, if t holds the slot
 abbrev pub home_of : Content → ℕ → ℕ → ℕ → Option ℕ
 home_of s t place len = if is_in_slot s.unit place len then superblock_at s.slots t (place / s.unit) else None
 
@@ -38,7 +38,7 @@ abbrev pub byte_under : List (List ℕ) → ℕ → Option ℕ → Option ℕ
 byte_under banks i None = None
 byte_under banks i (Some m) = Some (slice_index (bank banks m) i)
 
--- the byte at a place of tenant t, where t holds the slot
+-- the byte at a place of tenant t, if t holds the slot
 abbrev pub byte_at : Content → ℕ → ℕ → Option ℕ
 byte_at s t place = byte_under s.banks (place % s.unit) (superblock_at s.slots t (place / s.unit))
 

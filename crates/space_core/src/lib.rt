@@ -48,10 +48,10 @@ pub enum MoveRefusal {
     PoolEmpty,
 }
 
-/// The RAM with its pool and the mapping both ways.
+/// The RAM, with its pool and the mapping between superblocks and slots in both directions.
 ///
-/// Superblocks and slots are numbered from 0 up to the number of superblocks, tenants from 0. A place
-/// of a tenant is a byte number: it lies in slot `place / unit`, where `unit` is the bytes of a superblock.
+/// Superblocks and slots are numbered from 0 up to the number of superblocks, tenants from 0. A place of a tenant is a byte
+/// number: it lies in slot `place / unit`, where `unit` is the number of bytes of a superblock.
 #[derive(Debug, Drop)]
 pub struct Space {
     unit: u32,
@@ -60,10 +60,11 @@ pub struct Space {
     bits: u8,
     owners: Vec<Option<Owner>>,
     slots: Vec<Vec<Option<u16>>>,
-    // The bytes of each superblock. The vector is empty, with its full capacity, as long as all bytes are zero since the grant.
+    // The bytes of each superblock. After a grant the vector is empty, with its full capacity, until a byte is written or lent to
+    // be written.
     banks: Vec<Vec<u8>>,
     marks: Vec<bool>,
-    // What a superblock with an empty vector reads as.
+    // The bytes that a superblock with an empty vector reads as.
     zeros: Vec<u8>,
 }
 

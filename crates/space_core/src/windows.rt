@@ -38,7 +38,8 @@ impl Space {
         self.window_in(m, t, place, len)
     }
 
-    /// The same as [`Space::window_mut`] if the caller knows that superblock `m` is in that slot. Only the contract uses `t`.
+    /// Does the same as [`Space::window_mut`] if the caller knows that superblock `m` is in that slot. Only the contract uses
+    /// `t`.
     #[inline(always)]
     pub fn window_in(&mut self, m: u16, t: u8, place: u32, len: u32) -> &mut [u8]
         requires { home_of self.old t place len ≡ Some m }
@@ -71,7 +72,7 @@ impl Space {
         self.byte_in(m, t, place)
     }
 
-    /// The same as [`Space::byte`] if the caller knows that superblock `m` is in that slot. Only the contract uses `t`.
+    /// Returns the same as [`Space::byte`] if the caller knows that superblock `m` is in that slot. Only the contract uses `t`.
     #[inline(always)]
     pub fn byte_in(&self, m: u16, t: u8, place: u32) -> u8
         requires { superblock_at self.now.slots t (place / self.now.unit) ≡ Some m }

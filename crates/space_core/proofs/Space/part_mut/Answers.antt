@@ -12,7 +12,7 @@ use Rattle.space_core.proofs.Stored.{shown-read, length-shown, length-shown_read
 use Rattle.std.proofs.lemmas.List.Elements.{All-set}
 use Rattle.space_core.proofs.Space.part_mut.Goals as goal
 
--- what is shown_banks once a part of one superblock was written
+-- what the banks show after a part of one superblock was written
 shown-written : (unit : ℕ) (banks : List (Vec ℕ)) (m : ℕ) (read : Vec ℕ) (i : ℕ) (w : List ℕ) → 0 < read.len → i ≤ read.len → shown_banks unit (lists_of (set banks m (with_items_from read i w))) ≡ set (shown_banks unit (lists_of banks)) m (put_within read.items i w)
 shown-written unit banks m read i w some within =
     let items = items-with_items_from read i w within in
