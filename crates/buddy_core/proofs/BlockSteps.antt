@@ -1,4 +1,4 @@
--- One taken block comes or goes at frame x of superblock m, which tenant t has under slot u.
+-- One taken block is added or removed at frame x of superblock m, which is in slot u of tenant t.
 use Rattle.std.proofs.Common.{◌≡◌, ◌⊎◌, inl, inr, refl, sym, ◌∙◌, ap, ap₂, subst, ℕ, ◌+◌, ◌*◌, ◌/◌, ◌%◌, ◌^◌, ◌<◌, ◌≤◌, Bool, Option, Some, None, List, length, get_or, set, map, arith, length-set}
 use Rattle.std.specs.Prelude.{if◌then◌else◌, ◌==◌, is_some, slice_index, count_by}
 use Rattle.std.specs.List.{range_with_len}
@@ -17,7 +17,7 @@ use Rattle.buddy_core.proofs.ContentShown.{bare_of}
 use Rattle.buddy_core.proofs.TenantChanged.{IsChange}
 use Rattle.buddy_core.proofs.TreeSlots.{shows_same}
 
--- the taken blocks, but for what begins at frame f
+-- the taken blocks, with another entry at frame f
 abbrev pub changed : Taken → ℕ → Option ℕ → Taken
 changed taken f o g = if g == f then o else taken g
 
@@ -97,7 +97,7 @@ module _ (top : ℕ) (superblocks : List StoredSuperblock) (tenants : List Store
     held_same : held_by tenant ≡ held_by (stored_tenant t tenants)
     held_same = λ i v. ap is_some (slot_same v) i
 
-    -- frame g of the superblock under a slot
+    -- frame g of the superblock in a slot
     found : (g : ℕ) (a : Option ℕ) → superblock_at (stored_tenant t tenants) (g / 2 ^ top) ≡ a → taken_by top (set superblocks m s) tenant g ≡ new_taken g
     found g None e =
         ap (λ a. order_under (set superblocks m s) a (g % 2 ^ top)) (slot_same (g / 2 ^ top) ∙ e)

@@ -1,4 +1,4 @@
--- What the words of the summaries still tell once slots and superblocks change.
+-- The words of the summaries still bound the free blocks after slots and superblocks change.
 use Rattle.std.proofs.Common.{◌≡◌, ◌⊎◌, inl, inr, refl, sym, ◌∙◌, ap, ℕ, ◌/◌, ◌<◌, List, [], Option, Some, None, length, get_or, set, length-set, replicate, arith}
 use Rattle.std.specs.Int.{bit_at}
 use Rattle.std.specs.Prelude.{slice_index}
@@ -14,7 +14,7 @@ use Rattle.buddy_core.proofs.ContentShown.{blank_of, bare_of}
 use Rattle.buddy_core.proofs.NothingHeld.{any_slot}
 
 module _ {superblocks : List StoredSuperblock} {tenants : List StoredTenant} {summaries : List (List ℕ)} (bounded : AreBounded superblocks tenants summaries) where
-  -- the words may stay where no slot has an order that no slot had there
+  -- the words may stay if each slot has only orders that it had before
   pub bounded_still : (superblocks' : List StoredSuperblock) (tenants' : List StoredTenant) → length tenants' ≡ length tenants
       → ((v u i j : ℕ) → superblock_at (stored_tenant v tenants') u ≡ Some i → HasBit superblocks' i j → (was : ℕ) × (superblock_at (stored_tenant v tenants) u ≡ Some was) × HasBit superblocks was j)
       → AreBounded superblocks' tenants' summaries
@@ -23,7 +23,7 @@ module _ {superblocks : List StoredSuperblock} {tenants : List StoredTenant} {su
     each = λ v j u i at bit. let was = before v u i j at bit in bounded.each v j u was.0 was.1 was.2;
   }
 
-  -- one tenant's words change, and tell as much as before
+  -- one tenant's words change, and still bound its free blocks
   pub bounded_by : (t : ℕ) (words : List ℕ) → t < length tenants → IsBounded superblocks (stored_tenant t tenants).slots words → AreBounded superblocks tenants (set summaries t words)
   bounded_by t words lt told = record { size = length-set summaries t words ∙ bounded.size; each = λ v j u i at bit. each v j u i at bit (cases_eq v t) }
     where
@@ -73,7 +73,7 @@ module _ {superblocks : List StoredSuperblock} {tenants : List StoredTenant} {su
       each = λ v j u i at bit. each v j u i at bit (cases_eq i m) (cases_eq v t);
     }
 
-  -- a blank superblock is taken from under a slot
+  -- a blank superblock is taken out of a slot
   module _ (top m t slot : ℕ) (s : StoredSuperblock) (tenant : StoredTenant) (listed : t < length tenants) (m_lt : m < length superblocks) (blank : slice_index s.tree.words 0 ≡ 0)
       (slot_lt : slot < length (stored_tenant t tenants).slots) (slots : tenant.slots ≡ set (stored_tenant t tenants).slots slot None) where
     pub bounded_dropped : AreBounded (set superblocks m s) (set tenants t tenant) summaries

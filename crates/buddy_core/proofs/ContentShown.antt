@@ -17,12 +17,12 @@ blank_of = record { slots = []; free = []; taken = [] }
 abbrev pub bare_of : StoredSuperblock
 bare_of = record { tree = record { order = 0; words = [] }; orders = [] }
 
--- the slots of `tenant'` stand over the superblocks that those of `tenant` stood over, which may be stored elsewhere now
+-- the slots of `tenant'` have the superblocks that those of `tenant` had, which may be stored elsewhere now
 pub record StandsAsBefore (superblocks superblocks' : List StoredSuperblock) (tenant tenant' : StoredTenant) : Type 0 where
   pub held : held_by tenant' ≡ held_by tenant
   pub same : (u m : ℕ) → superblock_at tenant' u ≡ Some m → (i : ℕ) × (superblock_at tenant u ≡ Some i) × (superblock_of m superblocks' ≡ superblock_of i superblocks)
 
--- the taken blocks are the same then
+-- then the taken blocks are the same
 pub taken_as_before : (top : ℕ) (superblocks superblocks' : List StoredSuperblock) (tenant tenant' : StoredTenant) → StandsAsBefore superblocks superblocks' tenant tenant' → taken_by top superblocks' tenant' ≡ taken_by top superblocks tenant
 taken_as_before top superblocks superblocks' tenant tenant' stands = λ i f. go (f / 2 ^ top) (f % 2 ^ top) (superblock_at tenant' (f / 2 ^ top)) (superblock_at tenant (f / 2 ^ top)) refl refl i
   where
@@ -46,7 +46,7 @@ module _ (top : ℕ) (superblocks : List StoredSuperblock) where
           get_or_past (holding_shown top superblocks tenant).taken f None (subst (λ n. n ≤ f) (sym (length-map-range_with_len (taken_by top superblocks tenant) 0 (length tenant.slots * 2 ^ top))) ge)
           ∙ sym (ap (λ o. order_under superblocks o (f % 2 ^ top)) (get_or_past tenant.slots (f / 2 ^ top) None (le-div (length tenant.slots) f (2 ^ top) (pow_pos top) ge)))
 
-  -- a superblock that stands under no slot of a tenant may change
+  -- a superblock in no slot of a tenant may change
   pub taken_stays : (m : ℕ) (s : StoredSuperblock) (tenant : StoredTenant) → ((w : ℕ) → superblock_at tenant w ≡ Some m → ⊥) → taken_by top (set superblocks m s) tenant ≡ taken_by top superblocks tenant
   taken_stays m s tenant other = taken_as_before top superblocks (set superblocks m s) tenant tenant
       (record { held = refl; same = λ u i at. (i, at, get_or-set_other superblocks m i s _ (λ e. other u (at ∙ ap Some e))) })
@@ -110,7 +110,7 @@ module _ (top : ℕ) (superblocks : List StoredSuperblock) (tenants : List Store
           (length-map (set tenants t tenant') (holding_shown top superblocks') ∙ length-set tenants t tenant' ∙ sym (length-map tenants (holding_shown top superblocks)) ∙ sym (length-set (map (holding_shown top superblocks) tenants) t h))
           (λ v d lt. each v d (subst (λ n. v < n) (length-map (set tenants t tenant') (holding_shown top superblocks') ∙ length-set tenants t tenant') lt))
 
--- what contracts say of tenant t, by what is stored
+-- what contracts see of tenant t, in terms of what is stored
 pub record IsShown (top : ℕ) (superblocks : List StoredSuperblock) (tenants : List StoredTenant) (t : ℕ) (c : Content) : Type 0 where
   pub order : c.top ≡ top
   pub count : c.superblocks ≡ length superblocks
@@ -133,7 +133,7 @@ pub shown_is : (top : ℕ) (superblocks : List StoredSuperblock) (tenants : List
 shown_is top superblocks tenants t c e lt = shown_within top superblocks tenants t c e
     (subst (λ n. t < n) (length-map tenants (holding_shown top superblocks)) (subst (λ (x : Content). t < length x.tenants) (sym e) lt))
 
--- a tenant that has a slot is one of the list
+-- a tenant that has a slot is in the list
 pub tenant_within : (tenants : List StoredTenant) (t u m : ℕ) → superblock_at (stored_tenant t tenants) u ≡ Some m → t < length tenants
 tenant_within tenants t u m at = go (cases_lt t (length tenants))
   where
@@ -141,7 +141,7 @@ tenant_within tenants t u m at = go (cases_lt t (length tenants))
     go (inl lt) = lt
     go (inr past) = absurd (none-some m (sym (ap (λ r. superblock_at r u) (get_or_past tenants t blank_of past)) ∙ at))
 
--- a fact of a tenant's slots and taken blocks, as contracts say it
+-- a fact about a tenant's slots and taken blocks, in the terms of contracts
 pub by_shown : (P : ℕ → (ℕ → Bool) → Taken → Type 0) (top : ℕ) (superblocks : List StoredSuperblock) (tenants : List StoredTenant) (t : ℕ) (c : Content) → IsShown top superblocks tenants t c
     → P top (held_by (stored_tenant t tenants)) (taken_by top superblocks (stored_tenant t tenants)) → P c.top (is_held (holding_of t c)) (taken_of (holding_of t c))
 by_shown P top superblocks tenants t c s p =
@@ -160,7 +160,7 @@ slot_read tenants t tenant lt e u o at = ap (λ r. superblock_at r u) (sym (get_
 pub size_is : (top : ℕ) → top ≤ 8 → 1 * 2 ^ top % 2 ^ 32 ≡ 2 ^ top
 size_is top le = one_shl top 32 (omega arith)
 
--- a slot that has a superblock is one of the list
+-- a slot that has a superblock is in the list
 pub slot_within : (slots : List (Option ℕ)) (u m : ℕ) → get_or slots u None ≡ Some m → u < length slots
 slot_within slots u m at = go (cases_lt u (length slots))
   where

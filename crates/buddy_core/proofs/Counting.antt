@@ -32,7 +32,7 @@ count_one p r (suc n) x lt off on same = go (cases_eq x n) (count_one p r n x)
         let last : bit (p n) ≡ bit (r n) = ap bit (same n (omega arith) (λ e. ne (sym e))) in
         omega arith
 
--- a number that passes counts
+-- if a number passes, the count is not 0
 pub count_some : (p : ℕ → Bool) (n x : ℕ) → x < n → p x ≡ true → 0 < count_below p n
 count_some p zero x lt on = absurd (omega arith)
 count_some p (suc n) x lt on = go (cases_lt x n) (count_some p n x)
@@ -41,7 +41,7 @@ count_some p (suc n) x lt on = go (cases_lt x n) (count_some p n x)
     go (inl below) rest = let before = rest below on in omega arith
     go (inr here) rest = let last : bit (p n) ≡ 1 = ap bit (ap p (let e : n ≡ x = omega arith in e) ∙ on) in omega arith
 
--- where something counts, a number passes
+-- if the count is not 0, a number passes
 pub count_found : (p : ℕ → Bool) (n : ℕ) → 0 < count_below p n → (f : ℕ) × (f < n) × (p f ≡ true)
 count_found p zero some = absurd (omega arith)
 count_found p (suc n) some = go (cases_Bool (p n)) (count_found p n)
@@ -88,7 +88,7 @@ module _ (top : ℕ) (held held' : ℕ → Bool) (taken taken' : Taken) (f k j s
   same_place : (i x : ℕ) → i ≤ top → number_at i x ≡ number_at i f → x < slots * 2 ^ top
   same_place i x le same = frame_below top slots x (subst (λ n. n < slots) (sym (same_slot top i x f le same)) within)
 
-  -- orders below the block, and above the one that it is taken out of
+  -- the numbers of free blocks of orders below the block, and above the one that it is taken out of, stay
   pub count_kept : (i : ℕ) → (i < k) ⊎ (j < i) → count_below (small i) (slots * 2 ^ top) ≡ count_below (large i) (slots * 2 ^ top)
   count_kept i apart = count_same (small i) (large i) (slots * 2 ^ top) (λ g lt. agree i g (λ le below half. not_between apart le below) (λ e same. not_at apart e))
     where
@@ -131,7 +131,7 @@ module _ (top : ℕ) (held held' : ℕ → Bool) (taken taken' : Taken) (f k j s
   pub whole_counts : 0 < count_below (large j) (slots * 2 ^ top)
   whole_counts = omega (arith, count_split)
 
-  -- the buddies of the block, and of the blocks around it, below that one
+  -- each order from k to j - 1 has one more free block: the buddy of the block of that order around frame f
   pub count_half : (i : ℕ) → k ≤ i → i < j → count_below (small i) (slots * 2 ^ top) ≡ count_below (large i) (slots * 2 ^ top) + 1
   count_half i up lt = count_one (large i) (small i) (slots * 2 ^ top) x x_within
       (false_from_ne_true (large i x) (λ e. not_large ((free_is_tested top held taken (block x i)).0 e)))
@@ -170,7 +170,7 @@ module _ (top : ℕ) (held held' : ℕ → Bool) (taken taken' : Taken) (f k j s
   pub half_counts : (i : ℕ) → k ≤ i → i < j → 0 < count_below (small i) (slots * 2 ^ top)
   half_counts i up lt = omega (arith, count_half i up lt)
 
-  -- a tenant's counts of free blocks move as the free blocks do
+  -- a tenant's counts of free blocks change as the free blocks do
   pub free_balance : (whole part : StoredTenant) → IsTakenOut k j whole part → (i : ℕ)
       → slice_index part.free i + count_below (large i) (slots * 2 ^ top) ≡ slice_index whole.free i + count_below (small i) (slots * 2 ^ top)
   free_balance whole part counts i = go (cases_order i j) (cases_lt i k)

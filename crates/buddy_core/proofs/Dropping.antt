@@ -28,7 +28,7 @@ module _ (top : ℕ) (held : ℕ → Bool) (taken : Taken) (u : ℕ) (words : Li
   in_slot : (x : ℕ) → HasFrame (slot_block top u) x → x / 2 ^ top ≡ u
   in_slot x has = sym (number_is top x) ∙ number_of_frame (u * 2 ^ top) top x (aligned_first u top) has ∙ number_first u top
 
-  -- the word of one free block tells that nothing is taken
+  -- if the first word is that of one free block, nothing is taken
   pub quiet : slice_index words 0 ≡ 2 ^ top → HasTaken taken (slot_block top u) → ⊥
   quiet root (x, has, is) =
       let clear = orders_whole (λ y. is_available top held taken (u * 2 ^ top + y)) top 0 (sym (first_word _ top words shows) ∙ root) in
@@ -38,7 +38,7 @@ module _ (top : ℕ) (held : ℕ → Bool) (taken : Taken) (u : ℕ) (words : Li
       let passes = clear_at (λ y. is_available top held taken (u * 2 ^ top + y)) top y (ap (is_clear (λ y. is_available top held taken (u * 2 ^ top + y)) top) (number_whole top y small) ∙ clear) in
       (available_tells top held taken x (ap (is_available top held taken) (sym at) ∙ passes)).1 is
 
-  -- and any other word that something is
+  -- if it is any other word, something is
   pub busy : held u ≡ true → (slice_index words 0 ≡ 2 ^ top → ⊥) → HasTaken taken (slot_block top u)
   busy on off = go (cases_Bool (is_clear (λ y. is_available top held taken (u * 2 ^ top + y)) top 0))
     where

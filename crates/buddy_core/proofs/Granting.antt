@@ -1,4 +1,4 @@
--- A superblock under no slot comes under an empty one.
+-- A superblock in no slot is put into an empty one.
 use Rattle.std.proofs.Common.{◌≡◌, ◌⊎◌, inl, inr, sym, ◌∙◌, ap, subst, ℕ, ◌+◌, ◌*◌, ◌/◌, ◌%◌, ◌^◌, ◌<◌, ◌≤◌, true, Option, Some, None, List, length, get_or, set, arith, length-set}
 use Rattle.std.specs.Prelude.{slice_index, is_some}
 use Rattle.std.proofs.lemmas.List.{get_or-set_same, get_or-set_other}

@@ -1,4 +1,4 @@
--- A superblock under no slot, and a tenant that holds nothing.
+-- A superblock in no slot, and a tenant that holds nothing.
 use Rattle.std.proofs.Common.{◌≡◌, ◌⊎◌, inl, inr, refl, sym, ◌∙◌, ap, ap₂, subst, ℕ, ◌+◌, ◌*◌, ◌/◌, ◌%◌, ◌^◌, ◌<◌, ◌≤◌, false, Option, None, List, length, map, replicate, cond, zero, suc, ◌∷◌, arith}
 use Rattle.std.specs.Prelude.{is_some, count_by}
 use Rattle.std.specs.List.{range_with_len}
@@ -63,7 +63,7 @@ module _ (top : ℕ) (superblocks : List StoredSuperblock) where
       none_counted : (k n : ℕ) → count_by (has_order k) (replicate n None) ≡ 0
       none_counted k n = sum_by-replicate (λ x. cond (has_order k x) 1 0) n None ∙ (let e : n * 0 ≡ 0 = omega arith in e)
 
--- the stored empty_buddy
+-- what is stored of an empty buddy system
 module _ (top superblocks tenants : ℕ) where
   size : length (replicate superblocks (bare_superblock top)) ≡ superblocks
   size = length-replicate superblocks (bare_superblock top)

@@ -1,4 +1,4 @@
--- What a release leaves.
+-- The superblock and the tenant after a release.
 use Rattle.std.specs.Int.{bit_at}
 use Rattle.std.proofs.Common.{◌≡◌, ◌⊎◌, Option, refl, sym, ◌∙◌, ap, subst, ℕ, ◌+◌, ◌-◌, ◌*◌, ◌/◌, ◌%◌, ◌^◌, ◌<◌, ◌≤◌, Bool, Some, None, List, length, get_or, set, arith}
 use Rattle.std.specs.Prelude.{slice_index}
@@ -85,7 +85,7 @@ module _ {top : ℕ} {superblocks : List StoredSuperblock} {tenants : List Store
   out_of : (j : ℕ) × TakesOut (is_available top (held_by (stored_tenant t tenants)) (changed (taken_by top superblocks (stored_tenant t tenants)) (frame / 2 ^ top * 2 ^ top + x) None)) (is_available top (held_by (stored_tenant t tenants)) (taken_by top superblocks (stored_tenant t tenants))) top (frame / 2 ^ top * 2 ^ top + x) k j
   out_of = releasing top (held_by (stored_tenant t tenants)) (taken_by top superblocks (stored_tenant t tenants)) (frame / 2 ^ top * 2 ^ top + x) k mine.sound at.here
 
-  -- the order of the free block that the joins give
+  -- the order of the joined block
   pub joined_order : ℕ
   joined_order = out_of.0
 
@@ -125,7 +125,7 @@ module _ {top : ℕ} {superblocks : List StoredSuperblock} {tenants : List Store
   shown_after words change = change _ _ (mine.shows (frame / 2 ^ top) m at.slot)
       (less_in_slot (is_available top held freed) (is_available top held taken) top (frame / 2 ^ top) x k joined_order out)
 
-  -- the order that the tree answers
+  -- the order that the tree returns
   pub joined_is : (j : ℕ) (s : StoredSuperblock) → s ≡ superblock_of m superblocks
       → ((small large : ℕ → Bool) → Shows s.tree.order small s.tree.words → IsLess small large k x → (k ≤ j) × IsOpen large s.tree.order j (number_at j x)) → j ≡ joined_order
   joined_is j s e answer =
@@ -174,7 +174,7 @@ module _ {top : ℕ} {superblocks : List StoredSuperblock} {tenants : List Store
         omega arith;
   }
 
-  -- which orders of free blocks the superblock has then: that of the joined block, and those from before
+  -- each order of a free block that the superblock has afterwards is that of the joined block, or one from before
   pub released_orders : (s : StoredSuperblock) (after : StoredTenant) → Released joined_order k x (superblock_of m superblocks) (stored_tenant t tenants) s after
       → (i : ℕ) → bit_at (slice_index s.tree.words 0) i ≡ 1 → (i ≡ joined_order) ⊎ (bit_at (slice_index (superblock_of m superblocks).tree.words 0) i ≡ 1)
   released_orders s after r =

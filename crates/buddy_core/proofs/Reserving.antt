@@ -1,4 +1,4 @@
--- What a reservation finds, and what it leaves.
+-- The block that a reservation finds, and the superblock and the tenant after it.
 use Rattle.std.proofs.Common.{◌≡◌, ◌⊎◌, inl, inr, refl, sym, ◌∙◌, ap, subst, ℕ, ◌+◌, ◌*◌, ◌/◌, ◌^◌, ◌<◌, ◌≤◌, Bool, Option, Some, None, List, length, get_or, set, arith}
 use Rattle.std.specs.Prelude.{slice_index}
 use Rattle.std.proofs.lemmas.List.{get_or_past}
@@ -38,7 +38,7 @@ pub record Reserved (j k x : ℕ) (s : StoredSuperblock) (tenant : StoredTenant)
       → Shows s.tree.order small s'.tree.words
   pub counts : IsTakenOut k j tenant tenant'
 
--- the source is one of what is stored
+-- a source stays one if equal superblocks and slots are stored
 pub source_at : (superblocks' superblocks : List StoredSuperblock) (slots' slots : List (Option ℕ)) (k : ℕ) (p : Source) → superblocks' ≡ superblocks → slots' ≡ slots → IsSource superblocks' slots' k p → IsSource superblocks slots k p
 source_at superblocks' superblocks slots' slots k p e d source = subst (λ ss. IsSource superblocks ss k p) d (subst (λ ss. IsSource ss slots' k p) e source)
 
@@ -51,7 +51,7 @@ module _ (top : ℕ) (superblocks : List StoredSuperblock) (tenants : List Store
   bit_of c m free at =
       (root_tells top (held_by (stored_tenant t tenants)) (taken_by top superblocks (stored_tenant t tenants)) (c.first / 2 ^ top) (superblock_of m superblocks).tree.words (kept_tenant.shows (c.first / 2 ^ top) m at) c.order).1 (c.first, free, refl)
 
-  -- the counts are those of the bits
+  -- the tenant counts free blocks of exactly the orders whose bits are set
   pub counted : IsCounted superblocks (stored_tenant t tenants)
   counted j = (λ some. forth (cases_lt top j) some, back)
     where
@@ -91,7 +91,7 @@ pub record IsFound (top : ℕ) (superblocks : List StoredSuperblock) (tenants : 
   pub aligned : number_at p.order x * 2 ^ p.order ≡ x
   pub least : IsLeast (λ y. is_available top (held_by (stored_tenant t tenants)) (taken_by top superblocks (stored_tenant t tenants)) (p.slot * 2 ^ top + y)) top p.order (number_at p.order x)
 
--- what a search of a tree of order n answers
+-- what a search of a tree of order n returns
 abbrev pub Answers : Source → ℕ → ℕ → List ℕ → Type 0
 Answers p x n words = (x < 2 ^ n) × ((ok : ℕ → Bool) → Shows n ok words → bit_at (slice_index words 0) p.order ≡ 1 → (number_at p.order x * 2 ^ p.order ≡ x) × IsLeast ok n p.order (number_at p.order x))
 
@@ -206,7 +206,7 @@ module _ {top : ℕ} {superblocks : List StoredSuperblock} {tenants : List Store
       words = subst (λ n. (large small : ℕ → Bool) → Shows n large (superblock_of p.superblock superblocks).tree.words → IsOpen large n p.order (number_at p.order x) → IsLess small large k x → Shows n small s.tree.words)
           (kept.order p.superblock superblock_lt) r.words
 
-  -- which orders of free blocks the superblock has then: those from before, and those of the halves
+  -- each order of a free block that the superblock has afterwards is one from before, or that of a half
   pub reserved_orders : (s : StoredSuperblock) (after : StoredTenant) → Reserved p.order k x (superblock_of p.superblock superblocks) (stored_tenant t tenants) s after
       → (i : ℕ) → bit_at (slice_index s.tree.words 0) i ≡ 1 → (bit_at (slice_index (superblock_of p.superblock superblocks).tree.words 0) i ≡ 1) ⊎ ((k ≤ i) × (i < p.order))
   reserved_orders s after r =

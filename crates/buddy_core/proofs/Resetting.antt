@@ -16,7 +16,7 @@ use Rattle.buddy_core.proofs.Bounding.{bounded_still}
 use Rattle.buddy_core.proofs.TenantChanged.{tenant_stays}
 use Rattle.buddy_core.proofs.NothingHeld.{blank_kept, blank_holding}
 
--- the superblocks under the first n slots of the tenant are cleared, and no others
+-- the superblocks in the first n slots of the tenant are cleared, and no others
 pub record Cleared (top : ℕ) (before after : List StoredSuperblock) (tenant : StoredTenant) (n : ℕ) : Type 0 where
   pub size : length after ≡ length before
   pub gone : (w m : ℕ) → w < n → superblock_at tenant w ≡ Some m → superblock_of m after ≡ bare_superblock top

@@ -1,4 +1,4 @@
--- A slot without a taken frame comes or goes.
+-- A slot without a taken frame is added or removed.
 use Rattle.std.proofs.Common.{◌≡◌, ◌⊎◌, inl, inr, refl, sym, ◌∙◌, ap, subst, ℕ, ◌+◌, ◌*◌, ◌/◌, ◌%◌, ◌^◌, ◌<◌, Bool, true, false, Option, Some, None, List, length, get_or, set, map, arith}
 use Rattle.std.specs.List.{range_with_len}
 use Rattle.std.proofs.lemmas.List.{get_or-set_other}
@@ -45,7 +45,7 @@ module _ (top : ℕ) (more fewer : ℕ → Bool) (taken : Taken) (u : ℕ) (one 
     outside = λ x ne. available_elsewhere x (λ e. ne (number_is top x ∙ e ∙ sym (number_first u top)));
   }
 
--- the slots of one tenant, with superblock m under slot u and without
+-- the slots of one tenant, with superblock m in slot u and without it
 pub record IsSlotStep (top : ℕ) (superblocks : List StoredSuperblock) (tenant : StoredTenant) (m u : ℕ) (s : StoredSuperblock) (tenant' : StoredTenant) : Type 0 where
   pub inside : u < length tenant.slots
   pub size : length tenant'.slots ≡ length tenant.slots
@@ -67,7 +67,7 @@ module _ (top : ℕ) (superblocks : List StoredSuperblock) (tenant : StoredTenan
           ∙ ap (λ (z : StoredSuperblock). get_or z.orders (g % 2 ^ top) None) (get_or-set_other superblocks m i s bare_of (λ same. step.apart (g / 2 ^ top) ne (e ∙ ap Some same)))
           ∙ sym (ap (λ o. order_under superblocks o (g % 2 ^ top)) e)
 
-  -- no taken block comes or goes
+  -- the taken blocks stay
   pub taken_same : taken_by top (set superblocks m s) tenant' ≡ taken_by top superblocks tenant
   taken_same = λ i g. found g (cases_eq (g / 2 ^ top) u) i
 

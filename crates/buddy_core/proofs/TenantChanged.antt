@@ -1,4 +1,4 @@
--- One tenant and one superblock change: what always holds still does.
+-- One tenant and one superblock change: what always holds still holds.
 use Rattle.std.proofs.Common.{◌≡◌, ◌⊎◌, inl, inr, refl, sym, ◌∙◌, ap, ap₂, subst, Bool, Option, ℕ, ◌+◌, ◌*◌, ◌^◌, ◌<◌, ◌≤◌, Some, List, length, set, map, length-set}
 use Rattle.std.proofs.lemmas.List.{get_or-set_same, get_or-set_other}
 use Rattle.std.proofs.lemmas.Bool.{cases_eq}
@@ -12,7 +12,7 @@ use Rattle.buddy_core.specs.Stored.{StoredSuperblock, StoredTenant, bare_superbl
 use Rattle.buddy_core.specs.Kept.{IsKept, IsTenantKept, available_in}
 use Rattle.buddy_core.proofs.ContentShown.{StandsAsBefore, taken_as_before, blank_of, bare_of, taken_stays, content_replaced}
 
--- a tenant stays kept whose slots stand over the superblocks they stood over
+-- what always holds of a tenant still holds if its slots have the superblocks that they had
 pub tenant_kept_as_before : (top : ℕ) (superblocks superblocks' : List StoredSuperblock) (tenant : StoredTenant) (slots : List (Option ℕ)) → length superblocks' ≡ length superblocks → length slots ≡ length tenant.slots
     → StandsAsBefore superblocks superblocks' tenant (record tenant { slots = slots }) → ((u m : ℕ) → superblock_at (record tenant { slots = slots }) u ≡ Some m → m < length superblocks)
     → IsTenantKept top superblocks tenant → IsTenantKept top superblocks' (record tenant { slots = slots })
@@ -40,12 +40,12 @@ tenant_kept_as_before top superblocks superblocks' tenant slots size count stand
     number : (ℕ → Bool) → Taken → ℕ → ℕ → ℕ
     number h T n k = count_below (λ f. is_free top h T (block f k)) (n * 2 ^ top)
 
--- so does a tenant whose superblocks stay
+-- it also still holds of a tenant whose superblocks stay
 pub tenant_stays : (top : ℕ) (superblocks superblocks' : List StoredSuperblock) (tenant : StoredTenant) → length superblocks' ≡ length superblocks
     → ((u m : ℕ) → superblock_at tenant u ≡ Some m → superblock_of m superblocks' ≡ superblock_of m superblocks) → IsTenantKept top superblocks tenant → IsTenantKept top superblocks' tenant
 tenant_stays top superblocks superblocks' tenant size stays kept = tenant_kept_as_before top superblocks superblocks' tenant tenant.slots size refl (record { held = refl; same = λ u m at. (m, at, stays u m at) }) kept.within kept
 
--- tenant t's tenant becomes `tenant`, and superblock m, which no other tenant has, becomes s
+-- the entry of tenant t becomes `tenant`, and superblock m, which no other tenant has, becomes s
 pub record IsChange (top : ℕ) (superblocks : List StoredSuperblock) (tenants : List StoredTenant) (t m : ℕ) (s : StoredSuperblock) (tenant : StoredTenant) : Type 0 where
   pub listed : t < length tenants
   pub superblock : m < length superblocks
@@ -82,7 +82,7 @@ module _ (top : ℕ) (superblocks : List StoredSuperblock) (tenants : List Store
       (tenant_stays top superblocks (set superblocks m s) (stored_tenant v tenants) (length-set superblocks m s)
       (λ u i at. superblock_other i (λ e. change.others v u ne (at ∙ ap Some e))) (old.each v within))
 
-  -- a slot of another tenant over a superblock of the changed tenant
+  -- no superblock of the changed tenant is in a slot of another tenant
   crossing : (v u w i : ℕ) → (v ≡ t → ⊥) → superblock_at tenant u ≡ Some i → superblock_at (stored_tenant v tenants) w ≡ Some i → (i ≡ m) ⊎ (i ≡ m → ⊥) → ⊥
   crossing v u w i ne at other (inl e) = change.others v w ne (other ∙ ap Some e)
   crossing v u w i ne at other (inr off) = let before = change.had u i at off in ne (sym (old.apart t before.0 v w i before.1 other).0)

@@ -70,7 +70,7 @@ order_here k i e = ap bit (eq-eqb k i (sym e))
 pub order_other : (k i : ℕ) → (i ≡ k → ⊥) → bit (has_order i (Some k)) ≡ 0
 order_other k i ne = ap bit (ne_eqb k i (λ e. ne (sym e)))
 
--- how a tenant's counts of taken blocks move when a block of order k is taken
+-- how a tenant's counts of taken blocks change when a block of order k is taken
 pub taken_bit : (k j : ℕ) (whole part : StoredTenant) → IsTakenOut k j whole part → (i : ℕ) → slice_index part.taken i ≡ slice_index whole.taken i + bit (has_order i (Some k))
 taken_bit k j whole part out i = go (cases_eq i k)
   where

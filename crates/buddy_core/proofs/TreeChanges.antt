@@ -78,11 +78,11 @@ start_release top k d f small large words s b shows less =
     (sym (orders_clear large k (number_at k f) (clear_from large k (number_at k f) (λ x h. less.was x h))))
     (λ i e q t a. word_taken small top k f i (suc e) q less.gone t a ∙ sym (word_free large k k f i e q less.was (omega arith) t a))
 
--- tests that agree away from a block agree away from one around it
+-- tests that agree outside a block agree outside a larger one around it
 agree_above : (a b : ℕ → Bool) (k n m f : ℕ) → k + n ≡ m → ((x : ℕ) → (IsWith k f x → ⊥) → a x ≡ b x) → (x : ℕ) → (IsWith m f x → ⊥) → a x ≡ b x
 agree_above a b k n m f s same x off = same x (λ w. off (sym (number_above n k m x s) ∙ ap (λ i. number_at n i) w ∙ number_above n k m f s))
 
--- both halves have the words of their own trees, where the whole was not free
+-- both halves have the words of separate trees, if the whole was not free
 halves_stand : (top k f d : ℕ) (old new : ℕ → Bool) (words : List ℕ) → d + suc k ≡ top → ((x : ℕ) → (IsWith k f x → ⊥) → old x ≡ new x)
     → Mended top k f old new words → is_clear old (suc k) (number_at (suc k) f) ≡ false
     → (q : ℕ) → q / 2 ≡ number_at (suc k) f → q < 2 ^ suc d → word_at words (suc d) q ≡ orders new k q
@@ -109,7 +109,7 @@ confined_up top k f old new c = record {
   after = λ i le lt. c.after i (omega arith) lt;
 }
 
--- one step up, where the whole is not free: `v` is the word of the whole, s the other half
+-- one step up, if the whole is not free: `v` is the word of the whole, s the other half
 pub climb_step : (top k f d : ℕ) (old new : ℕ → Bool) (words : List ℕ) → f < 2 ^ top → length words + 1 ≡ 2 ^ (top + 1) → d + suc k ≡ top
     → IsConfined top k f old new → Mended top k f old new words → (n s v : ℕ) → n ≡ 2 ^ d + number_at (suc k) f → s + number_at k f ≡ 4 * number_at (suc k) f + 1
     → v ≡ bit_or (word_at words (suc d) (number_at k f)) (word_at words (suc d) s) → Mended top (suc k) f old new (set words (n - 1) v)
@@ -180,7 +180,7 @@ reserve_split top order from k f d large small words b size s le less free lt m 
     (agree_above large small order (k - order) k f (omega arith) (λ x off. sym (less.kept x off))) m (free_up large top from k f free lt)
     (frame_not_clear small (suc k) f (less.gone f refl))
 
--- what a reserve and a release leave to climb through
+-- a reserve and a release change only their block, and no larger block around it is clear before or after
 pub reserve_confined : (top order from f : ℕ) (large small : ℕ → Bool) → order ≤ from → IsLess small large order f → IsOpen large top from (number_at from f)
     → IsConfined top from f large small
 reserve_confined top order from f large small le less free = record {
@@ -205,7 +205,7 @@ changed_clear top k f d small large words b size s n node m =
     orders_whole large k (number_at k f) (sym (word_changed top k f d small large _ b s m)
     ∙ word_at-set_same words (n - 1) (2 ^ k) d (number_at k f) (omega (arith, pow_pos d)) (omega (arith, pow_pos d)))
 
--- one step up from node m of the block of order k, which is made available; r is the number of its other half, whose word stands at i
+-- one step up from node m of the block of order k, which is made available; r is the number of its other half, whose word is at i
 module _ (top order k f d : ℕ) (small large : ℕ → Bool) (words : List ℕ) (b : f < 2 ^ top) (size : length words + 1 ≡ 2 ^ (top + 1)) (s : d + suc k ≡ top)
     (le : order ≤ k) (less : IsLess small large order f) (m r : ℕ) (there : m ≡ 2 ^ suc d + number_at k f) (pair : r + number_at k f ≡ 4 * number_at (suc k) f + 1)
     (mended : Mended top k f small large (set words (m - 1) (2 ^ k))) (i : ℕ) (here : i + 1 ≡ 2 ^ suc d + r) where
@@ -226,7 +226,7 @@ module _ (top order k f d : ℕ) (small large : ℕ → Bool) (words : List ℕ)
   clear_here : is_clear large k (number_at k f) ≡ true
   clear_here = changed_clear top k f (suc d) small large words b size (omega arith) m there mended
 
-  -- with a buddy that is one free block it is one free block, and the words inside are 0
+  -- together with a buddy that is one free block it is one free block, and the words inside are 0
   pub release_join : (n : ℕ) → get_or words i 0 ≡ 2 ^ k → n ≡ 2 ^ d + number_at (suc k) f
       → Mended top (suc k) f small large (set (set (set words i 0) (m - 1) 0) (n - 1) (2 ^ suc k))
   release_join n free node =
@@ -242,7 +242,7 @@ module _ (top order k f d : ℕ) (small large : ℕ → Bool) (words : List ℕ)
       both (inl low) a c = and_from _ _ (subst (λ j. is_clear large k j ≡ true) low a) (subst (λ j. is_clear large k j ≡ true) (let e : r ≡ 2 * number_at (suc k) f + 1 = omega arith in e) c)
       both (inr high) a c = and_from _ _ (subst (λ j. is_clear large k j ≡ true) (let e : r ≡ 2 * number_at (suc k) f = omega arith in e) c) (subst (λ j. is_clear large k j ≡ true) high a)
 
-  -- with another it is a free block of its own
+  -- with any other buddy it is a free block by itself
   pub release_open : (get_or words i 0 ≡ 2 ^ k → ⊥) → IsOpen large top k (number_at k f)
   release_open ne =
       (omega arith, clear_here, inr (false_from_ne_true _ (λ t. ne (other_word ∙ orders_clear large k r (half_clear large k (number_at (suc k) f) r t (omega arith))))))
@@ -252,7 +252,7 @@ pub release_whole : (top f : ℕ) (small large : ℕ → Bool) (words : List ℕ
 release_whole top f small large words b size m there mended =
     (omega arith, changed_clear top top f 0 small large words b size (omega arith) m there mended, inl refl)
 
--- the words of a bare tree show a superblock of which no frame is available
+-- the words of a bare tree show a superblock in which no frame is available
 pub shows_none : (top : ℕ) → Shows top (λ _. false) (bare_tree top).words
 shows_none top = record {
   size = size;
@@ -265,7 +265,7 @@ shows_none top = record {
     size : length (bare_tree top).words + 1 ≡ 2 ^ (top + 1)
     size = bare_size top
 
--- with the first word set it shows a superblock of which every frame is
+-- with the first word set they show a superblock in which every frame is available
 pub shows_all : (top : ℕ) (words : List ℕ) (n : ℕ) → words ≡ (bare_tree top).words → n ≡ 2 ^ top → Shows top (λ _. true) (set words 0 n)
 shows_all top words n bare e =
     let some = pow_pos top in

@@ -12,7 +12,7 @@ use Rattle.buddy_core.proofs.TreeNumbers.{halves, number_above, number_whole}
 use Rattle.buddy_core.proofs.TreeOrders.{orders_clear, orders_halves, orders_same, word_whole, word_inside}
 use Rattle.buddy_core.proofs.TreeNodes.{word_at-set_same, word_at-set_other, far_whole, far_half}
 
--- frames of a block inside and away from the changed one
+-- frames of a block inside the changed one, and of a block outside it
 pub inside_with : (k f i e q x : ℕ) → i + e ≡ k → number_at e q ≡ number_at k f → number_at i x ≡ q → IsWith k f x
 inside_with k f i e q x s a h = sym (number_above e i k x s) ∙ ap (λ n. number_at e n) h ∙ a
 
@@ -26,7 +26,7 @@ away_around : (k f i e q x : ℕ) → i + suc e ≡ k → (number_at (suc e) q �
 away_around k f i e q x s off h w =
     off (sym (number_above e 1 (suc e) q (omega arith)) ∙ ap (λ n. number_at e n) (sym h) ∙ number_above e (suc i) k x (omega arith) ∙ w)
 
--- a block away from the changed one has the word that it had
+-- a block outside the changed one has the word that it had
 only_place : (k f i e q : ℕ) → i + e ≡ k → (number_at e q ≡ number_at k f → ⊥) → (n : ℕ) → i + n ≡ k → number_at n q ≡ number_at k f → ⊥
 only_place k f i e q s off n t r = off (subst (λ j. number_at j q ≡ number_at k f) (let same : n ≡ e = omega arith in same) r)
 
@@ -93,7 +93,7 @@ shows_mended top f old new words h size m = record {
   each = λ d k q s b. m.within d k d q s b (omega arith) (number_whole d q b ∙ sym (number_whole top f h));
 }
 
--- a half is one of the two
+-- each half is r or s
 either_half : (p r s q : ℕ) → r / 2 ≡ p → s + r ≡ 4 * p + 1 → q / 2 ≡ p → (q ≡ r) ⊎ (q ≡ s)
 either_half p r s q a b e = elim (cases_eq q r) [ inl h ↦ inl h | inr h ↦ inr (omega (arith, h)) ]
 

@@ -1,4 +1,4 @@
--- The stored words by depth and number of the block, and what a write to one leaves.
+-- The stored words by depth and number of the block, and the words after one of them is written.
 use Rattle.std.proofs.Common.{◌≡◌, ℕ, suc, ◌+◌, ◌-◌, ◌*◌, ◌/◌, ◌^◌, ◌<◌, ◌≤◌, ◌++◌, List, length, take, get_or, set, inl, inr, ap, subst, ◌∙◌, arith}
 use Rattle.std.proofs.lemmas.Bool.{cases_order}
 use Rattle.std.proofs.lemmas.Nat.{pow_pos}
@@ -9,7 +9,7 @@ use Rattle.std.proofs.Math.Seq.{take-append_seam}
 use Rattle.buddy_core.specs.Stored.{StoredTree, IsTree}
 use Rattle.buddy_core.specs.Tree.{word_at}
 
--- a node at a depth has a number of its own
+-- a node at a smaller depth has a smaller number
 node_deeper : (d e q r : ℕ) → q < 2 ^ d → d < e → 2 ^ d + q < 2 ^ e + r
 node_deeper d e q r h lt =
     let deep = pow_mono {i = suc d} {j = e} (omega arith) in
@@ -21,7 +21,7 @@ node_apart d e q r h g s = elim (cases_order d e) [
   | inr other ↦ absurd (elim other [ inl lt ↦ let b = node_deeper d e q r h lt in omega arith | inr lt ↦ let b = node_deeper e d r q g lt in omega arith ])
 ]
 
--- and is stored
+-- the word of each node is stored
 pub node_below : (top d k q : ℕ) → d + k ≡ top → q < 2 ^ d → 2 ^ d + q < 2 ^ (top + 1)
 node_below top d k q e h =
     let deep = pow_mono {i = suc d} {j = top + 1} (omega arith) in
@@ -44,7 +44,7 @@ low_node d p n e = omega (arith, pow-suc 2 d)
 pub half_small : (d p q : ℕ) → q / 2 ≡ p → p < 2 ^ d → q < 2 ^ suc d
 half_small d p q e h = omega (arith, pow-suc 2 d)
 
--- where the words of other nodes are not
+-- other nodes have other numbers
 pub far_whole : (d p n e q : ℕ) → n ≡ 2 ^ d + p → p < 2 ^ d → q < 2 ^ e → (e ≡ d → q ≡ p → ⊥) → 2 ^ e + q ≡ n → ⊥
 far_whole d p n e q s b h off t = let both = node_apart e d q p h b (omega arith) in off both.0 both.1
 
@@ -52,10 +52,10 @@ pub far_half : (d p r n e q : ℕ) → n ≡ 2 ^ suc d + r → r / 2 ≡ p → p
 far_half d p r n e q s a b h off t =
     let both = node_apart e (suc d) q r h (half_small d p r a b) (omega arith) in off both.0 (ap (λ i. i / 2) both.1 ∙ a)
 
--- a tree of the program is one whatever is known of its value
+-- a value that equals a stored tree is a tree
 pub tree_is : (order : ℕ) (words : List ℕ) (tree : StoredTree) → record { order = order; words = words } ≡ tree → IsTree order words → IsTree tree.order tree.words
 tree_is order words tree e is = subst (λ (t : StoredTree). IsTree t.order t.words) e is
 
--- what a slice of the whole list leaves in it
+-- words with a rest after them, cut at their length, are the same words
 pub written_back : (words rest : List ℕ) (len : ℕ) → len ≡ length words → take len (words ++ rest) ≡ words
 written_back words rest len e = ap (λ n. take n (words ++ rest)) e ∙ take-append_seam words rest

@@ -1,4 +1,4 @@
--- Blocks by number, and what a test on frames says of them.
+-- Blocks by number, and whether they are clear by a test of frames.
 use Rattle.std.proofs.Common.{◌≡◌, ℕ, zero, suc, ◌+◌, ◌-◌, ◌*◌, ◌/◌, ◌^◌, ◌<◌, ◌≤◌, Bool, true, false, ◌⊎◌, inl, inr, refl, sym, ap, subst, ◌∙◌, arith}
 use Rattle.std.proofs.lemmas.Bool.{and_parts, and_left, cases_Bool, both_ways, cases_eq}
 use Rattle.std.proofs.lemmas.Nat.{shr_below, div_below, pow_pos}
@@ -7,7 +7,7 @@ use Rattle.model_core.specs.Numbered.{number_at, is_clear}
 use Rattle.model_core.proofs.Halves.{clear_at}
 use Rattle.model_core.proofs.BlocksByNumber.{number_is}
 
--- a number is one of the two that halve to its half
+-- a number with the half p is 2 * p or 2 * p + 1
 pub halves : (p q : ℕ) → q / 2 ≡ p → (q ≡ 2 * p) ⊎ (q ≡ 2 * p + 1)
 halves p q e = elim (cases_eq q (2 * p)) [ inl h ↦ inl h | inr h ↦ inr (omega (arith, h)) ]
 
@@ -33,7 +33,7 @@ inside_clear ok (suc n) k (suc m) q e h = inside_clear ok n k m q (omega arith) 
 pub frame_not_clear : (ok : ℕ → Bool) (k x : ℕ) → ok x ≡ false → is_clear ok k (number_at k x) ≡ false
 frame_not_clear ok k x h = elim (cases_Bool (is_clear ok k (number_at k x))) [ inl t ↦ absurd (both_ways (ok x) h (clear_at ok k x t)) | inr f ↦ f ]
 
--- nor is one of which no frame passes
+-- nor is a block in which no frame passes
 pub none_clear : (ok : ℕ → Bool) (k q : ℕ) → ((x : ℕ) → number_at k x ≡ q → ok x ≡ false) → is_clear ok k q ≡ false
 none_clear ok zero q h = h q refl
 none_clear ok (suc k) q h = and_left _ _ (none_clear ok k (2 * q) (λ x e. h x (omega arith)))

@@ -1,4 +1,4 @@
--- The word of one block: which orders it tells.
+-- The orders in the word of one block.
 use Rattle.std.proofs.Common.{◌≡◌, ℕ, zero, suc, ◌+◌, ◌*◌, ◌/◌, ◌^◌, ◌<◌, Bool, true, false, ◌&&◌, ◌⊎◌, inl, inr, refl, sym, ap, subst, ◌∙◌, arith, cond}
 use Rattle.std.specs.Prelude.{bit_or, nat_lt}
 use Rattle.std.specs.Int.{bit_at}
@@ -10,12 +10,12 @@ use Rattle.buddy_core.specs.Tree.{orders, word, HasOpen}
 use Rattle.model_core.proofs.Halves.{clear_same}
 use Rattle.buddy_core.proofs.TreeNumbers.{halves, number_above, inside_clear, none_clear}
 
--- of a clear block: its own order alone
+-- a clear block has only its own order
 pub orders_clear : (ok : ℕ → Bool) (k q : ℕ) → is_clear ok k q ≡ true → orders ok k q ≡ 2 ^ k
 orders_clear ok zero q h = cond-true (ok q) 1 0 h
 orders_clear ok (suc k) q h = cond-true (is_clear ok (suc k) q) _ _ h
 
--- of another: those of its halves
+-- any other block has the orders of its halves
 pub orders_halves : (ok : ℕ → Bool) (k q : ℕ) → is_clear ok (suc k) q ≡ false → orders ok (suc k) q ≡ bit_or (orders ok k (2 * q)) (orders ok k (2 * q + 1))
 orders_halves ok k q h = cond-false (is_clear ok (suc k) q) _ _ h
 
@@ -27,14 +27,14 @@ orders_small ok (suc k) q =
     let both = or_lt (suc k) (orders ok k (2 * q)) (orders ok k (2 * q + 1)) (orders_small ok k (2 * q)) (orders_small ok k (2 * q + 1)) in
     elim (cases_Bool (is_clear ok (suc k) q)) [ inl t ↦ omega (arith, orders_clear ok (suc k) q t) | inr f ↦ omega (arith, orders_halves ok k q f) ]
 
--- its own order alone is told only of a clear block
+-- only a clear block has just its own order
 pub orders_whole : (ok : ℕ → Bool) (k q : ℕ) → orders ok k q ≡ 2 ^ k → is_clear ok k q ≡ true
 orders_whole ok zero q h = elim (cases_Bool (ok q)) [ inl t ↦ t | inr f ↦ let none = cond-false {A = ℕ} (ok q) 1 0 f in absurd (omega arith) ]
 orders_whole ok (suc k) q h =
     let both = or_lt (suc k) (orders ok k (2 * q)) (orders ok k (2 * q + 1)) (orders_small ok k (2 * q)) (orders_small ok k (2 * q + 1)) in
     elim (cases_Bool (is_clear ok (suc k) q)) [ inl t ↦ t | inr f ↦ absurd (omega (arith, orders_halves ok k q f)) ]
 
--- of a block of which no frame passes: none
+-- a block in which no frame passes has no order
 pub orders_none : (ok : ℕ → Bool) (k q : ℕ) → ((x : ℕ) → number_at k x ≡ q → ok x ≡ false) → orders ok k q ≡ 0
 orders_none ok zero q h = cond-false (ok q) 1 0 (h q refl)
 orders_none ok (suc k) q h =
@@ -42,7 +42,7 @@ orders_none ok (suc k) q h =
     let high = orders_none ok k (2 * q + 1) (λ x e. h x (omega arith)) in
     orders_halves ok k q (none_clear ok (suc k) q h) ∙ ap (λ n. bit_or n (orders ok k (2 * q + 1))) low ∙ ap (λ n. bit_or 0 n) high
 
--- tests that agree on the block's frames
+-- tests that agree on the block's frames give the same orders
 pub orders_same : (a b : ℕ → Bool) (k q : ℕ) → ((x : ℕ) → number_at k x ≡ q → a x ≡ b x) → orders a k q ≡ orders b k q
 orders_same a b zero q h = ap (λ t. cond t 1 0) (h q refl)
 orders_same a b (suc k) q h =
@@ -62,7 +62,7 @@ word_whole ok k q = cond-false (nat_lt k k && is_clear ok (suc k) (q / 2)) 0 _ (
 pub word_inside : (ok : ℕ → Bool) (top k q : ℕ) → k < top → word ok top k q ≡ cond (is_clear ok (suc k) (q / 2)) 0 (orders ok k q)
 word_inside ok top k q h = ap (λ t. cond (t && is_clear ok (suc k) (q / 2)) 0 (orders ok k q)) (lt-ltb k top h)
 
--- bit j tells a free block of order j inside
+-- bit j is 1 if and only if a free block of order j is inside
 pub bit_apart : (k j : ℕ) → bit_at (2 ^ k) j ≡ 1 → j ≡ k
 bit_apart k j h = elim (cases_eq j k) [ inl e ↦ e | inr ne ↦ absurd (omega (arith, bit_at-pow_other k j ne)) ]
 
@@ -76,7 +76,7 @@ either_bit a b j h =
 whole_open : (ok : ℕ → Bool) (k q j : ℕ) → is_clear ok k q ≡ true → j ≡ k → HasOpen ok k k q j
 whole_open ok k q j h e = (0, q, omega arith, refl, (omega arith, subst (λ i. is_clear ok i q ≡ true) (sym e) h, inl e))
 
--- a block that is open in a half is open in the whole, where that is not clear
+-- a block that is open in a half is open in the whole, if the whole is not clear
 open_above : (ok : ℕ → Bool) (k q r j : ℕ) → is_clear ok (suc k) q ≡ false → r / 2 ≡ q → HasOpen ok k k r j → HasOpen ok (suc k) (suc k) q j
 open_above ok k q r j h e (n, p, s, a, (small, clear, around)) =
     (suc n, p, omega arith, ap (λ i. i / 2) a ∙ e, (omega arith, clear, elim around [ inl t ↦ inr (not_clear n s a t) | inr f ↦ inr f ]))

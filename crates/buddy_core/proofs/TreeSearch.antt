@@ -29,7 +29,7 @@ leads_first ok top j words shows h = record {
   least = λ n p s b o. omega arith;
 }
 
--- a block that has a smaller free block inside is not one
+-- a block that has a smaller free block inside is not clear
 not_whole : (ok : ℕ → Bool) (k q j : ℕ) → j ≤ k → bit_at (orders ok (suc k) q) j ≡ 1 → is_clear ok (suc k) q ≡ false
 not_whole ok k q j h b = false_from_ne_true _ (λ t.
     let whole = bit_apart (suc k) j (subst (λ n. bit_at n j ≡ 1) (orders_clear ok (suc k) q t) b) in omega arith)

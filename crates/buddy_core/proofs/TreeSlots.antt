@@ -1,5 +1,5 @@
--- The words of a superblock against the free blocks of the tenant that has it under slot u: frame x of the superblock
--- is the tenant's frame u * 2 ^ top + x.
+-- The words of a superblock and the free blocks of the tenant that has it in slot u. Frame x of the superblock is the tenant's
+-- frame u * 2 ^ top + x.
 use Rattle.std.proofs.Common.{◌≡◌, ◌↔◌, ℕ, zero, suc, ◌+◌, ◌-◌, ◌*◌, ◌/◌, ◌%◌, ◌^◌, ◌<◌, ◌≤◌, Bool, true, false, ◌&&◌, cond, List, inl, inr, sym, ap, subst, ◌∙◌, arith}
 use Rattle.std.specs.Prelude.{slice_index}
 use Rattle.std.specs.Int.{bit_at}
@@ -17,9 +17,9 @@ use Rattle.buddy_core.specs.Tree.{orders, word, Shows, IsLess, HasOpen, IsLeast}
 use Rattle.buddy_core.proofs.TreeNumbers.{number_above, number_below, number_whole, inside_clear}
 use Rattle.buddy_core.proofs.TreeOrders.{orders_same, orders_tell, orders_told, word_whole, word_inside}
 
--- bit j of each stored word tells a free block of order j inside the node's block -----------------------
+-- bit j of each stored word is 1 if and only if a free block of order j is inside the node's block ----------
 
--- a block that is open in a part of the superblock is open in it, where the part is not itself inside a clear block
+-- a block that is open in a part of the superblock is open in the superblock, if the part is not itself inside a clear block
 widen : (ok : ℕ → Bool) (top k q j : ℕ) → k < top → is_clear ok (suc k) (q / 2) ≡ false → HasOpen ok k k q j → HasOpen ok top k q j
 widen ok top k q j lt off (n, p, s, a, (small, clear, around)) =
     (n, p, s, a, (omega arith, clear, inr (elim around [ inl e ↦ own n s a e | inr f ↦ f ])))
@@ -126,7 +126,7 @@ around_slot ok u top d k q e =
     let wide : u * 2 ^ suc d ≡ u * 2 ^ d * 2 = ap (λ n. u * n) (pow-suc 2 d) ∙ regroup u (2 ^ d) in
     clear_slot ok u top d (suc k) (q / 2) (omega arith) ∙ ap (λ i. is_clear ok (suc k) i) (let s : u * 2 ^ d + q / 2 ≡ (u * 2 ^ suc d + q) / 2 = omega arith in s)
 
--- a block of the superblock is open in it where it is open among the tenant's
+-- a block that is open in the superblock is open among the tenant's
 pub open_of_slot : (ok : ℕ → Bool) (u top d k q : ℕ) → d + k ≡ top → IsOpen (λ x. ok (u * 2 ^ top + x)) top k q → IsOpen ok top k (u * 2 ^ d + q)
 open_of_slot ok u top zero k q e (small, clear, around) = (small, sym (clear_slot ok u top 0 k q e) ∙ clear, inl (omega arith))
 open_of_slot ok u top (suc d) k q e (small, clear, around) =
@@ -174,7 +174,7 @@ module _ (top : ℕ) (held : ℕ → Bool) (taken : Taken) (u : ℕ) where
       open_in_slot (is_available top held taken) u top (top - j) j (number_at j (f % 2 ^ top)) (omega arith)
       (subst (λ n. IsOpen (is_available top held taken) top j n) number o)
 
-  -- bit j of a node tells a free block of order j inside the node's block
+  -- bit j of a node is 1 if and only if a free block of order j is inside the node's block
   pub slot_tells : (words : List ℕ) → Shows top in_slot words → (d q j : ℕ) → d ≤ top → q < 2 ^ d
       → (bit_at (slice_index words (2 ^ d + q - 1)) j ≡ 1)
       ↔ ((f : ℕ) × IsFree top held taken (block f j) × ((u * 2 ^ top + q * 2 ^ (top - d) ≤ f) × (f + 2 ^ j ≤ u * 2 ^ top + q * 2 ^ (top - d) + 2 ^ (top - d))))
@@ -213,7 +213,7 @@ module _ (top : ℕ) (held : ℕ → Bool) (taken : Taken) (u : ℕ) where
           let here : number_at k x ≡ q = number_of_frame (q * 2 ^ k) k x (aligned_first q k) (omega arith, omega arith) ∙ number_first q k in
           (k - j, number_at j x, omega arith, number_above (k - j) j k x (omega arith) ∙ here, open_of j f slot free)
 
-  -- and so does the first word for the whole slot
+  -- bit j of the first word is 1 if and only if a free block of order j is in the slot
   pub root_tells : (words : List ℕ) → Shows top in_slot words → (j : ℕ)
       → (bit_at (slice_index words 0) j ≡ 1) ↔ ((f : ℕ) × IsFree top held taken (block f j) × (f / 2 ^ top ≡ u))
   root_tells words shows j = (λ bit. forth (tells.0 bit), λ w. tells.1 (back w))

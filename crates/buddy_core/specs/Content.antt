@@ -1,16 +1,16 @@
--- What the buddy system holds, tenant by tenant: slots with the superblocks under them, and taken
--- blocks. Free blocks are not part of it: they follow from the held slots and the taken blocks.
+-- What each tenant holds in the buddy system: its slots with their superblocks, and its taken blocks. Free blocks are not part of
+-- it: they follow from the held slots and the taken blocks.
 use Rattle.std.specs.Prelude.{ℕ, ◌≡◌, ◌*◌, ◌^◌, ◌<◌, ◌≤◌, ◌==◌, Bool, false, Option, Some, None, is_some, List, [], length, replicate, slice_index_or, slice_set, count_by}
 use Rattle.model_core.specs.declared.limits.TheConstants.{MOST_ORDER, MOST_SUPERBLOCKS, MOST_TENANTS}
 use Rattle.model_core.specs.Blocks.{Taken, block, IsSound}
 use Rattle.model_core.specs.Choice.{is_free, count_below}
 
--- one tenant: the superblock under each slot, and at each frame the order of the taken block that begins there
+-- one tenant: the superblock in each slot, and at each frame the order of the taken block that begins there
 pub record Holding : Type 0 where
   pub slots : List (Option ℕ)
   pub taken : List (Option ℕ)
 
--- `top` is the order of a superblock; tenants by number
+-- `top` is the order of a superblock, `superblocks` the number of superblocks; tenants are listed by number
 pub record Content : Type 0 where
   pub top : ℕ
   pub superblocks : ℕ
@@ -35,7 +35,7 @@ holding_of t c = slice_index_or c.tenants t no_tenant
 abbrev pub with_holding : ℕ → Holding → Content → Content
 with_holding t h c = record c { tenants = slice_set c.tenants t h }
 
--- the superblock under a slot
+-- the superblock in a slot
 abbrev pub superblock_at : Holding → ℕ → Option ℕ
 superblock_at h u = slice_index_or h.slots u None
 
@@ -62,7 +62,7 @@ without_slot u h = record h { slots = slice_set h.slots u None }
 abbrev pub IsSoundHolding : ℕ → Holding → Type 0
 IsSoundHolding top h = IsSound top (is_held h) (taken_of h)
 
--- how many free blocks of order k there are
+-- the number of free blocks of order k
 abbrev pub free_block_count : ℕ → ℕ → ℕ → Holding → ℕ
 free_block_count top superblocks k h = count_below (λ f. is_free top (is_held h) (taken_of h) (block f k)) (superblocks * 2 ^ top)
 
@@ -70,14 +70,14 @@ abbrev pub has_order : ℕ → Option ℕ → Bool
 has_order k None = false
 has_order k (Some j) = j == k
 
--- how many taken blocks of order k there are
+-- the number of taken blocks of order k
 abbrev pub taken_block_count : ℕ → Holding → ℕ
 taken_block_count k h = count_by (has_order k) h.taken
 
 abbrev pub held_slots : Holding → ℕ
 held_slots h = count_by is_some h.slots
 
--- the limits of a machine, and how long the lists are
+-- the limits of a machine, and the lengths of its lists
 pub record IsSized (c : Content) : Type 0 where
   pub small : c.top ≤ MOST_ORDER
   pub few : c.superblocks ≤ MOST_SUPERBLOCKS

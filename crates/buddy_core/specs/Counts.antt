@@ -1,4 +1,4 @@
--- A tenant's counts of free and taken blocks, by order, when a block is taken or released.
+-- A tenant's counts of free and taken blocks of each order, when a block is taken or released.
 use Rattle.std.specs.Prelude.{◌≡◌, ◌⊎◌, ℕ, ◌+◌, ◌^◌, ◌<◌, ◌≤◌, length, slice_index}
 use Rattle.buddy_core.specs.Stored.{StoredTenant}
 
@@ -6,7 +6,8 @@ use Rattle.buddy_core.specs.Stored.{StoredTenant}
 abbrev pub CanCountMore : StoredTenant → Type 0
 CanCountMore tenant = (i : ℕ) → (slice_index tenant.free i + 1 < 2 ^ 32) × (slice_index tenant.taken i + 1 < 2 ^ 32)
 
--- `part` counts what `whole` counts once a block of order k is taken out of a free one of order j: the halves between are free
+-- `part` has the counts of `whole` after a block of order k is taken out of a free block of order j: one half of each order from
+-- k to j - 1 is then free
 pub record IsTakenOut (k j : ℕ) (whole part : StoredTenant) : Type 0 where
   pub slots : part.slots ≡ whole.slots
   pub free_size : length part.free ≡ length whole.free

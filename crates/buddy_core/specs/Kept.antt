@@ -11,7 +11,7 @@ use Rattle.buddy_core.specs.Stored.{StoredSuperblock, StoredTenant, bare_superbl
 abbrev pub available_in : ℕ → List StoredSuperblock → StoredTenant → ℕ → ℕ → Bool
 available_in top superblocks tenant u x = is_available top (held_by tenant) (taken_by top superblocks tenant) (u * 2 ^ top + x)
 
--- how many free blocks of order k a tenant has
+-- the number of a tenant's free blocks of order k
 abbrev pub free_number : ℕ → List StoredSuperblock → ℕ → StoredTenant → ℕ
 free_number top superblocks k tenant = count_below (λ f. is_free top (held_by tenant) (taken_by top superblocks tenant) (block f k)) (length superblocks * 2 ^ top)
 
@@ -20,7 +20,7 @@ pub record HasTenantSizes (top superblocks : ℕ) (tenant : StoredTenant) : Type
   pub free : length tenant.free ≡ top + 1
   pub taken : length tenant.taken ≡ top + 1
 
--- a tenant's counts and tables are those of what it holds
+-- a tenant's counts, and the words of its superblocks, agree with what it holds
 pub record IsTenantKept (top : ℕ) (superblocks : List StoredSuperblock) (tenant : StoredTenant) : Type 0 where
   pub sizes : HasTenantSizes top (length superblocks) tenant
   pub within : (u m : ℕ) → superblock_at tenant u ≡ Some m → m < length superblocks

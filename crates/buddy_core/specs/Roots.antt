@@ -10,7 +10,7 @@ pub record IsEnd (slots : List (Option ℕ)) (end : ℕ) : Type 0 where
   pub within : end ≤ length slots
   pub rest : (u : ℕ) → end ≤ u → slice_index_or slots u None ≡ None
 
--- a tenant has a slot for each superblock at most, and a count of free blocks and one of taken blocks for each order
+-- a tenant has at most MOST_SUPERBLOCKS slots, and a count of free blocks and one of taken blocks for each order
 pub record IsStoredTenant (slots : List (Option ℕ)) (end : ℕ) (free taken : List ℕ) : Type 0 where
   pub ends : IsEnd slots end
   pub few : length slots ≤ MOST_SUPERBLOCKS
@@ -21,7 +21,7 @@ pub record IsStoredTenant (slots : List (Option ℕ)) (end : ℕ) (free taken : 
 abbrev pub HasBit : List StoredSuperblock → ℕ → ℕ → Type 0
 HasBit superblocks m j = bit_at (slice_index (superblock_of m superblocks).tree.words 0) j ≡ 1
 
--- a superblock under one of the slots has one
+-- the superblock in one of the slots has a free block of order j
 abbrev pub HasOrder : List StoredSuperblock → List (Option ℕ) → ℕ → Type 0
 HasOrder superblocks slots j = (u m : ℕ) × (slice_index_or slots u None ≡ Some m) × HasBit superblocks m j
 
@@ -29,11 +29,11 @@ HasOrder superblocks slots j = (u m : ℕ) × (slice_index_or slots u None ≡ S
 abbrev pub IsCounted : List StoredSuperblock → StoredTenant → Type 0
 IsCounted superblocks tenant = (j : ℕ) → (0 < slice_index tenant.free j) ↔ HasOrder superblocks tenant.slots j
 
--- each superblock under a slot is there
+-- the number of each superblock in a slot is below the number of superblocks
 abbrev pub IsThere : List StoredSuperblock → List (Option ℕ) → Type 0
 IsThere superblocks slots = (u m : ℕ) → slice_index_or slots u None ≡ Some m → m < length superblocks
 
--- no superblock has a free block of order k or more
+-- no superblock in a slot has a free block of order k or more
 abbrev pub IsWithoutOrder : List StoredSuperblock → List (Option ℕ) → ℕ → Type 0
 IsWithoutOrder superblocks slots k = (j u m : ℕ) → k ≤ j → slice_index_or slots u None ≡ Some m → HasBit superblocks m j → ⊥
 

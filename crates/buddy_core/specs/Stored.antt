@@ -1,4 +1,4 @@
--- What is stored of each superblock and of each tenant, and what a tenant holds by it.
+-- What is stored of each superblock and of each tenant, and what the tenant holds according to it.
 use Rattle.std.specs.Prelude.{◌≡◌, ℕ, ◌+◌, ◌-◌, ◌*◌, ◌/◌, ◌%◌, ◌^◌, ◌≤◌, Bool, Option, Some, None, is_some, List, [], length, map, replicate, slice_index_or}
 use Rattle.std.specs.List.{range_with_len}
 use Rattle.model_core.specs.declared.limits.TheConstants.{MOST_ORDER}
@@ -20,7 +20,7 @@ pub record StoredSuperblock : Type 0 where
   pub tree : StoredTree
   pub orders : List (Option ℕ)
 
--- a tenant: the superblock under each slot, and by order how many free and how many taken blocks it has
+-- a tenant: the superblock in each slot, and the numbers of free and of taken blocks of each order
 pub record StoredTenant : Type 0 where
   pub slots : List (Option ℕ)
   pub free : List ℕ
@@ -30,7 +30,7 @@ pub record StoredTenant : Type 0 where
 abbrev pub bare_tree : ℕ → StoredTree
 bare_tree order = record { order = order; words = replicate (2 ^ (order + 1) - 1) 0 }
 
--- a superblock under no slot
+-- a superblock in no slot
 abbrev pub bare_superblock : ℕ → StoredSuperblock
 bare_superblock top = record { tree = bare_tree top; orders = replicate (2 ^ top) None }
 
@@ -44,14 +44,14 @@ superblock_of m superblocks = slice_index_or superblocks m (record { tree = reco
 abbrev pub stored_tenant : ℕ → List StoredTenant → StoredTenant
 stored_tenant t tenants = slice_index_or tenants t (record { slots = []; free = []; taken = [] })
 
--- the superblock under a slot
+-- the superblock in a slot
 abbrev pub superblock_at : StoredTenant → ℕ → Option ℕ
 superblock_at tenant u = slice_index_or tenant.slots u None
 
 abbrev pub held_by : StoredTenant → ℕ → Bool
 held_by tenant u = is_some (superblock_at tenant u)
 
--- the order of the taken block that begins at frame x of the superblock under a slot
+-- the order of the taken block that begins at frame x of the superblock in a slot
 abbrev pub order_under : List StoredSuperblock → Option ℕ → ℕ → Option ℕ
 order_under superblocks None x = None
 order_under superblocks (Some m) x = slice_index_or (superblock_of m superblocks).orders x None

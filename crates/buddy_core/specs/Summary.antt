@@ -5,15 +5,15 @@ use Rattle.buddy_core.specs.declared.summaries.TheConstants.{GROUP_SLOTS}
 use Rattle.buddy_core.specs.Roots.{HasBit}
 use Rattle.buddy_core.specs.Stored.{StoredSuperblock, StoredTenant, stored_tenant}
 
--- the bit of a group is 1 in the word of order j wherever a superblock under a slot of the group has a free block of that order
+-- if a superblock in a slot of a group has a free block of order j, the bit of the group is 1 in the word of that order
 abbrev pub IsBounded : List StoredSuperblock → List (Option ℕ) → List ℕ → Type 0
 IsBounded superblocks slots words = (j u m : ℕ) → slice_index_or slots u None ≡ Some m → HasBit superblocks m j → bit_at (slice_index words j) (u / GROUP_SLOTS) ≡ 1
 
--- so it is for each tenant
+-- this holds for each tenant
 pub record AreBounded (superblocks : List StoredSuperblock) (tenants : List StoredTenant) (summaries : List (List ℕ)) : Type 0 where
   pub size : length summaries ≡ length tenants
   pub each : (t : ℕ) → IsBounded superblocks (stored_tenant t tenants).slots (slice_index_or summaries t [])
 
--- no superblock under a slot of the group has a free block of order j
+-- no superblock in a slot of the group has a free block of order j
 abbrev pub HasNoneIn : List StoredSuperblock → List (Option ℕ) → ℕ → ℕ → Type 0
 HasNoneIn superblocks slots group j = (u m : ℕ) → u / GROUP_SLOTS ≡ group → slice_index_or slots u None ≡ Some m → HasBit superblocks m j → ⊥

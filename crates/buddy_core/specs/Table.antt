@@ -10,7 +10,7 @@ use Rattle.buddy_core.specs.Content.{Content, holding_of, superblock_at, is_held
 abbrev pub Lies : Block → Block → Type 0
 Lies b c = (c.first ≤ b.first) × (b.first + 2 ^ b.order ≤ c.first + 2 ^ c.order)
 
--- the block of node 2 ^ d + q, in the frames of the tenant that has the superblock under slot u
+-- the block of node 2 ^ d + q, in the frames of the tenant that has the superblock in slot u
 abbrev pub node_block : ℕ → ℕ → ℕ → ℕ → Block
 node_block top u d q = block (u * 2 ^ top + q * 2 ^ (top - d)) (top - d)
 
@@ -20,8 +20,8 @@ HasFree c t j node = (f : ℕ) × IsFree c.top (is_held (holding_of t c)) (taken
 
 pub record IsTable (c : Content) (m : ℕ) (words : List ℕ) : Type 0 where
   pub size : length words + 1 ≡ 2 ^ (c.top + 1)
-  -- bit j of a node tells whether a free block of order j lies inside the node's block
+  -- bit j of a node is 1 if and only if a free block of order j lies inside the node's block
   pub under : (t u : ℕ) → superblock_at (holding_of t c) u ≡ Some m → (d q j : ℕ) → d ≤ c.top → q < 2 ^ d
       → (bit_at (slice_index words (2 ^ d + q - 1)) j ≡ 1) ↔ HasFree c t j (node_block c.top u d q)
-  -- a superblock under no slot has no free block
+  -- a superblock in no slot has no free block
   pub bare : ((t u : ℕ) → superblock_at (holding_of t c) u ≡ Some m → ⊥) → All (λ w. w ≡ 0) words

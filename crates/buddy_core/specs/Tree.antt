@@ -1,10 +1,10 @@
--- The tree of orders of one superblock: node 1 is the whole superblock, of order `top`, and nodes 2i and 2i + 1 are
--- the halves of node i. Node i is stored at index i - 1, so block q of order `top - d` is node 2 ^ d + q.
--- Frames are those of the superblock, from 0; `ok` tells which are available.
+-- The tree of orders of one superblock: node 1 is the whole superblock, of order `top`, and nodes 2i and 2i + 1 are the halves of
+-- node i. Node i is stored at index i - 1, so block q of order `top - d` is node 2 ^ d + q. Frames are those of the superblock,
+-- from 0; `ok` is true of the available ones.
 use Rattle.std.specs.Prelude.{◌≡◌, ℕ, zero, suc, ◌+◌, ◌-◌, ◌*◌, ◌/◌, ◌^◌, ◌<◌, ◌≤◌, nat_lt, Bool, true, false, ◌&&◌, cond, List, length, slice_index, bit_or}
 use Rattle.model_core.specs.Numbered.{number_at, is_clear, IsOpen}
 
--- the orders of the free blocks in block q of order k, a bit for each, as if nothing lay around that block
+-- the orders of the free blocks in block q of order k, a bit for each, as if there were no frames around that block
 abbrev pub orders : (ℕ → Bool) → ℕ → ℕ → ℕ
 orders ok zero q = cond (ok q) 1 0
 orders ok (suc k) q =
@@ -23,7 +23,7 @@ pub record Shows (top : ℕ) (ok : ℕ → Bool) (words : List ℕ) : Type 0 whe
   pub size : length words + 1 ≡ 2 ^ (top + 1)
   pub each : (d k q : ℕ) → d + k ≡ top → q < 2 ^ d → word_at words d q ≡ word ok top k q
 
--- which node that of the block of order k around frame f is: it is stored, and so is its other half
+-- `node` is the node of the block of order k around frame f: it is stored, and so is the node of its other half
 pub record IsNode (top k f node : ℕ) : Type 0 where
   pub at : (d : ℕ) → d + k ≡ top → node ≡ 2 ^ d + number_at k f
   pub some : 0 < node
@@ -49,13 +49,14 @@ HasOpen ok top k q j = (n p : ℕ) × (j + n ≡ k) × (number_at n p ≡ q) × 
 abbrev pub IsLeast : (ℕ → Bool) → ℕ → ℕ → ℕ → Type 0
 IsLeast ok top j q = IsOpen ok top j q × ((p : ℕ) → p < 2 ^ (top - j) → IsOpen ok top j p → q ≤ p)
 
--- the words while a change from `old` to `new` is carried up: those inside the block of order k around frame f are the
--- words of a tree of its own under `new`, all others are as they were under `old`
+-- The words while a change from `old` to `new` is carried up. Inside the block of order k around frame f they are those of a
+-- separate tree of that block under `new`; all others are as they were under `old`.
 pub record Mended (top k f : ℕ) (old new : ℕ → Bool) (words : List ℕ) : Type 0 where
   pub within : (d i e q : ℕ) → d + i ≡ top → q < 2 ^ d → i + e ≡ k → number_at e q ≡ number_at k f → word_at words d q ≡ word new k i q
   pub beyond : (d i q : ℕ) → d + i ≡ top → q < 2 ^ d → ((e : ℕ) → i + e ≡ k → number_at e q ≡ number_at k f → ⊥) → word_at words d q ≡ word old top i q
 
--- `old` and `new` are the same away from the block of order k around frame f, and neither has all of a larger block around it
+-- `old` and `new` are the same outside the block of order k around frame f, and neither has all frames of a larger block around
+-- it
 pub record IsConfined (top k f : ℕ) (old new : ℕ → Bool) : Type 0 where
   pub same : (x : ℕ) → (IsWith k f x → ⊥) → old x ≡ new x
   pub before : (i : ℕ) → k ≤ i → i < top → is_clear old (suc i) (number_at (suc i) f) ≡ false

@@ -11,7 +11,7 @@ use crate::superblock::Superblock;
 use crate::tenant::Tenant;
 use crate::tree;
 
-/// A slot of a tenant, the superblock under it, and the order of a free block there.
+/// A slot of a tenant, the superblock in it, and the order of a free block there.
 #[derive(Clone, Copy, Debug)]
 pub struct Source {
     pub slot: u16,

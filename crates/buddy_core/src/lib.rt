@@ -6,8 +6,8 @@
 //! a multiple of `2^k`; it is taken or not. A free block is an aligned block of held slots that has no
 //! taken frame and that no larger such block contains. So halves are joined at every release.
 //!
-//! Contracts see a [`Buddy`] as the slots and the taken blocks of each tenant. Behind them each
-//! superblock has a tree of words. A word has the orders of the free blocks inside one block.
+//! Contracts see a [`Buddy`] as the slots and the taken blocks of each tenant. Internally each superblock has a tree of words: a
+//! word has the orders of the free blocks inside one block.
 //!
 //! # Example
 //!
@@ -53,7 +53,7 @@ pub struct Buddy {
     order: u8,
     superblocks: Vec<Superblock>,
     tenants: Vec<Tenant>,
-    // For each tenant, the slots that a search passes over.
+    // For each tenant, the groups of slots that a search has to visit.
     summaries: Vec<Summary>,
 }
 
@@ -73,7 +73,8 @@ impl Model for Buddy {
 }
 
 impl Buddy {
-    /// Makes a machine of `superblocks` superblocks of `2^order` frames each, and of tenants that hold nothing.
+    /// Makes a machine of `superblocks` superblocks of `2^order` frames each, and of `tenants` tenants that hold nothing. Returns
+    /// `AllocError` if the allocator refuses memory.
     pub fn new(alloc: Global, order: u8, superblocks: u16, tenants: u8) -> Result<Buddy, AllocError>
         requires order { order ≤ MOST_ORDER }
         requires superblocks { superblocks ≤ MOST_SUPERBLOCKS }
@@ -127,7 +128,7 @@ impl Buddy {
         self.tenants.len() as u8
     }
 
-    /// Gives superblock `m` to tenant `t` as a slot that it does not hold. All its frames are free.
+    /// Gives superblock `m`, which is in no slot, to tenant `t` as a slot that it does not hold. All its frames are free.
     pub fn add_slot(&mut self, t: u8, slot: u16, m: u16)
         requires tenant { t < length self.old.tenants }
         requires slot { slot < self.old.superblocks }
@@ -142,7 +143,8 @@ impl Buddy {
         self.tenants[t as usize].add_slot(slot, m, order);
     }
 
-    /// Takes the superblock out of a slot of tenant `t`. Refused if a frame of the slot is taken.
+    /// Takes the superblock out of a slot that tenant `t` holds. Returns `SlotBusy` and changes nothing if a frame of the slot is
+    /// taken.
     pub fn drop_slot(&mut self, t: u8, slot: u16) -> Result<(), SlotBusy>
         requires tenant { t < length self.old.tenants }
         requires held { IsSome (superblock_at (holding_of t self.old) slot) }
@@ -192,9 +194,9 @@ impl Buddy {
         self.tenants[t as usize].clear();
     }
 
-    /// Takes a block of order `k` for tenant `t` and returns its first frame: the beginning of a free
-    /// block of the least free order of at least `k`, of these the one with the least first frame.
-    /// Returns `None` if no block of order `k` or more is free.
+    /// Takes a block of order `k` for tenant `t` and returns its first frame. It is the beginning of a free block of the least
+    /// free order of at least `k`, and of these blocks the one with the least first frame. Returns `None` and changes nothing if
+    /// no block of order `k` or more is free.
     ///
     /// A block that is too large is split; the upper half stays free.
     pub fn reserve(&mut self, t: u8, k: u8) -> Option<u32>
@@ -229,7 +231,7 @@ impl Buddy {
         self.release_in(m, t, frame)
     }
 
-    /// The same as [`Buddy::release`] if the caller knows that superblock `m` is in that slot.
+    /// Does the same as [`Buddy::release`] if the caller knows that superblock `m` is in that slot.
     #[inline(always)]
     pub fn release_in(&mut self, m: u16, t: u8, frame: u32) -> Option<u8>
         requires tenant { t < length self.old.tenants }
@@ -246,7 +248,7 @@ impl Buddy {
         Some(k)
     }
 
-    /// Returns the order of the taken block of tenant `t` that begins at `frame`, if one does.
+    /// Returns the order of the taken block of tenant `t` that begins at `frame`, or `None` if none begins there.
     pub fn live_order(&self, t: u8, frame: u32) -> Option<u8>
         requires { t < length self.now.tenants }
         ensures { result ≡ taken_of (holding_of t self.now) frame }
@@ -266,7 +268,8 @@ impl Buddy {
         self.block_in(m, t, frame)
     }
 
-    /// The same as [`Buddy::block_of`] if the caller knows that superblock `m` is in that slot. Only the contract uses `t`.
+    /// Returns the same as [`Buddy::block_of`] if the caller knows that superblock `m` is in that slot. Only the contract uses
+    /// `t`.
     #[inline(always)]
     pub fn block_in(&self, m: u16, t: u8, frame: u32) -> Option<(u32, u8)>
         requires tenant { t < length self.now.tenants }
@@ -311,7 +314,8 @@ impl Buddy {
         self.tenants[t as usize].held_slots()
     }
 
-    /// Returns for each frame of a slot of tenant `t`, in order, the order of the taken block that begins there.
+    /// Returns an entry for each of the `2^order` frames of a slot of tenant `t`: the order of the taken block that begins there,
+    /// or `None`.
     pub fn orders_under(&self, t: u8, slot: u32) -> &[Option<u8>]
         requires tenant { t < length self.now.tenants }
         requires held { IsSome (superblock_at (holding_of t self.now) slot) }

@@ -1,4 +1,4 @@
-//! The slots of a tenant that a search may pass over.
+//! The groups of a tenant's slots that a search may skip.
 
 ghost use Rattle.std.specs.Prelude.{◌≡◌, ◌≢◌, ℕ, ◌/◌, ◌<◌, ◌≤◌, replicate, slice_index, MatchOption};
 ghost use Rattle.std.specs.Int.{bit_at};
@@ -48,7 +48,7 @@ impl Summary {
         Summary { words: [0; ORDERS] }
     }
 
-    /// Returns the first group that may have a free block of `order`.
+    /// Returns the first group that may have a free block of `order`, or `None` if no group may.
     pub fn first(&self, order: u8) -> Option<usize>
         requires { order < ORDERS }
         ensures { MatchOption result ((b : ℕ) → bit_at (slice_index self.now order) b ≡ 1 → ⊥)

@@ -46,7 +46,7 @@ impl Superblock {
         &self.tree
     }
 
-    /// Returns the order of the taken block that begins at `frame` of the superblock, if one does.
+    /// Returns the order of the taken block that begins at `frame` of the superblock, or `None` if none begins there.
     pub fn order_at(&self, frame: u32) -> Option<u8>
         requires { frame < 2 ^ self.now.tree.order }
         ensures { result ≡ slice_index_or self.now.orders frame None }
@@ -54,7 +54,7 @@ impl Superblock {
         self.orders[frame as usize]
     }
 
-    /// Returns for each frame the order of the taken block that begins there.
+    /// Returns for each frame the order of the taken block that begins there, or `None`.
     pub fn orders(&self) -> &[Option<u8>]
         ensures same { result.now ≡ self.now.orders }
         ensures size { length result.now ≡ 2 ^ self.now.tree.order }

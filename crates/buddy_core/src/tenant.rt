@@ -56,7 +56,7 @@ impl Tenant {
         &self.slots[..self.end]
     }
 
-    /// Returns the superblock in `slot`, or `None` if there is none, also for numbers past the last slot.
+    /// Returns the superblock in `slot`, or `None` if there is none. The number may be past the last slot.
     pub fn superblock_at(&self, slot: u32) -> Option<u16>
         ensures { result ≡ slice_index_or self.now.slots slot None }
     {
@@ -71,7 +71,7 @@ impl Tenant {
         self.free[order as usize]
     }
 
-    /// Returns the least order of at least `k` of which the tenant has a free block.
+    /// Returns the least order, at least `k`, in which the tenant has a free block, or `None` if there is no such order.
     pub fn least_free(&self, k: u8) -> Option<u8>
         ensures { MatchOption result ((j : ℕ) → k ≤ j → slice_index self.now.free j ≡ 0)
             (λ j. (k ≤ j) × (j ≤ MOST_ORDER) × (0 < slice_index self.now.free j)

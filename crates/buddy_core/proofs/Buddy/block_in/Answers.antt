@@ -12,7 +12,7 @@ use Rattle.buddy_core.proofs.BlocksAround.{begins_around, no_wrap, same_slot}
 use Rattle.buddy_core.proofs.Buddy.block_in.Goals as goal
 use Rattle.buddy_core.proofs.Buddy.block_in.Goals.{After-self, After-order_at}
 
--- the tenant, and the superblock under the slot
+-- the tenant, and the superblock in the slot
 shown : (c : After-self) → IsShown c.self.inside.order c.self.inside.superblocks.items c.self.inside.tenants.items c.args.t c.args.self.now
 shown c = shown_is c.self.inside.order c.self.inside.superblocks.items c.self.inside.tenants.items c.args.t c.args.self.now c.self.view_is c.requires.tenant
 
@@ -27,7 +27,7 @@ within c = (c.self.invariant.0.each c.args.t (shown c).listed).within _ _ (under
 read : (c : After-self) (z : StoredSuperblock) → z ≡ get_or c.self.inside.superblocks.items c.args.m z → z ≡ superblock_of c.args.m c.self.inside.superblocks.items
 read c z e = get_or_read c.self.inside.superblocks.items c.args.m z (within c) e bare_of
 
--- what is read is what the tenant has taken there
+-- the entry that is read is that of the tenant's taken blocks
 entry : (c : After-order_at) → IsShown c.self.inside.order c.self.inside.superblocks.items c.self.inside.tenants.items c.args.t c.args.self.now
     → superblock_at (stored_tenant c.args.t c.self.inside.tenants.items) (c.args.frame / 2 ^ c.self.inside.order) ≡ Some c.args.m
     → c.index-superblock.result.now ≡ superblock_of c.args.m c.self.inside.superblocks.items

@@ -13,7 +13,7 @@ use Rattle.buddy_core.proofs.Bounding.{bounded_dropped}
 use Rattle.buddy_core.proofs.Buddy.drop_slot.Goals as goal
 use Rattle.buddy_core.proofs.Buddy.drop_slot.Goals.{After-unwrap-m, After-root, Else-root-order, After-drop_slot}
 
--- the tenant, and the superblock under the slot
+-- the tenant, and the superblock in the slot
 shown : (c : After-unwrap-m) → IsShown c.self.inside.order c.self.inside.superblocks.items c.self.inside.tenants.items c.args.t c.args.self.now
 shown c = shown_is c.self.inside.order c.self.inside.superblocks.items c.self.inside.tenants.items c.args.t c.args.self.now c.self.view_is c.requires.tenant
 
@@ -44,7 +44,7 @@ returns-then-root-order-clause-busy c =
       refl,
     )
 
--- nothing is taken there once the first word is that of one free block
+-- no frame is taken there if the first word is that of one free block
 none_taken : (c : Else-root-order) → c.args.t < length c.self.inside.tenants.items → superblock_at (stored_tenant c.args.t c.self.inside.tenants.items) c.args.slot ≡ Some c.unwrap-m.result
     → c.root.result ≡ slice_index (superblock_of c.unwrap-m.result c.self.inside.superblocks.items).tree.words 0
     → HasTaken (taken_by c.self.inside.order c.self.inside.superblocks.items (stored_tenant c.args.t c.self.inside.tenants.items)) (slot_block c.self.inside.order c.args.slot) → ⊥

@@ -16,7 +16,7 @@ use Rattle.buddy_core.proofs.Bounding.{bounded_noted}
 use Rattle.buddy_core.proofs.Buddy.release_in.Goals as goal
 use Rattle.buddy_core.proofs.Buddy.release_in.Goals.{After-self, In_ok-k, After-release_at-joined, After-index_mut-2, After-count_released}
 
--- the tenant, the superblock under the slot, and what begins there
+-- the tenant, the superblock in the slot, and the order of the block that begins there
 shown : (c : After-self) → IsShown c.self.inside.order c.self.inside.superblocks.items c.self.inside.tenants.items c.args.t c.args.self.now
 shown c = shown_is c.self.inside.order c.self.inside.superblocks.items c.self.inside.tenants.items c.args.t c.args.self.now c.self.view_is c.requires.tenant
 
@@ -86,7 +86,7 @@ release_at-joined-requires-clause-first c =
     let at = block_at g.In_ok-k (shown g.After-self) (under g.After-self) (c.in_ok-k.ensures ∙ begins g.After-self c.index.result.now c.index.ensures) in
     subst (λ n. c.args.frame % (1 * 2 ^ c.self.inside.order % 4294967296) < 2 ^ n) (sym (superblock_read g.After-self c.index_mut.result.now c.index_mut.ensures.value).1) at.inside
 
--- the order that is answered is that of the joined block
+-- the order that is returned is that of the joined block
 joined : (c : After-release_at-joined)
     → (at : IsAt c.self.inside.order c.self.inside.superblocks.items c.self.inside.tenants.items c.args.t c.args.frame c.in_ok-k.k c.args.m (c.args.frame % (1 * 2 ^ c.self.inside.order % 4294967296)))
     → c.release_at-joined.result ≡ joined_order c.self.invariant.0 at

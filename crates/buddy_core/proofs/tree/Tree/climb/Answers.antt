@@ -11,7 +11,7 @@ use Rattle.buddy_core.proofs.TreeNodes.{tree_is, written_back}
 use Rattle.buddy_core.proofs.TreeSteps.{node_is, node_up, step_climb}
 use Rattle.buddy_core.proofs.tree.Tree.climb.Goals as goal
 
--- the words of both halves, in whichever order
+-- the words of both halves, in either order
 halves : (words : List ℕ) (node v : ℕ) → 1 < node → v ≡ bit_or (get_or words (2 * (node / 2) - 1) 0) (get_or words (2 * (node / 2)) 0)
     → v ≡ bit_or (get_or words (node - 1) 0) (get_or words (4 * (node / 2) + 1 - node - 1) 0)
 halves words node v more e = elim (cases_lt 0 (node % 2)) [
@@ -61,7 +61,7 @@ climbed top k f around words old new small lt next size so_far =
     subst (λ n. Mended top (k + 1) f old new (set words (n - 1) v) × IsConfined top (k + 1) f old new) i.half
     (step_climb top k f i.node small lt i.is words size (4 * (i.node / 2) + 1 - i.node) (omega arith) old new v both so_far)
 
--- where the test passes, there is a block around
+-- if the test passes, there is a block around
 rises : (top k around : ℕ) → k ≤ top → (k ≡ top → around ≡ 0) → 0 < around → k < top
 rises top k around le last more = elim (cases_lt k top) [
   | inl lt ↦ lt

@@ -18,7 +18,7 @@ bounds-words-node c =
     let stored = reached_stored top c.args.order (c.loop-level._level - c.args.order) c.loop-level.node c.as_slice-words.result.now size (omega arith) c.loop-level.invariant in
     omega arith
 
--- the left half where the bit is there, else the right one
+-- the left half if the bit is 1, else the right one
 next : (node : ℕ) (bit : Bool) (number : ℕ) (P : ℕ → Type 0) → number ≡ from_bool bit → (bit ≡ true → P (2 * node)) → (bit ≡ false → P (2 * node + 1)) → P (2 * node + 1 - number)
 next node true number P e left right = subst P (omega arith) (left refl)
 next node false number P e left right = subst P (omega arith) (right refl)
