@@ -47,7 +47,7 @@ pub vacant_sum : (order k : ℕ) (h : Holdings)
 unfolding vacant_blocks
 vacant_sum order k h = passing_flat (is_vacant h) (blocks_of_slot order k) h.slots
 
--- those of the blocks from a number on that are vacant
+-- how many of `n` blocks, from number `begin` on, are vacant
 abbrev pub vacant_from : Holdings → ℕ → ℕ → ℕ → ℕ
 vacant_from h k begin n = length (filter (is_vacant h) (map (λ i. block (i * 2 ^ k) k) (range_with_len begin n)))
 
@@ -86,7 +86,7 @@ inside_slab origin count chunk size first order =
     let frames : FRAME_BYTES * first + FRAME_BYTES * 2 ^ order ≡ FRAME_BYTES * (first + 2 ^ order) = omega arith in
     (λ i. nat_le (objects i) (frames i))
 
--- at each place of a list of one value, and past it
+-- each item of a list of copies of `x`, and the default behind the end, is `x`
 pub same_at : {X : Type 0} (n k : ℕ) (x : X) → get_or (replicate n x) k x ≡ x
 same_at zero k x = refl
 same_at (suc n) zero x = refl

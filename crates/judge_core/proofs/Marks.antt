@@ -1,4 +1,4 @@
--- The slabs of a cache over the frames of a slot, from one to the next.
+-- Walking from slab to slab of a cache over the frames of a slot.
 use Rattle.std.proofs.Common.{◌≡◌, ℕ, ◌+◌, ◌*◌, ◌/◌, ◌^◌, ◌<◌, ◌≤◌, Bool, true, false, cond, List, [], ◌∷◌, length, get_or, drop, refl, sym, ap, ◌∙◌, arith}
 use Rattle.std.specs.Prelude.{◌||◌, nat_lt}
 use Rattle.std.specs.List.{list_any, prefix_len, AllByRecursion as Each}
@@ -14,15 +14,15 @@ use Rattle.promise_core.specs.Holdings.{KnownCache, slab_around}
 use Rattle.judge_core.proofs.Keys.{behind_cons, each_from}
 use Rattle.judge_core.proofs.Slabs.{first_of, place_inside, first_same, first_rises, ends_before}
 
--- whether a block has the frame
+-- whether a block contains the frame
 abbrev pub has_over_block : ℕ → Block → Bool
 has_over_block x b = overlaps (block x 0) b
 
--- whether the slab of the object at a place has the frame
+-- whether the slab of the object at a place contains the frame
 abbrev pub has_over : KnownCache → ℕ → ℕ → Bool
 has_over c x p = overlaps (block x 0) (slab_around c p)
 
--- objects before the slab that has the slot's first frame have their slabs before the slot
+-- objects before the aligned block around the slot's first frame have no slab over the slot
 pub any_from : (c : KnownCache) (first x a : ℕ) (live : List ℕ) → a ≡ 4096 * (first / 2 ^ c.order * 2 ^ c.order) → first ≤ x
     → list_any (has_over c x) (drop (prefix_len (λ p. nat_lt p a) live) live) ≡ list_any (has_over c x) live
 any_from c first x a [] is_a from = refl
@@ -40,7 +40,7 @@ any_from c first x a (p ∷ live) is_a from = ap (list_any (has_over c x)) (behi
         rest ∙ sym (ap (λ t. t || list_any (has_over c x) live) (ends_before c (block x 0) (4096 * (x / 2 ^ c.order * 2 ^ c.order)) p refl (omega (arith, before, low))))
     go false e rest = refl
 
--- those that pass a test are as good as one of them, if another test says the same of them
+-- a prefix whose items all have the result `v` adds nothing to a search that begins with `v`
 same_passed : (test p : ℕ → Bool) (v : Bool) (xs : List ℕ) → Each (λ x. p x ≡ true → test x ≡ v) xs
     → (v || list_any test (drop (prefix_len p xs) xs)) ≡ (v || list_any test xs)
 same_passed test p v [] all = refl
@@ -55,7 +55,7 @@ same_passed test p v (x ∷ xs) (same, all) = ap (λ ys. v || list_any test ys) 
     go true e rest = rest ∙ absorb v (test x) (list_any test xs) (same e)
     go false e rest = refl
 
--- from the first object on those before the end of its slab have the same slab
+-- the objects from the first one on that begin before the end of its slab are in the same slab
 module _ (c : KnownCache) (first b : ℕ) (rest : List ℕ) (rise : IsNonDecreasing rest) (some : 0 < length rest) (here : first ≡ get_or rest 0 first)
     (is_b : b ≡ 4096 * ((slab_around c first).first + 2 ^ c.order)) where
   later : (k d : ℕ) → k < length rest → first ≤ get_or rest k d
@@ -97,7 +97,7 @@ module _ (c : KnownCache) (first b : ℕ) (rest : List ℕ) (rise : IsNonDecreas
           next true e = omega arith
           next false e = absurd (false≢true e)
 
-  -- slabs behind the slot have no frame of it
+  -- no slab behind a frame contains it
   pub none_behind : (x : ℕ) → x < (slab_around c first).first → list_any (has_over c x) rest ≡ false
   none_behind x behind = list_any_none (has_over c x) rest (λ k d lt.
       let rises = first_rises c.order first (get_or rest k d) (later k d lt) in

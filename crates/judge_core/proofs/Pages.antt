@@ -14,7 +14,7 @@ use Rattle.model_core.specs.Reach.{within_block}
 use Rattle.judge_core.specs.Inside.{ArePages}
 use Rattle.judge_core.proofs.Keys.{any_kept, each_from, put_rises, put_behind}
 
--- those that have frames from one on before another
+-- the blocks with frames between `begin` and `end` are found among the blocks that begin between `low` and `end`
 pub near_part : (longest : ℕ) (pages : List Block) (begin end low : ℕ) → ArePages longest pages → low ≡ begin + 1 - 2 ^ longest → (test : Block → Bool)
     → ((b : Block) → test b ≡ true → (begin < b.first + 2 ^ b.order) × (b.first < end))
     → list_any test pages ≡ list_any test (filter (λ b. nat_le low b.first && nat_lt b.first end) pages)
@@ -25,7 +25,7 @@ near_part longest pages begin end low are is_low test tells =
     let few : 2 ^ (get_or pages k d).order ≤ 2 ^ longest = pow-le-pow_right (omega arith) short in
     and_from _ _ (le-leb low (get_or pages k d).first (omega (arith, at.0, few, is_low))) (lt-ltb (get_or pages k d).first end at.1)))
 
--- one more, and fewer
+-- blocks still rise and are still short after one is put in
 pub pages_put : (longest : ℕ) (b : Block) (pages : List Block) → ArePages longest pages → b.order ≤ MOST_ORDER
     → ArePages (max longest b.order) (put_rising (λ x. x.first) b pages)
 pages_put longest b pages are small = record {
@@ -51,7 +51,7 @@ pages_less longest test pages are = record {
   short = All-filter test (λ (x : Block). x.order ≤ longest) pages are.short;
 }
 
--- the frames of a block that shares one with another, and of one that has a range
+-- a block that overlaps another, or contains a range, has frames between `begin` and `end`
 pub overlap_near : (a b : Block) (begin end : ℕ) → begin ≡ a.first → end ≡ a.first + 2 ^ a.order → overlaps a b ≡ true
     → (begin < b.first + 2 ^ b.order) × (b.first < end)
 overlap_near a b begin end is_begin is_end e = let p = and_parts (ltb a.first (b.first + 2 ^ b.order)) (ltb b.first (a.first + 2 ^ a.order)) e in

@@ -15,7 +15,7 @@ use Rattle.promise_core.specs.Holdings.{KnownCache, slab_around, is_grid}
 use Rattle.judge_core.specs.Inside.{IsObjectAt}
 use Rattle.judge_core.proofs.Keys.{first_decides, any_found}
 
--- the first frame of the aligned block of order k that has the place
+-- the first frame of the aligned block of order k that contains the place
 abbrev pub first_of : ℕ → ℕ → ℕ
 first_of k place = place / 4096 / 2 ^ k * 2 ^ k
 
@@ -25,7 +25,7 @@ place_inside k p =
     let high : p / 4096 < first_of k p + 2 ^ k = lt-div-mul-add (pow_pos k) in
     (omega (arith, low), omega (arith, high))
 
--- a multiple of n below the next one after another multiple of it
+-- a multiple of n below the successor of another multiple is at most that multiple
 not_past : (a m n : ℕ) → a * n < m * n + n → a ≤ m
 not_past a m n lt =
     let more : m * n + n ≡ (m + 1) * n = omega arith in
@@ -38,7 +38,7 @@ first_rises k p q le =
     let high : q / 4096 < first_of k q + 2 ^ k = lt-div-mul-add (pow_pos k) in
     mul-le-mul_right (2 ^ k) (not_past (p / 4096 / 2 ^ k) (q / 4096 / 2 ^ k) (2 ^ k) (omega (arith, low, high)))
 
--- places of one block
+-- places of one aligned block have the same first frame
 pub first_same : (k p q : ℕ) → 4096 * first_of k q ≤ p → p < 4096 * (first_of k q + 2 ^ k) → first_of k p ≡ first_of k q
 first_same k p q from below =
     let low : first_of k p ≤ p / 4096 = div-mul-le_self (p / 4096) (2 ^ k) in
@@ -48,7 +48,7 @@ first_same k p q from below =
     let same : p / 4096 / 2 ^ k ≡ q / 4096 / 2 ^ k = omega (arith, up, down) in
     ap (λ (n : ℕ). n * 2 ^ k) same
 
--- the places of a slab
+-- a place lies in a slab if the slab around it has the same first frame
 pub in_slab : (c : KnownCache) (place a b p : ℕ) → a ≡ 4096 * (slab_around c place).first → b ≡ 4096 * ((slab_around c place).first + 2 ^ c.order)
     → (nat_le a p && nat_lt p b) ≡ ((slab_around c p).first == (slab_around c place).first)
 in_slab c place a b p is_a is_b = elim (cases_lt p a) [
@@ -63,7 +63,7 @@ in_slab c place a b p is_a is_b = elim (cases_lt p a) [
     own : (4096 * first_of c.order p ≤ p) × (p < 4096 * (first_of c.order p + 2 ^ c.order))
     own = place_inside c.order p
 
--- a slab before the block
+-- the slab of a place before `a` does not overlap the block
 pub ends_before : (c : KnownCache) (b : Block) (a p : ℕ) → a ≡ 4096 * (b.first / 2 ^ c.order * 2 ^ c.order) → p < a
     → overlaps b (slab_around c p) ≡ false
 ends_before c b a p is_a lt =
@@ -73,7 +73,7 @@ ends_before c b a p is_a lt =
     let first : b.first / 2 ^ c.order * 2 ^ c.order ≤ b.first = div-mul-le_self b.first (2 ^ c.order) in
     and_left _ _ (le-ltb b.first (first_of c.order p + 2 ^ c.order) (omega (arith, next, first)))
 
--- a slab behind one that ends behind the block's first frame and shares none with it
+-- if the slab of a place from `a` on does not overlap the block, no later slab does
 begins_behind : (c : KnownCache) (b : Block) (a p q : ℕ) → a ≡ 4096 * (b.first / 2 ^ c.order * 2 ^ c.order) → a ≤ p → p ≤ q
     → overlaps b (slab_around c p) ≡ false → overlaps b (slab_around c q) ≡ false
 begins_behind c b a p q is_a from le off =
@@ -87,7 +87,7 @@ begins_behind c b a p q is_a from le off =
     let rises = first_rises c.order p q le in
     and_right _ _ (le-ltb (first_of c.order q) (b.first + 2 ^ b.order) (omega (arith, rises, ltb-false _ _ far)))
 
--- the first live object that does not end before the block tells whether the slab of one shares a frame with the block
+-- the first live object from `a` on decides whether the slab of any live object overlaps the block
 pub over_first : (c : KnownCache) (b : Block) (a : ℕ) → IsNonDecreasing c.live → a ≡ 4096 * (b.first / 2 ^ c.order * 2 ^ c.order)
     → list_any (λ p. overlaps b (slab_around c p)) c.live ≡ option_map_or (λ p. overlaps b (slab_around c p)) (find (λ p. nat_le a p) c.live) false
 over_first c b a rise is_a = sym (any_found over c.live)
@@ -105,7 +105,7 @@ over_first c b a rise is_a = sym (any_found over c.live)
         go true = refl
         go false = refl
 
--- the first places of the objects that have a range
+-- the first places of the objects that contain a range
 pub has_range : (place len size a p : ℕ) → a ≡ place + len - size → (nat_le a p && nat_lt p (place + 1)) ≡ is_within place len p size
 has_range place len size a p is_a = elim (cases_lt place p) [
   | inl over ↦ and_right _ _ (le-ltb p (place + 1) (omega arith)) ∙ sym (and_left _ _ (lt-leb p place over))
@@ -127,7 +127,7 @@ pub none_below : (p : ℕ → Bool) (n : ℕ) → ((i : ℕ) → i < n → p i �
 none_below p zero fails = refl
 none_below p (suc n) fails = ap (λ (t : Bool). t || p n) (none_below p n (λ i lt. fails i (omega arith))) ∙ fails n (omega arith)
 
--- no number but those passes, and none of those
+-- if every possible index lies in a range, and no index in the range passes, then no index passes
 pub on_no_grid : (c : KnownCache) (place low high : ℕ) (beside : List ℕ)
     → ((i : ℕ) → i < c.count → IsObjectAt c place i → (low ≤ i) × (i < high))
     → ((i : ℕ) → low ≤ i → i < high → (nat_le (i * c.chunk) place && is_grid c (slab_around c place) (place - i * c.chunk) beside) ≡ false)

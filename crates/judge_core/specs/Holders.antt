@@ -1,4 +1,4 @@
--- What has a byte, and what was left at a place, as the definitions name them.
+-- Holders and left bytes of the code, as values of the definitions.
 use Rattle.promise_core.specs.Bytes.{Holder, Cell}
 use Rattle.judge_core.specs.declared.holder.RangeHolder.{RangeHolder}
 use Rattle.judge_core.specs.declared.holder.LeftByte.{LeftByte}

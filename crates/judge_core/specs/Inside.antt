@@ -1,4 +1,4 @@
--- What is true of the fields of what is stored.
+-- Facts about the fields of stored values.
 use Rattle.std.specs.Prelude.{◌≡◌, ℕ, ◌+◌, ◌-◌, ◌*◌, ◌%◌, ◌^◌, ◌≤◌, true, List, map}
 use Rattle.std.specs.List.{All}
 use Rattle.std.specs.List.Sorted.{IsNonDecreasingBy}
@@ -8,7 +8,7 @@ use Rattle.model_core.specs.Layouts.{is_alignment}
 use Rattle.model_core.specs.WellFormed.{RisesFrom}
 use Rattle.promise_core.specs.Holdings.{KnownCache, slab_around}
 
--- the numbers of a cache: size, alignment, chunk, order of a slab, objects of a slab
+-- the size and alignment of a cache's objects, its chunk, and a slab's order and number of objects
 pub record IsKnownLayout (size align chunk order count : ℕ) : Type 0 where
   pub some : 1 ≤ size
   pub most : size ≤ MOST_SIZE
@@ -19,7 +19,7 @@ pub record IsKnownLayout (size align chunk order count : ℕ) : Type 0 where
   pub counted : 1 ≤ count
   pub fits : count * chunk ≤ FRAME_BYTES * 2 ^ order
 
--- object `i` of a slab is at the place, and all of its objects lie in the frames of the slab that has the place
+-- object `i` of a slab is at the place, and all objects of that slab lie in the frames of the slab that contains the place
 abbrev pub IsObjectAt : KnownCache → ℕ → ℕ → Type 0
 IsObjectAt c place i = let slab = slab_around c place in let origin = place - i * c.chunk in
     (i * c.chunk ≤ place) × (FRAME_BYTES * slab.first ≤ origin)
@@ -31,6 +31,6 @@ pub record ArePages (longest : ℕ) (pages : List Block) : Type 0 where
   pub rise : IsNonDecreasingBy (λ b. b.first) pages
   pub short : All (λ b. b.order ≤ longest) pages
 
--- the caches
+-- the caches' numbers rise
 abbrev pub AreListed : List KnownCache → Type 0
 AreListed caches = RisesFrom 0 (map (λ c. c.number) caches)

@@ -9,7 +9,7 @@ ghost use Rattle.model_core.specs.Reach.{within_block};
 use model_core::limits::FRAME_BYTES;
 use std::marker::Model;
 
-/// `2^order` frames of a tenant from the first on; the order is at most 8.
+/// A block of `2^order` consecutive frames of a tenant. The order is at most 8.
 #[derive(Clone, Copy, Debug)]
 pub struct FrameBlock {
     first: u32,
@@ -39,7 +39,7 @@ impl FrameBlock {
         FrameBlock { first, order }
     }
 
-    /// Returns the aligned block of this order that has the frame.
+    /// Returns the aligned block of this order that contains the frame.
     pub fn around(frame: u32, order: u8) -> FrameBlock
         requires { order ≤ MOST_ORDER }
         ensures { result ≡ around frame order }
@@ -63,7 +63,7 @@ impl FrameBlock {
         }
     }
 
-    /// Returns the whole of a slot of `2^order` frames.
+    /// Returns the block of all frames of a slot of `2^order` frames.
     pub fn of_slot(order: u8, slot: u16) -> FrameBlock
         requires { order ≤ MOST_ORDER }
         ensures { result ≡ slot_block order slot }
@@ -81,7 +81,7 @@ impl FrameBlock {
         self.first
     }
 
-    /// Returns the block has `2^order` frames.
+    /// Returns the order. The block has `2^order` frames.
     pub fn order(&self) -> u8
         ensures value { result ≡ self.now.order }
         ensures most { result ≤ MOST_ORDER }
@@ -89,7 +89,7 @@ impl FrameBlock {
         self.order
     }
 
-    /// Returns the frame behind the last.
+    /// Returns the frame after the last one.
     pub(crate) fn end(&self) -> u64
         ensures value { result ≡ self.now.first + 2 ^ self.now.order }
         ensures small { result < 2 ^ 33 }
@@ -97,7 +97,7 @@ impl FrameBlock {
         u64::from(self.first) + (1u64 << self.order)
     }
 
-    /// Returns the first byte.
+    /// Returns the place of the first byte.
     pub fn first_byte(&self) -> u64
         ensures value { result ≡ FRAME_BYTES * self.now.first }
         ensures small { result < 2 ^ 44 }
@@ -105,7 +105,7 @@ impl FrameBlock {
         u64::from(FRAME_BYTES) * u64::from(self.first)
     }
 
-    /// Returns the byte behind the last.
+    /// Returns the place after the last byte.
     pub fn end_byte(&self) -> u64
         ensures value { result ≡ FRAME_BYTES * (self.now.first + 2 ^ self.now.order) }
         ensures small { result < 2 ^ 45 }
@@ -120,7 +120,7 @@ impl FrameBlock {
         u64::from(self.first()) < other.end() && u64::from(other.first()) < self.end()
     }
 
-    /// Returns whether the `len` bytes from a place on lie inside.
+    /// Returns whether the `len` bytes from `place` on lie in the block.
     pub fn has_range(&self, place: u32, len: u32) -> bool
         ensures { result ≡ within_block place len self.now }
     {

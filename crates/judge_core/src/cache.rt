@@ -1,4 +1,4 @@
-//! A cache of a tenant, as it was asked for and as its reply reported it.
+//! A cache of a tenant, as its request and its reply described it.
 
 ghost use Rattle.std.specs.Prelude.{◌≡◌, ℕ, ◌+◌, ◌-◌, ◌*◌, ◌/◌, ◌%◌, ◌^◌, ◌<◌, ◌≤◌, nat_le, nat_lt, ◌==◌, ◌&&◌, not, find, filter, length, [], IfOk, OnErr};
 ghost use Rattle.std.specs.List.{list_any, list_all};
@@ -29,7 +29,7 @@ pub struct HeldCache {
     chunk: u32,
     order: u8,
     count: u32,
-    /// Rising.
+    /// The first places of the live objects, rising.
     pub(crate) live: Vec<u32>,
 }
 
@@ -46,7 +46,7 @@ impl Model for HeldCache {
 }
 
 impl HeldCache {
-    /// Returns a cache without live objects, whose objects are constructed as the pattern.
+    /// Returns a cache without live objects. A fresh object of it has the pattern, repeated.
     pub fn new(
         alloc: Global,
         number: u8,
@@ -77,7 +77,7 @@ impl HeldCache {
         }
     }
 
-    /// Adds the object that begins at the place. Fails if memory runs out, and then nothing is changed.
+    /// Adds the object that begins at the place. Fails if memory runs out; the cache is then unchanged.
     pub(crate) fn take(&mut self, place: u32) -> Result<(), AllocError>
         ensures taken { IfOk result (λ _. self.new ≡ record self.old { live = put_rising (λ p. p) place self.old.live }) }
         ensures kept { OnErr result (self.new ≡ self.old) }
@@ -100,7 +100,7 @@ impl HeldCache {
         self.number
     }
 
-    /// Returns the bytes of an object, 1 to `MOST_SIZE`.
+    /// Returns the size of an object in bytes, 1 to `MOST_SIZE`.
     pub fn size(&self) -> u32
         ensures value { result ≡ self.now.size }
         ensures some { 1 ≤ result }
@@ -156,7 +156,7 @@ impl HeldCache {
         }
     }
 
-    /// Returns the live objects of the slab that has the place, rising.
+    /// Returns the first places of the live objects in the slab that contains the place, rising.
     pub fn beside(&self, place: u32) -> &[u32]
         ensures { result.now ≡ live_beside self.now place }
     {
@@ -169,31 +169,32 @@ impl HeldCache {
         )
     }
 
-    /// Returns whether all objects of the slab that has the place are live.
+    /// Returns whether all objects of the slab that contains the place are live.
     fn is_slab_full(&self, place: u32) -> bool
         ensures { result ≡ is_slab_full self.now place }
     {
         self.beside(place).len() == self.count as usize
     }
 
-    /// Returns whether all objects of all slabs that have a live one are live.
+    /// Returns whether every slab with a live object is full, that is, all of its objects are live.
     pub fn is_full(&self) -> bool
         ensures { result ≡ list_all (is_slab_full self.now) self.now.live }
     {
         self.live.iter().all(|place| self.is_slab_full(*place))
     }
 
-    /// Returns the first place of the live object that has the `len` bytes from `place` on.
+    /// Returns the first place of the live object that contains the `len` bytes from `place` on, if there is one.
     pub fn object_with(&self, place: u32, len: u32) -> Option<u32>
         ensures { result ≡ find (λ first. is_within place len first self.now.size) self.now.live }
     {
-        // no object before this one reaches the end of the range, and no later one begins before it
+        // An object that begins before `low` does not reach the end of the range. One that begins behind `place` misses its
+        // beginning.
         let end = u64::from(place) + u64::from(len);
         let low = end.saturating_sub(u64::from(self.size));
         first_within(&self.live, low, u64::from(place) + 1).copied()
     }
 
-    /// Returns whether an object at the place shares no byte with these.
+    /// Returns whether an object at the place shares no byte with the objects at these places.
     fn is_apart(&self, place: u32, beside: &[u32]) -> bool
         ensures { result ≡ list_all (are_apart self.now place) beside.now }
     {
@@ -207,7 +208,7 @@ impl HeldCache {
         u64::from(p) + size <= u64::from(q) || u64::from(q) + size <= u64::from(p)
     }
 
-    /// Returns whether an object may begin at the place by its alignment.
+    /// Returns whether the place is a multiple of the cache's alignment.
     pub fn is_aligned(&self, place: u32) -> bool
         ensures { result ≡ (place % self.now.align == 0) }
     {
@@ -221,7 +222,7 @@ impl HeldCache {
         self.count
     }
 
-    /// Returns whether a slab whose object `i` is at the place can have these live objects.
+    /// Returns whether a slab with object `i` at the place can have these live objects.
     fn is_on_grid(&self, place: u32, i: u32, beside: &[u32]) -> bool
         requires { i < self.now.count }
         ensures { result ≡ (nat_le (i * self.now.chunk) place
@@ -231,7 +232,7 @@ impl HeldCache {
         before <= place && self.is_grid(place, place - before, beside)
     }
 
-    /// Returns whether a slab whose first object is at `origin` can have them.
+    /// Returns whether a slab with its first object at `origin` can have these live objects.
     #[tactic(auto, using(crate::proofs::Lists::inside_slab))]
     fn is_grid(&self, place: u32, origin: u32, beside: &[u32]) -> bool
         ensures { result ≡ is_grid self.now (slab_around self.now place) origin beside.now }
@@ -240,7 +241,7 @@ impl HeldCache {
         slab.has_range(origin, self.objects_bytes()) && self.are_steps(origin, beside)
     }
 
-    /// Returns how many bytes there are from the first object of a slab to the end of the last.
+    /// Returns the number of bytes from the first object of a slab to the end of its last one.
     fn objects_bytes(&self) -> u32
         ensures value { result ≡ (self.now.count - 1) * self.now.chunk + self.now.size }
         ensures small { result < 2 ^ 21 }
@@ -248,7 +249,7 @@ impl HeldCache {
         (self.count - 1) * self.chunk + self.size
     }
 
-    /// Returns whether each of these is an object of a slab whose first object is at `origin`.
+    /// Returns whether each of these places begins an object of a slab with its first object at `origin`.
     fn are_steps(&self, origin: u32, beside: &[u32]) -> bool
         ensures { result ≡ list_all (λ p. nat_le origin p && ((p - origin) % self.now.chunk == 0
             && nat_lt ((p - origin) / self.now.chunk) self.now.count)) beside.now }
@@ -256,7 +257,7 @@ impl HeldCache {
         beside.iter().all(|p| self.is_step(origin, *p))
     }
 
-    /// Returns whether an object begins at the place in a slab whose first object is at `origin`.
+    /// Returns whether an object begins at the place, in a slab with its first object at `origin`.
     fn is_step(&self, origin: u32, place: u32) -> bool
         ensures { result ≡ (nat_le origin place
             && ((place - origin) % self.now.chunk == 0 && nat_lt ((place - origin) / self.now.chunk) self.now.count)) }
@@ -266,8 +267,8 @@ impl HeldCache {
             && (place - origin) / self.chunk < self.count
     }
 
-    /// Returns which numbers an object at the place can have in a slab inside the one that has the place: from the first on,
-    /// before the second.
+    /// Returns a range that has every index that an object at the place can have in its slab: from the first result on, below the
+    /// second.
     fn numbers_at(&self, place: u32) -> (u32, u32)
         ensures most { result.1 ≤ self.now.count }
         ensures others { (i : ℕ) → i < self.now.count → IsObjectAt self.now place i → (result.0 ≤ i) × (i < result.1) }
@@ -281,7 +282,7 @@ impl HeldCache {
         (low.min(count) as u32, high.min(count) as u32)
     }
 
-    /// Returns whether a slab with some object at the place can have these live objects.
+    /// Returns whether a slab that has any of its objects at the place can have these live objects.
     fn is_on_some_grid(&self, place: u32, beside: &[u32]) -> bool
         ensures { result ≡ is_any_below (λ i. nat_le (i * self.now.chunk) place
             && is_grid self.now (slab_around self.now place) (place - i * self.now.chunk) beside.now) self.now.count }
@@ -295,7 +296,7 @@ impl HeldCache {
         false
     }
 
-    /// Returns whether the slab that has the place, whose live objects these are, can have one more there.
+    /// Returns whether the slab that contains the place, with these live objects, can have one more object there.
     pub(crate) fn has_gap_among(&self, place: u32, beside: &[u32]) -> bool
         ensures { result ≡ (nat_lt (length beside.now) self.now.count
             && (list_all (are_apart self.now place) beside.now && is_any_below (λ i. nat_le (i * self.now.chunk) place
@@ -306,7 +307,7 @@ impl HeldCache {
             && self.is_on_some_grid(place, beside)
     }
 
-    /// Returns the byte of a fresh object `offset` bytes behind its first.
+    /// Returns the byte at an offset of a fresh object.
     pub fn fresh_byte(&self, offset: u32) -> u8
         ensures { result ≡ pattern_byte self.now.pattern offset }
     {

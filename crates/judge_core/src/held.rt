@@ -20,7 +20,7 @@ use crate::vacancy::count_clear;
 use model_core::limits::{FRAME_BYTES, MOST_CACHES};
 use std::marker::Model;
 
-/// The held slots, rising, the live page blocks, by rising first frame, and the caches, by rising number.
+/// A tenant's slots, rising, its live page blocks, by rising first frame, and its caches, by rising number.
 #[derive(Debug, Drop)]
 pub struct Held {
     pub(crate) slots: Vec<u16>,
@@ -71,7 +71,7 @@ impl Held {
         self.slots.iter().any(|held| u32::from(*held) == slot)
     }
 
-    /// Returns the slot of this number, if the tenant holds it.
+    /// Returns the number as a slot, if the tenant holds that slot.
     pub fn held_slot(&self, slot: u32) -> Option<u16>
         ensures { MatchOption result (has_slot self.now slot ≡ false) (λ u. (u ≡ slot) × (has_slot self.now slot ≡ true)) }
     {
@@ -87,7 +87,7 @@ impl Held {
             .find(|held| u32::from(*held) == slot)
     }
 
-    /// Returns whether some cache may have a slab without live objects; `may_have_empty` says by number which ones may.
+    /// Returns whether some cache may have an empty slab. `may_have_empty`, indexed by number, says which caches may.
     pub fn may_have_some_empty(&self, may_have_empty: &[bool]) -> bool
         ensures { result ≡ list_any (λ c. slice_index_or may_have_empty.now c.number false) self.now.caches }
     {
@@ -114,7 +114,7 @@ impl Held {
         with_key(&self.pages, frame)
     }
 
-    /// Returns the cache of this number.
+    /// Returns the cache of this number, if there is one.
     pub fn cache(&self, number: u32) -> Option<&HeldCache>
         ensures { option_copied result ≡ known_cache self.now number }
     {
@@ -123,7 +123,7 @@ impl Held {
             .find(|cache| u32::from(cache.number()) == number)
     }
 
-    /// Returns whether the tenant has as many caches as it may have.
+    /// Returns whether the tenant has the largest number of caches.
     pub fn has_most_caches(&self) -> bool
         ensures { result ≡ nat_le MOST_CACHES (length self.now.caches) }
     {
@@ -142,7 +142,7 @@ impl Held {
     fn is_in_pages(&self, block: &FrameBlock) -> bool
         ensures { result ≡ list_any (overlaps block.now) self.now.pages }
     {
-        // The last are the nearest to the block.
+        // The last ones are nearest to the block.
         self.pages_near(u64::from(block.first()), block.end())
             .iter()
             .rev()
@@ -157,12 +157,12 @@ impl Held {
             → ((b : Block) → test b ≡ true → (begin < b.first + 2 ^ b.order) × (b.first < end))
             → list_any test self.now.pages ≡ list_any test result.now }
     {
-        // those before do not reach the frame
+        // Blocks before this one do not reach the frame `begin`.
         let first = begin.saturating_sub((1u64 << self.longest) - 1);
         all_within(&self.pages, first, end, (end - first) as usize)
     }
 
-    /// Returns the first live page block that shares a frame with the block.
+    /// Returns the first live page block that shares a frame with the block, if there is one.
     pub fn page_over(&self, block: &FrameBlock) -> Option<FrameBlock>
         ensures { result ≡ find (overlaps block.now) self.now.pages }
     {
@@ -196,7 +196,7 @@ impl Held {
         !self.is_vacant(&FrameBlock::of_slot(order, slot))
     }
 
-    /// Returns how many aligned blocks of `2^k` frames of a slot of `2^order` have no taken frame.
+    /// Returns how many aligned blocks of `2^k` frames in a slot of `2^order` frames have no taken frame.
     fn count_vacant_in(&self, order: u8, k: u8, slot: u16) -> u32
         requires order { order ≤ MOST_ORDER }
         requires k { k ≤ MOST_ORDER }
@@ -212,7 +212,7 @@ impl Held {
         count_clear(&taken, 1 << order) as u32
     }
 
-    /// Returns how many of `blocks` blocks of `2^k` frames from the one of number `begin` on have no taken frame.
+    /// Returns how many of `blocks` aligned blocks of `2^k` frames, from block number `begin` on, have no taken frame.
     fn count_vacant_from(&self, k: u8, begin: u32, blocks: u32) -> u32
         requires k { k ≤ MOST_ORDER }
         requires end { begin + blocks ≤ 2 ^ 24 }
@@ -228,7 +228,7 @@ impl Held {
         count
     }
 
-    /// Returns how many aligned blocks of `2^k` frames of held slots of `2^order` have no taken frame.
+    /// Returns how many aligned blocks of `2^k` frames in held slots of `2^order` frames have no taken frame.
     pub fn count_vacant(&self, order: u8, k: u8) -> u128
         requires order { order ≤ MOST_ORDER }
         requires k { k ≤ MOST_ORDER }
@@ -241,7 +241,7 @@ impl Held {
         count
     }
 
-    /// Returns whether there is room for a block of `2^k` frames.
+    /// Returns whether some aligned block of `2^k` frames in a held slot has no taken frame.
     pub fn has_vacant_block(&self, order: u8, k: u8) -> bool
         requires order { order ≤ MOST_ORDER }
         requires k { k ≤ MOST_ORDER }
@@ -250,7 +250,7 @@ impl Held {
         self.count_vacant(order, k) > 0
     }
 
-    /// Returns whether an object of the cache can be handed out at the place.
+    /// Returns whether an object of the cache can be allocated at the place.
     #[tactic(auto, unfolding(promise_core::specs::Holdings::can_be_taken))]
     pub fn can_be_taken(&self, order: u8, cache: &HeldCache, place: u32) -> bool
         requires { order ≤ MOST_ORDER }
@@ -264,7 +264,8 @@ impl Held {
             && cache.has_gap_among(place, beside)
     }
 
-    /// Returns what has the `len` bytes from a place on, at least one: a live page block, or a live object.
+    /// Returns the live page block or live object that contains the `len` bytes from `place` on, if there is one. `len` is at
+    /// least 1.
     #[tactic(auto, unfolding(promise_core::specs::Bytes::holder_of))]
     pub fn holder_of(&self, place: u32, len: u32) -> Option<RangeHolder>
         ensures { option_map shown_holder result ≡ holder_of self.now place len }
@@ -283,7 +284,7 @@ impl Held {
         ensures { result ≡ list_any (within_block place len) self.now.pages }
     {
         let frame = u64::from(place / FRAME_BYTES);
-        // The last are the nearest to the place.
+        // The last ones are nearest to the place.
         self.pages_near(frame, frame + 1)
             .iter()
             .rev()

@@ -1,4 +1,4 @@
-//! What becomes of a tenant's holdings after an answer.
+//! How answers change a tenant's holdings.
 
 ghost use Rattle.std.specs.Prelude.{◌≡◌, ◌≤◌, ◌==◌, not, filter, [], None, IfOk, OnErr};
 ghost use Rattle.model_core.specs.declared.limits.TheConstants.{MOST_ORDER, MOST_SUPERBLOCKS};
@@ -13,8 +13,8 @@ use model_core::limits::MOST_CACHES;
 use std::alloc::{AllocError, Global};
 
 impl Held {
-    /// Returns empty holdings, with space for `slots` slots of `2^order` frames and all that fits into them. Fails if memory runs
-    /// out.
+    /// Returns empty holdings, with capacity for `slots` slots of `2^order` frames and everything that fits into them. Fails if
+    /// memory runs out.
     pub fn new(alloc: Global, order: u8, slots: u16) -> Result<Held, AllocError>
         requires order { order ≤ MOST_ORDER }
         requires slots { slots ≤ MOST_SUPERBLOCKS }
@@ -29,7 +29,7 @@ impl Held {
         })
     }
 
-    /// Adds a slot that is granted. Fails if memory runs out, and then nothing is changed.
+    /// Adds a granted slot. Fails if memory runs out; the holdings are then unchanged.
     pub fn grant(&mut self, slot: u16) -> Result<(), AllocError>
         ensures granted { IfOk result (λ _. self.new ≡ record self.old { slots = put_rising (λ v. v) slot self.old.slots }) }
         ensures kept { OnErr result (self.new ≡ self.old) }
@@ -38,7 +38,7 @@ impl Held {
         Ok(())
     }
 
-    /// Adds a page block that is handed out. Fails if memory runs out, and then nothing is changed.
+    /// Adds an allocated page block. Fails if memory runs out; the holdings are then unchanged.
     pub fn alloc(&mut self, block: FrameBlock) -> Result<(), AllocError>
         ensures taken { IfOk result (λ _. self.new ≡ record self.old { pages = put_rising (λ b. b.first) block self.old.pages }) }
         ensures kept { OnErr result (self.new ≡ self.old) }
@@ -48,7 +48,7 @@ impl Held {
         Ok(())
     }
 
-    /// Adds a cache. Fails if memory runs out, and then nothing is changed.
+    /// Adds a cache. Fails if memory runs out; the holdings are then unchanged.
     pub fn make_cache(&mut self, cache: HeldCache) -> Result<(), AllocError>
         requires { known_cache self.old cache.number ≡ None }
         ensures made { IfOk result (λ _.
@@ -59,8 +59,8 @@ impl Held {
         Ok(())
     }
 
-    /// Adds the object of the cache of this number that begins at the place. Fails if memory runs out, and then nothing is
-    /// changed.
+    /// Adds the object that begins at the place to the cache of this number. Fails if memory runs out; the holdings are then
+    /// unchanged.
     pub fn take(&mut self, number: u32, place: u32) -> Result<(), AllocError>
         ensures taken { IfOk result (λ _. self.new ≡ with_live_places number (put_rising (λ p. p) place) self.old) }
         ensures kept { OnErr result (self.new ≡ self.old) }
@@ -85,7 +85,7 @@ impl Held {
         remove(&mut self.caches, number);
     }
 
-    /// Removes the object of the cache of this number that begins at the place.
+    /// Removes the object that begins at the place from the cache of this number.
     pub fn give(&mut self, number: u32, place: u32)
         ensures { self.new ≡ with_live_places number (filter (λ p. not (p == place))) self.old }
     {

@@ -1,5 +1,5 @@
-//! What a tenant of any page and object allocator has, as replies reported it, and the tests of the promises on it, each as
-//! defined in [`promise_core`].
+//! What a tenant of any page and object allocator has, as replies reported it, and the promises' tests of it, as defined in
+//! [`promise_core`].
 #![tactic(auto)]
 
 mod block;

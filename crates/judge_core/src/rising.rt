@@ -1,4 +1,4 @@
-//! Searches in lists that rise by a key.
+//! Searches in lists with rising keys.
 
 ghost use Rattle.std.specs.Prelude.{◌≡◌, ℕ, ◌≤◌, ◌<◌, ◌==◌, ◌&&◌, ◌++◌, take, drop, nat_le, nat_lt, not, filter, find, length, IfOk, OnErr};
 ghost use Rattle.std.specs.Option.{option_copied};
@@ -10,7 +10,7 @@ use crate::block::FrameBlock;
 use crate::cache::HeldCache;
 use std::alloc::AllocError;
 
-/// An item of a list that rises by the items' keys: a page block, say, by its first frame.
+/// An item of a list with rising keys. A page block's key is its first frame, for example.
 pub(crate) trait Keyed {
     ghost key: { Self → ℕ };
 
@@ -19,7 +19,7 @@ pub(crate) trait Keyed {
         ensures { result ≡ key self.now };
 }
 
-/// A slot.
+/// A slot is its own key.
 impl Keyed for u16 {
     ghost key = { λ slot. slot };
 
@@ -28,7 +28,7 @@ impl Keyed for u16 {
     }
 }
 
-/// The first place of an object.
+/// The first place of an object is its own key.
 impl Keyed for u32 {
     ghost key = { λ place. place };
 
@@ -62,7 +62,8 @@ pub(crate) fn count_below<T: Keyed>(items: &[T], bound: u64) -> usize
     items.partition_point(|item| u64::from(item.key()) < bound)
 }
 
-/// [`count_below`], by a shorter search if there is an item of index `near` and its key is not below `bound`.
+/// Returns what [`count_below`] returns. The search is shorter if the item at index `near` exists and its key is not below
+/// `bound`.
 pub(crate) fn count_below_near<T: Keyed>(items: &[T], near: usize, bound: u64) -> usize
     requires { IsNonDecreasingBy T.key items.now }
     ensures value { result ≡ prefix_len (λ x. nat_lt (T.key x) bound) items.now }
@@ -74,7 +75,7 @@ pub(crate) fn count_below_near<T: Keyed>(items: &[T], near: usize, bound: u64) -
     }
 }
 
-/// Returns the first item whose key is at least `low`.
+/// Returns the first item whose key is at least `low`, if there is one.
 pub(crate) fn first_from<T: Keyed>(items: &[T], low: u64) -> Option<&T>
     requires { IsNonDecreasingBy T.key items.now }
     ensures { option_copied result ≡ find (λ x. nat_le low (T.key x)) items.now }
@@ -82,7 +83,7 @@ pub(crate) fn first_from<T: Keyed>(items: &[T], low: u64) -> Option<&T>
     items.get(count_below(items, low))
 }
 
-/// Returns the first item whose key is at least `low` and below `end`.
+/// Returns the first item whose key is at least `low` and below `end`, if there is one.
 pub(crate) fn first_within<T: Keyed>(items: &[T], low: u64, end: u64) -> Option<&T>
     requires { IsNonDecreasingBy T.key items.now }
     ensures { option_copied result ≡ find (λ x. nat_le low (T.key x) && nat_lt (T.key x) end) items.now }
@@ -93,7 +94,7 @@ pub(crate) fn first_within<T: Keyed>(items: &[T], low: u64, end: u64) -> Option<
     }
 }
 
-/// Returns the first item with this key.
+/// Returns the first item with this key, if there is one.
 pub(crate) fn with_key<T: Keyed>(items: &[T], key: u32) -> Option<&T>
     requires { IsNonDecreasingBy T.key items.now }
     ensures { option_copied result ≡ find (λ x. T.key x == key) items.now }
@@ -111,7 +112,7 @@ pub(crate) fn all_within<T: Keyed>(items: &[T], low: u64, end: u64, near: usize)
     &from[..count_below_near(from, near, end)]
 }
 
-/// Inserts the item behind those whose keys are not greater. Fails if memory runs out, and then the items stay as they were.
+/// Inserts the item behind those whose keys are not greater. Fails if memory runs out; the items are then unchanged.
 pub(crate) fn put<T: Keyed + Drop>(items: &mut Vec<T>, item: T) -> Result<(), AllocError>
     requires { IsNonDecreasingBy T.key items.old.items }
     ensures put { IfOk result (λ _. items.new.items ≡ put_rising T.key item items.old.items) }
@@ -123,7 +124,7 @@ pub(crate) fn put<T: Keyed + Drop>(items: &mut Vec<T>, item: T) -> Result<(), Al
     Ok(())
 }
 
-/// Returns the index of the first item with this key, and the index behind the last.
+/// Returns the index of the first item with this key, and the index after the last one.
 fn range_of<T: Keyed>(items: &[T], key: u32) -> (usize, usize)
     requires { IsNonDecreasingBy T.key items.now }
     ensures order { result.0 ≤ result.1 }

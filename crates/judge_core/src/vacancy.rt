@@ -14,11 +14,11 @@ use crate::held::Held;
 use crate::rising::{count_below, count_below_near};
 use words_core::ORDERS;
 
-/// No slot has more frames.
+/// The largest number of frames in a slot.
 const MOST_FRAMES: usize = 256;
 
 impl Held {
-    /// Returns which frames of a slot are taken, from its first one on.
+    /// Returns for each frame of a slot, from its first one on, whether it is taken.
     pub(crate) fn taken_in(&self, slot: &FrameBlock) -> [bool; MOST_FRAMES]
         ensures long { length result ≡ 256 }
         ensures taken { (f : ℕ) → f < 2 ^ slot.now.order
@@ -56,7 +56,7 @@ impl Held {
         for k in 0..order + 1 {
             let blocks = 1usize << (order - k);
             counts[k as usize] += count_clear(&taken, blocks) as u128;
-            // makes each mark that of a block of the next order
+            // Each mark becomes the mark of a block of the next order.
             join_pairs(&mut taken, blocks / 2);
         }
     }
@@ -82,7 +82,7 @@ fn join_pairs(taken: &mut [bool; MOST_FRAMES], pairs: usize)
     }
 }
 
-/// Marks the frames of the slot that one of these blocks has.
+/// Marks the frames of the slot that lie in one of these blocks.
 fn mark_blocks(taken: &mut [bool; MOST_FRAMES], slot: &FrameBlock, blocks: &[FrameBlock])
     ensures { (f : ℕ) → f < 2 ^ slot.now.order → slice_index_or taken.new f false
         ≡ (slice_index_or taken.old f false || list_any (overlaps (block (slot.now.first + f) 0)) blocks.now) }
@@ -92,7 +92,7 @@ fn mark_blocks(taken: &mut [bool; MOST_FRAMES], slot: &FrameBlock, blocks: &[Fra
     }
 }
 
-/// Marks the frames of the slot that the slab of a live object of one of these caches has.
+/// Marks the frames of the slot that lie in a slab with a live object of one of these caches.
 fn mark_caches(taken: &mut [bool; MOST_FRAMES], slot: &FrameBlock, caches: &[HeldCache])
     ensures { (f : ℕ) → f < 2 ^ slot.now.order → slice_index_or taken.new f false ≡ (slice_index_or taken.old f false
         || list_any (λ c. list_any (λ p. overlaps (block (slot.now.first + f) 0) (slab_around c p)) c.live) caches.now) }
@@ -107,7 +107,7 @@ fn mark_caches(taken: &mut [bool; MOST_FRAMES], slot: &FrameBlock, caches: &[Hel
 }
 
 impl HeldCache {
-    /// Marks the frames of the slot that the slab of a live object has, one slab after the other.
+    /// Marks the frames of the slot that lie in a slab with a live object, one slab after the other.
     fn mark_slabs(&self, taken: &mut [bool; MOST_FRAMES], slot: &FrameBlock)
         ensures { (f : ℕ) → f < 2 ^ slot.now.order → slice_index_or taken.new f false ≡ (slice_index_or taken.old f false
             || list_any (λ p. overlaps (block (slot.now.first + f) 0) (slab_around self.now p)) self.now.live) }
@@ -124,7 +124,7 @@ impl HeldCache {
         }
     }
 
-    /// Returns the places that are not before the end of the slab.
+    /// Returns the places from the end of the slab on.
     fn behind<'a>(&self, slab: &FrameBlock, places: &'a [u32]) -> &'a [u32]
         requires { IsNonDecreasing places.now }
         ensures { result.now ≡ drop (prefix_len (λ p. nat_lt p (FRAME_BYTES * (slab.now.first + 2 ^ slab.now.order))) places.now) places.now }
@@ -134,7 +134,7 @@ impl HeldCache {
     }
 }
 
-/// Marks the frames of the slot that the block has.
+/// Marks the frames of the slot that lie in the block.
 fn mark(taken: &mut [bool; MOST_FRAMES], slot: &FrameBlock, other: &FrameBlock)
     ensures { (f : ℕ) → f < 2 ^ slot.now.order → slice_index_or taken.new f false
         ≡ (slice_index_or taken.old f false || overlaps (block (slot.now.first + f) 0) other.now) }
