@@ -27,7 +27,7 @@ near_removed test reach place (Some cell) near = go (test cell.holder)
     go true = tt
     go false = near
 
--- where nothing was left nothing is in doubt, and nothing goes
+-- if nothing was left at a place, nothing comes into doubt there and nothing is forgotten
 pub doubted_none : (test : ℕ → Holder → Bool) (place : ℕ) (cells : Cells) → cells place ≡ None → doubted test cells place ≡ None
 doubted_none test place cells none =
     ap (option_map (λ (cell : Cell). record cell { sure = cell.sure && not (test place cell.holder) })) none
@@ -51,7 +51,7 @@ removed_part true test place x = refl
 removed_part false test place None = refl
 removed_part false test place (Some cell) = refl
 
--- what is of a holder that passes, in a block
+-- doubting and forgetting the bytes of holders that pass, in a block
 pub doubted_in : (b : Block) (begin end : ℕ) → begin ≡ 4096 * b.first → end ≡ 4096 * (b.first + 2 ^ b.order)
     → (test : Holder → Bool) (place : ℕ) (cells : Cells)
     → within begin end (doubted_of test) place (cells place) ≡ doubted (λ place holder. in_block place b && test holder) cells place
@@ -68,12 +68,12 @@ removed_in b begin end is_begin is_end test place cells =
     (ap (λ (n : ℕ). nat_le n place && nat_lt place end) is_begin ∙ (ap (λ (n : ℕ). nat_le (4096 * b.first) place && nat_lt place n) is_end ∙ in_frames b place))
     ∙ removed_part (in_block place b) test place (cells place)
 
--- and everywhere
+-- and at all places
 pub removed_all : (test : Holder → Bool) (place : ℕ) (cells : Cells) → place < 2 ^ 32
     → within 0 (2 ^ 32) (removed_of test) place (cells place) ≡ without (λ place. test) cells place
 removed_all test place cells lt = ap (λ (t : Bool). if t then removed_of test place (cells place) else cells place) (in_all place lt)
 
--- what was left of an object lies in its reach
+-- a place outside an object's reach has no byte of the object
 not_there : (reach : List ℕ) (number first end place : ℕ) (holder : Holder) → IsHolderNear reach place holder
     → (place < first + slice_index reach number → place < end) → (leb first place && ltb place end) ≡ false
     → is_same (Holder.Object number first) holder ≡ false
@@ -94,7 +94,7 @@ not_there reach number first end place (Holder.Object n p) near far off = go (n 
     go true false en ep = refl
     go false b en ep = refl
 
--- what was left of an object, within its reach
+-- doubting the bytes of an object within its reach doubts all of its bytes
 doubted_object : (reach : List ℕ) (number first end place : ℕ) (cells : Cells) → IsNear reach place (cells place)
     → (place < first + slice_index reach number → place < end)
     → within first end (doubted_of (is_same (Holder.Object number first))) place (cells place)
@@ -108,7 +108,7 @@ doubted_object reach number first end place cells near far = go (leb first place
     go false off (Some cell) near = ap (λ (sure : Bool). Some (record cell { sure = sure }))
         (sym (ap (λ (t : Bool). cell.sure && not t) (not_there reach number first end place cell.holder near far off) ∙ and-true cell.sure))
 
--- so it is of an object that is given back
+-- so a give of an object puts all of its bytes in doubt
 pub given : (old new : Left) (reach : List ℕ) (number first begin end : ℕ) → AreSlots old.order old.slots reach → begin ≡ first
     → end ≡ min (begin + slice_index reach number) (2 ^ 64 - 1) → new.order ≡ old.order
     → AreStepped old.order (within begin end (doubted_of (is_same (Holder.Object number first)))) old.slots new.slots
@@ -122,7 +122,7 @@ given old new reach number first begin end are is_begin is_end e after =
     far : (place : ℕ) → place < 2 ^ 32 → place < first + slice_index reach number → place < end
     far place low near = omega arith
 
--- bytes that are put
+-- putting bytes is a step within their places
 put_there : (holder : Holder) (begin : ℕ) (bytes : List ℕ) (from end : ℕ) → from ≡ begin → end ≡ begin + length bytes → (place : ℕ) (cells : Cells)
     → within from end (λ place cell. with_bytes holder begin bytes (λ _. cell) place) place (cells place) ≡ with_bytes holder begin bytes cells place
 put_there holder begin bytes from end is_from is_end place cells =
@@ -135,7 +135,7 @@ put_there holder begin bytes from end is_from is_end place cells =
     go true = refl
     go false = refl
 
--- what is left then
+-- what was left, after bytes are put
 pub put : (old new : Left) (holder : Holder) (begin : ℕ) (bytes : List ℕ) (from end : ℕ) → from ≡ begin → end ≡ begin + length bytes
     → new.order ≡ old.order → ((j : ℕ) → j < length bytes → has_place old (begin + j) ≡ true)
     → AreStepped old.order (within from end (λ place cell. with_bytes holder begin bytes (λ _. cell) place)) old.slots new.slots
@@ -172,7 +172,7 @@ near_holder more begin end place (Holder.Object n p) before far le lt =
     let f = far n p refl in
     (omega (arith, b), omega (arith, f))
 
--- they are near where the reach is such
+-- put bytes lie within the reach, if it was extended to their end
 pub near_put : (reach more : List ℕ) (holder : Holder) (begin : ℕ) (bytes : List ℕ) (from end : ℕ) → ((n : ℕ) → slice_index reach n ≤ slice_index more n)
     → ((n p : ℕ) → holder ≡ Holder.Object n p → p ≤ begin)
     → ((n p : ℕ) → holder ≡ Holder.Object n p → begin + length bytes ≤ p + slice_index more n) → (place : ℕ) (cell : Option Cell)
@@ -187,12 +187,12 @@ near_put reach more holder begin bytes from end grows before far place cell near
     go true false b le lt = near_more reach more place cell grows near
     go false a b le lt = near_more reach more place cell grows near
 
--- what can't lie beside an object in its slab
+-- holders that cannot be in one slab with an object
 abbrev pub not_beside : ℕ → ℕ → ℕ → Holder → Bool
 not_beside number first size holder =
     not (is_object (λ n p. n == number && (p == first || (nat_le (first + size) p || nat_le (p + size) first))) holder)
 
--- it is gone where the object is handed out
+-- their bytes in the slab are forgotten when the object is taken
 pub taken : (number first size : ℕ) (slab : Block) (begin end : ℕ) → begin ≡ 4096 * slab.first → end ≡ 4096 * (slab.first + 2 ^ slab.order)
     → (c : KnownCache) → c.number ≡ number → c.size ≡ size → slab_around c first ≡ slab → (place : ℕ) (cells : Cells)
     → within begin end (removed_of (not_beside number first size)) place (cells place) ≡ with_object first (Some c) cells place
@@ -202,11 +202,11 @@ taken number first size slab begin end is_begin is_end c is_number is_size is_sl
     (removed_in (slab_around c first) begin end (is_begin ∙ ap (λ (b : Block). 4096 * b.first) (sym is_slab))
     (is_end ∙ ap (λ (b : Block). 4096 * (b.first + 2 ^ b.order)) (sym is_slab)) (not_beside c.number first c.size) place cells))
 
--- what is no object of a cache
+-- holders that are not objects of a cache
 abbrev pub elsewhere : ℕ → Holder → Bool
 elsewhere number holder = not (is_object (λ n p. n == number) holder)
 
--- it can't lie beside an object of the cache
+-- these cannot be in one slab with an object of the cache
 not_beside_else : (number first size : ℕ) (h : Holder) → elsewhere number h ≡ true → not_beside number first size h ≡ true
 not_beside_else number first size Holder.Page is = refl
 not_beside_else number first size (Holder.Object n p) is = go (n == number) is
@@ -215,7 +215,7 @@ not_beside_else number first size (Holder.Object n p) is = go (n == number) is
     go true is = absurd (false≢true is)
     go false is = refl
 
--- an object beside another, or not
+-- objects that do not overlap can be in one slab
 is_beside : (first size p : ℕ) → (p < first + size → first < p + size → ⊥) → (p == first || (leb (first + size) p || leb (p + size) first)) ≡ true
 is_beside first size p apart = elim (cases_lt p (first + size)) [
   | inr ge ↦ ap (λ (t : Bool). p == first || (t || leb (p + size) first)) (le-leb (first + size) p ge) ∙ or-true (p == first)
@@ -226,7 +226,7 @@ is_beside first size p apart = elim (cases_lt p (first + size)) [
   ]
 ]
 
--- far from the object all of its cache lie beside it
+-- far from the object, only holders outside its cache cannot be in one slab with it
 far_beside : (reach : List ℕ) (number first size begin end low high place : ℕ) (h : Holder) → place < 2 ^ 32
     → low ≡ max begin (first - size) → high ≡ min end (min (first + size + slice_index reach number) (2 ^ 64 - 1)) → begin ≤ place → place < end
     → (leb low place && ltb place high) ≡ false → IsHolderNear reach place h → not_beside number first size h ≡ elsewhere number h
@@ -247,7 +247,7 @@ far_beside reach number first size begin end low high place (Holder.Object n p) 
     go true e = ap not (is_beside first size p (apart (eqb-true n number e)))
     go false e = refl
 
--- so what can't lie beside it is looked for near it, where all else than its cache's is gone
+-- so once everything outside its cache is forgotten, only places near the object have to be searched
 narrowed : (reach : List ℕ) (number first size begin end low high place : ℕ) (x : Option Cell) → place < 2 ^ 32
     → low ≡ max begin (first - size) → high ≡ min end (min (first + size + slice_index reach number) (2 ^ 64 - 1)) → IsNear reach place x
     → within low high (removed_of (not_beside number first size)) place (within begin end (removed_of (elsewhere number)) place x)
@@ -288,7 +288,7 @@ narrowed reach number first size begin end low high place (Some cell) small is_l
         (sym (far_beside reach number first size begin end low high place cell.holder small is_low is_high (over is) (under is) far near))
     go false false far off = refl
 
--- so it is where the object is handed out
+-- so a take is these two steps
 pub taken_twice : (reach : List ℕ) (number first size : ℕ) (slab : Block) (begin end low high : ℕ) → begin ≡ 4096 * slab.first
     → end ≡ 4096 * (slab.first + 2 ^ slab.order) → low ≡ max begin (first - size)
     → high ≡ min end (min (first + size + slice_index reach number) (2 ^ 64 - 1))

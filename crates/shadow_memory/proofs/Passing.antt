@@ -1,4 +1,4 @@
--- Changes of ranges, and what summaries say after them.
+-- Changes of ranges, and the summaries after them.
 use Rattle.std.proofs.Common.{◌≡◌, ◌≢◌, ◌⊎◌, ℕ, ◌+◌, ◌-◌, ◌*◌, ◌/◌, ◌<◌, ◌≤◌, Bool, true, false, leb, ltb, eqb, List, length, get_or, min, max, Option, Some, None, inl, inr, refl, sym, ap, ◌∙◌, subst, arith}
 use Rattle.std.specs.Prelude.{if◌then◌else◌, ◌&&◌}
 use Rattle.std.proofs.Math.ListN.{set}
@@ -31,7 +31,7 @@ changed_more step first low k old new kept le lt was is = record {
     here : cell_in (set new k kept) k ≡ step (first + k) (cell_in old k)
     here = ap shown_kept (get_or-set_same new k kept Kept.Fresh lt) ∙ (is ∙ ap (step (first + k)) (was.behind k (omega arith)))
 
--- two ranges that follow one another
+-- two adjacent ranges
 pub changed_join : (step : CellStep) (first low m high : ℕ) (old mid new : List KeptByte) → low ≤ m → m ≤ high
     → IsChanged step first low m old mid → IsChanged step first m high mid new → IsChanged step first low high old new
 changed_join step first low m high old mid new le more one two = record {
@@ -43,7 +43,7 @@ changed_join step first low m high old mid new le more one two = record {
   behind = λ k ge. two.behind k ge ∙ one.behind k (omega arith);
 }
 
--- a range that a step leaves as it is
+-- a range that a step leaves unchanged
 pub changed_left : (step : CellStep) (first low high : ℕ) (old : List KeptByte)
     → ((k : ℕ) → low ≤ k → k < high → step (first + k) (cell_in old k) ≡ cell_in old k) → IsChanged step first low high old old
 changed_left step first low high old same = record {
@@ -52,7 +52,7 @@ changed_left step first low high old same = record {
   behind = λ k ge. refl;
 }
 
--- one part more, of `size` places
+-- one more part of `size` places
 pub changed_part : (step : CellStep) (first size part low high begin end : ℕ) (old mid new : List KeptByte) → low < part * size + size → part * size < high
     → low ≤ high → begin ≡ max (part * size) low → end ≡ min (part * size + size) high
     → IsChanged step first low (max low (min (part * size) high)) old mid → IsChanged step first begin end mid new
@@ -68,7 +68,7 @@ any_marked : (cell : Option Cell) → IsSummarizedBy any_summary cell
 any_marked None = tt
 any_marked (Some cell) = (tt, λ e. absurd (cc))
 
--- the summary of a part after it
+-- setting the summary of a part
 mark_set : (summaries : List Summary) (part : ℕ) (after : Summary) (cell : Option Cell) → IsSummarizedBy after cell → IsSummarizedBy (get_or (set summaries part after) part any_summary) cell
 mark_set summaries part after cell marked = elim (cases_lt part (length summaries)) [
   | inl lt ↦ subst (λ (m : Summary). IsSummarizedBy m cell) (sym (get_or-set_same summaries part after any_summary lt)) marked
@@ -76,7 +76,7 @@ mark_set summaries part after cell marked = elim (cases_lt part (length summarie
       (sym (ap (λ (ms : List Summary). get_or ms part any_summary) (set_past summaries part after ge) ∙ get_or_past summaries part any_summary ge)) (any_marked cell)
 ]
 
--- places whose summary was this, when some of them have been changed
+-- summaries still hold if some places of a part are changed and its summary is set
 pub marked_part : (step : CellStep) (first size part low high : ℕ) (summaries : List Summary) (summary after : Summary) (all : Bool) (old new : List KeptByte)
     → ((k : ℕ) → part * size ≤ k → k < part * size + size → k / size ≡ part)
     → ((k : ℕ) → k / size ≡ part → (part * size ≤ k) × (k < part * size + size))
@@ -116,7 +116,7 @@ marked_part step first size part low high summaries summary after all old new he
       ]
     ]
 
--- places whose summary says that the step leaves them as they are
+-- a part that the step leaves unchanged, by its summary
 pub left_part : (step : CellStep) (first size part low high : ℕ) (summaries : List Summary) (summary : Summary) (old : List KeptByte)
     → ((k : ℕ) → part * size ≤ k → k < part * size + size → k / size ≡ part)
     → part * size ≤ low → high ≤ part * size + size → summary ≡ get_or summaries part any_summary
@@ -126,7 +126,7 @@ left_part step first size part low high summaries summary old here begins ends i
     (λ k from below. same (first + k) (cell_in old k) (subst (λ (m : Summary). IsSummarizedBy m (cell_in old k)) (sym is)
     (subst (λ (n : ℕ). IsSummarizedBy (get_or summaries n any_summary) (cell_in old k)) (here k (omega arith) (omega arith)) (were k))))
 
--- so all are within the range
+-- so the change of all places is the step within the range
 pub changed_within : (step : CellStep) (first low high begin end : ℕ) (old new : List KeptByte) → low ≡ min (begin - first) (length old)
     → high ≡ max (min (end - first) (length old)) low → IsChanged step first low high old new
     → (k : ℕ) → k < length old → cell_in new k ≡ within begin end step (first + k) (cell_in old k)
@@ -142,7 +142,7 @@ changed_within step first low high begin end old new is_low is_high by k lt = el
         → (if b then step (first + k) (cell_in old k) else cell_in old k) ≡ within begin end step (first + k) (cell_in old k)
     at e = ap (λ (t : Bool). if t then step (first + k) (cell_in old k) else cell_in old k) (sym e)
 
--- bytes that are put leave the places beside them as they are
+-- putting bytes leaves the places outside them unchanged
 put_beside : (holder : Holder) (begin place : ℕ) (bytes : List ℕ) (cell : Option Cell)
     → (place < begin) ⊎ (begin + length bytes ≤ place)
     → with_bytes holder begin bytes (λ _. cell) place ≡ cell
@@ -163,12 +163,12 @@ module _ (holder : Holder) (begin first low high from to : ℕ) (bytes : List �
   abbrev put_step : CellStep
   put_step place cell = with_bytes holder begin bytes (λ _. cell) place
 
-  -- none of those before the bytes
+  -- no place before the bytes changes
   pub put_before : low ≤ high → IsChanged put_step first low from old old
   put_before order = changed_left put_step first low from old
       (λ k over under. put_beside holder begin (first + k) bytes (cell_in old k) (inl (omega arith)))
 
-  -- one byte more
+  -- one more byte
   pub put_more : (k : ℕ) (new : List KeptByte) (kept : KeptByte) → low ≤ high → from ≤ k → k < to → k < length new
       → IsChanged put_step first low k old new
       → shown_kept kept ≡ Some (record { holder = holder; byte = get_or bytes (first + k - begin) 0; sure = true })
@@ -176,7 +176,7 @@ module _ (holder : Holder) (begin first low high from to : ℕ) (bytes : List �
   put_more k new kept order over under lt was is = changed_more put_step first low k old new kept (omega arith) lt was
       (is ∙ sym (put_on holder begin (first + k) bytes (cell_in new k) (omega arith) (omega arith)))
 
-  -- none of those behind them
+  -- no place behind the bytes changes
   pub put_behind : (k : ℕ) (new : List KeptByte) → low ≤ high → from ≤ k → to ≤ k → k ≤ to
       → IsChanged put_step first low k old new → IsChanged put_step first low high old new
   put_behind k new order over under most was = changed_join put_step first low k high old new new (omega arith)

@@ -12,7 +12,7 @@ places_apart : (u m r f q place : ℕ) → u * m + r ≡ f → r < m → 4096 * 
     → (u * (m * 4096) ≤ place) × (place - u * (m * 4096) < m * 4096)
 places_apart u m r f q place ef lr ep lq = (omega arith, omega arith)
 
--- a place of a slot is one of the places from the slot's first on
+-- a place of a slot lies from the slot's first place on, within the slot's number of places
 pub inside_slot : (order place u : ℕ) → slot_of order place ≡ u
     → (u * slot_places order ≤ place) × (place - u * slot_places order < slot_places order)
 inside_slot order place u e = subst (λ (v : ℕ). (v * slot_places order ≤ place) × (place - v * slot_places order < slot_places order)) e
@@ -23,7 +23,7 @@ stays_inside : (u m f r place j : ℕ) → u * (m * 4096) ≤ place → place - 
     → (u * m ≤ f) × (f < (u + 1) * m)
 stays_inside u m f r place j low inside is few = (omega arith, omega arith)
 
--- what comes behind it within as many places is one of the slot
+-- a later place within that number is in the same slot
 pub inside_behind : (order place u j : ℕ) → slot_of order place ≡ u → place - u * slot_places order + j < slot_places order
     → slot_of order (place + j) ≡ u
 inside_behind order place u j e lt =
@@ -41,6 +41,6 @@ pub in_frames : (b : Block) (place : ℕ) → (nat_le (4096 * b.first) place && 
 in_frames b place = ap (λ (t : Bool). t && ltb place (4096 * (b.first + 2 ^ b.order))) (leb_scaled b.first place)
     ∙ ap (λ (t : Bool). leb b.first (place / 4096) && t) (ltb_scaled (b.first + 2 ^ b.order) place)
 
--- those below 2 ^ 32
+-- the places below 2 ^ 32 are all places
 pub in_all : (place : ℕ) → place < 2 ^ 32 → (nat_le 0 place && nat_lt place (2 ^ 32)) ≡ true
 in_all place lt = grind (arith, nat_tests)

@@ -1,4 +1,4 @@
--- Slots that come and go.
+-- Adding and removing slots.
 use Rattle.std.proofs.Common.{◌≡◌, ℕ, ◌+◌, ◌-◌, ◌*◌, ◌^◌, ◌≤◌, Bool, true, false, not, List, [], ◌∷◌, get_or, Option, Some, None, replicate, inl, inr, refl, sym, ap, ◌∙◌, subst, arith}
 use Rattle.std.specs.Prelude.{if◌then◌else◌, ◌==◌, filter}
 use Rattle.std.specs.List.{list_any, AllByRecursion}
@@ -13,7 +13,7 @@ use Rattle.shadow_memory.specs.Inside.{IsNear, IsSlotWhole, AreSlots}
 use Rattle.shadow_memory.proofs.Stepping.{none_left}
 use Rattle.shadow_memory.proofs.Changes.{near_removed}
 
--- the slots without one
+-- the slots without slot `u`
 abbrev pub less : ℕ → List LeftSlot → List LeftSlot
 less u ss = filter (λ (s : LeftSlot). not (s.slot == u)) ss
 
@@ -42,7 +42,7 @@ kept : (x : Option Cell) → option_and_then (λ (cell : Cell). if false then No
 kept None = refl
 kept (Some cell) = refl
 
--- what was left in it is gone
+-- what was left in slot `u` is gone, and nothing else is
 left_less : (order u place : ℕ) (ss : List LeftSlot)
     → left_in order (less u ss) place ≡ option_and_then (λ (cell : Cell). if slot_of order place == u then None else Some cell) (left_in order ss place)
 left_less order u place [] = refl
@@ -78,7 +78,7 @@ taken_back old u = record {
   cells = λ i place. left_less old.order u place old.slots i;
 }
 
--- a slot at which nothing was left
+-- adding a slot in which nothing was left
 pub slots_granted : (order u : ℕ) (ss : List LeftSlot) (reach : List ℕ) → AreSlots order ss reach → (u + 1) * 2 ^ order * 4096 ≤ 2 ^ 32
     → AreSlots order (record { slot = u; cells = replicate (slot_places order) None } ∷ ss) reach
 slots_granted order u ss reach are low = record {

@@ -1,4 +1,4 @@
--- What is stored, what is true of it, and what changes of it are.
+-- What is stored, its invariants, and its changes.
 use Rattle.std.specs.Prelude.{◌≡◌, ℕ, ◌+◌, ◌-◌, ◌++◌, ◌*◌, ◌^◌, ◌<◌, ◌≤◌, Bool, true, not, List, length, replicate, Option, Some, None, option_map, slice_index, slice_index_or, nat_le, nat_lt, if◌then◌else◌, ◌&&◌, ◌==◌}
 use Rattle.std.specs.List.{list_any, AllByRecursion}
 use Rattle.std.specs.Option.{option_and_then}
@@ -13,7 +13,7 @@ shown_kept KeptByte.Fresh = None
 shown_kept (KeptByte.Page byte sure) = Some (record { holder = Holder.Page; byte = byte; sure = sure })
 shown_kept (KeptByte.Object cache byte sure first) = Some (record { holder = Holder.Object cache first; byte = byte; sure = sure })
 
--- these, and nothing at the places behind them, so many in all
+-- the stored bytes, followed by `Fresh` up to `places` places
 abbrev pub padded : ℕ → List KeptByte → List KeptByte
 padded places kept = kept ++ replicate (places - length kept) KeptByte.Fresh
 
@@ -24,28 +24,28 @@ AreKeptFrom order slots place kept = (j : ℕ) → j < length kept → shown_kep
 abbrev pub AreFrom : Left → ℕ → List KeptByte → Type 0
 AreFrom left = AreKeptFrom left.order left.slots
 
--- what becomes of what was left, by place
+-- a change of what was left at each place
 abbrev pub CellStep : Type 0
 CellStep = ℕ → Option Cell → Option Cell
 
--- so it becomes from `begin` on, before `end`
+-- the step at the places from `begin` on, below `end`; the others are unchanged
 abbrev pub within : ℕ → ℕ → CellStep → CellStep
 within begin end step place cell = if nat_le begin place && nat_lt place end then step place cell else cell
 
--- what is of a holder that passes is in doubt
+-- bytes of holders that pass are in doubt
 abbrev pub doubted_of : (Holder → Bool) → CellStep
 doubted_of test place = option_map (λ (cell : Cell). record cell { sure = cell.sure && not (test cell.holder) })
 
--- it is gone
+-- bytes of holders that pass are forgotten
 abbrev pub removed_of : (Holder → Bool) → CellStep
 removed_of test place = option_and_then (λ (cell : Cell). if test cell.holder then None else Some cell)
 
--- the cache of an object that has a byte
+-- the cache of a holder that is an object
 abbrev pub cache_of : Holdings → Holder → Option KnownCache
 cache_of h Holder.Page = None
 cache_of h (Holder.Object number first) = known_cache h number
 
--- a byte of an object lies behind the object's first place, by less than the reach of its cache
+-- a byte of an object lies less than its cache's reach behind the object's first place
 abbrev pub IsHolderNear : List ℕ → ℕ → Holder → Type 0
 IsHolderNear reach place Holder.Page = Unit {0}
 IsHolderNear reach place (Holder.Object number first) = (first ≤ place) × (place < first + slice_index reach number)
@@ -54,17 +54,17 @@ abbrev pub IsNear : List ℕ → ℕ → Option Cell → Type 0
 IsNear reach place None = Unit {0}
 IsNear reach place (Some cell) = IsHolderNear reach place cell.holder
 
--- where it was so, it is so then
+-- the step keeps every left byte within its cache's reach
 abbrev pub StaysNear : CellStep → Type 0
 StaysNear step = (reach : List ℕ) (place : ℕ) (cell : Option Cell)
     → IsNear reach place cell → IsNear reach place (step place cell)
 
--- the slot is stored whole, and its places are below 2 ^ 32
+-- every place of the slot has a cell, and its places are below 2 ^ 32
 pub record IsSlotWhole (order : ℕ) (s : LeftSlot) : Type 0 where
   pub all : length s.cells ≡ slot_places order
   pub low : (s.slot + 1) * slot_places order ≤ 2 ^ 32
 
--- slots of 2 ^ order frames
+-- slots of 2 ^ order frames, with every left byte within its cache's reach
 pub record AreSlots (order : ℕ) (slots : List LeftSlot) (reach : List ℕ) : Type 0 where
   pub whole : AllByRecursion (IsSlotWhole order) slots
   pub near : (place : ℕ) → IsNear reach place (left_in order slots place)

@@ -10,12 +10,12 @@ pub record LeftSlot : Type 0 where
   pub slot : ℕ
   pub cells : List (Option Cell)
 
--- those of a tenant; slots have 2 ^ order frames
+-- the slots of a tenant, each of 2 ^ order frames
 pub record Left : Type 0 where
   pub order : ℕ
   pub slots : List LeftSlot
 
--- how many places a slot has
+-- the number of places in a slot
 abbrev pub slot_places : ℕ → ℕ
 slot_places order = 2 ^ order * FRAME_BYTES
 
@@ -35,11 +35,11 @@ slots_in ss = map {B = ℕ} (λ (s : LeftSlot). s.slot) ss
 abbrev pub left_slots : Left → List ℕ
 left_slots left = slots_in left.slots
 
--- the place is one of these slots
+-- the place lies in one of these slots
 abbrev pub has_place : Left → ℕ → Bool
 has_place left place = list_any (λ u. u == slot_of left.order place) (left_slots left)
 
--- then the slots are these, and what was left is what `change` makes of it
+-- `new` has the slots `held`, and what was left in them is changed by `change`
 pub record Becomes (old : Left) (held : List ℕ) (change : Cells → Cells) (new : Left) : Type 0 where
   pub order : new.order ≡ old.order
   pub slots : left_slots new ≡ held

@@ -1,4 +1,4 @@
--- What summaries say of what was left.
+-- What a summary says about what was left.
 use Rattle.std.specs.Prelude.{◌≡◌, ℕ, ◌+◌, ◌/◌, ◌<◌, ◌≤◌, true, false, List, Option, Some, None, slice_index_or}
 use Rattle.promise_core.specs.Bytes.{Holder, Cell}
 use Rattle.judge_core.specs.Holders.{shown_holder}
@@ -7,31 +7,31 @@ use Rattle.shadow_memory.specs.declared.summary.Summary.{Summary}
 use Rattle.shadow_memory.specs.declared.summary.Owners.{Owners}
 use Rattle.shadow_memory.specs.Inside.{CellStep, shown_kept}
 
--- the holder may be one of these
+-- these owners allow the holder
 abbrev pub MayOwn : Owners → Holder → Type 0
 MayOwn Owners.Nobody holder = ⊥
 MayOwn (Owners.One one) holder = holder ≡ shown_holder one
 MayOwn (Owners.Objects number) holder = (first : ℕ) × (holder ≡ Holder.Object number first)
 MayOwn Owners.Any holder = Unit {0}
 
--- what was left may be what the summary says
+-- the summary allows what was left
 abbrev pub IsSummarizedBy : Summary → Option Cell → Type 0
 IsSummarizedBy summary None = Unit {0}
 IsSummarizedBy summary (Some cell) = MayOwn summary.owners cell.holder × (summary.sure ≡ false → cell.sure ≡ false)
 
--- it may be anything
+-- the summary that allows anything
 abbrev pub any_summary : Summary
 any_summary = record { owners = Owners.Any; sure = true }
 
--- what is stored at one of these places
+-- what was left at one of these places, as stored
 abbrev pub cell_in : List KeptByte → ℕ → Option Cell
 cell_in cells k = shown_kept (slice_index_or cells k KeptByte.Fresh)
 
--- each `size` places have a summary
+-- each group of `size` places has a summary
 abbrev pub AreSummarized : ℕ → List Summary → List KeptByte → Type 0
 AreSummarized size summaries cells = (k : ℕ) → IsSummarizedBy (slice_index_or summaries (k / size) any_summary) (cell_in cells k)
 
--- a step at those from `low` on before `high`, where the first place is `first`; the others are as they were
+-- a step at the indices from `low` on, below `high`; index 0 is the place `first`, and the other places are unchanged
 pub record IsChanged (step : CellStep) (first low high : ℕ) (old new : List KeptByte) : Type 0 where
   pub before : (k : ℕ) → k < low → cell_in new k ≡ cell_in old k
   pub inside : (k : ℕ) → low ≤ k → k < high → cell_in new k ≡ step (first + k) (cell_in old k)

@@ -1,4 +1,4 @@
-//! What replies make of what was left at a place.
+//! How replies change what was left at a place.
 
 ghost use Rattle.std.specs.Prelude.{◌≡◌, ℕ, ◌+◌, ◌-◌, ◌^◌, ◌<◌, ◌≤◌, Bool, true, false, not, length, Option, None};
 ghost use Rattle.promise_core.specs.Bytes.{Cell, with_bytes};
@@ -11,37 +11,38 @@ use crate::summary::Summary;
 use crate::tests_of_holders::{HolderTest, fails_all, passes_all};
 use judge_core::{LeftByte, RangeHolder};
 
-/// What becomes of what was left at a place.
+/// A change of what was left at places.
 pub(crate) trait Change {
     ghost step: { Self → CellStep };
 
-    /// Changes what is stored at the indices from `low` on, before `high`; the first place is `first`.
+    /// Changes the stored bytes at the indices from `low` on, below `high`. Index 0 is the place `first`.
     fn change_places(&self, cells: &mut [KeptByte], first: u64, low: usize, high: usize)
         requires order { low ≤ high }
         requires most { high ≤ length cells.old }
         requires low { first + length cells.old ≤ 2 ^ 32 }
         ensures { IsChanged (step self.now) first low high cells.old cells.new };
 
-    /// Returns whether it may add something where nothing was.
+    /// Returns whether the change may leave a byte at a place where nothing was left.
     fn adds(&self) -> bool
         ensures { result ≡ false → (place : ℕ) → step self.now place None ≡ None };
 
-    /// Returns whether it surely leaves all places with this summary as they are.
+    /// Returns true only if the change leaves every place with this summary unchanged.
     fn leaves(&self, summary: Summary) -> bool
         ensures { result ≡ true → (place : ℕ) (cell : Option Cell) → IsSummarizedBy summary cell → step self.now place cell ≡ cell };
 
-    /// Returns the summary after it of places that had this summary; `all` is whether it changes all of them, or any part.
+    /// Returns a summary after the change, for places that had this summary. `all` says that all of these places are changed, not
+    /// only some.
     fn summary_after(&self, summary: Summary, all: bool) -> Summary
         ensures changed { (place : ℕ) (cell : Option Cell) → IsSummarizedBy summary cell → IsSummarizedBy result (step self.now place cell) }
         ensures kept { all ≡ false → (cell : Option Cell) → IsSummarizedBy summary cell → IsSummarizedBy result cell };
 }
 
-/// What is of a holder that passes is in doubt.
+/// Puts the bytes of every holder that passes the test in doubt.
 #[derive(Drop)]
 pub(crate) struct Doubt<T>(pub T);
 
 impl<T: HolderTest> Doubt<T> {
-    /// Returns what is stored of a place then.
+    /// Returns the stored byte after the change.
     fn doubted(&self, kept: KeptByte) -> KeptByte
         ensures { (place : ℕ) → shown_kept result ≡ doubted_of (T.test self.now.0) place (shown_kept kept) }
     {
@@ -91,12 +92,12 @@ impl<T: HolderTest> Change for Doubt<T> {
     }
 }
 
-/// What is of a holder that passes is gone.
+/// Forgets the bytes of every holder that passes the test.
 #[derive(Drop)]
 pub(crate) struct Remove<T>(pub T);
 
 impl<T: HolderTest> Remove<T> {
-    /// Returns what is stored of a place then.
+    /// Returns the stored byte after the change.
     fn without(&self, kept: KeptByte) -> KeptByte
         ensures { (place : ℕ) → shown_kept result ≡ removed_of (T.test self.now.0) place (shown_kept kept) }
     {
@@ -139,7 +140,7 @@ impl<T: HolderTest> Change for Remove<T> {
     }
 }
 
-/// These bytes of the holder are there from a place on.
+/// Leaves these bytes of the holder at the places from `begin` on.
 #[derive(Drop)]
 pub(crate) struct Put<'a> {
     pub holder: RangeHolder,
@@ -150,7 +151,7 @@ pub(crate) struct Put<'a> {
 impl<'a> Change for Put<'a> {
     ghost step = { λ d place cell. with_bytes (shown_holder d.holder) d.begin d.bytes.now (λ _. cell) place };
 
-    // It is a function of its own so that what is known of its ends is not worked out anew for each chunk.
+    // Kept out of line, so that the facts about its ends are not worked out again for each chunk.
     #[inline(never)]
     fn change_places(&self, cells: &mut [KeptByte], first: u64, low: usize, high: usize) {
         let Put {

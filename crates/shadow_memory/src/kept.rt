@@ -1,4 +1,4 @@
-//! What was left at a place, as it is stored.
+//! A left byte, as it is stored.
 
 ghost use Rattle.std.specs.Prelude.{◌≡◌, Some, option_map};
 ghost use Rattle.judge_core.specs.Holders.{shown_cell};
@@ -10,14 +10,14 @@ use std::mem::size_of;
 /// What was left at a place, if anything was.
 #[derive(Clone, Copy, Debug)]
 pub(crate) enum KeptByte {
-    /// Nothing was.
+    /// Nothing was left.
     Fresh,
     /// A byte of a page block.
     Page {
         byte: u8,
         sure: bool,
     },
-    /// A byte of the object of the cache of this number that begins at this place.
+    /// A byte of the object of cache number `cache` that begins at the place `first`.
     Object {
         cache: u8,
         byte: u8,
@@ -26,11 +26,11 @@ pub(crate) enum KeptByte {
     },
 }
 
-// There is one for each byte of a slot.
+// A slot has one of these for each of its bytes, so its size matters.
 const _: () = prove!(size_of::<KeptByte>() == 8);
 
 impl KeptByte {
-    /// Returns what is stored of what was left.
+    /// Returns the stored form of a left byte.
     pub fn of(left: LeftByte) -> KeptByte
         ensures { shown_kept result ≡ Some (shown_cell left) }
     {
@@ -48,7 +48,7 @@ impl KeptByte {
         }
     }
 
-    /// Returns what was left.
+    /// Returns the left byte, `None` if nothing was left.
     pub fn left(self) -> Option<LeftByte>
         ensures { option_map shown_cell result ≡ shown_kept self }
     {

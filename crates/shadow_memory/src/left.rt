@@ -1,4 +1,4 @@
-//! What was left in the slots of a tenant, and what becomes of it by replies.
+//! What was left in the slots of a tenant, and how replies change it.
 
 ghost use Rattle.std.specs.Prelude.{◌≡◌, ℕ, ◌+◌, ◌*◌, ◌^◌, ◌<◌, ◌≤◌, ◌==◌, ◌&&◌, not, filter, length, [], ◌∷◌, Some, true, false, OnOk, OnErr, option_map, slice_index};
 ghost use Rattle.std.specs.List.{list_any};
@@ -25,7 +25,8 @@ use std::marker::Model;
 pub struct ShadowMemory {
     order: u8,
     slots: Vec<SlotBytes>,
-    /// By number of a cache: each byte left of an object lies less than this behind the object's first.
+    /// Indexed by cache number: each byte left of an object of the cache lies fewer than this many bytes behind the object's
+    /// first.
     reach: [u64; 256],
 }
 
@@ -43,7 +44,7 @@ impl Model for ShadowMemory {
 }
 
 impl ShadowMemory {
-    /// Returns shadow memory of no slot; slots have `2^order` frames.
+    /// Returns shadow memory without slots, for slots of `2^order` frames.
     pub fn new(alloc: Global, order: u8) -> ShadowMemory
         requires { order ≤ MOST_ORDER }
         ensures { result ≡ record { order = order; slots = [] } }
@@ -63,7 +64,7 @@ impl ShadowMemory {
         self.order
     }
 
-    /// Adds a slot that is not held: nothing was left in it. Fails if memory runs out, and then nothing is changed.
+    /// Adds a slot, in which nothing was left. Fails if memory runs out; the shadow memory is then unchanged.
     pub fn grant(&mut self, slot: u16) -> Result<(), AllocError>
         requires new { list_any (λ v. v == slot) (left_slots self.old) ≡ false }
         requires low { (slot + 1) * 2 ^ self.old.order * FRAME_BYTES ≤ 2 ^ 32 }
@@ -76,7 +77,7 @@ impl ShadowMemory {
         Ok(())
     }
 
-    /// Removes the slot with what was left in it.
+    /// Removes the slot, with what was left in it.
     pub fn take_back(&mut self, slot: u32)
         ensures { Becomes self.old (filter (λ v. not (v == slot)) (left_slots self.old))
             (without (λ place holder. slot_of self.old.order place == slot)) self.new }
@@ -91,7 +92,7 @@ impl ShadowMemory {
         self.slots.clear();
     }
 
-    /// Stores bytes of the holder that are read or written from a place on, all of them in slots that the tenant holds.
+    /// Stores bytes that the holder read or wrote from `place` on. All of them are in slots that the tenant holds.
     pub fn put(&mut self, holder: RangeHolder, place: u32, bytes: &[u8])
         requires held { (j : ℕ) → j < length bytes.now → has_place self.old (place + j) ≡ true }
         requires near { (number first : ℕ) → shown_holder holder ≡ Holder.Object number first → first ≤ place }
@@ -108,7 +109,7 @@ impl ShadowMemory {
         change_slots(&mut self.slots, self.order, begin, end, &put);
     }
 
-    /// Follows an alloc of the page block: what was left of objects in it is gone.
+    /// Follows an alloc of the page block: forgets what was left of objects in it.
     pub fn alloc(&mut self, block: &FrameBlock)
         ensures { Becomes self.old (left_slots self.old)
             (without (λ place holder. in_block place block.now && not (is_same Holder.Page holder))) self.new }
@@ -116,7 +117,7 @@ impl ShadowMemory {
         self.change(block.first_byte(), block.end_byte(), &Remove(Fails(IsPage)));
     }
 
-    /// Follows a free of the page block: what was left in it is in doubt.
+    /// Follows a free of the page block: puts what was left of page blocks in it in doubt.
     pub fn free(&mut self, block: &FrameBlock)
         ensures { Becomes self.old (left_slots self.old)
             (doubted (λ place holder. in_block place block.now && is_same Holder.Page holder)) self.new }
@@ -124,7 +125,7 @@ impl ShadowMemory {
         self.change(block.first_byte(), block.end_byte(), &Doubt(IsPage));
     }
 
-    /// Follows a give of the object of the cache of this number that begins at `first`: what was left of it is in doubt.
+    /// Follows a give of the object at `first` of the cache of this number: puts what was left of it in doubt.
     pub fn give(&mut self, number: u32, first: u32)
         ensures { Becomes self.old (left_slots self.old) (doubted (λ place. is_same (Holder.Object number first))) self.new }
     {
@@ -133,13 +134,13 @@ impl ShadowMemory {
         self.change(begin, end, &Doubt(IsObject { number, first }));
     }
 
-    /// Follows a take of the object of `size` bytes of the cache of this number at `first`, in this slab: what was left there of
-    /// all that can't lie beside it in a slab is gone.
+    /// Follows a take of the object of `size` bytes at `first`, of the cache of this number, in this slab: forgets what was left
+    /// in the slab of holders that cannot be in one slab with the object.
     pub fn take(&mut self, slab: &FrameBlock, number: u8, first: u32, size: u32)
         ensures { (c : KnownCache) → c.number ≡ number → c.size ≡ size → slab_around c first ≡ slab.now
             → Becomes self.old (left_slots self.old) (with_object first (Some c)) self.new }
     {
-        // All of other caches goes; of its own cache only an object that begins before its end and ends behind its first byte.
+        // Forgets everything that is not of its own cache. Of its own cache, it forgets only other objects that overlap the new one.
         let own = u32::from(number);
         let low = u64::from(first.saturating_sub(size));
         let end_of_own = u64::from(first) + u64::from(size);
@@ -155,42 +156,42 @@ impl ShadowMemory {
         self.change(begin.max(low), end.min(high), &Remove(test));
     }
 
-    /// Follows a destroy of the cache of this number: what was left of its objects is gone.
+    /// Follows a destroy of the cache of this number: forgets what was left of its objects.
     pub fn destroy(&mut self, number: u32)
         ensures { Becomes self.old (left_slots self.old) (without (λ place. is_object (λ n p. n == number))) self.new }
     {
         self.change(0, 1u64 << 32, &Remove(IsOfCache { number }));
     }
 
-    /// Follows a reap: what was left of objects outside the slabs that have a live one is gone.
+    /// Follows a reap: forgets what was left of objects that lie in no slab with a live object of their cache.
     pub fn reap(&mut self, held: &Held)
         ensures { Becomes self.old (left_slots self.old) (without (λ place. is_object (is_in_no_slab held.now))) self.new }
     {
         self.change(0, 1u64 << 32, &Remove(IsInNoSlab { held }));
     }
 
-    /// Returns what was left at a place, if anything was, in a slot that the tenant holds.
+    /// Returns what was left at a place. Returns `None` if nothing was, or if the tenant does not hold the slot.
     pub fn at(&self, place: u32) -> Option<LeftByte>
         ensures { option_map shown_cell result ≡ left_at self.now place }
     {
         left_in(&self.slots, self.order, place)
     }
 
-    /// What is stored from a place on, to the end of its slot; nothing of a slot that the tenant does not hold.
+    /// Returns the stored bytes from a place on, at most to the end of its slot. A slot that the tenant does not hold has none.
     pub(crate) fn kept_from(&self, place: u32) -> &[KeptByte]
         ensures { AreFrom self.now place result.now }
     {
         kept_from(&self.slots, self.order, place)
     }
 
-    /// Returns the places of its slots are below `2^32`.
+    /// States that the places of the slots are below `2^32`. Does nothing.
     pub(crate) fn places_are_low(&self)
         ensures { (place : ℕ) → has_place self.now place ≡ true → place < 2 ^ 32 }
     {
         let _slots = &self.slots;
     }
 
-    /// Changes what was left at the places from `begin` on, before `end`.
+    /// Changes what was left at the places from `begin` on, below `end`.
     fn change<C: Change>(&mut self, begin: u64, end: u64, change: &C)
         requires { StaysNear (C.step change.now) }
         ensures order { self.new.order ≡ self.old.order }
@@ -200,14 +201,14 @@ impl ShadowMemory {
     }
 }
 
-/// Returns the reach of this number, 0 if there is none.
+/// Returns the reach of the cache of this number, 0 if the number is too large.
 fn reach_of(reach: &[u64; 256], number: u32) -> u64
     ensures { result ≡ slice_index reach.now number }
 {
     reach.get(number as usize).copied().unwrap_or(0)
 }
 
-/// Raises the reach of the holder's cache so that bytes of the holder may lie before `end`.
+/// Raises the reach of the holder's cache, so that bytes of the holder may lie anywhere below `end`.
 fn extend_reach(reach: &mut [u64; 256], holder: RangeHolder, end: u64)
     ensures more { (n : ℕ) → slice_index reach.old n ≤ slice_index reach.new n }
     ensures near { (number first : ℕ) → shown_holder holder ≡ Holder.Object number first

@@ -1,4 +1,4 @@
-//! Changes of what is stored of a range of places, which pass over what their summaries say they leave as it is.
+//! Changes of the stored bytes of a range of places. Parts that a change leaves as they are, by their summaries, are skipped.
 
 ghost use Rattle.std.specs.Prelude.{◌≡◌, ℕ, ◌+◌, ◌*◌, ◌^◌, ◌<◌, ◌≤◌, length};
 ghost use Rattle.shadow_memory.specs.Inside.{within};
@@ -9,13 +9,14 @@ use crate::kept::KeptByte;
 use crate::summary::{Summary, set_summary, summary_at};
 use model_core::limits::FRAME_BYTES;
 
-/// How many places a chunk has: a part of a frame that has a summary of its own.
+/// The number of places in a chunk, which is a part of a frame with its own summary.
 pub(crate) const CHUNK: usize = 64;
 
-/// How many places a frame has.
+/// The number of places in a frame.
 pub(crate) const FRAME: usize = FRAME_BYTES as usize;
 
-/// Changes those places, a chunk at a time, and passes over chunks whose summaries say that the change leaves them as they are.
+/// Changes the places from index `low` on, below `high`, one chunk at a time. Skips each chunk that the change leaves as it is,
+/// by its summary.
 fn change_chunks<C: Change>(
     cells: &mut [KeptByte],
     chunks: &mut [Summary],
@@ -47,7 +48,8 @@ fn change_chunks<C: Change>(
     }
 }
 
-/// Changes those places, a frame at a time, and passes over frames in the same way.
+/// Changes the places from index `low` on, below `high`, one frame at a time. Skips each frame that the change leaves as it is,
+/// by its summary.
 fn change_frames<C: Change>(
     cells: &mut [KeptByte],
     chunks: &mut [Summary],
@@ -82,7 +84,7 @@ fn change_frames<C: Change>(
     }
 }
 
-/// Changes the places from `begin` on, before `end`; the first place is `first`.
+/// Changes the places from `begin` on, below `end`. Index 0 is the place `first`.
 pub(crate) fn change_range<C: Change>(
     cells: &mut [KeptByte],
     chunks: &mut [Summary],

@@ -1,4 +1,4 @@
-//! What may be read.
+//! The bytes that a read may report.
 
 ghost use Rattle.std.specs.Prelude.{◌≡◌, ℕ, ◌+◌, ◌^◌, ◌<◌, ◌≤◌, true, length, option_map};
 ghost use Rattle.std.specs.Option.{option_copied};
@@ -13,7 +13,8 @@ use crate::left::ShadowMemory;
 use judge_core::{Held, HeldCache, LeftByte, RangeHolder};
 
 impl ShadowMemory {
-    /// Returns whether these bytes may be read of the holder from a place on, all of them in slots that the tenant holds.
+    /// Returns whether a read in this holder from `place` on may report these bytes. All of them are in slots that the tenant
+    /// holds.
     pub fn may_read(&self, held: &Held, holder: RangeHolder, place: u32, bytes: &[u8]) -> bool
         requires { (j : ℕ) → j < length bytes.now → has_place self.now (place + j) ≡ true }
         ensures { result ≡ may_all_be held.now (left_at self.now) (shown_holder holder) place bytes.now }
@@ -22,14 +23,14 @@ impl ShadowMemory {
         self.may_read_all(held, holder, place, bytes)
     }
 
-    // It is a function of its own so that the loop over the bytes has all registers.
+    // Kept out of line, which gives its loop all registers.
     #[inline(never)]
     fn may_read_all(&self, held: &Held, holder: RangeHolder, place: u32, bytes: &[u8]) -> bool
         requires { place + length bytes.now ≤ 2 ^ 32 }
         ensures { result ≡ may_all_be held.now (left_at self.now) (shown_holder holder) place bytes.now }
     {
         let cache = cache_of(held, holder);
-        // mostly all of them: a page block or an object lies in one slot
+        // These are usually all of the bytes, since a page block or an object lies in one slot.
         let kept = self.kept_from(place);
         for (i, byte) in bytes.iter().enumerate() {
             let left = self.left_behind(kept, place, i as u32);
@@ -40,7 +41,7 @@ impl ShadowMemory {
         true
     }
 
-    /// Returns what was left `i` places behind a place, from which on `kept` is stored.
+    /// Returns what was left `i` places behind `place`, where `kept` is stored from `place` on.
     fn left_behind(&self, kept: &[KeptByte], place: u32, i: u32) -> Option<LeftByte>
         requires kept { AreFrom self.now place kept.now }
         requires low { place + i < 2 ^ 32 }
@@ -53,7 +54,7 @@ impl ShadowMemory {
     }
 }
 
-/// Returns the cache whose object the holder is, if it is one.
+/// Returns the cache of the holder, if the holder is an object.
 fn cache_of(held: &Held, holder: RangeHolder) -> Option<&HeldCache>
     ensures { option_copied result ≡ cache_of held.now (shown_holder holder) }
 {
@@ -63,7 +64,7 @@ fn cache_of(held: &Held, holder: RangeHolder) -> Option<&HeldCache>
     }
 }
 
-/// Returns whether the byte may be read of the holder, whose cache this is, at a place where this was left.
+/// Returns whether a read in this holder, of this cache, may report the byte at a place with this left byte.
 fn may_be_read(
     holder: RangeHolder,
     cache: Option<&HeldCache>,
@@ -82,14 +83,14 @@ fn may_be_read(
     }
 }
 
-/// Returns whether it is the byte that was left of the holder: then no fresh one is looked up.
+/// Returns whether the byte is the one that the holder left. The fresh byte is then not needed.
 fn is_left(holder: RangeHolder, left: LeftByte, byte: u8) -> bool
     ensures { (fresh : ℕ) → result ≡ true → may_be (shown_holder holder) fresh (Some (shown_cell left)) byte ≡ true }
 {
     left.holder.is_same(&holder) && byte == left.byte
 }
 
-/// Returns the byte that something fresh has at a place of the holder, whose cache this is.
+/// Returns the byte that fresh memory has at a place of this holder, of this cache.
 fn fresh_byte(holder: RangeHolder, cache: Option<&HeldCache>, place: u32) -> u8
     ensures { (h : Holdings) → option_copied cache.entry ≡ cache_of h (shown_holder holder)
         → result ≡ known_fresh_byte h (shown_holder holder) place }

@@ -18,13 +18,14 @@ use std::marker::Model;
 #[derive(Debug, Drop)]
 pub(crate) struct SlotBytes {
     slot: u16,
-    /// How many places it has.
+    /// The number of places in the slot.
     places: usize,
-    /// The first of them, up to the last at which something was left; there is room for all.
+    /// The stored bytes of the first places of the slot. Nothing was left at the later ones. The capacity is enough for all
+    /// places.
     cells: Vec<KeptByte>,
-    /// What may have been left in each chunk.
+    /// The summary of each chunk.
     chunks: Vec<Summary>,
-    /// What may have been left in each frame.
+    /// The summary of each frame.
     frames: Vec<Summary>,
 }
 
@@ -44,7 +45,7 @@ impl Model for SlotBytes {
 }
 
 impl SlotBytes {
-    /// Returns a slot with `places` places, at which nothing was left. Fails if memory runs out.
+    /// Returns a slot with `places` places, where nothing was left. Fails if memory runs out.
     pub fn fresh(alloc: Global, slot: u16, places: usize) -> Result<SlotBytes, AllocError>
         ensures { IfOk result (λ s. s ≡ record { slot = slot; cells = replicate places None }) }
     {
@@ -64,14 +65,14 @@ impl SlotBytes {
         self.slot
     }
 
-    /// What was left this far from its first place.
+    /// Returns what was left `index` places behind the slot's first, `None` if nothing was.
     pub fn at(&self, index: usize) -> Option<LeftByte>
         ensures { option_map shown_cell result ≡ slice_index_or self.now.cells index None }
     {
         kept_at(&self.cells, index).left()
     }
 
-    /// What is stored this far from its first place and behind that; nothing was left at the places behind.
+    /// Returns the stored bytes from `index` places behind the slot's first on, maybe fewer than the places.
     pub fn kept_from(&self, index: usize) -> &[KeptByte]
         ensures len { length result.now ≤ length self.now.cells - index }
         ensures kept { (j : ℕ) → j < length result.now → shown_kept (slice_index_or result.now j Kept.Fresh)
@@ -83,7 +84,7 @@ impl SlotBytes {
         }
     }
 
-    /// Changes what was left at the places from `begin` on, before `end`; the first place of the slot is `first`.
+    /// Changes what was left at the places from `begin` on, below `end`. The slot begins at the place `first`.
     pub fn change<C: Change>(&mut self, first: u64, begin: u64, end: u64, change: &C)
         requires { first + length self.old.cells ≤ 2 ^ 32 }
         ensures slot { self.new.slot ≡ self.old.slot }
@@ -107,7 +108,7 @@ impl SlotBytes {
     }
 }
 
-/// Stores those first places at which the change may add something before `end`; the first place is `first`.
+/// Extends the stored bytes to all places below `end` at which the change may leave a byte. The slot begins at the place `first`.
 fn make_room<C: Change>(cells: &mut Vec<KeptByte>, places: usize, first: u64, end: u64, change: &C)
     requires few { length cells.old.items ≤ places }
     requires room { places ≤ vec_capacity cells.old }
@@ -124,7 +125,7 @@ fn make_room<C: Change>(cells: &mut Vec<KeptByte>, places: usize, first: u64, en
     grow(cells, wanted);
 }
 
-/// Extends them to `wanted`, if they are fewer: nothing was left at the new ones.
+/// Extends the stored bytes to `wanted`, if they are fewer. Nothing was left at the new places.
 fn grow(cells: &mut Vec<KeptByte>, wanted: usize)
     requires { wanted ≤ vec_capacity cells.old }
     ensures items { cells.new.items ≡ padded wanted cells.old.items }
@@ -135,7 +136,7 @@ fn grow(cells: &mut Vec<KeptByte>, wanted: usize)
     }
 }
 
-/// Returns what is stored at the index, nothing if the index is past the end.
+/// Returns the stored byte at the index, `Fresh` if the index is past the end.
 fn kept_at(cells: &[KeptByte], index: usize) -> KeptByte
     ensures { result ≡ slice_index_or cells.now index Kept.Fresh }
 {

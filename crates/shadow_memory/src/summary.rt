@@ -1,4 +1,4 @@
-//! Summaries: what may have been left at some places.
+//! Summaries of what may have been left at some places.
 
 ghost use Rattle.std.specs.Prelude.{◌≡◌, ℕ, true, Option, slice_index_or, slice_set};
 ghost use Rattle.promise_core.specs.Bytes.{Holder, Cell};
@@ -7,20 +7,20 @@ ghost use Rattle.shadow_memory.specs.Summaries.{MayOwn, IsSummarizedBy, any_summ
 
 use judge_core::RangeHolder;
 
-/// Whose bytes may have been left at some places.
+/// The holders whose bytes may have been left at some places.
 #[derive(Clone, Copy, Debug)]
 pub(crate) enum Owners {
-    /// Nobody's: nothing was left there.
+    /// No holder: nothing was left there.
     Nobody,
-    /// Those of one holder.
+    /// One holder.
     One(RangeHolder),
-    /// Those of objects of the cache of this number.
+    /// Any object of the cache of this number.
     Objects(u8),
-    /// Anybody's.
+    /// Any holder.
     Any,
 }
 
-/// What may have been left at some places: whose bytes, and whether one of them may surely be there.
+/// What may have been left at some places: the possible holders, and whether any of the bytes may be sure.
 #[derive(Clone, Copy, Debug)]
 pub(crate) struct Summary {
     pub owners: Owners,
@@ -40,7 +40,7 @@ impl Summary {
         sure: true,
     };
 
-    /// Returns the summary after bytes of the holder are surely there.
+    /// Returns a summary that also allows sure bytes of the holder.
     pub fn with(self, holder: RangeHolder) -> Summary
         ensures more { (cell : Option Cell) → IsSummarizedBy self cell → IsSummarizedBy result cell }
         ensures owners { MayOwn result.owners (shown_holder holder) }
@@ -54,7 +54,7 @@ impl Summary {
 }
 
 impl Owners {
-    /// Returns these owners and the holder.
+    /// Returns owners that include these and the holder.
     fn with(self, holder: RangeHolder) -> Owners
         ensures more { (h : Holder) → MayOwn self h → MayOwn result h }
         ensures owners { MayOwn result (shown_holder holder) }
@@ -77,7 +77,7 @@ impl Owners {
     }
 }
 
-/// Returns both holders as owners.
+/// Returns owners that include both holders.
 fn both(one: RangeHolder, other: RangeHolder) -> Owners
     ensures one { MayOwn result (shown_holder one) }
     ensures other { MayOwn result (shown_holder other) }
@@ -89,7 +89,7 @@ fn both(one: RangeHolder, other: RangeHolder) -> Owners
     }
 }
 
-/// Returns the summary of this number, or the one that excludes nothing if there is none.
+/// Returns the summary of this number, or `Summary::ANY` if there is none.
 pub(crate) fn summary_at(summaries: &[Summary], number: usize) -> Summary
     ensures { result ≡ slice_index_or summaries.now number any_summary }
 {

@@ -1,4 +1,4 @@
-//! Tests of what has a byte.
+//! Tests of holders.
 
 ghost use Rattle.std.specs.Prelude.{◌≡◌, ℕ, Bool, true, false, not, IfSome, ◌==◌, ◌&&◌, ◌||◌, nat_le, ◌+◌};
 ghost use Rattle.std.specs.List.{list_any};
@@ -13,20 +13,22 @@ use crate::summary::Owners;
 use judge_core::{FrameBlock, Held, HeldCache, RangeHolder};
 use model_core::limits::FRAME_BYTES;
 
-/// A test of what has a byte.
+/// A test of a holder.
 pub(crate) trait HolderTest {
     ghost test: { Self → Holder → Bool };
 
-    /// Returns whether it passes.
+    /// Returns whether the holder passes.
     fn passes(&self, holder: RangeHolder) -> bool
         ensures { result ≡ test self.now (shown_holder holder) };
 
-    /// Returns the result for each object of the cache of this number, if it is the same for all.
+    /// Returns the result for the objects of the cache of this number, if it is known to be the same for all. Otherwise it
+    /// returns `None`.
     fn tells_of_cache(&self, number: u8) -> Option<bool>
         ensures { IfSome result (λ told. (first : ℕ) → test self.now (Holder.Object number first) ≡ told) };
 }
 
-/// Returns the result of the test for each that may be one of these, if it is the same for all.
+/// Returns the result of the test for the holders that these owners allow, if it is known to be the same for all. Otherwise it
+/// returns `None`.
 fn tells_of<T: HolderTest>(test: &T, owners: Owners) -> Option<bool>
     ensures { IfSome result (λ told. (h : Holder) → MayOwn owners h → T.test test.now h ≡ told) }
 {
@@ -38,7 +40,7 @@ fn tells_of<T: HolderTest>(test: &T, owners: Owners) -> Option<bool>
     }
 }
 
-/// Returns whether each that may be one of these surely passes.
+/// Returns true only if each holder that these owners allow passes.
 pub(crate) fn passes_all<T: HolderTest>(test: &T, owners: Owners) -> bool
     ensures { result ≡ true → (h : Holder) → MayOwn owners h → T.test test.now h ≡ true }
 {
@@ -48,7 +50,7 @@ pub(crate) fn passes_all<T: HolderTest>(test: &T, owners: Owners) -> bool
     }
 }
 
-/// Returns whether each that may be one of these surely fails.
+/// Returns true only if each holder that these owners allow fails.
 pub(crate) fn fails_all<T: HolderTest>(test: &T, owners: Owners) -> bool
     ensures { result ≡ true → (h : Holder) → MayOwn owners h → T.test test.now h ≡ false }
 {
@@ -58,7 +60,7 @@ pub(crate) fn fails_all<T: HolderTest>(test: &T, owners: Owners) -> bool
     }
 }
 
-/// Passes if the test fails.
+/// Passes if the given test fails.
 #[derive(Drop)]
 pub(crate) struct Fails<T>(pub T);
 
@@ -77,7 +79,7 @@ impl<T: HolderTest> HolderTest for Fails<T> {
     }
 }
 
-/// Whether it is a page block.
+/// Passes for page blocks.
 #[derive(Drop)]
 pub(crate) struct IsPage;
 
@@ -96,7 +98,7 @@ impl HolderTest for IsPage {
     }
 }
 
-/// Whether it is the object of this cache that begins at this place.
+/// Passes for the object of this cache that begins at this place.
 #[derive(Drop)]
 pub(crate) struct IsObject {
     pub number: u32,
@@ -124,7 +126,7 @@ impl HolderTest for IsObject {
     }
 }
 
-/// Whether it is an object of this cache.
+/// Passes for the objects of this cache.
 #[derive(Drop)]
 pub(crate) struct IsOfCache {
     pub number: u32,
@@ -145,7 +147,7 @@ impl HolderTest for IsOfCache {
     }
 }
 
-/// Whether it can't lie in one slab with the object of this cache, of `size` bytes, that begins at this place.
+/// Passes for holders that cannot be in one slab with the object of `size` bytes of this cache that begins at this place.
 #[derive(Drop)]
 pub(crate) struct IsNotBeside {
     pub number: u8,
@@ -179,7 +181,7 @@ impl HolderTest for IsNotBeside {
     }
 }
 
-/// Whether it is an object that no slab has which has a live one.
+/// Passes for objects that lie in no slab with a live object of their cache.
 #[derive(Drop)]
 pub(crate) struct IsInNoSlab<'a> {
     pub held: &'a Held,
@@ -202,14 +204,14 @@ impl<'a> HolderTest for IsInNoSlab<'a> {
     }
 }
 
-/// Returns whether the place is in a slab of a live object of a cache of this number.
+/// Returns whether the place is in a slab with a live object of a cache of this number.
 fn is_in_some_slab(caches: &[HeldCache], number: u8, place: u32) -> bool
     ensures { result ≡ list_any (λ c. c.number == number && list_any (λ q. in_block place (slab_around c q)) c.live) caches.now }
 {
     caches.iter().any(|cache| cache.number() == number && has_slab_at(cache, place))
 }
 
-/// Returns whether the place is in a slab of a live object.
+/// Returns whether the place is in a slab with a live object of the cache.
 fn has_slab_at(cache: &HeldCache, place: u32) -> bool
     ensures { result ≡ list_any (λ q. in_block place (slab_around cache.now q)) cache.now.live }
 {
