@@ -1,4 +1,4 @@
--- The verdict on a reply, and what is known after it: by whom it is for, and by the verdict on its body.
+-- The verdict on a reply and what is known after it, by its addressee and by the verdict on its body.
 use Rattle.std.proofs.Common.{◌≡◌, ℕ, zero, suc, ◌<◌, Bool, true, false, ◌&&◌, List, [], ◌∷◌, length, drop, map, Option, Some, None, Result, Ok, Err, is_some, unwrap_or, slice_get, slice_set, refl, ap, sym, subst, ◌∙◌, inl, inr, arith}
 use Rattle.std.specs.Prelude.{if◌then◌else◌, option_map}
 use Rattle.std.specs.Option.{option_map_or}
@@ -33,7 +33,7 @@ set_is (z ∷ zs) (suc i) x y e = set_is zs i x y e
 
 -- Verdicts
 
--- the verdict, with what is known after a reply that is allowed
+-- the verdict, with what is known after an allowed reply
 abbrev turn : Result (Unit {0}) Promise → Known → Result Known Promise
 turn (Ok u) after = Ok after
 turn (Err promise) after = Err promise
@@ -52,7 +52,7 @@ module _ (event : Event) (reply : Reply) (w : Known) where
   unfolding allowed
   found t o name is = ap (λ n. judged event reply w (option_map_or (slice_get w.states) n (Some opening_state))) name ∙ ap (judged event reply w) is
 
-  -- for whom it does not have to be
+  -- a reply with the wrong addressee
   astray : (s : State) → is_for event true reply.addressee ≡ false → judged event reply w (Some s) ≡ Err Promise.Form
   astray s wrong =
       ap (λ b. verdict ((Promise.Form, b && is_some (state_after w.order event reply.body s)) ∷ drop 1 (kept event reply w s))
@@ -65,7 +65,7 @@ module _ (event : Event) (reply : Reply) (w : Known) where
       verdict_is (kept event reply w s) after
       ∙ ap (λ b. turn (broken ((Promise.Form, b && is_some (state_after w.order event reply.body s)) ∷ drop 1 (kept event reply w s))) after) right
 
--- where nothing is changed
+-- judging that changes nothing
 unchanged : (event : Event) (reply : Reply) (x : SeenMachine) (v : Result (Unit {0}) Promise) → allowed event reply (known_of x) ≡ turn v (known_of x)
     → IsJudged event reply x x (failing v)
 unchanged event reply x (Ok u) is = (is, record { order = refl; superblocks = refl; tenants = refl })
@@ -79,7 +79,7 @@ stranger event reply x t v name none is =
     unchanged event reply x v (found event reply (known_of x) t None name (slice_get-map state_of x.tenants t ∙ ap (option_map state_of) none)
     ∙ verdict_is ((Promise.Form, is_for event false reply.addressee) ∷ (Promise.Refusals, is_no_tenant reply.body) ∷ []) (known_of x) ∙ ap (λ v. turn v (known_of x)) (sym is))
 
--- A tenant that does
+-- A tenant that exists
 
 some_at : {A : Type 0} (xs : List A) (t : ℕ) → t < length xs → (x : A) × (slice_get xs t ≡ Some x)
 some_at [] t lt = absurd (omega arith)
@@ -92,7 +92,7 @@ misled event reply x t name within wrong =
     let y : (y : Seen) × (slice_get x.tenants t ≡ Some y) = some_at x.tenants t within in
     found event reply (known_of x) t (Some (state_of y.0)) name (slice_get-map state_of x.tenants t ∙ ap (option_map state_of) y.1) ∙ astray event reply (known_of x) (state_of y.0) wrong
 
--- a reply that is none to the event
+-- a reply that does not fit the event
 pub misjudged : (event : Event) (reply : Reply) (x : SeenMachine) (t : ℕ) → named event ≡ Some t → t < length x.tenants
     → is_for event true reply.addressee ≡ true → ((s : State) → state_after x.order event reply.body s ≡ None)
     → IsJudged event reply x x (Err (Of.Broken Promise.Form))
@@ -105,7 +105,7 @@ misjudged event reply x t name within right none =
       refl,
     )
 
--- the machine where one tenant is another, and the owners are others
+-- the machine with other owners and one tenant replaced
 abbrev pub with_tenant : SeenMachine → List (Option Owner) → ℕ → Seen → SeenMachine
 with_tenant x owners t z = record { order = x.order; owners = owners; tenants = slice_set x.tenants t z }
 
@@ -122,7 +122,7 @@ still_fits x owners t y z fits many here same = record {
   ];
 }
 
--- nothing changed
+-- replacing a tenant and the owners by themselves changes nothing
 as_before : (x : SeenMachine) (t : ℕ) (y z : Seen) (owners : List (Option Owner)) → slice_get x.tenants t ≡ Some y → z ≡ y → owners ≡ x.owners
     → with_tenant x owners t z ≡ x
 as_before x t y z owners here same is =
@@ -131,7 +131,7 @@ as_before x t y z owners here same is =
 
 module _ (event : Event) (reply : Reply) (x : SeenMachine) (t : ℕ) (y z : Seen) (name : named event ≡ Some t)
     (right : is_for event true reply.addressee ≡ true) (here : slice_get x.tenants t ≡ Some y) (order : y.left.order ≡ x.order) where
-  -- the tenant's verdict is the one on the machine's reply
+  -- the verdict on a reply to a tenant's command is the tenant's verdict
   on_tenant : (v : Result (Unit {0}) Promise) → tenant_verdict event reply.body (known_of x) y ≡ v
       → allowed event reply (known_of x)
       ≡ turn v (known_after event reply.body (known_of x) (unwrap_or (state_after x.order event reply.body (state_of y)) (state_of y)))
@@ -174,7 +174,7 @@ module _ (event : Event) (reply : Reply) (x : SeenMachine) (t : ℕ) (y z : Seen
     as_before x t y z owners here same is,
   )
 
--- The tenant keeps the order of a slot, and the owners their number, whatever came of the command
+-- The order of a slot and the number of superblocks stay the same after any command
 
 pub order_kept : (event : Event) (body : Body) (w : Known) (y z : Seen) (result : Result (Unit {0}) Failure) → IsVerdictFor event body w y z result
     → z.left.order ≡ y.left.order
@@ -203,7 +203,7 @@ unfolding allowed owners_after
 pool_judged reply x v right is = unchanged (On.Admin Do.Pool) reply x v
     (addressed (On.Admin Do.Pool) reply (known_of x) opening_state right ∙ ap (λ r. turn r (known_of x)) (sym is))
 
--- by an answer, which no tenant is asked for
+-- an answer to the pool command, which concerns no tenant
 pub pool_answered : (reply : Reply) (x : SeenMachine) (result : Result (Unit {0}) Failure) → is_for (On.Admin Do.Pool) true reply.addressee ≡ true
     → ((w : Known) (y : Seen) → IsVerdictFor (On.Admin Do.Pool) reply.body w y y result) → IsJudged (On.Admin Do.Pool) reply x x result
 pool_answered reply x result right judged = go result (judged (known_of x) nobody)

@@ -1,4 +1,4 @@
--- Verdicts on answers, by what a command tests of them.
+-- Verdicts on answers, by the tests of each command.
 use Rattle.std.proofs.Common.{◌≡◌, ℕ, ◌<◌, ◌≤◌, Bool, true, false, not, ◌&&◌, [], ◌∷◌, length, Option, Some, None, Err, refl, ap, sym, ◌∙◌}
 use Rattle.std.specs.Prelude.{◌==◌, is_none, find, nat_le, option_map}
 use Rattle.std.specs.Option.{option_map_or, option_eq}
@@ -74,7 +74,7 @@ module _ (t place len : ℕ) (bytes : ArrayVec ℕ) (w : Known) (x : Seen) where
   unfolding due state_after
   written_if o is = ap (λ p. broken ((Promise.Refusals, is_none (first_due ((is_none p, Refusal.OutOfReach) ∷ []))) ∷ (Promise.Bytes, length bytes.items == len) ∷ [])) is
 
--- bytes that nothing has
+-- bytes that no holder has
 pub unread : (b is_right : Bool) → broken ((Promise.Refusals, is_none (first_due ((not b, Refusal.BadLength) ∷ (true, Refusal.OutOfReach) ∷ []))) ∷ (Promise.Bytes, is_right) ∷ []) ≡ Err Promise.Refusals
 unread true is_right = refl
 unread false is_right = refl

@@ -1,4 +1,4 @@
--- What is kept after the answer to each command.
+-- The state after the answer to each command.
 use Rattle.std.proofs.Common.{◌≡◌, ℕ, ◌<◌, ◌≤◌, Bool, true, false, not, List, [], ◌∷◌, length, Option, Some, None, Ok, refl, ap, sym, subst, ◌∙◌, arith}
 use Rattle.std.specs.Prelude.{◌==◌, ◌&&◌, ◌||◌, filter, nat_lt, slice_index_or}
 use Rattle.std.proofs.lemmas.Bool.{ltb-true, ltb-false, eqb-true}
@@ -20,11 +20,11 @@ use Rattle.shadow_memory.specs.Left.{Left, left_slots, left_at, Becomes}
 use Rattle.judge.specs.Seen.{Seen, state_of, AreNumbered}
 use Rattle.judge.specs.Judged.{tenant_verdict, IsFollowed}
 
--- a machine of which nothing is known
+-- a machine about which nothing is known
 pub nothing : Known
 nothing = record { limit = 0; order = 0; owners = []; states = [] }
 
--- with these holdings and this left, and no report that has to stand
+-- the state with these holdings and these left bytes, and without a valid report
 abbrev pub changed : Seen → Holdings → Left → Seen
 changed old h l = record old { has = h; left = l; told = None }
 
@@ -142,7 +142,7 @@ given t number place w old h l kept has left = record {
   state = λ i. Some (record { has = sym has i; cells = sym left.cells i; may_have_empty = λ n. slice_index_or old.may_have_empty n false; told = None });
 }
 
--- no cache has a greater number
+-- no cache has a number at or above the limit
 in_use_below : (h : Holdings) (n : ℕ) → AreNumbered h → (nat_lt n MOST_CACHES && is_in_use (known_cache h n)) ≡ is_in_use (known_cache h n)
 in_use_below h n low = go (nat_lt n MOST_CACHES) refl (known_cache h n) refl
   where

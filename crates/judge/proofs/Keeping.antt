@@ -1,4 +1,4 @@
--- What a verdict without a broken promise says, and that what is kept of a tenant stays sound.
+-- The consequences of a verdict without a broken promise; a tenant's state keeps its invariant.
 use Rattle.std.proofs.Common.{◌≡◌, ℕ, ◌<◌, ◌≤◌, Bool, true, false, List, [], ◌∷◌, drop, is_some, Some, Ok, Err, refl, ap, sym, subst, ◌∙◌, inl, inr}
 use Rattle.std.specs.Prelude.{Result, OnOk, ◌==◌, if◌then◌else◌}
 use Rattle.std.specs.List.{list_any}
@@ -26,7 +26,7 @@ use Rattle.shadow_memory.specs.Left.{left_slots, Becomes}
 use Rattle.judge.specs.Judged.{broken, known_at, tenant_verdict, IsFollowed}
 use Rattle.judge.specs.Seen.{Seen, state_of, AreNumbered, LieInSlots}
 
--- each promise is kept
+-- a verdict is `Ok` only if each promise is kept
 all_kept : (ps : List (Promise × Bool)) → broken ps ≡ Ok tt → Each (λ p. p.1 ≡ true) ps
 all_kept [] ok = tt
 all_kept ((promise, kept) ∷ rest) ok = go kept refl ok (all_kept rest)
@@ -100,9 +100,9 @@ number_step w (On.Admin (Do.Move i u)) (Say.Moved told slot superblock) s s' e l
 number_step w (On.Admin Do.Pool) (Say.Owners owners) s s' e limit l g = subst (λ y. AreNumbered y.has) (some_state e) g
 number_step w event body s s' e limit l g = absurd (cc)
 
--- Sound
+-- The invariant
 
--- after a reply that keeps each promise, where the slots are those of what was left
+-- the invariant holds after a reply that keeps each promise, if the left bytes are those of the held slots
 pub sound_after : (event : Event) (body : Body) (w : Known) (old new : Seen) → LieInSlots old.has old.left → IsFollowed event body w old new
     → ((u : ℕ) → list_any (λ v. v == u) (left_slots new.left) ≡ has_slot new.has u) → LieInSlots new.has new.left
 sound_after event body w old new sound follows slots =
@@ -118,7 +118,7 @@ sound_after event body w old new sound follows slots =
       numbered = number_step v event body (state_of old) (state_of new) follows.state refl n.layout sound.numbered;
     }
 
--- the same of a tenant that is another one by its fields
+-- the verdict `Ok` on a tenant is also the verdict on an equal one
 pub kept_in : (event : Event) (body : Body) (w : Known) (x y : Seen) → x ≡ y → Ok tt ≡ tenant_verdict event body w y → tenant_verdict event body w x ≡ Ok tt
 kept_in event body w x y same kept = subst (λ z. tenant_verdict event body w z ≡ Ok tt) (sym same) (sym kept)
 
@@ -133,13 +133,13 @@ pub followed : (event : Event) (body : Body) (w : Known) (x y new : Seen) → x 
 followed event body w x y new same kept follows =
     subst (λ z. IsFollowed event body w z new) same (follows (kept_in event body w x y same kept))
 
--- where both slots stay
+-- if the slots stay, the left bytes are still those of the held slots
 pub same_slots : (old new : Seen) (change : Cells → Cells) → LieInSlots old.has old.left → Becomes old.left (left_slots old.left) change new.left
     → new.has.slots ≡ old.has.slots → (u : ℕ) → list_any (λ v. v == u) (left_slots new.left) ≡ has_slot new.has u
 same_slots old new change sound becomes same u =
     ap (list_any (λ v. v == u)) becomes.slots ∙ sound.slots u ∙ sym (ap (list_any (λ v. v == u)) same)
 
--- what holds after a call that did not fail
+-- a fact about successful calls holds if the call cannot fail
 pub if_kept : {E : Type 0} (r : Result (Unit {0}) E) (P : Type 0) → ((e : E) → r ≡ Err e → ⊥) → OnOk r P → P
 if_kept (Ok u) P not h = h
 if_kept (Err e) P not h = absurd (not e refl)

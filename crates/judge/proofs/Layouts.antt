@@ -1,4 +1,4 @@
--- What is known of a new cache whose layout is allowed.
+-- Facts about a new cache with an allowed layout.
 use Rattle.std.proofs.Common.{◌≡◌, ℕ, ◌+◌, ◌-◌, ◌*◌, ◌%◌, ◌^◌, ◌≤◌, Bool, true, false, not, ◌&&◌, refl, arith, [], ◌∷◌, Option, Some, None, Ok}
 use Rattle.std.specs.Prelude.{if◌then◌else◌, is_none, nat_le, nat_lt, ◌==◌, length}
 use Rattle.std.proofs.lemmas.Bool.{and_parts, leb-true, eqb-true}
@@ -45,7 +45,7 @@ module _ (size align t number chunk q n colours : ℕ) (p : ArrayVec ℕ) (w : K
   abbrev inside : Bool
   inside = nat_le (align * (colours - 1) + n * chunk) (FRAME_BYTES * 2 ^ q)
 
-  -- the number of a new cache is new
+  -- no cache had the number of the new cache ..
   pub new_where_allowed : tenant_verdict (On.Tenant t (Command.Cache size align p)) (Say.Cache number chunk q n colours) w x ≡ Ok tt
       → known_cache x.has number ≡ None
   new_where_allowed ok = none_is (known_cache x.has number)

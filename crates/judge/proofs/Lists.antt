@@ -7,12 +7,12 @@ use Rattle.std.proofs.lemmas.List.Filters.{length-filter_both, length-filter_mor
 use Rattle.std.proofs.lemmas.Bool.{eqb-true}
 use Rattle.model_core.specs.Reports.{split_share}
 
--- all numbers from k to below n, the first of them and the others
+-- a test of all numbers from k to below n tests k, and then the others
 pub all_from : (p : ℕ → Bool) (k n : ℕ) → k < n
     → list_all p (range_with_len k (n - k)) ≡ (p k && list_all p (range_with_len (k + 1) (n - (k + 1))))
 all_from p k n lt = let e : n - k ≡ suc (n - (k + 1)) = omega arith in ap (λ m. list_all p (range_with_len k m)) e
 
--- the tests of a report in groups, and one by one
+-- testing a report in groups is testing it one by one
 pub grouped : (a b c d e f g h i j k : Bool) → list_all (λ x. x) ((a && b) ∷ ((c && d) && (e && f)) ∷ (g && h) ∷ i ∷ j ∷ k ∷ [])
     ≡ list_all (λ x. x) (a ∷ b ∷ c ∷ d ∷ e ∷ f ∷ g ∷ h ∷ i ∷ j ∷ k ∷ [])
 grouped false b c d e f g h i j k = refl
@@ -24,7 +24,7 @@ grouped true true true true true false g h i j k = refl
 grouped true true true true true true false h i j k = refl
 grouped true true true true true true true h i j k = refl
 
--- the share told is tested alike with either of two orders that are the same
+-- the reported share is tested alike with either of two equal orders
 pub same_share : (a b : Option ℕ) (free split : ℕ) → (option_eq (λ i j. i == j) a b && split == split_share free b)
     ≡ (option_eq (λ i j. i == j) a b && split == split_share free a)
 same_share None None free split = refl
@@ -36,7 +36,7 @@ same_share (Some i) (Some j) free split = go (i == j) refl
     go true e = ap (λ k. split == split_share free (Some k)) (sym (eqb-true i j e))
     go false e = refl
 
--- one more is counted if it passes
+-- one more item is counted if it passes
 pub one_more : (p : ℕ → Bool) (xs : List ℕ) (i n more : ℕ) (b : Bool) → i < length xs → n ≡ length (filter p (take i xs)) → b ≡ p (get_or xs i 0)
     → more ≡ from_bool b → n + more ≡ length (filter p (take (i + 1) xs))
 one_more p xs i n more b there is test bit =
@@ -47,7 +47,7 @@ one_more p xs i n more b there is test bit =
     number true = refl
     number false = refl
 
--- no more are counted than there are
+-- the count is at most the number of items
 pub count_within : (p : ℕ → Bool) (xs : List ℕ) (i n more : ℕ) (b : Bool) → n ≡ length (filter p (take i xs)) → more ≡ from_bool b → n + more ≤ i + 1
 count_within p xs i n more b is bit =
     let both = length-filter_both p (λ x. not (p x)) (λ x. refl) (take i xs) in

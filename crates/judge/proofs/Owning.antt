@@ -1,4 +1,4 @@
--- What is kept after the answer to each command of the administrator.
+-- The state after the answer to each command of the administrator.
 use Rattle.std.proofs.Common.{◌≡◌, ℕ, ◌+◌, ◌*◌, ◌^◌, ◌≤◌, Bool, true, false, not, List, [], ◌∷◌, map, length, replicate, slice_set, Option, Some, None, Ok, Err, refl, ap, sym, ◌∙◌, arith}
 use Rattle.std.specs.Prelude.{Result, ◌==◌, ◌&&◌, ◌||◌, filter, if◌then◌else◌, nat_lt, slice_index_or}
 use Rattle.std.specs.List.{list_any}
@@ -28,7 +28,7 @@ use Rattle.judge.specs.Judged.{tenant_verdict, IsFollowed, AreOwnersAfter}
 use Rattle.judge.proofs.Keeping.{kept_all}
 use Rattle.judge.proofs.Following.{changed}
 
--- Nothing
+-- The opening state
 
 pub opened : (x : Seen) (order : ℕ) → x.has ≡ record { slots = []; pages = []; caches = [] } → x.left ≡ record { order = order; slots = [] }
     → ((n : ℕ) → slice_index_or x.may_have_empty n false ≡ false) → x.told ≡ None → state_of x ≡ opening_state
@@ -68,7 +68,7 @@ granted t told u m w old h l kept has left = record {
   state = λ i. Some (record { has = sym has i; cells = sym left.cells i; may_have_empty = λ n. slice_index_or old.may_have_empty n false; told = None });
 }
 
--- what is granted is new, and its places are below 2 ^ 32
+-- the granted slot is new, and its places are below 2 ^ 32
 pub record IsNewSlot (u : ℕ) (x : Seen) : Type 0 where
   pub new : has_slot x.has u ≡ false
   pub low : (u + 1) * 2 ^ x.left.order * FRAME_BYTES ≤ 2 ^ 32
@@ -101,7 +101,7 @@ drop_put u (x ∷ xs) e = go (nat_lt u x) (x == u) refl (drop_put u xs) e
     go false false is rest e = ap (λ d. if not d then x ∷ filter (λ v. not (v == u)) (put_rising (λ v. v) u xs) else filter (λ v. not (v == u)) (put_rising (λ v. v) u xs)) is
         ∙ ap (λ zs. x ∷ zs) (rest (ap (λ d. d || list_any (λ v. v == u) xs) (sym is) ∙ e))
 
--- what was granted and taken back at once is as it was
+-- granting a slot and taking it back at once changes nothing
 pub granted_back : (u : ℕ) (h g k : Holdings) → has_slot h u ≡ false → g ≡ record h { slots = put_rising (λ v. v) u h.slots }
     → k ≡ record g { slots = filter (λ v. not (v == u)) g.slots } → k ≡ h
 granted_back u h g k new granted back = back ∙ (ap (λ (y : Holdings). record y { slots = filter (λ v. not (v == u)) y.slots }) granted
@@ -165,7 +165,7 @@ pub moved : (t u told slot m : ℕ) (w : Known) (x : Seen) → tenant_verdict (O
 unfolding state_after
 moved t u told slot m w x kept = record { kept = kept; order = refl; state = refl }
 
--- Who owns each superblock then: that of the tenant and the slot that were asked for
+-- The owners after an answer, from the tenant and the slot of the command
 
 pub owner_granted : (t told u m : ℕ) (w : Known) (x : Seen) (os : List (Option Owner))
     → tenant_verdict (On.Admin (Do.Grant t)) (Say.Granted told u m) w x ≡ Ok tt
@@ -192,7 +192,7 @@ pub owners_emptied : (t told m : ℕ) (os : List (Option Owner)) → map (given_
 unfolding owners_after
 owners_emptied t told m os = refl
 
--- .. and after a refusal who did before
+-- a refusal leaves the owners unchanged
 pub owners_refused : (event : Event) (r : Refusal) (os : List (Option Owner)) (result : Result (Unit {0}) Failure) → AreOwnersAfter event (Say.Refused r) os os result
 unfolding owners_after
 owners_refused (On.Tenant t command) r os (Ok u) = refl
@@ -203,7 +203,7 @@ owners_refused (On.Admin (Do.Move t u)) r os (Ok v) = refl
 owners_refused (On.Admin Do.Pool) r os (Ok u) = refl
 owners_refused event r os (Err e) = refl
 
--- a command of a tenant changes none
+-- a tenant's command leaves the owners unchanged
 pub owners_kept : (t : ℕ) (command : Command) (body : Body) (os : List (Option Owner)) → owners_after (On.Tenant t command) body os ≡ os
 unfolding owners_after
 owners_kept t command body os = refl
@@ -212,7 +212,7 @@ pub are_kept : (t : ℕ) (command : Command) (body : Body) (os : List (Option Ow
 are_kept t command body os (Ok u) = sym (owners_kept t command body os)
 are_kept t command body os (Err e) = refl
 
--- There are as many
+-- The number of superblocks stays the same
 
 pub as_many : (command : AdminCommand) (body : Body) (os : List (Option Owner)) → length (owners_after (On.Admin command) body os) ≡ length os
 unfolding owners_after

@@ -1,4 +1,4 @@
--- Sums over the rows of a report, a row at a time.
+-- Sums over the rows of a report, one row at a time.
 use Rattle.std.proofs.Common.{◌≡◌, ℕ, suc, ◌+◌, ◌*◌, ◌^◌, ◌<◌, ◌≤◌, List, take, drop, get_or, length, ap, sym, ◌∙◌, min, arith}
 use Rattle.std.proofs.Math.Nat.{pow-succ', mul_assoc, mul_comm, mul-add, mul-zero}
 use Rattle.std.proofs.lemmas.List.{at_drop_more, at_drop_all, take_all}
@@ -13,18 +13,18 @@ double i = let e : i + 1 ≡ suc i = omega arith in ap (λ n. 2 ^ n) e ∙ pow-s
 spread : (p a b : ℕ) → p * (a + 2 * b) ≡ a * p + (2 * p) * b
 spread p a b = mul-add p a (2 * b) ∙ (λ i. mul_comm p a i + (sym (mul_assoc p 2 b) ∙ ap (λ n. n * b) (mul_comm p 2)) i)
 
--- the frames of the blocks from an order on
+-- the frames of the blocks of an order and above
 pub from_order : (ns : List ℕ) (i : ℕ) → i < length ns
     → 2 ^ i * frames_of_counts (drop i ns) ≡ get_or ns i 0 * 2 ^ i + 2 ^ (i + 1) * frames_of_counts (drop (i + 1) ns)
 from_order ns i lt = ap (λ n. 2 ^ i * n) (at_drop_more frames_of_counts ns i 0 lt)
     ∙ (spread (2 ^ i) (get_or ns i 0) (frames_of_counts (drop (i + 1) ns))
     ∙ ap (λ p. get_or ns i 0 * 2 ^ i + p * frames_of_counts (drop (i + 1) ns)) (sym (double i)))
 
--- no order is left
+-- behind the last order there are no frames
 pub no_order : (ns : List ℕ) (i : ℕ) → length ns ≤ i → 2 ^ i * frames_of_counts (drop i ns) ≡ 0
 no_order ns i le = ap (λ n. 2 ^ i * n) (at_drop_all frames_of_counts ns i le) ∙ mul-zero (2 ^ i)
 
--- a sum over pairs, one more of which is at i
+-- a sum over pairs, with one more pair, at i
 pub one_more_pair : {A B : Type 0} (f : A × B → ℕ) (xs : List A) (ys : List B) (i : ℕ) (a : A) (b : B) → i < length xs → i < length ys
     → a ≡ get_or xs i a → b ≡ get_or ys i b → sum_by f (take (i + 1) (zip xs ys)) ≡ sum_by f (take i (zip xs ys)) + f (a, b)
 one_more_pair f xs ys i a b first second is_a is_b =

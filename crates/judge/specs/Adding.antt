@@ -1,4 +1,4 @@
--- What is judged where memory runs out.
+-- The replies for which memory can run out.
 use Rattle.std.specs.Prelude.{◌≡◌, Bool, true, false, Ok}
 use Rattle.words_core.specs.declared.reply.Body.{Body}
 use Rattle.words_core.specs.declared.event.Event.{Event}
@@ -7,7 +7,7 @@ use Rattle.promise_core.specs.State.{Known}
 use Rattle.promise_core.specs.Promises.{allowed}
 use Rattle.judge.specs.Machine.{SeenMachine, ShowsKnown}
 
--- a reply of this body adds something to what is kept: a slot, a page block, a cache or an object
+-- a reply with this body adds something to the state: a slot, a page block, a cache or an object
 abbrev pub is_addition : Body → Bool
 is_addition (Body.Granted tenant slot superblock) = true
 is_addition (Body.Frame frame) = true
@@ -27,7 +27,7 @@ is_addition (Body.Report report) = false
 is_addition (Body.Refused refusal) = false
 is_addition (Body.Fault fault) = false
 
--- it does, and is allowed
+-- the reply adds something, and is allowed
 pub record IsAllowedAddition (event : Event) (reply : Reply) (x : SeenMachine) : Type 0 where
   pub adds : is_addition reply.body ≡ true
   pub allowed : (w : Known) → ShowsKnown x w → (after : Known) × (allowed event reply w ≡ Ok after)

@@ -1,4 +1,4 @@
--- Verdicts on the reply to one event, and what is kept after it.
+-- Verdicts on the reply to one event, and the state after it.
 use Rattle.std.specs.Prelude.{◌≡◌, ℕ, Bool, true, not, List, [], ◌∷◌, drop, Option, Some, None, Result, Ok, Err, is_some, if◌then◌else◌, ◌||◌}
 use Rattle.std.specs.Option.{option_map_or}
 use Rattle.model_core.specs.declared.owner.Owner.{Owner}
@@ -18,25 +18,24 @@ use Rattle.judge.specs.Seen.{Seen, state_of}
 use Rattle.judge.specs.Machine.{SeenMachine, KeepsSizes, known_of}
 use Rattle.judge.specs.Adding.{is_addition, IsAllowedAddition}
 
--- that all are kept, or the first promise that is not
+-- `Ok` if all promises are kept, else the first that is not
 abbrev pub broken : List (Promise × Bool) → Result (Unit {0}) Promise
 broken [] = Ok tt
 broken ((promise, kept) ∷ rest) = if kept then broken rest else Err promise
 
--- the verdict on a reply of this body that is for whom it has to be
+-- the verdict on a reply with this body and the right addressee
 abbrev pub verdict_on : Event → Body → Known → State → Result (Unit {0}) Promise
 verdict_on event body w s = broken ((Promise.Form, is_some (state_after w.order event body s))
     ∷ drop 1 (kept event (record { addressee = Addressee.Nobody; body = body }) w s))
 
--- the verdict on a refusal where `due` has to come, if one has; `full` and `busy` are whether it may be said for want of frames,
--- and that a slot is busy
+-- the verdict on a refusal if `due` must come; `full` says whether `NoFrames` may come, and `busy` whether `SlotBusy` may
 abbrev pub on_refusal : Refusal → Option Refusal → Bool → Bool → Result (Unit {0}) Promise
 on_refusal refusal due full busy = broken (
     (Promise.Refusals, option_map_or (is_one refusal) due (is_one refusal Refusal.NoFrames || is_one refusal Refusal.SlotBusy))
     ∷ (Promise.Room, not (is_one refusal Refusal.NoFrames) || full)
     ∷ (Promise.Busy, not (is_one refusal Refusal.SlotBusy) || busy) ∷ [])
 
--- the verdict, whatever else comes with it
+-- the verdict alone, without the value
 abbrev pub only_verdict : {A : Type 0} → Result A Promise → Result (Unit {0}) Promise
 only_verdict (Ok _) = Ok tt
 only_verdict (Err promise) = Err promise
@@ -46,37 +45,37 @@ abbrev pub failing : Result (Unit {0}) Promise → Result (Unit {0}) Failure
 failing (Ok _) = Ok tt
 failing (Err promise) = Err (Failure.Broken promise)
 
--- what is known of a machine with this tenant
+-- what is known of a machine, with the sizes of this tenant
 abbrev pub known_at : Seen → Known → Known
 known_at x w = record w { limit = MOST_CACHES; order = x.left.order }
 
--- the verdict on a reply of this body to a command about the tenant
+-- the verdict on a reply with this body to a command about the tenant
 abbrev pub tenant_verdict : Event → Body → Known → Seen → Result (Unit {0}) Promise
 tenant_verdict event body w x = verdict_on event body (known_at x w) (state_of x)
 
--- the reply keeps every promise, and the tenant is as it is after it
+-- the reply keeps every promise, and the tenant is updated by it
 pub record IsFollowed (event : Event) (body : Body) (w : Known) (old new : Seen) : Type 0 where
   pub kept : tenant_verdict event body w old ≡ Ok tt
   pub order : new.left.order ≡ old.left.order
   pub state : state_after old.left.order event body (state_of old) ≡ Some (state_of new)
 
--- .. or breaks a promise, or adds something for which there is no memory, and the tenant is as before
+-- .. or it breaks a promise, or memory runs out for what it adds, and the tenant is unchanged
 abbrev pub IsVerdictFor : Event → Body → Known → Seen → Seen → Result (Unit {0}) Failure → Type 0
 IsVerdictFor event body w old new (Ok _) = IsFollowed event body w old new
 IsVerdictFor event body w old new (Err (Failure.Broken promise)) = (tenant_verdict event body w old ≡ Err promise) × (new ≡ old)
 IsVerdictFor event body w old new (Err (Failure.Memory error)) =
     ((tenant_verdict event body w old ≡ Ok tt) × (is_addition body ≡ true)) × (new ≡ old)
 
--- this is no answer to the event, but where it is a refusal
+-- the answer does not fit the event, unless it is a refusal
 abbrev pub IsUnfit : Event → Answer → Type 0
 IsUnfit event answer = (order : ℕ) (s : State) → ((r : Refusal) → answer ≡ Answer.Refused r → ⊥) → state_after order event (body_of_answer answer) s ≡ None
 
--- who owns each superblock is as it is after a reply that keeps every promise, and else as before
+-- the owners are updated by a reply that keeps every promise, and otherwise unchanged
 abbrev pub AreOwnersAfter : Event → Body → List (Option Owner) → List (Option Owner) → Result (Unit {0}) Failure → Type 0
 AreOwnersAfter event body old new (Ok _) = new ≡ owners_after event body old
 AreOwnersAfter event body old new (Err failure) = new ≡ old
 
--- the verdict on a reply, and what is kept of the machine after it
+-- the verdict on a reply, and the machine's state after it
 abbrev pub IsJudged : Event → Reply → SeenMachine → SeenMachine → Result (Unit {0}) Failure → Type 0
 IsJudged event reply old new (Ok _) = (allowed event reply (known_of old) ≡ Ok (known_of new)) × KeepsSizes old new
 IsJudged event reply old new (Err (Failure.Broken promise)) = (allowed event reply (known_of old) ≡ Err promise) × (new ≡ old)

@@ -1,4 +1,4 @@
--- What is kept of a machine, its sizes, what is known of it, and the verdict on a reply.
+-- The state of a machine, its sizes, what is known of it, and the verdict on a reply.
 use Rattle.std.specs.Prelude.{◌≡◌, ℕ, ◌≤◌, List, Option, Some, Result, Ok, Err, length, map, slice_get}
 use Rattle.model_core.specs.declared.owner.Owner.{Owner}
 use Rattle.model_core.specs.declared.limits.TheConstants.{MOST_CACHES, MOST_ORDER, MOST_SUPERBLOCKS}
@@ -6,7 +6,7 @@ use Rattle.promise_core.specs.declared.promise.Promise.{Promise}
 use Rattle.promise_core.specs.State.{Known}
 use Rattle.judge.specs.Seen.{Seen, state_of}
 
--- what is kept: by superblock who owns it, by tenant what it has; slots have 2 ^ order frames
+-- the state of a machine: the owner of each superblock, and what each tenant has; slots have 2 ^ order frames
 pub record SeenMachine : Type 0 where
   pub order : ℕ
   pub owners : List (Option Owner)
@@ -15,22 +15,22 @@ pub record SeenMachine : Type 0 where
 abbrev pub known_of : SeenMachine → Known
 known_of x = record { limit = MOST_CACHES; order = x.order; owners = x.owners; states = map state_of x.tenants }
 
--- so much is known of the machine
+-- this is what is known of the machine
 abbrev pub ShowsKnown : SeenMachine → Known → Type 0
 ShowsKnown x w = w ≡ known_of x
 
--- the verdict is this one, and what is known after a reply that is allowed is kept
+-- the verdict agrees with the definition's, and after an allowed reply the state holds what is known then
 abbrev pub IsVerdict : Result (Unit {0}) Promise → Result Known Promise → SeenMachine → Type 0
 IsVerdict (Ok _) allowed new = (after : Known) × (allowed ≡ Ok after) × ShowsKnown new after
 IsVerdict (Err promise) allowed new = allowed ≡ Err promise
 
--- within the limits, and slots have as many frames at every tenant
+-- the sizes are within the limits, and slots of all tenants have the same order
 pub record FitsLimits (x : SeenMachine) : Type 0 where
   pub small : x.order ≤ MOST_ORDER
   pub few : length x.owners ≤ MOST_SUPERBLOCKS
   pub ordered : (t : ℕ) (y : Seen) → slice_get x.tenants t ≡ Some y → y.left.order ≡ x.order
 
--- no size changes
+-- the sizes do not change
 pub record KeepsSizes (old new : SeenMachine) : Type 0 where
   pub order : new.order ≡ old.order
   pub superblocks : length new.owners ≡ length old.owners

@@ -1,4 +1,4 @@
--- What is kept of a tenant, its state, and what is true of it.
+-- The state of a tenant, as it is stored and as the definitions have it, and its invariant.
 use Rattle.std.specs.Prelude.{◌≡◌, ℕ, ◌<◌, ◌≤◌, ◌==◌, Bool, false, List, Option, slice_index_or}
 use Rattle.std.specs.List.{list_any}
 use Rattle.model_core.specs.Elements.{IsIn}
@@ -9,11 +9,11 @@ use Rattle.promise_core.specs.Holdings.{KnownCache, Holdings, has_slot}
 use Rattle.promise_core.specs.State.{State, opening_state}
 use Rattle.shadow_memory.specs.Left.{Left, left_at, left_slots}
 
--- what is kept of a tenant
+-- the stored state of a tenant
 pub record Seen : Type 0 where
   pub has : Holdings
   pub left : Left
-  -- for each number of a cache, whether it may have a slab without live objects
+  -- indexed by cache number: whether the cache may have an empty slab
   pub may_have_empty : List Bool
   pub told : Option Report
 
@@ -28,7 +28,7 @@ pub record IsOpeningTenant (order : ℕ) (x : Seen) : Type 0 where
 abbrev pub AreNumbered : Holdings → Type 0
 AreNumbered h = (c : KnownCache) → IsIn c h.caches → c.number < MOST_CACHES
 
--- what was left is of the held slots; blocks and slabs lie in them, objects in their slabs
+-- the left bytes are those of the held slots; blocks and slabs lie in these slots, objects in their slabs
 pub record LieInSlots (h : Holdings) (left : Left) : Type 0 where
   pub sized : left.order ≤ MOST_ORDER
   pub slots : (u : ℕ) → list_any (λ v. v == u) (left_slots left) ≡ has_slot h u

@@ -1,4 +1,4 @@
-//! Whom an event names, and whom a reply has to be for.
+//! The tenant that an event names, and the addressee that its reply must have.
 
 ghost use Rattle.std.specs.Prelude.{◌≡◌, [], ◌∷◌, false};
 ghost use Rattle.promise_core.specs.declared.promise.Promise.{Promise};
@@ -10,7 +10,7 @@ use crate::verdict::Verdict;
 use promise_core::promise::Promise;
 use words_core::{Addressee, AdminCommand, Answer, Event, Refusal};
 
-/// Returns the tenant that the event names, existing or not.
+/// Returns the tenant that the event names, if it names one. The tenant may not exist.
 pub(crate) fn tenant_named(event: &Event) -> Option<u32>
     ensures { result ≡ named event.now }
 {
@@ -24,7 +24,7 @@ pub(crate) fn tenant_named(event: &Event) -> Option<u32>
     }
 }
 
-/// Returns whether a reply to the event may have this addressee, if the tenant that it names exists or not.
+/// Returns whether a reply to the event may have this addressee. `exists` says whether the tenant that the event names exists.
 pub(crate) fn is_for(event: &Event, exists: bool, addressee: Addressee) -> bool
     ensures { result ≡ is_for event.now exists addressee }
 {
@@ -49,7 +49,7 @@ pub(crate) fn judge_stranger(event: &Event, addressee: Addressee, is_no_tenant: 
     }
 }
 
-/// Returns whether the answer is that the tenant does not exist.
+/// Returns whether the answer is the refusal `NoTenant`.
 pub(crate) fn says_no_tenant(answer: &Answer<'_>) -> bool
     ensures { result ≡ is_no_tenant (body_of_answer answer.now) }
 {

@@ -1,4 +1,4 @@
-//! Answers to commands of the administrator about a tenant. `owners` is who owns each superblock.
+//! Answers to commands of the administrator about a tenant. `owners` has the owner of each superblock.
 
 ghost use Rattle.std.specs.Prelude.{◌≡◌, ◌≤◌, ◌<◌, ◌+◌, ◌*◌, ◌^◌, nat_le, ◌&&◌, ◌||◌, ℕ, false, not, slice_index_or};
 ghost use Rattle.std.specs.List.{list_any};
@@ -26,7 +26,7 @@ use promise_core::promise::Promise;
 use words_core::{AdminCommand, Answer, CACHES, Refusal};
 
 impl Tenant {
-    /// Judges and follows an answer to a grant to tenant `t`: the tenant of number `tenant` has the superblock under the slot.
+    /// Judges and follows an answer to a grant to tenant `t`. The answer reports this tenant, slot and superblock.
     pub(crate) fn add_superblock(
         &mut self,
         owners: &mut [Option<Owner>],
@@ -53,7 +53,7 @@ impl Tenant {
         Ok(())
     }
 
-    /// Returns whether the slot is not held, and its places are below `2^32`.
+    /// Returns whether the tenant does not hold the slot, and the slot's places are below `2^32`.
     fn is_new_slot(&self, slot: u16) -> bool
         ensures { result ≡ (not (has_slot self.now.has slot)
             && nat_le ((slot + 1) * 2 ^ self.now.left.order * FRAME_BYTES) (2 ^ 32)) }
@@ -62,7 +62,7 @@ impl Tenant {
         !self.held.has_slot(slot.into()) && end <= 1u64 << 32
     }
 
-    /// Judges and follows an answer that the superblock under the slot is taken back from tenant `t`.
+    /// Judges and follows an answer that takes back this slot of tenant `t`. It reports this superblock.
     pub(crate) fn drop_superblock(
         &mut self,
         owners: &mut [Option<Owner>],
@@ -83,7 +83,7 @@ impl Tenant {
         Ok(())
     }
 
-    /// Judges and follows an answer to a reset of tenant `t` that reports this tenant and this number of superblocks.
+    /// Judges and follows an answer to a reset of tenant `t`. It reports this tenant and this number of superblocks.
     pub(crate) fn drop_all(
         &mut self,
         owners: &mut [Option<Owner>],
@@ -105,7 +105,7 @@ impl Tenant {
         Ok(())
     }
 
-    /// Judges and follows an answer to a move of a slot of tenant `t`; it reports this tenant, the slot `told` and this
+    /// Judges and follows an answer to a move of a slot of tenant `t`. It reports this tenant, the slot `told` and this
     /// superblock.
     pub(crate) fn put_over(
         &self,
@@ -129,7 +129,8 @@ impl Tenant {
         Ok(())
     }
 
-    /// Judges a refusal of the command. Any other answer breaks the form, since none that fits the command comes here.
+    /// Judges a refusal of the command. Any other answer breaks the promise Form: answers that fit the command are judged
+    /// elsewhere.
     pub(crate) fn judge_admin_refusal(
         &self,
         owners: &[Option<Owner>],
@@ -156,7 +157,7 @@ impl Tenant {
         }
     }
 
-    /// Judges a refusal to take the slot back.
+    /// Judges a refusal of a take-back of the slot.
     fn judge_slot_kept(&self, slot: u32, refusal: Refusal) -> Result<(), Failure>
         ensures { (t : ℕ) (w : Known)
             → IsVerdictFor (On.Admin (Do.TakeBack t slot)) (Say.Refused refusal) w self.now self.now result }
@@ -172,14 +173,14 @@ impl Tenant {
         }
     }
 
-    /// Returns whether the slot may be busy: a frame of it is taken, or a cache may have an empty slab.
+    /// Returns whether the slot may be busy: a frame of it is taken (`is_busy`), or a cache may have an empty slab.
     fn may_be_busy(&self, is_busy: bool) -> bool
         ensures { result ≡ (is_busy || list_any (λ c. slice_index_or self.now.may_have_empty c.number false) self.now.has.caches) }
     {
         is_busy || self.held.may_have_some_empty(&self.may_have_empty)
     }
 
-    /// Returns the refusal that taking a slot back has to get, if any.
+    /// Returns the refusal that must come in reply to a take-back of the slot, if any.
     fn due_of_take_back(&self, slot: u32) -> Option<Refusal>
         ensures { (t : ℕ) (w : Known) → result ≡ due (On.Admin (Do.TakeBack t slot)) (known_at self.now w) (state_of self.now) }
     {
@@ -192,7 +193,7 @@ impl Tenant {
         }
     }
 
-    /// Returns the refusal that a move has to get, if any.
+    /// Returns the refusal that must come in reply to a move of the slot, if any.
     #[tactic(auto, unfolding(promise_core::specs::Promises::due))]
     fn due_of_move(&self, owners: &[Option<Owner>], slot: u32) -> Option<Refusal>
         ensures { (t : ℕ) (w : Known) → result
@@ -208,7 +209,7 @@ impl Tenant {
     }
 }
 
-/// Returns the refusal that a grant has to get, if any.
+/// Returns the refusal that must come in reply to a grant, if any.
 #[tactic(auto, unfolding(promise_core::specs::Promises::due))]
 fn due_of_grant(owners: &[Option<Owner>]) -> Option<Refusal>
     ensures { (t : ℕ) (w : Known) (s : State) → result ≡ due (On.Admin (Do.Grant t)) (record w { owners = owners.now }) s }

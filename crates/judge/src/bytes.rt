@@ -1,4 +1,4 @@
-//! Commands about bytes.
+//! Answers to commands about bytes.
 
 ghost use Rattle.std.specs.Prelude.{◌≡◌, ◌≤◌, ◌<◌, ◌&&◌, nat_le, ℕ, Some, IfOk, length};
 ghost use Rattle.words_core.specs.declared.event.Event.TheVariants as On;
@@ -17,7 +17,7 @@ use model_core::limits::MOST_BYTES;
 use promise_core::promise::Promise;
 
 impl Tenant {
-    /// Judges and follows an answer of these bytes to a read of `len` bytes from a place on.
+    /// Judges and follows an answer with these bytes to a read of `len` bytes from `place` on.
     pub(crate) fn read_bytes(&mut self, place: u32, len: u32, bytes: &[u8]) -> Result<(), Failure>
         ensures { (t : ℕ) (w : Known) → IsVerdictFor (On.Tenant t (Command.Read place len))
             (Say.Bytes (record { items = bytes.now })) w self.old self.new result }
@@ -27,7 +27,7 @@ impl Tenant {
         Ok(())
     }
 
-    /// Returns what has the bytes, if they may be read; else the promise that the answer breaks.
+    /// Returns the holder of the range, if the read may be answered by these bytes; else the promise that the answer breaks.
     fn holder_read(&self, place: u32, len: u32, bytes: &[u8]) -> Result<RangeHolder, Promise>
         ensures judged { (t : ℕ) (w : Known) → only_verdict result
             ≡ tenant_verdict (On.Tenant t (Command.Read place len)) (Say.Bytes (record { items = bytes.now })) w self.now }
@@ -49,7 +49,7 @@ impl Tenant {
         Ok(holder)
     }
 
-    /// Judges and follows an answer that this many of the bytes are written from a place on.
+    /// Judges and follows an answer that `count` bytes are written, to a write of these bytes from `place` on.
     pub(crate) fn write_bytes(
         &mut self,
         place: u32,
@@ -64,7 +64,7 @@ impl Tenant {
         Ok(())
     }
 
-    /// Returns what has the bytes, if a write of them may be answered by `count`; else the promise that the answer breaks.
+    /// Returns the holder of the range, if the write may be answered by `count`; else the promise that the answer breaks.
     fn holder_written(
         &self,
         place: u32,
@@ -86,7 +86,7 @@ impl Tenant {
     }
 }
 
-/// Returns whether a read may ask for this many bytes.
+/// Returns whether a read may request this many bytes, 1 to `MOST_BYTES`.
 pub(crate) fn is_length(len: u32) -> bool
     ensures { result ≡ (nat_le 1 len && nat_le len MOST_BYTES) }
 {

@@ -1,4 +1,4 @@
-//! Answers to commands about caches: one is made, one is destroyed, or the empty slabs of all are given back.
+//! Answers to commands that make or destroy a cache, or reap the empty slabs of all caches.
 
 ghost use Rattle.std.specs.Prelude.{◌≡◌, ℕ, ◌+◌, ◌*◌, ◌%◌, ◌^◌, ◌≤◌, ◌<◌, ◌==◌, ◌&&◌, nat_lt, None, true, false, filter, is_none, slice_index_or};
 ghost use Rattle.std.specs.List.{list_any};
@@ -26,7 +26,7 @@ use promise_core::promise::Promise;
 use words_core::Refusal;
 
 impl Tenant {
-    /// Judges and follows an answer that a cache of this number and this layout is made.
+    /// Judges and follows an answer that makes a cache of this number and this layout.
     pub(crate) fn add_cache(
         &mut self,
         number: u8,
@@ -43,7 +43,7 @@ impl Tenant {
         Ok(())
     }
 
-    /// Returns the verdict on that.
+    /// Returns the verdict on this answer.
     fn judge_layout(&self, number: u8, layout: &KnownLayout) -> Verdict
         ensures { (t : ℕ) (p : Pattern ℕ) (w : Known) → let l = layout.now in result
             ≡ tenant_verdict (On.Tenant t (Command.Cache l.size l.align p)) (Say.Cache number l.chunk l.order l.count l.colours) w
@@ -58,14 +58,14 @@ impl Tenant {
         }
     }
 
-    /// Returns whether a cache may have this number, and none has it.
+    /// Returns whether the number is below the limit and no cache has it.
     fn is_new_cache(&self, number: u8) -> bool
         ensures { result ≡ (nat_lt number MOST_CACHES && is_none (known_cache self.now.has number)) }
     {
         number < MOST_CACHES && self.held.cache(number.into()).is_none()
     }
 
-    /// Returns the refusal that a request for a cache has to get, if any.
+    /// Returns the refusal that must come in reply to a request for a cache, if any.
     #[tactic(auto, unfolding(promise_core::specs::Promises::due))]
     pub(crate) fn due_of_cache(&self, size: u32, align: u32) -> Option<Refusal>
         ensures value { (t : ℕ) (p : Pattern ℕ) (w : Known)
@@ -83,7 +83,7 @@ impl Tenant {
         }
     }
 
-    /// Judges and follows an answer that the cache of this number is destroyed, which gives back this many frames.
+    /// Judges and follows an answer that destroys the cache of this number and returns this many frames.
     pub(crate) fn drop_cache(&mut self, number: u32, frames: u32) -> Result<(), Failure>
         ensures { (t : ℕ) (w : Known)
             → IsVerdictFor (On.Tenant t (Command.Destroy number)) (Say.Destroyed frames) w self.old self.new result }
@@ -99,7 +99,7 @@ impl Tenant {
         Ok(())
     }
 
-    /// Returns the refusal that a destroy has to get, if any.
+    /// Returns the refusal that must come in reply to a destroy, if any.
     #[tactic(auto, unfolding(promise_core::specs::Promises::due))]
     pub(crate) fn due_of_destroy(&self, number: u32) -> Option<Refusal>
         ensures { (t : ℕ) (w : Known)
@@ -112,7 +112,7 @@ impl Tenant {
         }
     }
 
-    /// Judges and follows an answer that the empty slabs are given back, which have this many frames.
+    /// Judges and follows an answer to a reap that returns this many frames.
     pub(crate) fn drop_empty_slabs(&mut self, frames: u32) -> Result<(), Failure>
         ensures { (t : ℕ) (w : Known) → IsVerdictFor (On.Tenant t Command.Reap) (Say.Reaped frames) w self.old self.new result }
     {
@@ -126,7 +126,7 @@ impl Tenant {
         Ok(())
     }
 
-    /// Returns whether the slabs of the cache `only`, or those of all caches, can give back this many frames.
+    /// Returns whether empty slabs of the cache `only`, or of all caches if it is `None`, can return this many frames.
     fn can_come_back(&self, only: Option<u32>, frames: u32) -> bool
         ensures { result ≡ can_come_back self.now.left.order
             (filter (λ c. option_map_or (λ number. c.number == number) only true) self.now.has.caches) frames
@@ -137,7 +137,8 @@ impl Tenant {
                 && some_may_have(self.held.caches(), &self.may_have_empty, only, frames))
     }
 
-    /// Returns whether the last report, if it is valid, has this many frames in empty slabs: of the cache `only`, or of all.
+    /// Returns whether the last report, if it is valid, has this many frames in empty slabs of the cache `only`, or of all
+    /// caches.
     fn are_frames_told(&self, only: Option<u32>, frames: u32) -> bool
         ensures { result ≡ option_map_or (λ r. frames
             == empty_frames (λ n. option_map_or (λ number. n == number) only true) self.now.has r) self.now.told true }
@@ -163,7 +164,7 @@ fn is_alignment(align: u32) -> bool
     matches!(align, 8 | 16 | 32 | 64 | 128 | 256)
 }
 
-/// Returns whether the cache `only`, or some cache, may have empty slabs that have this many frames.
+/// Returns whether the cache `only`, or some cache if it is `None`, may have empty slabs with this many frames.
 fn some_may_have(
     caches: &[HeldCache],
     may_have_empty: &[bool],
@@ -179,7 +180,7 @@ fn some_may_have(
         .any(|cache| may_have(cache, may_have_empty, frames))
 }
 
-/// Returns whether the cache may have empty slabs that have this many frames.
+/// Returns whether the cache may have empty slabs with this many frames.
 fn may_have(cache: &HeldCache, may_have_empty: &[bool], frames: u32) -> bool
     ensures { result ≡ (slice_index_or may_have_empty.now cache.now.number false && frames % 2 ^ cache.now.order == 0) }
 {

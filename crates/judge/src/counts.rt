@@ -9,7 +9,7 @@ use arrayvec::ArrayVec;
 use model_core::report::OrderRow;
 use words_core::ORDERS;
 
-/// Returns the numbers of free and of taken blocks of these rows.
+/// Returns the numbers of free blocks and of taken blocks in these rows.
 pub(crate) fn counts_of(
     rows: &ArrayVec<OrderRow, ORDERS>,
 ) -> (ArrayVec<u32, ORDERS>, ArrayVec<u32, ORDERS>)
@@ -25,7 +25,7 @@ pub(crate) fn counts_of(
     (free, taken)
 }
 
-/// Returns how many frames the blocks have: `counts[k]` of them are of order `k`.
+/// Returns the number of frames of `counts[k]` blocks of each order `k`.
 pub(crate) fn frames_of_counts(counts: &[u32]) -> u64
     requires { length counts.now ≤ ORDERS }
     ensures { result ≡ frames_of_counts counts.now }
@@ -37,7 +37,7 @@ pub(crate) fn frames_of_counts(counts: &[u32]) -> u64
     frames
 }
 
-/// Returns how many frames `count` blocks of an order have.
+/// Returns the number of frames of `count` blocks of an order.
 pub(crate) fn frames_in(count: u32, order: u8) -> u64
     requires { order ≤ MOST_ORDER }
     ensures value { result ≡ count * 2 ^ order }
@@ -46,7 +46,7 @@ pub(crate) fn frames_in(count: u32, order: u8) -> u64
     u64::from(count) * (1u64 << order)
 }
 
-/// Returns how many frames the blocks from order `k` on have, if they are taken for `k` orders smaller.
+/// Returns the size of the blocks of order `k` and above, in blocks of `2^k` frames.
 pub(crate) fn frames_from(counts: &[u32], k: u8) -> u64
     requires { length counts.now ≤ ORDERS }
     ensures { result ≡ frames_of_counts (drop k counts.now) }
@@ -59,14 +59,14 @@ pub(crate) fn frames_from(counts: &[u32], k: u8) -> u64
     }
 }
 
-/// Returns the number of blocks of this order, 0 if the report has none.
+/// Returns the count of this order, 0 if there is none.
 pub(crate) fn count_at(counts: &[u32], order: u8) -> u32
     ensures { result ≡ slice_index counts.now order }
 {
     counts.get(usize::from(order)).copied().unwrap_or(0)
 }
 
-/// Returns the greatest order below `end` of which there are blocks.
+/// Returns the greatest order below `end` that has blocks, if any does.
 pub(crate) fn greatest(counts: &[u32], end: u8) -> Option<u8>
     ensures value { result ≡ greatest (slice_index counts.now) end }
     ensures small { IfSome result (λ k. k < end) }
@@ -80,8 +80,8 @@ pub(crate) fn greatest(counts: &[u32], end: u8) -> Option<u8>
     top
 }
 
-/// Returns the share of `free` frames outside one greatest free block, of order `top`, in thousandths; 0 if there is no free
-/// block.
+/// Returns the share of `free` frames that lie outside one block of the greatest free order `top`, in thousandths. Returns 0 if
+/// there is no free block.
 pub(crate) fn split_share(free: u32, top: Option<u8>) -> u32
     requires { IfSome top (λ k. k ≤ MOST_ORDER) }
     ensures { result ≡ share free top }

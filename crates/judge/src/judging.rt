@@ -1,4 +1,4 @@
-//! Verdicts on replies to any event, and what is kept of the machine after them.
+//! Verdicts on replies to any event. An allowed reply also updates what is known.
 
 ghost use Rattle.std.specs.Prelude.{◌≡◌, None, Ok, Err, true, IfOk, OnErr};
 ghost use Rattle.words_core.specs.Requests.{is_table, reply_to};
@@ -18,8 +18,9 @@ use std::alloc::AllocError;
 use words_core::{Addressee, Answer, Body, Event, Reply};
 
 impl Machine {
-    /// Returns the verdict on the answer to the event, which is for the addressee, and follows an answer that is allowed. After a
-    /// breach, and if memory runs out, nothing is changed.
+    /// Judges an answer to the event, and updates the state if the answer is allowed. Returns the first promise that the answer
+    /// breaks, if it breaks one. Returns `AllocError` if memory runs out for what an allowed answer adds. After a breach and
+    /// after an error the state is unchanged.
     pub fn judge(
         &mut self,
         event: &Event,
@@ -40,7 +41,7 @@ impl Machine {
         }
     }
 
-    /// Does the same, and fails if the answer is not followed.
+    /// Does what [`Machine::judge`] does. Fails if the answer is not followed.
     fn judge_answer(
         &mut self,
         event: &Event,
@@ -66,7 +67,7 @@ impl Machine {
         }
     }
 
-    /// Does the same for an event that names no tenant, which a table has to answer: no refusal is due.
+    /// Judges an answer to an event that names no tenant. Such an event requires a table of owners, and no refusal is due.
     fn judge_unnamed(
         &self,
         event: &Event,
@@ -85,8 +86,8 @@ impl Machine {
         }
     }
 
-    /// Returns the verdict on a report or a table of owners in reply to the event, and follows one that is allowed. After a
-    /// breach nothing is changed.
+    /// Judges a report or a table of owners in reply to the event, and updates the state if the reply is allowed. Returns the
+    /// first promise that the reply breaks, if it breaks one. The state is then unchanged.
     #[cold]
     #[inline(never)]
     pub fn judge_table(&mut self, event: &Event, reply: &Reply) -> Verdict
@@ -98,7 +99,7 @@ impl Machine {
         self.judge_rows(event, reply)
     }
 
-    /// Does the same, with one fact in its contract.
+    /// Does what [`Machine::judge_table`] does, with one fact in its contract.
     fn judge_rows(&mut self, event: &Event, reply: &Reply) -> Verdict
         requires { is_table reply.now.body ≡ true }
         ensures { IsJudged event.now reply.now self.old self.new (failing result) }
@@ -121,7 +122,7 @@ impl Machine {
         }
     }
 
-    /// Does the same for an event that names no tenant.
+    /// Judges a table in reply to an event that names no tenant.
     fn judge_owners(&self, event: &Event, reply: &Reply) -> Verdict
         requires table { is_table reply.now.body ≡ true }
         requires named { named event.now ≡ None }

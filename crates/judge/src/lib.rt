@@ -1,6 +1,6 @@
-//! Judges the replies of any page and object allocator of a partitioning kernel, an event after the other.
+//! Judges the replies of any page and object allocator of a partitioning kernel, one event after the other.
 //!
-//! What is kept shows what [`promise_core`] says is known, and the verdict on a reply is the one of its definitions.
+//! The state holds what is known by the definitions of [`promise_core`], and a verdict is the one that these definitions give.
 #![tactic(auto)]
 
 mod addressing;

@@ -1,4 +1,4 @@
-//! What is kept of a machine.
+//! What is known of a machine.
 
 ghost use Rattle.std.specs.Prelude.{◌≡◌, ◌≤◌, IfOk, None, find, length, option_map, replicate, slice_get};
 ghost use Rattle.model_core.specs.declared.limits.TheConstants.{MOST_CACHES, MOST_ORDER, MOST_SUPERBLOCKS};
@@ -13,13 +13,13 @@ use model_core::owner::Owner;
 use std::alloc::{AllocError, Global};
 use std::marker::Model;
 
-/// What replies reported of a machine: who owns each superblock, and what each tenant has.
+/// What replies reported of a machine: the owner of each superblock, and what each tenant has.
 #[derive(Debug, Drop)]
 pub struct Machine {
     pub(crate) order: u8,
-    /// By superblock.
+    /// Indexed by superblock. `None` if nobody owns it.
     pub(crate) owners: Vec<Option<Owner>>,
-    /// By number.
+    /// Indexed by the tenant's number.
     pub(crate) tenants: Vec<Tenant>,
 }
 
@@ -34,8 +34,8 @@ impl Model for Machine {
 }
 
 impl Machine {
-    /// Returns a machine of this number of superblocks of `2^order` frames, which nobody owns, and of tenants that have nothing.
-    /// Fails if memory runs out.
+    /// Returns a machine with this number of superblocks of `2^order` frames, which nobody owns, and this number of tenants,
+    /// which have nothing. Fails if memory runs out.
     pub fn new(
         alloc: Global,
         order: u8,
@@ -66,7 +66,7 @@ impl Machine {
         self.order
     }
 
-    /// Returns how many superblocks the machine has.
+    /// Returns the number of superblocks.
     pub fn superblocks(&self) -> usize
         ensures value { result ≡ length self.now.owners }
         ensures most { result ≤ MOST_SUPERBLOCKS }
@@ -74,15 +74,15 @@ impl Machine {
         self.owners.len()
     }
 
-    /// Returns the first live page block of the tenant that shares a frame with the block; `None` also if the tenant does not
-    /// exist.
+    /// Returns the first live page block of the tenant that shares a frame with the block. Returns `None` if there is none, or if
+    /// the tenant does not exist.
     pub fn page_over(&self, tenant: u32, block: &FrameBlock) -> Option<FrameBlock>
         ensures { result ≡ option_map_or (λ y. find (overlaps block.now) y.has.pages) (slice_get self.now.tenants tenant) None }
     {
         self.tenants.get(tenant as usize)?.page_over(block)
     }
 
-    /// Returns how many caches the tenant has, `None` if the tenant does not exist.
+    /// Returns the number of caches of the tenant, `None` if the tenant does not exist.
     pub fn caches_of(&self, tenant: u32) -> Option<usize>
         ensures { result ≡ option_map (λ y. length y.has.caches) (slice_get self.now.tenants tenant) }
     {

@@ -1,4 +1,4 @@
-//! Which caches may have an empty slab.
+//! Marks of the caches that may have an empty slab.
 
 ghost use Rattle.std.specs.Prelude.{◌≡◌, ◌<◌, ◌==◌, ◌&&◌, ◌||◌, ℕ, false, not, nat_lt, slice_index_or};
 ghost use Rattle.model_core.specs.declared.limits.TheConstants.{MOST_CACHES};
@@ -16,7 +16,7 @@ pub(crate) fn set_mark(marks: &mut [bool; CACHES], number: u32)
     marks[number as usize] = true;
 }
 
-/// Clears the mark of the cache of this number.
+/// Clears the mark of the cache of this number, if there is one.
 pub(crate) fn clear_mark(marks: &mut [bool; CACHES], number: u32)
     ensures { (n : ℕ) → slice_index_or marks.new n false ≡ (not (n == number) && slice_index_or marks.old n false) }
 {

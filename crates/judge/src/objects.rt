@@ -1,4 +1,4 @@
-//! Commands about objects.
+//! Answers to commands about objects.
 
 ghost use Rattle.std.specs.Prelude.{◌≡◌, ◌≤◌, ◌<◌, ℕ, Some, IfOk};
 ghost use Rattle.words_core.specs.declared.event.Event.TheVariants as On;
@@ -18,7 +18,7 @@ use promise_core::promise::Promise;
 use words_core::Refusal;
 
 impl Tenant {
-    /// Judges and follows an answer that hands out the object of the cache that begins at the place.
+    /// Judges and follows an answer that allocates the object of the cache at the place.
     pub(crate) fn add_object(&mut self, number: u32, place: u32) -> Result<(), Failure>
         ensures { (t : ℕ) (w : Known)
             → IsVerdictFor (On.Tenant t (Command.Take number)) (Say.Object place) w self.old self.new result }
@@ -34,7 +34,8 @@ impl Tenant {
         Ok(())
     }
 
-    /// Returns the cache of this number, if an object of it may be handed out at the place; else the promise that is broken.
+    /// Returns the cache of this number, if an object of it may be allocated at the place; else the promise that the answer
+    /// breaks.
     fn cache_with(&self, number: u32, place: u32) -> Result<&HeldCache, Promise>
         ensures judged { (t : ℕ) (w : Known)
             → only_verdict result ≡ tenant_verdict (On.Tenant t (Command.Take number)) (Say.Object place) w self.now }
@@ -49,7 +50,7 @@ impl Tenant {
         Ok(cache)
     }
 
-    /// Judges and follows an answer that the object of the cache at the place is given back.
+    /// Judges and follows an answer that the object of the cache at the place is freed.
     pub(crate) fn drop_object(&mut self, number: u32, place: u32) -> Result<(), Failure>
         ensures { (t : ℕ) (w : Known)
             → IsVerdictFor (On.Tenant t (Command.Give number place)) Say.Given w self.old self.new result }
@@ -61,7 +62,7 @@ impl Tenant {
         Ok(())
     }
 
-    /// Returns the refusal that a give has to get, if any.
+    /// Returns the refusal that must come in reply to a give, if any.
     #[tactic(auto, unfolding(promise_core::specs::Promises::due))]
     pub(crate) fn due_of_give(&self, number: u32, place: u32) -> Option<Refusal>
         ensures { (t : ℕ) (w : Known)

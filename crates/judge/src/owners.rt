@@ -1,4 +1,4 @@
-//! Who owns which superblock.
+//! The owners of superblocks.
 
 ghost use Rattle.std.specs.Prelude.{◌≡◌, ◌==◌, ◌&&◌, ℕ, Option, Some, false, is_none, is_some, count_by, length, map, slice_set};
 ghost use Rattle.std.specs.List.{list_all, slice_get, zip};
@@ -38,14 +38,14 @@ pub(crate) fn is_slot_named(t: u32, slot: u32, tenant: u8, told: u16) -> bool
     u32::from(tenant) == t && u32::from(told) == slot
 }
 
-/// Returns how many superblocks the tenant owns.
+/// Returns the number of superblocks that the tenant owns.
 fn count_of(owners: &[Option<Owner>], t: u32) -> usize
     ensures { result ≡ count_by (is_of t) owners.now }
 {
     owners.iter().filter(|owner| is_of(**owner, t)).count()
 }
 
-/// Returns whether this is the tenant.
+/// Returns whether the owner is tenant `t`.
 fn is_of(owner: Option<Owner>, t: u32) -> bool
     ensures { result ≡ is_of t owner }
 {
@@ -62,7 +62,7 @@ pub(crate) fn are_all_owned(owners: &[Option<Owner>]) -> bool
     owners.iter().all(|owner| owner.is_some())
 }
 
-/// Returns whether the superblock exists and is the tenant's, under this slot.
+/// Returns whether the superblock exists and the tenant owns it, under this slot.
 pub(crate) fn is_owned_by(owners: &[Option<Owner>], superblock: u16, t: u32, slot: u32) -> bool
     ensures { result ≡ option_map_or (is_owner t slot) (slice_get owners.now superblock) false }
 {
@@ -83,7 +83,7 @@ pub(crate) fn is_unowned(owners: &[Option<Owner>], superblock: u16) -> bool
     }
 }
 
-/// Returns the verdict on a table of the owners.
+/// Returns the verdict on a reported table of owners.
 pub(crate) fn judge_pool(
     owners: &[Option<Owner>],
     told: &ArrayVec<Option<Owner>, OWNERS>,
@@ -94,7 +94,7 @@ pub(crate) fn judge_pool(
     on_answer(None, Promise::Owners, are_told(owners, told))
 }
 
-/// Returns whether the table that was read is that of the owners.
+/// Returns whether the reported table `told` is the table of owners.
 fn are_told(owners: &[Option<Owner>], told: &ArrayVec<Option<Owner>, OWNERS>) -> bool
     ensures { result ≡ (length told.now.items == length owners.now
         && list_all (λ p. option_eq (λ x y. x.tenant == y.tenant && x.slot == y.slot) p.0 p.1) (zip told.now.items owners.now)) }
@@ -109,7 +109,7 @@ fn are_same(owners: &[Option<Owner>], told: &[Option<Owner>]) -> bool
     told.iter().zip(owners).all(|(a, b)| is_same(*a, *b))
 }
 
-/// Returns whether both are nobody, or the same slot of the same tenant.
+/// Returns whether both are `None`, or both are the same slot of the same tenant.
 fn is_same(a: Option<Owner>, b: Option<Owner>) -> bool
     ensures { result ≡ option_eq (λ x y. x.tenant == y.tenant && x.slot == y.slot) a b }
 {
@@ -126,7 +126,7 @@ pub(crate) fn set_owner(owners: &mut [Option<Owner>], superblock: u16, tenant: u
     }
 }
 
-/// Makes the superblock under this slot of tenant `t` nobody's.
+/// Removes tenant `t` as the owner of the superblock under this slot.
 pub(crate) fn give_up_slot(owners: &mut [Option<Owner>], t: u32, slot: u32)
     ensures { owners.new ≡ map (given_up (is_owner t slot)) owners.old }
 {
@@ -135,7 +135,7 @@ pub(crate) fn give_up_slot(owners: &mut [Option<Owner>], t: u32, slot: u32)
     }
 }
 
-/// Makes the superblocks of tenant `t` nobody's.
+/// Removes tenant `t` as the owner of all its superblocks.
 pub(crate) fn give_up_all(owners: &mut [Option<Owner>], t: u32)
     ensures { owners.new ≡ map (given_up (is_of t)) owners.old }
 {
@@ -144,14 +144,14 @@ pub(crate) fn give_up_all(owners: &mut [Option<Owner>], t: u32)
     }
 }
 
-/// Returns nobody if this is the slot's owner, else the owner.
+/// Returns `None` if the owner is this slot of tenant `t`, else the owner.
 fn without_slot(owner: Option<Owner>, t: u32, slot: u32) -> Option<Owner>
     ensures { result ≡ given_up (is_owner t slot) owner }
 {
     owner.filter(|owner| !(u32::from(owner.tenant) == t && u32::from(owner.slot) == slot))
 }
 
-/// Returns nobody if this is the tenant, else the owner.
+/// Returns `None` if the owner is tenant `t`, else the owner.
 fn without_tenant(owner: Option<Owner>, t: u32) -> Option<Owner>
     ensures { result ≡ given_up (is_of t) owner }
 {

@@ -1,4 +1,4 @@
-//! Commands about page blocks.
+//! Answers to commands about page blocks.
 
 ghost use Rattle.std.specs.Prelude.{◌≡◌, ◌≤◌, ◌<◌, ℕ, IfOk};
 ghost use Rattle.model_core.specs.Blocks.{block};
@@ -14,7 +14,7 @@ use judge_core::FrameBlock;
 use promise_core::promise::Promise;
 
 impl Tenant {
-    /// Judges and follows an answer that hands out the page block of `2^k` frames at the frame.
+    /// Judges and follows an answer that allocates the page block of `2^k` frames at the frame.
     pub(crate) fn add_block(&mut self, k: u32, frame: u32) -> Result<(), Failure>
         ensures { (t : ℕ) (w : Known) → IsVerdictFor (On.Tenant t (Command.Alloc k)) (Say.Frame frame) w self.old self.new result }
     {
@@ -25,7 +25,7 @@ impl Tenant {
         Ok(())
     }
 
-    /// Returns the block of `2^k` frames at the frame, if it may be handed out; else the promise that is broken.
+    /// Returns the block of `2^k` frames at the frame, if it may be allocated; else the promise that the answer breaks.
     fn new_block(&self, k: u32, frame: u32) -> Result<FrameBlock, Promise>
         ensures judged { (t : ℕ) (w : Known)
             → only_verdict result ≡ tenant_verdict (On.Tenant t (Command.Alloc k)) (Say.Frame frame) w self.now }
@@ -42,7 +42,7 @@ impl Tenant {
         Ok(block)
     }
 
-    /// Judges and follows an answer that a block of `2^k` frames at the frame is freed.
+    /// Judges and follows an answer that frees a block of `2^k` frames at the frame.
     pub(crate) fn drop_block(&mut self, frame: u32, k: u8) -> Result<(), Failure>
         ensures { (t : ℕ) (w : Known) → IsVerdictFor (On.Tenant t (Command.Free frame)) (Say.Freed k) w self.old self.new result }
     {
@@ -53,7 +53,7 @@ impl Tenant {
         Ok(())
     }
 
-    /// Returns the page block at the frame, if it has `2^k` frames; else the promise that is broken.
+    /// Returns the live page block at the frame, if it has `2^k` frames; else the promise that the answer breaks.
     fn live_block(&self, frame: u32, k: u8) -> Result<FrameBlock, Promise>
         ensures judged { (t : ℕ) (w : Known)
             → only_verdict result ≡ tenant_verdict (On.Tenant t (Command.Free frame)) (Say.Freed k) w self.now }

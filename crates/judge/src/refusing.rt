@@ -19,7 +19,8 @@ use promise_core::promise::Promise;
 use words_core::{Answer, Command, Refusal};
 
 impl Tenant {
-    /// Judges a refusal of the command. Any other answer breaks the form, since none that fits the command comes here.
+    /// Judges a refusal of the command. Any other answer breaks the promise Form: answers that fit the command are judged
+    /// elsewhere.
     pub(crate) fn judge_refusal(
         &self,
         command: &Command,
@@ -36,7 +37,7 @@ impl Tenant {
         on_refusal(*refusal, self.due(command), full, false)
     }
 
-    /// Returns the refusal that the command has to get, if any.
+    /// Returns the refusal that must come in reply to the command, if any.
     #[tactic(auto, unfolding(promise_core::specs::Promises::due))]
     fn due(&self, command: &Command) -> Option<Refusal>
         ensures { (t : ℕ) (w : Known)
@@ -62,7 +63,7 @@ impl Tenant {
         }
     }
 
-    /// Returns the refusal of bytes that no live page block and no live object has.
+    /// Returns `OutOfReach` if no live page block and no live object contains the range.
     fn due_of_reach(&self, place: u32, len: u32) -> Option<Refusal>
         ensures { result ≡ first_due ((is_none (holder_of self.now.has place len), Told.OutOfReach) ∷ []) }
     {
@@ -72,7 +73,7 @@ impl Tenant {
         )
     }
 
-    /// Returns whether there is no room for what the command, which is due no refusal, asks for.
+    /// Returns whether no frames are left for what the command requests, if no refusal is due.
     fn has_no_room(&self, command: &Command) -> bool
         ensures { (t : ℕ) (w : Known) → due (On.Tenant t command.now) (known_at self.now w) (state_of self.now) ≡ None
             → result ≡ room (On.Tenant t command.now) (Say.Refused Told.NoFrames) (known_at self.now w) (state_of self.now) }
@@ -90,7 +91,7 @@ impl Tenant {
         }
     }
 
-    /// Returns whether all objects in the cache's slabs are live, and there is no room for another slab.
+    /// Returns whether all slabs of the cache with live objects are full, and no block can hold another slab.
     fn is_used_up(&self, cache: &HeldCache) -> bool
         ensures { result ≡ is_used_up self.now.left.order self.now.has cache.now }
     {

@@ -1,5 +1,5 @@
-//! A report. Slots have `2^order` frames; `may_have_empty` is, by number of a cache, whether the cache may have a slab without live
-//! objects; `told` is the last report, while it is valid.
+//! Reports. Slots have `2^order` frames. `may_have_empty`, indexed by cache number, says which caches may have an empty slab.
+//! `told` is the last report, while it is valid.
 
 ghost use Rattle.std.specs.Prelude.{◌≡◌, ℕ, ◌+◌, ◌*◌, ◌^◌, ◌≤◌, ◌<◌, ◌==◌, ◌&&◌, nat_le, drop, length, slice_index, slice_index_or, false, true};
 ghost use Rattle.std.specs.List.{list_all, range_with_len, zip};
@@ -36,8 +36,8 @@ impl Tenant {
         }
     }
 
-    /// Judges and follows a report that was asked for. It is not inlined: a function clears space for a report that it copies on
-    /// entry.
+    /// Judges and follows a requested report. Kept out of line: on entry, a function clears the space for a report that it
+    /// copies.
     #[inline(never)]
     fn judge_report(&mut self, report: &Report) -> Verdict
         ensures { (t : ℕ) (w : Known)
@@ -51,7 +51,7 @@ impl Tenant {
     }
 }
 
-/// Returns whether the report has the figures of what the tenant has.
+/// Returns whether the report's figures are those of what the tenant has.
 fn tells_state(held: &Held, order: u8, may_have_empty: &[bool], r: &Report) -> bool
     requires { order ≤ MOST_ORDER }
     ensures { (t : ℕ) (w : Known) (s : State) → result ≡ report (On.Tenant t Asked.Report) (Say.Report r.now)
@@ -70,21 +70,22 @@ fn tells_state(held: &Held, order: u8, may_have_empty: &[bool], r: &Report) -> b
     ])
 }
 
-/// Returns whether all tests are passed.
+/// Returns whether all tests pass.
 fn are_all(tests: &[bool]) -> bool
     ensures { result ≡ list_all (λ is_passed. is_passed) tests.now }
 {
     tests.iter().all(|is_passed| *is_passed)
 }
 
-/// Returns whether there are a row of each order and a row of each cache.
+/// Returns whether there is a row for each order and a row for each cache.
 fn has_rows(held: &Held, order: u8, free: &[u32], rows: &[CacheRow]) -> bool
     ensures { result ≡ (length free.now == order + 1 && length rows.now == length held.now.caches) }
 {
     free.len() == usize::from(order) + 1 && rows.len() == held.caches().len()
 }
 
-/// Returns whether the frames are those of the held slots, and the live and the free ones those of the blocks of each order.
+/// Returns whether the report has the number of frames of the held slots, and its live and its free frames are those of the taken
+/// and the free blocks of its rows.
 fn has_frames(held: &Held, order: u8, r: &Report, free: &[u32], taken: &[u32]) -> bool
     requires order { order ≤ MOST_ORDER }
     requires free { length free.now ≤ ORDERS }
@@ -98,7 +99,8 @@ fn has_frames(held: &Held, order: u8, r: &Report, free: &[u32], taken: &[u32]) -
             && u64::from(r.live) == frames_of_counts(taken))
 }
 
-/// Returns whether the greatest order of a free block is right, and the share of the free frames outside one block of that order.
+/// Returns whether the report has the greatest order of a free block, and the share of free frames outside one block of that
+/// order.
 #[tactic(auto, using(crate::proofs::Lists::same_share))]
 fn is_split(order: u8, r: &Report, free: &[u32]) -> bool
     requires { order ≤ MOST_ORDER }
@@ -109,7 +111,7 @@ fn is_split(order: u8, r: &Report, free: &[u32]) -> bool
     r.top == top && r.split == split_share(r.free, top)
 }
 
-/// Returns whether the numbers of taken blocks of all orders are those of page blocks and of slabs.
+/// Returns whether, for each order, the number of taken blocks is that of page blocks and slabs.
 fn are_all_taken(held: &Held, order: u8, rows: &[CacheRow], taken: &[u32]) -> bool
     requires order { order ≤ MOST_ORDER }
     requires rows { length rows.now ≤ CACHES }
@@ -118,8 +120,8 @@ fn are_all_taken(held: &Held, order: u8, rows: &[CacheRow], taken: &[u32]) -> bo
     (0..order + 1).all(|k| are_taken(held, rows, k, count_at(taken, k)))
 }
 
-/// Returns whether the reported free blocks of each order can exist, beside those of greater orders. One pass over the held slots
-/// counts the vacant blocks of all orders.
+/// Returns whether the reported free blocks of each order can exist, together with those of greater orders. One pass over the
+/// held slots counts the vacant blocks of all orders.
 #[tactic(auto, using(crate::proofs::Lists::all_from))]
 fn have_room(held: &Held, order: u8, free: &[u32]) -> bool
     requires order { order ≤ MOST_ORDER }
@@ -136,7 +138,7 @@ fn have_room(held: &Held, order: u8, free: &[u32]) -> bool
     true
 }
 
-/// Returns whether a report has the free blocks and empty slabs of the last one, if that is valid.
+/// Returns whether the report has the same free blocks and empty slabs as the last report, if that is valid.
 fn tells_same(told: Option<&Report>, r: &Report) -> bool
     ensures { result ≡ option_map_or (λ q. list_all (λ p. p.0.free == p.1.free) (zip q.orders.items r.now.orders.items)
         && list_all (λ p. p.0.empty == p.1.empty) (zip q.caches.items r.now.caches.items)) (option_copied told.entry) true }

@@ -1,4 +1,4 @@
-//! A report's rows of the caches. `may_have_empty` is, by number of a cache, whether it may have a slab without live objects.
+//! The cache rows of a report. `may_have_empty`, indexed by cache number, says which caches may have an empty slab.
 
 ghost use Rattle.std.specs.Prelude.{◌≡◌, ℕ, ◌+◌, ◌*◌, ◌^◌, ◌≤◌, ◌<◌, ◌==◌, ◌&&◌, ◌||◌, not, length, filter, slice_index, slice_index_or, false};
 ghost use Rattle.std.specs.List.{list_all, zip};
@@ -8,7 +8,7 @@ ghost use Rattle.promise_core.specs.Promises.{count_slabs, is_row};
 use judge_core::{HeldCache, is_marked};
 use model_core::report::CacheRow;
 
-/// Returns whether each row is that of its cache.
+/// Returns whether each row is right for its cache.
 pub(crate) fn are_rows(caches: &[HeldCache], may_have_empty: &[bool], rows: &[CacheRow]) -> bool
     ensures { result ≡ list_all (is_row (λ n. slice_index_or may_have_empty.now n false)) (zip caches.now rows.now) }
 {
@@ -18,7 +18,8 @@ pub(crate) fn are_rows(caches: &[HeldCache], may_have_empty: &[bool], rows: &[Ca
         .all(|(cache, row)| is_row(cache, may_have_empty, row))
 }
 
-/// Returns whether the row is of this cache, with its live objects and slabs, and with empty slabs only if it may have some.
+/// Returns whether the row is right for this cache: it has the cache's live objects and slabs, and empty slabs only if the cache
+/// may have some.
 fn is_row(cache: &HeldCache, may_have_empty: &[bool], row: &CacheRow) -> bool
     ensures { result ≡ is_row (λ n. slice_index_or may_have_empty.now n false) (cache.now, row.now) }
 {
@@ -27,7 +28,7 @@ fn is_row(cache: &HeldCache, may_have_empty: &[bool], row: &CacheRow) -> bool
         && has_slabs(cache, row)
 }
 
-/// Returns whether the row has the numbers of slabs of the cache with live objects.
+/// Returns whether the row has the cache's numbers of full and of partial slabs.
 fn has_slabs(cache: &HeldCache, row: &CacheRow) -> bool
     ensures { result ≡ (row.now.full == count_slabs (is_slab_full cache.now) cache.now
         && row.now.partial == count_slabs (λ p. not (is_slab_full cache.now p)) cache.now) }
@@ -36,7 +37,7 @@ fn has_slabs(cache: &HeldCache, row: &CacheRow) -> bool
     row.full as usize == full && row.partial as usize == partial
 }
 
-/// Returns how many slabs have live objects only, and how many have both live objects and others.
+/// Returns the number of full slabs and the number of partial slabs of the cache.
 fn count_slabs(cache: &HeldCache) -> (usize, usize)
     ensures full { result.0 ≡ count_slabs (is_slab_full cache.now) cache.now }
     ensures partial { result.1 ≡ count_slabs (λ p. not (is_slab_full cache.now p)) cache.now }
@@ -53,8 +54,8 @@ fn count_slabs(cache: &HeldCache) -> (usize, usize)
     (full, partial)
 }
 
-/// Returns the live objects of the slab that has the place, if `last` are those of the slab of some place. Live objects of one
-/// slab lie side by side, so it is looked up once for all of them.
+/// Returns the live objects of the slab that contains the place. `last` are those of the slab of some other place. Live objects
+/// of one slab are neighbours in the list, so the slab is looked up once for all of them.
 fn beside_next<'a>(cache: &'a HeldCache, last: &'a [u32], place: u32) -> &'a [u32]
     requires { (q : ℕ) × (last.now ≡ live_beside cache.now q) }
     ensures { result.now ≡ live_beside cache.now place }
@@ -72,7 +73,7 @@ fn are_beside(cache: &HeldCache, p: u32, q: u32) -> bool
     cache.slab_around(p).first() == cache.slab_around(q).first()
 }
 
-/// Returns whether `counts` is set and the first of these is at the place.
+/// Returns whether `counts` is true and the first of these objects is at the place.
 fn begins_at(beside: &[u32], place: u32, counts: bool) -> bool
     ensures { result ≡ (slice_index beside.now 0 == place && counts) }
 {

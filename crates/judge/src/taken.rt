@@ -1,4 +1,4 @@
-//! Taken blocks, and frames of empty slabs, by the rows of a report.
+//! Taken blocks, and frames of empty slabs, as the rows of a report have them.
 
 ghost use Rattle.std.specs.Prelude.{◌≡◌, ℕ, ◌+◌, ◌*◌, ◌^◌, ◌≤◌, ◌<◌, ◌==◌, if◌then◌else◌, length, filter, Option, true};
 ghost use Rattle.std.specs.List.{sum_by, zip};
@@ -11,7 +11,7 @@ use judge_core::{FrameBlock, Held, HeldCache};
 use model_core::report::CacheRow;
 use words_core::{CACHES, Report};
 
-/// Returns whether `count` blocks of `2^k` frames are taken, by these rows of the caches.
+/// Returns whether `count` blocks of `2^k` frames are taken, by the page blocks and these cache rows.
 pub(crate) fn are_taken(held: &Held, rows: &[CacheRow], k: u8, count: u32) -> bool
     requires { length rows.now ≤ CACHES }
     ensures { result ≡ (count == known_count held.now rows.now k) }
@@ -23,14 +23,14 @@ pub(crate) fn are_taken(held: &Held, rows: &[CacheRow], k: u8, count: u32) -> bo
     }
 }
 
-/// Returns how many page blocks have `2^k` frames.
+/// Returns the number of page blocks of `2^k` frames.
 fn count_pages(pages: &[FrameBlock], k: u8) -> usize
     ensures { result ≡ length (filter (λ b. b.order == k) pages.now) }
 {
     pages.iter().filter(|page| page.order() == k).count()
 }
 
-/// Returns how many slabs of `2^k` frames the rows have.
+/// Returns the number of slabs of `2^k` frames in the rows.
 #[tactic(auto, using(crate::proofs::Sums::one_more_pair))]
 fn count_slabs(caches: &[HeldCache], rows: &[CacheRow], k: u8) -> u64
     requires { length rows.now ≤ CACHES }
@@ -43,7 +43,7 @@ fn count_slabs(caches: &[HeldCache], rows: &[CacheRow], k: u8) -> u64
     count
 }
 
-/// Returns how many slabs of `2^k` frames the row of the cache has.
+/// Returns the number of slabs of `2^k` frames in the row of the cache.
 fn slabs_in(cache: &HeldCache, row: &CacheRow, k: u8) -> u64
     ensures value { result ≡ (if cache.now.order == k then row.now.full + row.now.partial + row.now.empty else 0) }
     ensures most { result ≤ 2 ^ 34 }
@@ -55,7 +55,8 @@ fn slabs_in(cache: &HeldCache, row: &CacheRow, k: u8) -> u64
     }
 }
 
-/// Returns how many frames the empty slabs of a report have: those of the cache of number `only`, or those of all.
+/// Returns the number of frames in the empty slabs of a report: those of the cache of number `only`, or of all caches if it is
+/// `None`.
 pub(crate) fn empty_frames(held: &Held, report: &Report, only: Option<u32>) -> u64
     ensures { result ≡ empty_frames (λ n. option_map_or (λ number. n == number) only true) held.now report.now }
 {
@@ -76,7 +77,7 @@ fn sum_empty(caches: &[HeldCache], rows: &[CacheRow], only: Option<u32>) -> u64
     frames
 }
 
-/// Returns how many frames the empty slabs of the cache have, 0 if another cache is asked for.
+/// Returns the number of frames in the empty slabs of the cache, 0 if `only` is another cache.
 fn empty_in(cache: &HeldCache, row: &CacheRow, only: Option<u32>) -> u64
     ensures value { result
         ≡ (if option_map_or (λ number. cache.now.number == number) only true then row.now.empty * 2 ^ cache.now.order else 0) }
@@ -89,7 +90,7 @@ fn empty_in(cache: &HeldCache, row: &CacheRow, only: Option<u32>) -> u64
     }
 }
 
-/// Returns whether the cache is the one of number `only`, or any is asked for.
+/// Returns whether the cache has the number `only`, or `only` is `None`.
 pub(crate) fn is_asked(cache: &HeldCache, only: Option<u32>) -> bool
     ensures { result ≡ option_map_or (λ number. cache.now.number == number) only true }
 {

@@ -1,4 +1,4 @@
-//! What is kept of a tenant.
+//! What is known of a tenant.
 
 ghost use Rattle.std.specs.Prelude.{◌≡◌, ◌≤◌, ℕ, IfOk, None, find, length};
 ghost use Rattle.model_core.specs.declared.limits.TheConstants.{MOST_ORDER, MOST_SUPERBLOCKS};
@@ -17,14 +17,14 @@ use std::alloc::{AllocError, Global};
 use std::marker::Model;
 use words_core::{AdminCommand, Answer, CACHES, Command, Report};
 
-/// What replies reported of a tenant: its slots, pages, caches and objects, what was left at each place, which caches may have
-/// empty slabs, and the last report while it is valid.
+/// What replies reported of a tenant: its slots, page blocks, caches and objects, what was left at each place, which caches may
+/// have empty slabs, and the last report while it is valid.
 #[derive(Debug, Drop)]
 pub struct Tenant {
     pub(crate) alloc: Global,
     pub(crate) held: Held,
     pub(crate) left: ShadowMemory,
-    /// By number, whether the cache may have a slab without live objects.
+    /// Indexed by cache number: whether the cache may have an empty slab.
     pub(crate) may_have_empty: [bool; CACHES],
     pub(crate) told: Option<Report>,
 }
@@ -40,7 +40,7 @@ impl Model for Tenant {
 }
 
 impl Tenant {
-    /// Returns a tenant that has nothing, with room for `slots` slots of `2^order` frames. Fails if memory runs out.
+    /// Returns a tenant that has nothing, with capacity for `slots` slots of `2^order` frames. Fails if memory runs out.
     pub fn new(alloc: Global, order: u8, slots: u16) -> Result<Tenant, AllocError>
         requires order { order ≤ MOST_ORDER }
         requires slots { slots ≤ MOST_SUPERBLOCKS }
@@ -63,14 +63,14 @@ impl Tenant {
         self.left.order()
     }
 
-    /// Returns the first live page block that shares a frame with the block.
+    /// Returns the first live page block that shares a frame with the block, if there is one.
     pub fn page_over(&self, block: &FrameBlock) -> Option<FrameBlock>
         ensures { result ≡ find (overlaps block.now) self.now.has.pages }
     {
         self.held.page_over(block)
     }
 
-    /// Returns how many caches the tenant has.
+    /// Returns the number of caches of the tenant.
     pub fn caches(&self) -> usize
         ensures { result ≡ length self.now.has.caches }
     {
@@ -125,7 +125,8 @@ impl Tenant {
         }
     }
 
-    /// Judges and follows the reply to a command of the administrator about the tenant; `owners` is who owns each superblock.
+    /// Judges and follows the reply to a command of the administrator about the tenant. `owners` has the owner of each
+    /// superblock.
     pub(crate) fn judge_admin(
         &mut self,
         owners: &mut [Option<Owner>],
@@ -168,7 +169,7 @@ impl Tenant {
     }
 }
 
-/// Forgets a report, if there is one. To store none costs as many bytes of zeroes as a report has, so that is done at need alone.
+/// Forgets a report, if there is one. Storing `None` clears a whole report, so this is done only if needed.
 pub(crate) fn forget(report: &mut Option<Report>)
     ensures { report.new ≡ None }
 {

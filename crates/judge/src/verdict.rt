@@ -9,7 +9,7 @@ use promise_core::promise::Promise;
 use std::alloc::AllocError;
 use words_core::Refusal;
 
-/// That a reply keeps every promise, or the first one that it breaks.
+/// `Ok` if a reply keeps every promise, else the first promise that it breaks.
 pub type Verdict = Result<(), Promise>;
 
 /// Why a reply is not followed.
@@ -17,7 +17,7 @@ pub type Verdict = Result<(), Promise>;
 pub(crate) enum Failure {
     /// The reply breaks this promise.
     Broken(Promise),
-    /// There is no memory for what the reply adds.
+    /// Memory runs out for what the reply adds.
     Memory(AllocError),
 }
 
@@ -37,7 +37,7 @@ impl From<AllocError> for Failure {
     }
 }
 
-/// Returns the verdict on an answer: `due` is the refusal that has to come in its place, if any, and `is_kept` whether the answer
+/// Returns the verdict on an answer. `due` is the refusal that must come in its place, if any. `is_kept` says whether the answer
 /// keeps this promise.
 pub(crate) fn on_answer(due: Option<Refusal>, promise: Promise, is_kept: bool) -> Verdict
     ensures { result ≡ broken ((Promise.Refusals, is_none due) ∷ (promise, is_kept) ∷ []) }
@@ -45,7 +45,7 @@ pub(crate) fn on_answer(due: Option<Refusal>, promise: Promise, is_kept: bool) -
     on_still_answer(due, promise, is_kept, true)
 }
 
-/// Returns the verdict on an answer that also has to agree with the last report: `is_still` is whether it does.
+/// Returns the verdict on an answer that must also agree with the last report. `is_still` says whether it does.
 pub(crate) fn on_still_answer(
     due: Option<Refusal>,
     promise: Promise,
@@ -65,8 +65,8 @@ pub(crate) fn on_still_answer(
     }
 }
 
-/// Returns the verdict on a refusal: `due` is the one that has to come, if any, `full` whether there are no frames for what was
-/// asked, and `busy` whether the slot may be busy.
+/// Returns the verdict on a refusal. `due` is the refusal that must come, if any. `full` says whether no frames are left for the
+/// request, and `busy` whether the slot may be busy.
 pub(crate) fn on_refusal(
     refusal: Refusal,
     due: Option<Refusal>,
@@ -89,7 +89,7 @@ pub(crate) fn on_refusal(
     }
 }
 
-/// Returns the verdict as a result of judging.
+/// Returns the verdict, with a broken promise as a failure.
 pub(crate) fn followed(verdict: Verdict) -> Result<(), Failure>
     ensures { result ≡ failing verdict }
 {

@@ -19,7 +19,7 @@ use Rattle.judge.proofs.Owning.{granted, new_slot, IsNewSlot, slots_granted, gra
 use Rattle.judge.proofs.Verdicts.{broken_off, failed_by}
 use Rattle.judge.proofs.tenant.Tenant.add_superblock.Goals as goal
 
--- what is judged is the verdict on the grant
+-- the judged tests give the verdict on the grant
 granting : (t named u m : ℕ) (w : Known) (x : Seen) (os : List (Option Owner)) (asked : Option Refusal) (right : Bool) (v : Result (Unit {0}) Promise)
     → ((s : ℕ) (k : Known) (y : State) → asked ≡ due (On.Admin (Do.Grant s)) (record k { owners = os }) y)
     → right ≡ ((named == t && option_map_or is_none (slice_get os m) false)

@@ -15,7 +15,7 @@ pub returns-in_default : goal.returns-in_default
 returns-in_default c t w = misfit (On.Tenant t c.args.command.now) (body_of_answer c.args.answer.now) w c.args.self.now
     (c.requires t c.args.self.now.left.order (state_of c.args.self.now) c.in_default.not-Refused)
 
--- no slot is busy for a tenant's command
+-- `SlotBusy` may never come in reply to a tenant's command
 never_busy : (t : ℕ) (m : Command) (w : Known) (s : State) → false ≡ busy (On.Tenant t m) (Say.Refused Refusal.SlotBusy) w s
 never_busy t Command.Report w s = refl
 never_busy t m w s = refl
