@@ -1,4 +1,4 @@
--- An answer is what its whole text was read as.
+-- Reading the whole text of an answer returns this answer.
 use Rattle.std.proofs.Common.{◌≡◌, ℕ, ◌^◌, ◌<◌, true, List, [], ◌∷◌, ◌++◌, map, get_or, Option, Some, refl, sym, subst, ◌∙◌, ap, arith, append_assoc, append-nil}
 use Rattle.std.specs.Prelude.{codes, decimal, nat_lt}
 use Rattle.std.specs.List.{concat}
@@ -93,7 +93,7 @@ alone_of who said = whole said >>= (λ alone. Some (record { addressee = who; bo
 abbrev pub said_of : Addressee × List ℕ → Option Reply
 said_of front = said_at front.1 >>= alone_of front.0
 
--- what was read is the answer whose text it is
+-- the answer that was read has this text
 pub answer_takes : (text : List ℕ) (reply : Reply) → answer_of text ≡ Some reply
     → (text_of reply ≡ text) × IsAnswer reply.body
 unfolding answer_of
@@ -110,7 +110,7 @@ answer_takes text reply e =
     let is_answer = subst IsAnswer same answers in
     subst (λ (reply : Reply). (text_of reply ≡ text) × IsAnswer reply.body) (same_Some made reply last) (answer_text made is_answer ∙ sym parts, is_answer)
 
--- the text of an answer is read as it
+-- the text of an answer is read as this answer
 pub answer_again : (text : List ℕ) (reply : Reply) → IsAnswer reply.body → Fits reply → text_of reply ≡ text → answer_of text ≡ Some reply
 unfolding answer_of
 answer_again text reply answers (who_fits, said_fits) text_is =

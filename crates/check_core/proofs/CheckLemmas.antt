@@ -29,7 +29,7 @@ use Rattle.check_core.proofs.ReadingLemmas.{follows, none_follows, none_later, s
 use Rattle.check_core.proofs.TableLemmas.{table_takes}
 use Rattle.check_core.specs.Finding.{after_lines, lines_at, broken_by, finding, finding_of, refusal_read, lines_to, more_lines, or_broken, refusal_told, reply_in, text_read, verdict_at}
 
--- lines that are read as a reply
+-- Lines that are read as a reply
 
 -- whatever follows
 pub read_first : {k : ℕ} {came : List ℕ} {text : Gathered MOST_TEXT_BYTES} → HasGathered k came text → (more : List ℕ) → reply_in k (came ++ more) ≡ text_read came
@@ -39,11 +39,11 @@ pub read_there : {k : ℕ} {came : List ℕ} {text : Gathered MOST_TEXT_BYTES} (
     → (more : List ℕ) → reply_in (suc (more_lines event w)) (came ++ more) ≡ text_read came
 read_there {came = came} event w come count more = ap (λ n. reply_in n (came ++ more)) (sym count) ∙ read_first come more
 
--- nothing of them is left before what follows
+-- behind the gathered lines comes what follows
 pub left_after : {k : ℕ} {came : List ℕ} {text : Gathered MOST_TEXT_BYTES} → HasGathered k came text → (more : List ℕ) → after_lines k (came ++ more) ≡ more
 left_after come more = ap (λ (found : Option (List ℕ × List ℕ)). option_map_or (λ parts. parts.1) found []) (stand_first come more)
 
--- lines that did not come do not come at the end
+-- if the lines of a reply have not come at the end, they never come
 pub none_there : (new : Source) (n : ℕ) (part : List ℕ) (event : Event) (w : Known) → HasEnded new → lines_at n part ≡ None → n ≤ suc (more_lines event w)
     → (more : List ℕ) → MayFollow new more → reply_in (suc (more_lines event w)) (part ++ more) ≡ None
 none_there new n part event w ended none few more may =
@@ -51,18 +51,18 @@ none_there new n part event w ended none few more may =
     ap (λ (found : Option (List ℕ × List ℕ)). found >>= (λ parts. text_read parts.0))
     (none_later (lines - n) n lines (part ++ more) (omega (arith, few)) (none_follows n part more new ended none may))
 
--- verdicts on replies
+-- Verdicts on replies
 
 pub by_reply : (event : Event) (bytes : List ℕ) (w : Known) (found : Option Reply) → reply_in (suc (more_lines event w)) bytes ≡ found
     → verdict_at (Ok (Some event)) bytes w ≡ option_map_or (λ reply. allowed event reply w) found (Err (broken_by event (refusal_read (reply_in 1 bytes)) w))
 by_reply event bytes w found e = ap (λ (r : Option Reply). option_map_or (λ reply. allowed event reply w) r (Err (broken_by event (refusal_read (reply_in 1 bytes)) w))) e
 
--- where it is none
+-- the verdict if the lines are no reply
 pub no_reply_judged : (event : Event) (bytes : List ℕ) (w : Known) (promise : Promise) → reply_in (suc (more_lines event w)) bytes ≡ None
     → promise ≡ broken_by event (refusal_read (reply_in 1 bytes)) w → verdict_at (Ok (Some event)) bytes w ≡ Err promise
 no_reply_judged event bytes w promise none is = by_reply event bytes w None none ∙ ap (λ (p : Promise). Err p) (sym is)
 
--- what was gathered, as a reply
+-- the gathered lines as a reply
 pub read_so : (came bytes : List ℕ) (found : Option Reply) → whole_of MOST_TEXT_BYTES came ≡ Some bytes → reply_of_text bytes ≡ found → text_read came ≡ found
 read_so came bytes found whole is = ap (λ text. text >>= reply_of_text) whole ∙ is
 
@@ -89,7 +89,7 @@ table_refuses_nothing bytes = elim (table_of bytes) as (λ found. table_of bytes
   | (Some reply) ↦ λ is. no_refusal reply.addressee reply.body (table_takes bytes reply is).1
 ] refl
 
--- the finding
+-- The finding
 
 abbrev pub Line : Type 0
 Line = Result (Option Event) LineFault
@@ -119,13 +119,13 @@ ends_broken line at ask (b ∷ tell) w none ended = ap (λ (bytes : List ℕ). f
 
 -- ---- whatever follows
 
--- Behind what was given of two texts, that is found which is found of what follows, and it comes to add where that does.
+-- The finding of two texts is the finding of what follows the parts that were read, and memory may run out if it may there.
 abbrev pub IsBehind : (w : Known) (asked told : List ℕ) (line at : ℕ) (trace : Source) (now : Known) → Type 0
 IsBehind w asked told line at trace now = (more later : List ℕ) → MayFollow trace more
     → (finding_of w (asked ++ more) (told ++ later) ≡ finding line at (readings_of more) later now)
     × (ComesToAdd (readings_of more) later now → ComesToAdd (readings_of (asked ++ more)) (told ++ later) w)
 
--- with a part of both in front of what follows
+-- the same with one more part read of both texts
 pub behind_parts : {now : Known} {line at : ℕ} {old new : Source} (w : Known) (asked told part answer : List ℕ) → IsBehind w asked told line at old now
     → HasGiven old new part → (more later : List ℕ) → MayFollow new more
     → (finding_of w ((asked ++ part) ++ more) ((told ++ answer) ++ later) ≡ finding line at (readings_of (part ++ more)) (answer ++ later) now)

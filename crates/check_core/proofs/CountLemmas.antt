@@ -1,4 +1,4 @@
--- An allowed reply has as many lines as are read for its event.
+-- The number of lines of an allowed reply is the number that is read for its event.
 use Rattle.std.proofs.Common.{◌≡◌, ℕ, suc, ◌+◌, Bool, true, false, List, [], ◌∷◌, map, length, length-append, Option, Some, None, Ok, slice_get, refl, sym, ap, ◌∙◌, inl, inr, arith}
 use Rattle.std.specs.Prelude.{nat_lt, if◌then◌else◌}
 use Rattle.std.specs.Option.{option_map_or}
@@ -24,7 +24,7 @@ use Rattle.promise_core.proofs.Allowed.{state_for, allowed_is}
 use Rattle.check_core.specs.Finding.{more_lines}
 use Rattle.check_core.proofs.TextLemmas.{lines_in}
 
--- where the tenant does not exist
+-- if the tenant does not exist
 
 refused_once : (front : List ℕ) (body : Body) → is_no_tenant body ≡ true → length (body_texts front body) ≡ 1
 refused_once front (Say.Refused refusal) is = refl
@@ -45,7 +45,7 @@ none_more (On.Tenant t Command.Report) w none =
     ap (λ exists. report_lines w t exists (slice_get w.states t)) (no_state w.states t none)
 none_more _ w none = refl
 
--- where it exists
+-- if it exists
 
 count_owners : (front : List ℕ) (superblock : ℕ) (owners : List (Option Owner)) → length (owner_texts front superblock owners) ≡ length owners
 count_owners front superblock [] = refl

@@ -1,4 +1,4 @@
--- What stands in a form is the text of the form, and is found again in it.
+-- The numbers that are found in a form give its text, and its text gives the numbers.
 use Rattle.std.proofs.Common.{rules, ◌≡◌, ℕ, zero, suc, ◌+◌, ◌-◌, ◌*◌, ◌^◌, ◌<◌, ◌≤◌, Bool, true, false, cond, not, ◌&&◌, List, [], ◌∷◌, ◌++◌, length, get_or, take, drop, fold, Option, Some, None, refl, sym, ◌∙◌, ap, subst, append_assoc, arith, take-append-drop}
 use Rattle.std.specs.Prelude.{decimal, ◌==◌, take_while}
 use Rattle.std.specs.List.{list_all, prefix_len, All}
@@ -31,7 +31,7 @@ is_decimal : (word : List ℕ) (n : ℕ) → plain_number word ≡ Some n
     → (0 < length word) × (list_all is_ascii_digit word ≡ true) × (value_of word ≡ n) × (n < 2 ^ 32) × (get_or word 0 0 ≡ 48 → length word ≡ 1)
 is_decimal word n e = grind (arith, nat_tests)
 
--- a number that was read is that number in decimal
+-- a word that was read as a number is that number in decimal
 decimal_is : (word : List ℕ) (n : ℕ) → plain_number word ≡ Some n → (decimal n ≡ word) × (n < 2 ^ 32)
 decimal_is word n e =
     let (some, digits, value, small, lead) = is_decimal word n e in
@@ -51,7 +51,7 @@ plain_again n small =
     again (decimal n) n (decimal_nonempty n wide) (length-decimal-le 10 n (omega arith) (omega arith) wide)
     (digits_decimal own n wide) (digits_value-decimal own n wide) small (no_zero n small)
 
--- none that passes comes next
+-- the text does not begin with a byte that passes
 abbrev pub StopsAt : (ℕ → Bool) → List ℕ → Type 0
 StopsAt p [] = Unit {0}
 StopsAt p (b ∷ _) = p b ≡ false
@@ -77,7 +77,7 @@ size_of p front rest all ends =
     let whole = front ++ rest in
     ap (λ n. length (take n whole)) (prefix_is p front rest all ends) ∙ ap length (take_at front rest (length front) refl)
 
--- the digits at the front of a text are a number and what follows it
+-- a number that was found at the front is a decimal number, with the rest behind it
 number_takes : (text : List ℕ) (n : ℕ) (rest : List ℕ) → number_at text ≡ Some (n, rest) → text ≡ decimal n ++ rest
 unfolding number_at
 number_takes text n rest e =
@@ -98,17 +98,17 @@ number_again n rest small ends =
 
 -- ---- forms
 
--- The text of a form: each `#` of it stands for the next of the numbers, in decimal.
+-- The text of a form: the numbers in decimal, in the places of the `#`.
 abbrev pub form_text : List ℕ → List ℕ → List ℕ
 form_text [] ns = []
 form_text (mark ∷ form) ns = cond (mark == 35) (decimal (get_or ns 0 0) ++ form_text form (drop 1 ns)) (mark ∷ form_text form ns)
 
--- what may follow a `#`: neither a digit nor another
+-- what may follow a `#`: neither a digit nor another `#`
 abbrev pub may_follow : List ℕ → Bool
 may_follow [] = false
 may_follow (b ∷ _) = not (is_ascii_digit b) && not (b == 35)
 
--- each number has an end
+-- each `#` of the form is followed by a byte that ends its number
 abbrev pub is_form : List ℕ → Bool
 is_form [] = true
 is_form (mark ∷ form) = cond (mark == 35) (may_follow form) true && is_form form
@@ -162,7 +162,7 @@ one_takes mark form text None after others rest found after_is count =
       omega (arith, count, first_mark (mark ∷ form) form mark false refl test),
     )
 
--- what is found in a form at the front of a text is the text of the form, and what follows it
+-- if a form matches, the text is the text of the form and what follows it
 pub form_takes : (form text ns rest : List ℕ) → form_at form text ≡ Some (ns, rest)
     → (text ≡ form_text form ns ++ rest) × (length ns ≡ marks form)
 unfolding form_at
@@ -214,7 +214,7 @@ again_letter mark form ns rest is more =
     ∙ ap (λ t. cond t (Some (None, text)) None) (itself mark))
     ∙ ap (λ others. others >>= (λ others. Some (others.0, others.1))) more
 
--- the text of a form is found again in it
+-- the text of a form matches the form, with the same numbers
 pub form_again : (form ns rest : List ℕ) → is_form form ≡ true → length ns ≡ marks form → All (λ n. n < 2 ^ 32) ns
     → form_at form (form_text form ns ++ rest) ≡ Some (ns, rest)
 unfolding form_at

@@ -4,7 +4,7 @@ use Rattle.std.specs.Prelude.{count_by, ◌==◌}
 use Rattle.std.proofs.lemmas.List.Sums.{sum_by-cons}
 use Rattle.check_core.specs.Forms.{◌>>=◌, number_at, letter_at, mark_at, onto, form_at}
 
--- these numbers before those that were found
+-- these numbers, before the ones that were found
 abbrev pub with_front : List ℕ → Option (List ℕ × List ℕ) → Option (List ℕ × List ℕ)
 with_front front found = found >>= (λ others. Some (front ++ others.0, others.1))
 
@@ -14,7 +14,7 @@ onto_front front number None = refl
 onto_front front None (Some others) = ap (λ numbers. Some (numbers ++ others.0, others.1)) (sym (append-nil front))
 onto_front front (Some n) (Some others) = ap (λ numbers. Some (numbers, others.1)) (sym (append_assoc front (n ∷ []) others.0))
 
--- one more byte of the form
+-- matching one more byte of the form
 pub goes_on : (front form next rest after : List ℕ) (mark : ℕ) (number : Option ℕ) (total : Option (List ℕ × List ℕ))
     → form ≡ mark ∷ next → mark_at mark rest ≡ Some (number, after) → with_front front (form_at form rest) ≡ total
     → with_front (front ++ onto number []) (form_at next after) ≡ total
@@ -50,7 +50,7 @@ letter b text = Some (None, text)
 abbrev numbered : Option (ℕ × List ℕ) → Found
 numbered found = found >>= (λ number. Some (Some number.0, number.1))
 
--- 2 of a number, 1 of another byte
+-- 2 for a number, 1 for another byte, 0 for no match
 abbrev kind : Found → ℕ
 kind None = 0
 kind (Some (None, text)) = 1
@@ -66,7 +66,7 @@ is_number true found mark n text after e = refl
 is_number false found mark n [] after e = absurd (omega (arith, ap kind e))
 is_number false found mark n (b ∷ text) after e = absurd (not_letter (b == mark) b n text after e)
 
--- only a mark gives a number
+-- only a `#` matches a number
 pub mark_is : (mark n : ℕ) (text after : List ℕ) → mark_at mark text ≡ Some (Some n, after) → (mark == 35) ≡ true
 unfolding mark_at
 mark_is mark n text after e = is_number (mark == 35) (number_at text) mark n text after e
@@ -102,7 +102,7 @@ pub as_many_marks : (form next rest after : List ℕ) (mark : ℕ) → form ≡ 
 as_many_marks form next rest after mark form_is found =
     first_mark form next mark false form_is (letter_is mark rest after found) ∙ omega arith
 
--- ---- words, in which no number stands
+-- ---- words, which contain no `#`
 
 no_mark : (is : Bool) (n : ℕ) → cond is 1 0 + n ≡ 0 → (is ≡ false) × (n ≡ 0)
 no_mark true n e = absurd (omega (arith, e))
@@ -122,7 +122,7 @@ letter_on form next rest letter form_is is =
     ap (λ form. form_at form rest) form_is
     ∙ ap (λ test. cond test (numbered (number_at rest)) (letter_at letter rest) >>= (λ first. form_at next first.1 >>= (λ others. Some (onto first.0 others.0, others.1)))) is
 
--- one letter more
+-- one more letter
 pub letter_found : (form next rest after : List ℕ) (letter : ℕ) → form ≡ letter ∷ next → (letter == 35) ≡ false → letter_at letter rest ≡ Some (None, after)
     → form_at form rest ≡ form_at next after
 letter_found form next rest after letter form_is is found =
@@ -140,11 +140,11 @@ pub word_ends : (word rest : List ℕ) → word ≡ [] → form_at word rest ≡
 unfolding form_at
 word_ends word rest is = ap (λ word. form_at word rest) is
 
--- a number that was found, and this word behind it
+-- this word, behind a number that was found
 abbrev pub number_then : List ℕ → ℕ × List ℕ → Option (List ℕ × List ℕ)
 number_then after number = with_front (number.0 ∷ []) (form_at after number.1)
 
--- the same behind what was found
+-- a number and this word, behind what was found
 abbrev pub number_behind : List ℕ → Option (List ℕ × List ℕ) → Option (List ℕ × List ℕ)
 number_behind after at = at >>= (λ found. number_at found.1 >>= number_then after)
 

@@ -9,7 +9,7 @@ use Rattle.check_core.specs.Reading.{HasEnded, HasGiven, Source}
 use Rattle.check_core.proofs.ReadingLemmas.{at_end, gives_front, gives_held, gives_none, with_feed}
 use borrow.Rule.Slice.PartMut.{mid_of}
 
--- what is held
+-- the bytes that the reader holds
 pub held_is : (piece : List ℕ) (start end : ℕ) → start ≤ end → drop start (take end piece) ≡ mid_of start (end - start) piece
 held_is piece start end within =
     let e : end ≡ start + (end - start) = omega (arith, within) in
@@ -25,7 +25,7 @@ none_held : (xs : List ℕ) → length xs ≡ 0 → xs ≡ []
 none_held [] none = refl
 none_held (x ∷ xs) none = absurd (omega (arith, none))
 
--- the bytes from `start` to `end` of a piece are held in front of what a feed has left
+-- the bytes from `start` to `end` of a piece are held, in front of those that a feed has left
 abbrev pub held_source : (piece : List ℕ) (start end : ℕ) (left : Option (List ℕ)) (room : ℕ) (ended failed : Bool) → Source
 held_source piece start end left room ended failed = record {
   left = prepend_known (drop start (take end piece)) left;
@@ -34,7 +34,7 @@ held_source piece start end left room ended failed = record {
   failed = failed;
 }
 
--- A line of the held bytes, with its LF at an index, is given, and what is behind it is left.
+-- A line of the held bytes, with its LF at an index, is given, and the bytes behind it are left.
 pub record IsGiven (piece : List ℕ) (start end at : ℕ) (left : Option (List ℕ)) (room : ℕ) (ended failed : Bool) : Type 0 where
   pub given : HasGiven (held_source piece start end left room ended failed) (held_source piece (start + (at + 1)) end left room ended failed)
       (take (at + 1) (mid_of start (end - start) piece))
@@ -70,7 +70,7 @@ line_given piece start end at left room ended failed order fits empty within fou
       going_on = going_on;
     }
 
--- All held bytes are given before a pull, which holds what it gives.
+-- All held bytes are given before a pull; the pulled bytes are held then.
 pub all_given : (piece into : List ℕ) (start end count : ℕ) (old new : Option (List ℕ)) (room room' : ℕ) (ended failed ended' failed' : Bool)
     → start ≤ end → end ≤ length piece → (ended ≡ true → start ≡ end) → Consumes old new (take count into) → room' + count ≡ room
     → (ended ≡ true → HasEnded (held_source into 0 count new room' ended' failed'))
@@ -85,7 +85,7 @@ all_given piece into start end count old new room room' ended failed ended' fail
       none_later = λ has. (none_held mid (omega (arith, empty has.0, size)), stays has.0);
     }
 
--- .. and before one that failed, which gives none
+-- .. and before a pull that fails, which gives none
 pub all_given_failed : (piece into : List ℕ) (start end : ℕ) (old new : Option (List ℕ)) (room room' : ℕ) (ended failed ended' failed' : Bool)
     → start ≤ end → end ≤ length piece → Keeps old new → room' ≡ room → (ended ≡ true → ⊥)
     → HasGiven (held_source piece start end old room ended failed) (held_source into end end new room' ended' failed') (mid_of start (end - start) piece)
@@ -100,7 +100,7 @@ all_given_failed piece into start end old new room room' ended failed ended' fai
       none_later = λ has. absurd (going_on has.0);
     }
 
--- the end has come, and nothing is held
+-- at the end, no bytes are held
 pub ended_here : (into : List ℕ) (count : ℕ) (left : Option (List ℕ)) (room : ℕ) (ended failed : Bool) → count ≡ 0 → ended ≡ (count == 0) → IsAtEnd left
     → HasEnded (held_source into 0 count left room ended failed)
 ended_here into count left room ended failed none is end =

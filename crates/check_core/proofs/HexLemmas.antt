@@ -1,4 +1,4 @@
--- Pairs of lower case hex digits, and the bytes that they are.
+-- Pairs of lower-case hex digits, and the bytes that they spell.
 use Rattle.std.proofs.Common.{◌≡◌, ℕ, zero, suc, ◌+◌, ◌*◌, ◌/◌, ◌%◌, ◌<◌, ◌≤◌, List, [], ◌∷◌, ◌++◌, length, get_or, map, cond, take, drop, append_assoc, Some, None, Ok, refl, sym, ap, ◌∙◌, arith}
 use Rattle.std.specs.Prelude.{nat_lt}
 use Rattle.std.specs.List.{range_with_len}
@@ -50,7 +50,7 @@ pub none_yet : (word : List ℕ) → encode_lower [] ++ word ≡ word
 unfolding encode_with
 none_yet word = refl
 
--- one byte more
+-- one more byte
 pub byte_more : (front rest pair behind word : List ℕ) (byte : ℕ) → encode_lower front ++ rest ≡ word → pair ++ behind ≡ rest
     → encode_lower (byte ∷ []) ≡ pair → encode_lower (front ++ byte ∷ []) ++ behind ≡ word
 byte_more front rest pair behind word byte is cut pair_is =
@@ -65,7 +65,7 @@ bytes_more [] byte are small (suc i) = omega arith
 bytes_more (b ∷ front) byte are small zero = are 0
 bytes_more (b ∷ front) byte are small (suc i) = bytes_more front byte (λ j. are (suc j)) small i
 
--- the word is that of the bytes
+-- a word that encodes the bytes is decoded to them
 pub word_is : (word bytes : List ℕ) → length word ≤ 128 → IsBytes bytes → encode_lower bytes ≡ word → bytes_of word ≡ Some bytes
 unfolding bytes_of
 word_is word bytes few are is =
@@ -74,7 +74,7 @@ word_is word bytes few are is =
     ∙ ap (bytes_again word) decoded
     ∙ ap (λ test. cond test (Some bytes) None) ((bytes_eq-Decides (encode_lower bytes) word).1 is)
 
--- the byte behind so many
+-- the byte behind the first ones
 split_at_byte : (xs bs : List ℕ) (pair behind : List ℕ) → length pair ≡ 2 → IsBytes bs → encode_lower bs ≡ encode_lower xs ++ (pair ++ behind)
     → (byte : ℕ) × (byte < 256) × (encode_lower (byte ∷ []) ≡ pair)
 unfolding encode_with
@@ -87,7 +87,7 @@ split_at_byte xs bs [] behind two are is = absurd (omega (arith, two))
 split_at_byte xs bs (high ∷ []) behind two are is = absurd (omega (arith, two))
 split_at_byte xs bs (high ∷ low ∷ more ∷ rest) behind two are is = absurd (omega (arith, two))
 
--- two bytes of the word are no byte's digits
+-- a word with a pair that spells no byte is not decoded
 pub no_word : (word front pair behind : List ℕ) → length pair ≡ 2 → encode_lower front ++ (pair ++ behind) ≡ word
     → ((byte : ℕ) → byte < 256 → encode_lower (byte ∷ []) ≡ pair → ⊥) → bytes_of word ≡ None
 no_word word front pair behind two is none = elim (bytes_of word) as (λ r. bytes_of word ≡ r → r ≡ None) [

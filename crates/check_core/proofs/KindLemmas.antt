@@ -1,4 +1,4 @@
--- What is made of the numbers in a form.
+-- Values made from the numbers in a form.
 use Rattle.std.proofs.Common.{◌≡◌, ℕ, ◌^◌, ◌<◌, Bool, true, false, cond, List, [], ◌∷◌, ◌++◌, length, get_or, Option, Some, None, refl, sym, subst, ◌∙◌, ap, arith}
 use Rattle.std.specs.List.{All}
 use Rattle.std.proofs.lemmas.Bool.Decides.{nat_tests}
@@ -13,7 +13,7 @@ use Rattle.check_core.proofs.FormLemmas.{bind_some, form_text, is_form, form_tak
 abbrev if_fit : {A : Type 0} → (List ℕ → Bool) → (List ℕ → A) → List ℕ × List ℕ → Option (A × List ℕ)
 if_fit fits make found = cond (fits found.0) (Some (make found.0, found.1)) None
 
--- what was made has this text, and what follows it
+-- the text is that of the value, and what follows it
 pub kind_takes : {A : Type 0} (form : List ℕ) (fits : List ℕ → Bool) (make : List ℕ → A) (spell : A → List ℕ) (P : A → Type 0)
     → ((ns : List ℕ) → length ns ≡ marks form → fits ns ≡ true → (spell (make ns) ≡ form_text form ns) × P (make ns))
     → (text : List ℕ) (x : A) (rest : List ℕ) → made_at form fits make text ≡ Some (x, rest) → (text ≡ spell x ++ rest) × P x
@@ -63,7 +63,7 @@ small_more a ns small others = All-cons (λ n. n < 2 ^ 32) a ns small others
 pub below : (n most : ℕ) → n < most → nat_lt n most ≡ true
 below n most lt = grind (arith, nat_tests)
 
--- ---- the first that is found
+-- ---- the first alternative that matches
 
 pub either : {A P : Type 0} (first other : Option A) (x : A) → (first or_else other) ≡ Some x → (first ≡ Some x → P) → (other ≡ Some x → P) → P
 either (Some y) other x e f g = f e

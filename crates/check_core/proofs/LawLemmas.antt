@@ -1,4 +1,4 @@
--- What a finding tells: the lines before its end have allowed replies, and where it is broken the next line has none.
+-- The meaning of a finding: the lines before its end have allowed replies, and if it is broken, the next line has none.
 use Rattle.std.proofs.Common.{◌≡◌, ℕ, zero, suc, ◌+◌, ◌==◌, Bool, true, false, cond, List, [], ◌∷◌, ◌++◌, map, take, Option, Some, None, Ok, Err, length, refl, sym, ap, subst, ◌∙◌, arith, append_assoc, append-nil}
 use Rattle.std.specs.Prelude.{nat_lt, if◌then◌else◌, count_by}
 use Rattle.std.specs.Option.{option_map_or}
@@ -35,7 +35,7 @@ use Rattle.check_core.proofs.FormLemmas.{bind_some}
 use Rattle.check_core.proofs.ReplyLemmas.{reply_takes, reply_again}
 use Rattle.check_core.proofs.TextLemmas.{text_first, text_fits}
 
--- ---- the first lines, and what follows them
+-- ---- the first lines, and the bytes that follow them
 
 abbrev feeds : List ℕ → ℕ
 feeds text = count_by (λ b. b == 10) text
@@ -46,7 +46,7 @@ feeds-append front rest = sum_by-append (λ b. cond (b == 10) 1 0) front rest
 byte_feeds : (b : ℕ) (text : List ℕ) (is : Bool) → (b == 10) ≡ is → feeds (b ∷ text) ≡ cond is 1 0 + feeds text
 byte_feeds b text is test = sum_by-cons (λ b. cond (b == 10) 1 0) b text ∙ ap (λ is. cond is 1 0 + feeds text) test
 
--- these are so many whole lines at the front of the bytes
+-- the bytes begin with these `k` whole lines
 record AreLines (k : ℕ) (bytes : List ℕ) (found : List ℕ × List ℕ) : Type 0 where
   parts : bytes ≡ found.0 ++ found.1
   count : feeds found.0 ≡ k
@@ -77,7 +77,7 @@ lines_are (suc k) bytes found is =
 
 -- ---- one line
 
--- the bytes begin with what the line tells by this exchange, if it has an event, and that is allowed
+-- the bytes begin with the reply to the line; if the line has an event, this exchange is allowed
 record IsStep (reading : Line) (bytes : List ℕ) (w after : Known) : Type 0 where
   exchanges : List Exchange
   asked : map (λ e. e.event) exchanges ≡ event_in reading
@@ -93,7 +93,7 @@ read_text text reply is =
       | false ↦ λ found. reply_takes text reply found
     ] is
 
--- the lines that were found, and what follows them
+-- facts about the lines that were found
 found_lines : (k : ℕ) (bytes : List ℕ) (found : List ℕ × List ℕ) → lines_at k bytes ≡ Some found → AreLines k bytes (found.0, after_lines k bytes)
 found_lines k bytes found is = rw is (lines_are k bytes found is)
 
@@ -141,12 +141,12 @@ line_step (Ok (Some event)) bytes w after verdict = event_step event bytes w aft
 
 -- ---- all lines
 
--- the first line's reply is not allowed, if a line is left
+-- if a line is left, the reply to the first one is not allowed
 abbrev Stops : List (List ℕ) → List ℕ → Known → Type 0
 Stops [] bytes w = Unit {0}
 Stops (line ∷ lines) bytes w = (promise : Promise) × (verdict_at (reading_of line) bytes w ≡ Err promise)
 
--- the lines up to the end of the finding, with their replies, which are allowed
+-- the lines up to the end of the finding, with their replies, which are all allowed
 record IsWalk (lines : List (List ℕ)) (bytes : List ℕ) (w : Known) : Type 0 where
   before : List (List ℕ)
   left : List (List ℕ)
@@ -211,7 +211,7 @@ walk (l ∷ lines) bytes w = elim (verdict_at (reading_of l) bytes w) as (λ ver
   | (Err promise) ↦ λ is. at_once (l ∷ lines) bytes w (promise, is)
 ] refl
 
--- ---- where it is kept
+-- ---- kept findings
 
 kept_end : (left : List (List ℕ)) (rest : List ℕ) (w : Known) (line at n : ℕ) → Stops left rest w → finding line at (map reading_of left) rest w ≡ Kept n
     → (left ≡ []) × (rest ≡ [])
@@ -235,9 +235,9 @@ kept_is_allowed limit order superblocks tenants n trace replies kept =
       are_allowed = all.are_allowed;
     }
 
--- ---- where it is broken
+-- ---- broken findings
 
--- an allowed reply with which the bytes begin is read
+-- an allowed reply at the front of the bytes is read
 reads_again : (event : Event) (reply : Reply) (w after : Known) (bytes rest : List ℕ) → Fits reply → bytes ≡ text_of reply ++ rest → allowed event reply w ≡ Ok after
     → reply_in (suc (more_lines event w)) bytes ≡ Some reply
 reads_again event reply w after bytes rest fits is allowed =
@@ -262,7 +262,7 @@ no_reply (Ok (Some event)) bytes w promise broken = λ reply rest after fits is 
 same_breach : (x y : Breach) → ◌≡◌ {A = Finding} (Broken x) (Broken y) → x ≡ y
 same_breach x y e = cc
 
--- what is left is wrong, and the breach has these numbers
+-- the rest is wrong, and the breach has these numbers
 record IsEnd (left : List (List ℕ)) (rest : List ℕ) (w : Known) (before at : ℕ) (breach : Breach) : Type 0 where
   wrong : IsWrong left rest w
   line : breach.line ≡ before + length (take 1 left)

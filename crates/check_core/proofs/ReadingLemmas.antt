@@ -1,4 +1,4 @@
--- Bytes that are pulled, and lines that are taken from them.
+-- Pulled bytes, and the lines that are read from them.
 use Rattle.std.proofs.Common.{◌≡◌, ℕ, zero, suc, ◌+◌, ◌-◌, ◌<◌, ◌==◌, Bool, true, false, List, [], ◌∷◌, ◌++◌, Option, Some, None, Result, Ok, Err, length, take, map, refl, sym, ap, subst, ◌∙◌, arith, append_assoc, length-append}
 use Rattle.std.specs.Prelude.{is_err, nat_lt, slice_index, if◌then◌else◌}
 use Rattle.std.specs.List.{onto_first}
@@ -25,7 +25,7 @@ use Rattle.check_core.specs.Gathered.{Gathers, whole_of}
 use Rattle.check_core.specs.Reading.{HasEnded, HasGiven, IsPartAtOk, IsNextReading, MayFollow, Source, readings_of, without_line_feed}
 use Rattle.check_core.proofs.FormLemmas.{bind_some}
 
--- what a source gave, in turn
+-- Bytes that a source gives in turn
 pub gives_nothing : (source : Source) → HasGiven source source []
 gives_nothing source = record { bytes = consumes_nothing source.left; count = omega arith; none_later = λ ended. (refl, ended) }
 
@@ -38,7 +38,7 @@ gives_more {a = a} {b = b} {c = c} {xs = xs} {ys = ys} first later = record {
       let (nor, still) = later.none_later now in (ap (λ zs. zs ++ ys) none ∙ nor, still);
 }
 
--- what may follow a part may follow behind it
+-- bytes that may follow a part may also follow with the part in front
 pub follows : {old new : Source} {part : List ℕ} → HasGiven old new part → (more : List ℕ) → MayFollow new more → MayFollow old (part ++ more)
 follows given more may ended = let (none, now) = given.none_later ended in ap (λ xs. xs ++ more) none ∙ may now
 
@@ -46,7 +46,7 @@ rest_of : (left : Option (List ℕ)) (given text : List ℕ) → Consumes (Some 
 rest_of None given text is = absurd is
 rest_of (Some rest) given text is = (rest, is, λ end. end)
 
--- the rest of a text that was known
+-- the rest of a known text
 pub known_rest : {old new : Source} {given : List ℕ} → HasGiven old new given → (text : List ℕ) → old.left ≡ Some text
     → (rest : List ℕ) × (text ≡ given ++ rest) × MayFollow new rest
 known_rest {new = new} {given = given} is text known =
@@ -58,13 +58,13 @@ pub gives_front : (front behind : List ℕ) (known : Option (List ℕ)) → Cons
 gives_front front behind None = tt
 gives_front front behind (Some xs) = append_assoc front behind xs
 
--- and all of them before a pull
+-- .. and all of them before a pull
 pub gives_held : (held pulled : List ℕ) (old new : Option (List ℕ)) → Consumes old new pulled → Consumes (prepend_known held old) (prepend_known pulled new) held
 gives_held held pulled None new h = tt
 gives_held held pulled (Some xs) None h = absurd h
 gives_held held pulled (Some xs) (Some ys) h = ap (λ more. held ++ more) h
 
--- a pull that failed gave none
+-- a failed pull gives none
 pub gives_none : (held : List ℕ) (old new : Option (List ℕ)) (behind : List ℕ) → behind ≡ [] → Keeps old new
     → Consumes (prepend_known held old) (prepend_known behind new) held
 gives_none held None new behind none h = tt
@@ -88,21 +88,21 @@ with_feed bytes rest at within e =
     ap (λ xs. take (at + 1) xs) e ∙ take-append-le (at + 1) (take at bytes ++ 10 ∷ []) rest (omega (arith, long))
     ∙ take_all (at + 1) (take at bytes ++ 10 ∷ []) (omega (arith, long))
 
--- bytes that are not whole are more
+-- if `whole_of` returns nothing, more bytes have come
 pub whole_none : (most : ℕ) (came : List ℕ) → whole_of most came ≡ None → most < length came
 whole_none most came h = elim (nat_lt most (length came)) as (λ b. nat_lt most (length came) ≡ b → (if b then None else Some came) ≡ None → most < length came) [
   | true ↦ λ over _. ltb-true most (length came) over
   | false ↦ λ _ none. absurd cc
 ] refl h
 
--- a longer text is another
+-- a longer text is different
 pub longer_differs : (xs ys : List ℕ) → length ys < length xs → bytes_eq xs ys ≡ false
 longer_differs xs ys h = elim (bytes_eq xs ys) as (λ b. bytes_eq xs ys ≡ b → b ≡ false) [
   | true ↦ λ e. absurd (omega (arith, h, ap (λ (zs : List ℕ). length zs) ((bytes_eq-Decides xs ys).0 e)))
   | false ↦ λ _. refl
 ] refl
 
--- a line with its LF
+-- A line with its LF
 
 pub line_again : (line rest : List ℕ) → IsOneLine line → line_at ((line ++ 10 ∷ []) ++ rest) ≡ Some (line ++ 10 ∷ [], rest)
 line_again [] rest h = refl
@@ -112,7 +112,7 @@ ended_lines : (line rest : List ℕ) → IsOneLine line → lines_of_trace ((lin
 ended_lines [] rest h = refl
 ended_lines (b ∷ line) rest h = rw h.0 (ap (onto_first b) (ended_lines line rest h.1))
 
--- what has no LF
+-- A text without LF
 
 last_line : (b : ℕ) (line : List ℕ) → IsOneLine (b ∷ line) → lines_of_trace (b ∷ line) ≡ (b ∷ line) ∷ []
 last_line b [] h = rw h.0 refl
@@ -127,7 +127,7 @@ no_feed_at [] i h = refl
 no_feed_at (b ∷ line) zero h = h.0
 no_feed_at (b ∷ line) (suc i) h = no_feed_at line i h.1
 
--- the LF taken off
+-- A line without its LF
 
 last_is_feed : (line : List ℕ) → slice_index (line ++ 10 ∷ []) (length line) ≡ 10
 last_is_feed [] = refl
@@ -146,7 +146,7 @@ taken_off line =
 none_off : (line : List ℕ) → IsOneLine line → without_line_feed line ≡ line
 none_off line h = ap (λ b. if b then take (length line - 1) line else line) (no_feed_at line (length line - 1) h)
 
--- the reading of the line that was taken, if one was
+-- the reading of the line that was read, if one was
 abbrev pub reading_in : List ℕ → Option (Result (Option Event) LineFault)
 reading_in [] = None
 reading_in (b ∷ part) = Some (reading_of (without_line_feed (b ∷ part)))
@@ -154,7 +154,7 @@ reading_in (b ∷ part) = Some (reading_of (without_line_feed (b ∷ part)))
 read_ended : (part line more : List ℕ) → IsOneLine line → part ≡ line ++ 10 ∷ [] → readings_of (part ++ more) ≡ reading_of line ∷ readings_of more
 read_ended part line more one is = ap (λ xs. readings_of (xs ++ more)) is ∙ ap (λ lines. map reading_of lines) (ended_lines line more one)
 
--- all that is left, without LF
+-- the last line, without LF
 read_last : (b : ℕ) (part more : List ℕ) → IsOneLine (b ∷ part) → more ≡ []
     → readings_of ((b ∷ part) ++ more) ≡ reading_of (without_line_feed (b ∷ part)) ∷ readings_of more
 read_last b part more one none =
@@ -175,7 +175,7 @@ next_taken (Err error) part new fine is = absurd cc
 pub next_line : (part line : List ℕ) (new : Source) → IsOneLine line → part ≡ line ++ 10 ∷ [] → IsNextReading (Some (reading_of line)) part new
 next_line part line new one is = λ more may. read_ended part line more one is
 
--- by whether anything was taken
+-- the next reading, by whether anything was read
 pub next_none : (part : List ℕ) (new : Source) → (length part == 0) ≡ true → IsNextReading (reading_in part) part new → IsNextReading None part new
 next_none [] new none is = is
 next_none (b ∷ part) new none is = absurd (omega (arith, eqb-true (length (b ∷ part)) 0 none))
@@ -185,7 +185,7 @@ pub next_some : (part : List ℕ) (new : Source) → (length part == 0) ≡ fals
 next_some [] new some is = absurd cc
 next_some (b ∷ part) new some is = is
 
--- something that came is still there, whatever follows
+-- a part that is not empty is not empty with more behind it
 pub some_behind : (part more : List ℕ) → (length part == 0) ≡ false → (length (part ++ more) == 0) ≡ false
 some_behind [] more some = absurd cc
 some_behind (b ∷ part) more some = eqb-suc-zero (length (part ++ more))
@@ -194,7 +194,7 @@ pub none_behind : (part more : List ℕ) → (length part == 0) ≡ true → mor
 none_behind [] more none rest = ap (λ (xs : List ℕ). length xs == 0) rest
 none_behind (b ∷ part) more none rest = absurd (omega (arith, eqb-true (length (b ∷ part)) 0 none))
 
--- what stands behind the first lines
+-- The bytes behind the first lines
 
 abbrev before_more : List ℕ → List ℕ × List ℕ → List ℕ × List ℕ
 before_more more found = (found.0, found.1 ++ more)
@@ -220,14 +220,14 @@ lines_behind (suc k) bytes more found is =
     ∙ ap (λ (f : Option (List ℕ × List ℕ)). f >>= (λ last. Some (front.0 ++ last.0, last.1))) (line_behind front.1 more last last_is)
     ∙ ap (λ f. Some (before_more more f)) (same_Some (front.0 ++ last.0, last.1) found end)
 
--- lines that are gathered stand first, whatever follows
+-- the gathered lines are the first lines, whatever follows
 pub stand_first : {k : ℕ} {came : List ℕ} {text : Gathered MOST_TEXT_BYTES} → HasGathered k came text → (more : List ℕ) → lines_at k (came ++ more) ≡ Some (came, more)
 stand_first {k = k} {came = came} come more = lines_behind k came more (came, []) come.are
 
 pub none_come : {text : Gathered MOST_TEXT_BYTES} → Gathers MOST_TEXT_BYTES [] text → HasGathered 0 [] text
 none_come gathers = record { are = refl; gathers = gathers }
 
--- one more
+-- one more gathered line
 pub come_more : {k : ℕ} {came : List ℕ} {old new : Gathered MOST_TEXT_BYTES} (part line : List ℕ) → HasGathered k came old
     → IsOneLine line → part ≡ line ++ 10 ∷ [] → ((front : List ℕ) → Gathers MOST_TEXT_BYTES front old → Gathers MOST_TEXT_BYTES (front ++ part) new)
     → HasGathered (suc k) (came ++ part) new
@@ -236,7 +236,7 @@ come_more {came = came} part line come one is add =
     ap line_at (is ∙ sym (append-nil (line ++ 10 ∷ []))) ∙ line_again line [] one ∙ ap (λ xs. Some (xs, [])) (sym is) in
     record { are = rw (stand_first come part, last) refl; gathers = add came come.gathers }
 
--- and none that ended
+-- .. if the first `k` lines are missing, so are more
 pub none_later : (j k n : ℕ) (bytes : List ℕ) → j + k ≡ n → lines_at k bytes ≡ None → lines_at n bytes ≡ None
 none_later zero k n bytes sum none = let e : n ≡ k = omega arith in ap (λ m. lines_at m bytes) e ∙ none
 none_later (suc j) k n bytes sum none = none_later j (suc k) n bytes (omega (arith, sum)) (rw none refl)
@@ -246,6 +246,6 @@ pub none_more : {k : ℕ} {came : List ℕ} {text : Gathered MOST_TEXT_BYTES} (n
 none_more {k = k} {came = came} n part come one more =
     none_later (n - suc k) (suc k) n (came ++ part) (omega (arith, more)) (rw (stand_first come part, no_line part one) refl)
 
--- at the end nothing follows
+-- at the end, nothing follows
 pub none_follows : (n : ℕ) (bytes more : List ℕ) (new : Source) → HasEnded new → lines_at n bytes ≡ None → MayFollow new more → lines_at n (bytes ++ more) ≡ None
 none_follows n bytes more new ended none may = ap (λ xs. lines_at n (bytes ++ xs)) (may ended) ∙ ap (lines_at n) (append-nil bytes) ∙ none

@@ -1,4 +1,4 @@
--- A reply is what its whole text was read as.
+-- Reading the whole text of a reply returns this reply.
 use Rattle.std.proofs.Common.{◌≡◌, ℕ, Bool, true, false, cond, List, ◌++◌, Option, Some, None, refl, sym, ◌∙◌, ap}
 use Rattle.std.specs.Prelude.{MatchOption}
 use Rattle.std.proofs.lemmas.Option.{same_Some}
@@ -17,7 +17,7 @@ use Rattle.check_core.proofs.KindLemmas.{either}
 use Rattle.check_core.proofs.AnswerLemmas.{said_of, alone_of, addressee_again, answer_takes, answer_again}
 use Rattle.check_core.proofs.TableLemmas.{report_lines, report_text, pool_lines, pool_text, table_takes, report_read_again, pool_read_again}
 
--- what was read is the reply whose text it is
+-- the reply that was read has this text
 pub reply_takes : (text : List ℕ) (reply : Reply) → reply_of_text text ≡ Some reply → text_of reply ≡ text
 unfolding reply_of_text
 reply_takes text reply e = either (answer_of text) (table_of text) reply e (λ e. (answer_takes text reply e).0) (λ e. (table_takes text reply e).0)
@@ -49,7 +49,7 @@ only false text due None none e = let no : None ≡ Some due = sym none ∙ e in
 only true text due (Some found) is e = let no : None ≡ Some (reply_to found.0 found.1) = sym e ∙ is in absurd cc
 only false text due (Some found) is e = same_Some (reply_to found.0 found.1) due (sym is ∙ e)
 
--- the text of a reply is read as it, if it is no table
+-- the text of a reply is read as this reply, if it is no table
 pub answer_only : (text : List ℕ) (due : Reply) (found : Option (Addressee × Answer)) → Gives (λ found. reply_to found.0 found.1) found (answer_of text)
     → Fits due → text_of due ≡ text → MatchOption found (is_table due.body ≡ true) (λ found. reply_to found.0 found.1 ≡ due)
 answer_only text due found is fits same =
@@ -63,11 +63,11 @@ table_again text who (Owners owners) who_fits fits table is = pool_read_again te
 table_again text who (Report report) who_fits fits table is = report_read_again text who report who_fits fits is
 table_again text who _ who_fits fits table is = absurd cc
 
--- the text of a table is read as it
+-- the text of a table is read as this table
 pub table_only : (text : List ℕ) (due : Reply) → Fits due → is_table due.body ≡ true → text_of due ≡ text → table_of text ≡ Some due
 table_only text due fits table is = table_again text due.addressee due.body fits.0 fits.1 table is
 
--- the text of any reply is read as it
+-- the text of any reply is read as this reply
 pub reply_again : (text : List ℕ) (due : Reply) → Fits due → text_of due ≡ text → reply_of_text text ≡ Some due
 unfolding reply_of_text
 reply_again text due fits same =

@@ -1,4 +1,4 @@
--- The rows that are read are those of the text, and the text of rows is read as them.
+-- The rows that are read have this text, and the text of rows is read as these rows.
 use Rattle.std.proofs.Common.{◌≡◌, ℕ, zero, suc, ◌+◌, ◌^◌, ◌<◌, ◌≤◌, Bool, true, false, cond, List, [], ◌∷◌, ◌++◌, length, take, drop, get_or, Option, Some, None, refl, sym, ◌∙◌, ap, arith, append_assoc, take-append-drop, take_at, drop_at}
 use Rattle.std.proofs.Math.Seq.{drop-nil}
 use Rattle.std.specs.Prelude.{codes, nat_lt, ◌==◌, ◌&&◌}
@@ -16,7 +16,7 @@ use Rattle.check_core.specs.Tables.{after_front, then_rows, rows_from, order_at,
 use Rattle.check_core.proofs.FormLemmas.{bind_some, same_byte, itself, form_text, form_takes, form_again}
 use Rattle.check_core.proofs.KindLemmas.{text_takes, kind_again, either, if_same, two, three, five, small_one, small_more, below}
 
--- the text of the rows, each behind the front, the first of this index
+-- the text of the rows from this index on, each behind the front
 abbrev pub shown : {A : Type 0} → (ℕ → A → List ℕ) → List ℕ → ℕ → List A → List ℕ
 shown show front index [] = []
 shown show front index (row ∷ rows) = (front ++ show index row) ++ shown show front (index + 1) rows

@@ -1,4 +1,4 @@
--- What is said is what was read, and is read again.
+-- The body that is read has this text, and the text of a body is read as this body.
 use Rattle.std.proofs.Common.{◌≡◌, ℕ, ◌^◌, ◌*◌, ◌<◌, ◌≤◌, Bool, true, false, cond, not, List, [], ◌∷◌, ◌++◌, length, get_or, take, drop, Option, Some, None, Result, Ok, Err, refl, sym, subst, ◌∙◌, ap, arith, append_assoc, take-append-drop, take_at, drop_at, zero, suc}
 use Rattle.std.specs.Prelude.{codes, nat_lt, nat_le, ◌==◌, ◌&&◌, find, take_while}
 use Rattle.std.specs.Str.{bytes_eq}
@@ -27,7 +27,7 @@ use Rattle.check_core.proofs.FormLoop.{marks}
 use Rattle.check_core.proofs.FormLemmas.{bind_some, same_byte, size_of, form_text, is_form, form_takes, form_again}
 use Rattle.check_core.proofs.KindLemmas.{either, if_same, kind_takes, kind_again, two, three, five, small_one, small_more, below}
 
--- how an answer is spelled, with its line feed
+-- the text of an answer, with its line feed
 abbrev pub spelled : Body → List ℕ
 spelled (Frame frame) = form_text (codes "frame #\n") (frame ∷ [])
 spelled (Freed order) = form_text (codes "freed #\n") (order ∷ [])
@@ -47,14 +47,14 @@ spelled (Moved tenant slot superblock) = form_text (codes "moved # slot # superb
 spelled (Fault fault) = codes "fault " ++ (name_of_fault fault ++ 10 ∷ [])
 spelled _ = []
 
--- the bodies that an answer can have
+-- the bodies that answers have
 abbrev pub IsAnswer : Body → Type 0
 IsAnswer (Owners owners) = ⊥
 IsAnswer (Report report) = ⊥
 IsAnswer (Bytes bytes) = length bytes.items ≤ 64
 IsAnswer _ = Unit {0}
 
--- this answer, and what follows it, stand at the front of the text
+-- the text is that of this answer, and what follows it
 abbrev pub Takes : List ℕ → Body → List ℕ → Type 0
 Takes text said rest = (text ≡ spelled said ++ rest) × IsAnswer said
 
@@ -72,7 +72,7 @@ found_passes p (y ∷ xs) x e = step (p y) refl e (found_passes p xs x) where
   step true is e later = ap p (sym (same_Some y x e)) ∙ is
   step false is e later = later e
 
--- a name is a form without numbers, and the number of a refusal is its own
+-- the name of a refusal is a form without numbers, and its number finds this refusal
 record IsNamed (refusal : Refusal) : Type 0 where
   good : is_form (name_of_refusal refusal) ≡ true
   none : 0 ≡ marks (name_of_refusal refusal)
@@ -193,7 +193,7 @@ again_is word (Err fault) bytes e = absurd cc
 half : (n m : ℕ) → nat_le n 128 ≡ true → n ≡ 2 * m → m ≤ 64
 half n m few twice = grind (arith, nat_tests)
 
--- what a word was read as
+-- the bytes that a word was read as
 pub bytes_are : (word bytes : List ℕ) → bytes_of word ≡ Some bytes
     → (decode_of word ≡ Ok bytes) × (encode_lower bytes ≡ word) × (length bytes ≤ 64)
 unfolding bytes_of
@@ -270,7 +270,7 @@ bytes_again_of bytes rest small few =
 
 -- ---- all of them
 
--- what these find, the first of them first
+-- the first match of these alternatives, in order
 abbrev first_of : List (List ℕ → Option (Body × List ℕ)) → List ℕ → Option (Body × List ℕ)
 first_of [] text = some_fault_at text
 first_of (kind ∷ kinds) text = kind text or_else first_of kinds text
@@ -323,7 +323,7 @@ pub said_takes : (text : List ℕ) (said : Body) (rest : List ℕ) → said_at t
 unfolding said_at rare_at notice_at
 said_takes = first_takes kinds all_take
 
--- where this one finds that, and those before it nothing
+-- the match, if the alternative at `count` finds this and those before it find nothing
 abbrev then : ℕ → List ℕ → Option (Body × List ℕ) → Option (Body × List ℕ)
 then count text found = found or_else first_of (drop count kinds) text
 

@@ -1,4 +1,4 @@
--- A report or a table of owners is what its whole text was read as.
+-- Reading the whole text of a report or a table of owners returns it.
 use Rattle.std.proofs.Common.{◌≡◌, ℕ, ◌+◌, ◌-◌, ◌^◌, ◌<◌, ◌≤◌, true, cond, List, [], ◌∷◌, ◌++◌, map, length, take, get_or, Option, Some, None, refl, sym, subst, ◌∙◌, ap, arith, append-nil, append_assoc, length-append, take_at}
 use Rattle.std.proofs.lemmas.List.Sums.{count_by-le-length}
 use Rattle.arrayvec.specs.ArrayVec.{ArrayVec}
@@ -63,7 +63,7 @@ owners_text front superblock [] = refl
 owners_text front superblock (owner ∷ owners) =
     (λ i. one_owner front superblock owner i ++ owners_text front (superblock + 1) owners i)
 
--- ---- the line at the head of a report
+-- ---- the first line of a report
 
 unfoldable pub top_line : Option ℕ → ℕ → List ℕ
 top_line None split = form_text (codes "none split #\n") (split ∷ [])
@@ -136,7 +136,7 @@ top_again (Some top) split rest fits small =
 abbrev after_head : List ℕ → List ℕ × List ℕ → Option (Body × List ℕ)
 after_head front head = some_top_at head.1 >>= with_top front head.0
 
--- this table, and what follows it, stand behind the front
+-- the text behind the front is that of this table, and what follows it
 abbrev Takes : List ℕ → List ℕ → Body → List ℕ → Type 0
 Takes front text body rest = (front ++ text ≡ with_end (body_texts front body) ++ rest) × (is_table body ≡ true)
 
@@ -171,7 +171,7 @@ report_takes front text body rest e =
     ∙ (λ i. with_end (body_texts front (body_is i)) ++ rest_is i) in
     (taken, subst (λ (body : Body). is_table body ≡ true) body_is refl)
 
--- behind the orders there is no order, and behind the caches no cache
+-- no order row follows the order rows, and no cache row follows the cache rows
 no_order : (front : List ℕ) (order : ℕ) (rows : List CacheRow) → (after_front front (shown cache_line front 0 rows ++ []) >>= order_at order) ≡ None
 unfolding order_at form_at mark_at
 no_order front order [] = nothing_again front (order_at order) refl
@@ -274,7 +274,7 @@ front_is front rest =
     let size : length (front ++ rest) - length rest ≡ length front = omega (arith, length-append front rest) in
     ap (λ n. take n (front ++ rest)) size ∙ take_at front rest (length front) refl
 
--- what was read is the reply whose text it is
+-- the table that was read has this text
 pub table_takes : (text : List ℕ) (reply : Reply) → table_of text ≡ Some reply → (text_of reply ≡ text) × (is_table reply.body ≡ true)
 unfolding table_of
 table_takes text reply e =
@@ -309,7 +309,7 @@ again text who body lines fits is read =
     ∙ ap (λ front. body_at front lines >>= alone_of who) (front_is front lines)
     ∙ ap (λ found. found >>= alone_of who) read
 
--- no report begins as a pool
+-- the text of a pool is not read as a report
 no_report : (front : List ℕ) (owners : List (Option Owner)) → report_at front (pool_lines front owners) ≡ None
 unfolding report_at form_at mark_at
 no_report front owners = refl

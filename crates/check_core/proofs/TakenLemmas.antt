@@ -1,4 +1,4 @@
--- The first frame that a page block in the way shares.
+-- The first shared frame of a page block in the way.
 use Rattle.std.proofs.Common.{◌≡◌, ℕ, ◌+◌, ◌^◌, ◌<◌, true, Option, Some, None, max, arith}
 use Rattle.std.specs.Prelude.{find, nat_lt}
 use Rattle.std.specs.Option.{option_map_or}
@@ -31,7 +31,7 @@ pub way_first : (b : Block) (tenant : Option Seen) (page : Block)
 way_first b None page is = let clash : ◌≡◌ {A = Option Block} None (Some page) = is in absurd cc
 way_first b (Some y) page is = shared_first b page (find_in (overlaps b) page y.has.pages is).1
 
--- events and replies that are the same have the same numbers
+-- equal events and equal replies have equal numbers
 pub same_alloc : (t t' k k' : ℕ) → Event.Tenant t (Command.Alloc k) ≡ Event.Tenant t' (Command.Alloc k') → k ≡ k'
 same_alloc t t' k k' e = cc
 

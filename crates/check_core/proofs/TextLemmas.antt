@@ -1,4 +1,5 @@
--- The text of a reply: its lines are the first of the bytes that it begins, and it is no longer than a text that is read.
+-- The text of a reply: its lines are the first lines of bytes that begin with it, and it is within the limit of a text that is
+-- read.
 use Rattle.std.proofs.Common.{◌≡◌, ℕ, zero, suc, ◌+◌, ◌*◌, ◌/◌, ◌%◌, ◌≤◌, Bool, true, false, cond, not, List, [], ◌∷◌, ◌++◌, length, get_or, drop, Option, Some, None, refl, sym, ap, ◌∙◌, arith, append_assoc, append-nil, length-append}
 use Rattle.std.specs.Prelude.{codes, decimal, ◌==◌, nat_le, if◌then◌else◌, count_by, is_none}
 use Rattle.std.specs.List.{list_all}
@@ -43,7 +44,7 @@ one_line : (row : List ℕ) → list_all (λ b. not (b == 10)) row ≡ true → 
 one_line [] h = tt
 one_line (b ∷ row) h = let parts = and_parts (not (b == 10)) (list_all (λ b. not (b == 10)) row) h in (no_feed (b == 10) parts.0, one_line row parts.1)
 
--- behind so many lines of the bytes these follow
+-- if these rows follow the first `k` lines of the bytes, they are the next lines
 rows_first : (rows : List (List ℕ)) (k n : ℕ) (bytes front rest : List ℕ) → k + length rows ≡ n → lines_at k bytes ≡ Some (front, with_end rows ++ rest)
     → AreTexts rows → lines_at n bytes ≡ Some (front ++ with_end rows, rest)
 rows_first [] k n bytes front rest sum lines are =
@@ -54,7 +55,7 @@ rows_first (row ∷ rows) k n bytes front rest sum lines are =
     let more : lines_at (suc k) bytes ≡ Some (front ++ line, with_end rows ++ rest) = rw (lines, append_assoc line (with_end rows) rest, cut) refl in
     rows_first rows (suc k) n bytes (front ++ line) rest (omega (arith, sum)) more are.1 ∙ ap (λ t. Some (t, rest)) (append_assoc front line (with_end rows))
 
--- how many lines a reply has
+-- the number of lines of a reply
 abbrev pub lines_in : Reply → ℕ
 lines_in reply = length (body_texts (addressee_text reply.addressee) reply.body)
 
@@ -79,7 +80,7 @@ few_decimals : (n : ℕ) → length (decimal n) ≤ 64
 unfolding digits
 few_decimals n = few_digits 64 n []
 
--- the bytes of a form, be its numbers what they may
+-- a bound of the bytes of a form's text, for any numbers
 abbrev most_of : List ℕ → ℕ
 most_of form = length form + 63 * marks form
 

@@ -1,4 +1,4 @@
--- The premises of the laws are met by a grant, a page block taken and released, and a comment.
+-- The premises of the laws are met by a grant, a page block that is allocated and freed, and a comment.
 use Rattle.std.proofs.Common.{List, ℕ, [], ◌∷◌, None, codes}
 use Rattle.promise_kept.specs.Written.{IsAllowedText}
 use Rattle.promise_core.specs.declared.promise.Promise.{Promise}
@@ -11,7 +11,7 @@ trace = codes "admin grant 0\n# a block\n0 alloc 1\n0 free 0\n"
 abbrev lines : List (List ℕ)
 lines = codes "admin grant 0" ∷ codes "# a block" ∷ codes "0 alloc 1" ∷ codes "0 free 0" ∷ []
 
--- another superblock than partmem's, and a block of two frames, which is released
+-- a superblock that partmem would not choose, and a block of two frames, which is freed
 abbrev allowed_replies : List ℕ
 allowed_replies = codes "admin> granted 0 slot 0 superblock 1\n0> frame 0\n0> freed 1\n"
 

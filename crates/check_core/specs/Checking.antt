@@ -1,4 +1,4 @@
--- Verdicts on the replies to the lines of a trace, in turn, how a check ends, and where memory runs out.
+-- Verdicts on the replies to the lines of a trace, in turn; how a check ends, and when memory runs out.
 use Rattle.std.specs.Prelude.{◌≡◌, ℕ, suc, Bool, true, false, List, [], ◌∷◌, ◌++◌, Option, Some, None, Result, Ok, Err, ◌⊎◌}
 use Rattle.promise_core.specs.declared.promise.Promise.{Promise}
 use Rattle.words_core.specs.declared.event.Event.{Event}
@@ -16,49 +16,50 @@ use Rattle.check_core.specs.Finding.{after_lines, lines_at, lines_to, more_lines
 use Rattle.check_core.specs.Gathered.{Gathers}
 use Rattle.check_core.specs.Reading.{HasEnded, MayFollow, Source}
 
--- these bytes have come, so many whole lines
+-- these bytes have come, and they are this number of whole lines
 pub record HasGathered (lines : ℕ) (came : List ℕ) (text : Gathered MOST_TEXT_BYTES) : Type 0 where
   pub are : lines_at lines came ≡ Some (came, [])
   pub gathers : Gathers MOST_TEXT_BYTES came text
 
--- The verdict on the reply to a line that reads so, where this was given of the replies, whatever follows: how many lines the reply
--- has, which are what was given, where it is allowed, and then what is known after it is shown; or the first promise that it breaks.
+-- The verdict on the reply to a line with this reading, when `part` was read of the replies, whatever follows. If the reply is
+-- allowed, the verdict is its number of lines, which are `part`, and the machine shows what is known after it. Otherwise the
+-- verdict is the first promise that the reply breaks.
 abbrev pub IsLineVerdict : Result ℕ Promise → Result (Option Event) LineFault → List ℕ → Known → SeenMachine → Source → Type 0
 IsLineVerdict (Ok lines) reading part w new replies = (lines ≡ lines_to reading w) × ((after : Known) × ShowsKnown new after
     × ((more : List ℕ) → (verdict_at reading (part ++ more) w ≡ Ok after) × (after_lines lines (part ++ more) ≡ more)))
 IsLineVerdict (Err promise) reading part w new replies =
     (more : List ℕ) → MayFollow replies more → verdict_at reading (part ++ more) w ≡ Err promise
 
--- the same where this was gathered as its reply, of which nothing is known that was not before if it is none
+-- the verdict on what was gathered as the reply; if it is no reply, the machine still shows what was known before
 abbrev pub IsTextVerdict : Option (Result (Unit {0}) Promise) → Event → Option Reply → Known → SeenMachine → Type 0
 IsTextVerdict (Some verdict) event found w new = (reply : Reply) × (found ≡ Some reply) × IsVerdict verdict (allowed event reply w) new
 IsTextVerdict None event found w new = (found ≡ None) × ShowsKnown new w
 
--- a finding is kept only where the trace and the replies have ended
+-- a finding is kept only if the trace and the replies have ended
 abbrev pub IsKeptAtEnd : Finding → (trace replies : Source) → Type 0
 IsKeptAtEnd (Finding.Kept lines) trace replies = HasEnded trace × HasEnded replies
 IsKeptAtEnd (Finding.Broken breach) trace replies = Unit {0}
 
--- Which reader had failed where there is no finding, the trace's or the replies'. Neither had where memory ran out, and then
--- `short` says on what.
+-- The reader that failed when there is no finding: the trace's or the replies'. If memory ran out, neither failed, and `short`
+-- says for what.
 abbrev pub IsStoppedBy : Unchecked → (unread untold : Bool) → (short : Type 0) → Type 0
 IsStoppedBy Unchecked.Trace unread untold short = (unread ≡ true) × (untold ≡ false)
 IsStoppedBy Unchecked.Replies unread untold short = (unread ≡ false) × (untold ≡ true)
 IsStoppedBy Unchecked.Memory unread untold short = (unread ≡ false) × (untold ≡ false) × short
 
--- how a call ended: neither had failed, or it was stopped by that
+-- how a call ended: neither reader failed, or the call was stopped by this error
 abbrev pub IsEndedBy : {A : Type 0} → Result A Unchecked → (unread untold : Bool) → (short : Type 0) → Type 0
 IsEndedBy (Ok done) unread untold short = (unread ≡ false) × (untold ≡ false)
 IsEndedBy (Err why) unread untold short = IsStoppedBy why unread untold short
 
--- the reply to a line that reads so is allowed, and adds something to what is kept
+-- the reply to a line with this reading is allowed, and adds something to the state
 abbrev pub AddsAt : Result (Option Event) LineFault → List ℕ → Known → Type 0
 AddsAt (Ok (Some event)) bytes w = (reply : Reply) × (after : Known) × (reply_in (suc (more_lines event w)) bytes ≡ Some reply)
     × (allowed event reply w ≡ Ok after) × (is_addition reply.body ≡ true)
 AddsAt (Ok None) bytes w = ⊥
 AddsAt (Err fault) bytes w = ⊥
 
--- that is so of the first of these lines, or of a later one, behind replies that are allowed
+-- the reply to the first of these lines adds something, or a later one does, behind allowed replies
 abbrev pub ComesToAdd : List (Result (Option Event) LineFault) → List ℕ → Known → Type 0
 ComesToAdd [] bytes w = ⊥
 ComesToAdd (reading ∷ readings) bytes w = AddsAt reading bytes w

@@ -1,4 +1,4 @@
--- What the replies to a trace are found to be, by their texts.
+-- The finding of a trace and its replies, by their texts.
 use Rattle.std.specs.Prelude.{ℕ, zero, suc, ◌+◌, ◌==◌, Bool, false, if◌then◌else◌, List, [], ◌∷◌, ◌++◌, length, slice_get, nat_le, nat_lt, find, Option, Some, None, Result, Ok, Err, unwrap_or}
 use Rattle.std.specs.Option.{option_map_or}
 use Rattle.std.specs.Result.{result_err}
@@ -26,12 +26,12 @@ use Rattle.check_core.specs.Forms.{◌>>=◌}
 use Rattle.check_core.specs.Gathered.{whole_of}
 use Rattle.check_core.specs.Reading.{readings_of}
 
--- the first line, up to and with its LF, byte 10, and what follows it
+-- the first line, with its LF (byte 10), and the bytes that follow it
 abbrev pub line_at : List ℕ → Option (List ℕ × List ℕ)
 line_at [] = None
 line_at (b ∷ bytes) = if b == 10 then Some (b ∷ [], bytes) else (line_at bytes >>= (λ found. Some (b ∷ found.0, found.1)))
 
--- the first `count` lines, each with its LF, and what follows them
+-- the first `k` lines, each with its LF, and the bytes that follow them
 abbrev pub lines_at : ℕ → List ℕ → Option (List ℕ × List ℕ)
 lines_at zero bytes = Some ([], bytes)
 lines_at (suc k) bytes = do
@@ -39,20 +39,20 @@ lines_at (suc k) bytes = do
   last ← line_at front.1
   Some (front.0 ++ last.0, last.1)
 
--- what follows them, where they are there
+-- the bytes that follow the first `k` lines, if there are that many
 abbrev pub after_lines : ℕ → List ℕ → List ℕ
 after_lines k bytes = option_map_or (λ found. found.1) (lines_at k bytes) []
 
--- a text as a reply, which has at most 257 lines of at most 256 bytes each
+-- the reply that a text is; a reply has at most 257 lines of at most 256 bytes each
 abbrev pub text_read : List ℕ → Option Reply
 text_read text = whole_of MOST_TEXT_BYTES text >>= reply_of_text
 
--- the reply that the first lines are, so many of them
+-- the reply that the first `k` lines are
 abbrev pub reply_in : ℕ → List ℕ → Option Reply
 reply_in k bytes = lines_at k bytes >>= (λ found. text_read found.0)
 
--- How many lines an answer to the event has behind the first: the table of owners one for each superblock, a report one for each
--- order and for each cache of the tenant.
+-- The number of lines behind the first in a reply that is no refusal: a table of owners has one for each superblock, a report one
+-- for each order and each cache of the tenant.
 abbrev pub more_lines : Event → Known → ℕ
 more_lines (Event.Admin AdminCommand.Pool) w = length w.owners
 more_lines (Event.Tenant t Command.Report) w =
@@ -71,7 +71,7 @@ more_lines (Event.Tenant t (Command.Take number)) w = 0
 more_lines (Event.Tenant t (Command.Give number place)) w = 0
 more_lines (Event.Tenant t Command.Reap) w = 0
 
--- the refusal that the reply is, and to whom it goes
+-- the refusal, with its addressee, if the reply is one
 abbrev pub refusal_told : Addressee → Body → Option (Addressee × Refusal)
 refusal_told who (Body.Refused refusal) = Some (who, refusal)
 refusal_told who (Body.Granted tenant slot superblock) = None
@@ -91,56 +91,56 @@ refusal_told who (Body.Reaped frames) = None
 refusal_told who (Body.Report report) = None
 refusal_told who (Body.Fault fault) = None
 
--- the same of what was read
+-- the same for a reply that was read, if one was
 abbrev pub refusal_read : Option Reply → Option (Addressee × Refusal)
 refusal_read found = found >>= (λ reply. refusal_told reply.addressee reply.body)
 
--- the promise that is broken where so many lines are no reply: a refusal is one line, and it may break another than that of form
+-- the promise that is broken if the lines are no reply: a refusal in the first line may break another promise than Form
 abbrev pub broken_by : Event → Option (Addressee × Refusal) → Known → Promise
 broken_by event None w = Promise.Form
 broken_by event (Some told) w =
     unwrap_or (result_err (allowed event (record { addressee = told.0; body = Body.Refused told.1 }) w)) Promise.Form
 
--- what a faulty line is answered
+-- the reply to a faulty line
 abbrev pub fault_reply : LineFault → Reply
 fault_reply fault = record { addressee = Addressee.Nobody; body = Body.Fault fault }
 
--- in the first line
+-- the first line is the reply to this fault
 abbrev pub reports_fault : LineFault → List ℕ → Bool
 reports_fault fault bytes = option_map_or (λ found. bytes_eq found.0 (text_of (fault_reply fault))) (lines_at 1 bytes) false
 
--- What is known after a line that reads so, and the reply that stands first in these bytes; else the first promise that it breaks.
--- If so many lines are no reply, that is said of the first.
+-- What is known after a line with this reading and the reply at the front of these bytes, else the first promise that the reply
+-- breaks. If the lines are no reply, the first line alone is judged.
 abbrev pub verdict_at : Result (Option Event) LineFault → List ℕ → Known → Result Known Promise
 verdict_at (Ok None) bytes w = Ok w
 verdict_at (Err fault) bytes w = if reports_fault fault bytes then Ok w else Err Promise.Form
 verdict_at (Ok (Some event)) bytes w = option_map_or (λ reply. allowed event reply w)
     (reply_in (suc (more_lines event w)) bytes) (Err (broken_by event (refusal_read (reply_in 1 bytes)) w))
 
--- how many lines the reply to such a line has
+-- the number of lines of the reply to a line with this reading
 abbrev pub lines_to : Result (Option Event) LineFault → Known → ℕ
 lines_to (Ok None) w = 0
 lines_to (Err fault) w = 1
 lines_to (Ok (Some event)) w = suc (more_lines event w)
 
--- the promise is broken at these lines of the two texts, or else it goes on
+-- the promise is broken at these lines of the two texts, otherwise the check continues
 abbrev pub or_broken : Result Known Promise → ℕ → ℕ → (Known → Finding) → Finding
 or_broken (Ok after) line reply more = more after
 or_broken (Err promise) line reply more = Finding.Broken (record { line = line; reply = reply; promise = promise })
 
--- Of lines that read so and the bytes of the replies to them, behind so many lines of both texts: kept, where the reply to each is
--- allowed, and nothing follows the last.
+-- The finding of lines with these readings and the bytes of their replies, behind `line` and `reply` lines of the two texts. It
+-- is kept if the reply to each line is allowed, and nothing follows the last reply.
 abbrev pub finding : ℕ → ℕ → List (Result (Option Event) LineFault) → List ℕ → Known → Finding
 finding line reply [] [] w = Finding.Kept line
 finding line reply [] (_ ∷ _) w = Finding.Broken (record { line = line; reply = reply + 1; promise = Promise.Form })
 finding line reply (reading ∷ readings) bytes w = or_broken (verdict_at reading bytes w) (line + 1) (reply + 1)
     (λ after. finding (line + 1) (reply + lines_to reading w) readings (after_lines (lines_to reading w) bytes) after)
 
--- of the texts of a trace and of the replies to it
+-- the finding of the texts of a trace and of its replies
 abbrev pub finding_of : Known → List ℕ → List ℕ → Finding
 finding_of w trace replies = finding 0 0 (readings_of trace) replies w
 
--- What is in the way of a page block that a reply gives: the first live one of the tenant that has a frame of it.
+-- The first live page block of the tenant that shares a frame with the page block of a reply.
 abbrev pub page_in_way : SeenMachine → Event → Body → Option Block
 page_in_way x (Event.Tenant t (Command.Alloc k)) (Body.Frame f) = if nat_le k MOST_ORDER
     then option_map_or (λ y. find (overlaps (block f k)) y.has.pages) (slice_get x.tenants t) None else None

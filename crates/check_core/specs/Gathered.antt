@@ -7,6 +7,6 @@ pub record Gathers (most : ℕ) (came : List ℕ) (g : Gathered most) : Type 0 w
   pub front : g.held.items ≡ take most came
   pub longer : g.longer ≡ nat_lt most (length came)
 
--- the bytes, if there are at most so many
+-- the bytes, if there are at most `most`
 abbrev pub whole_of : ℕ → List ℕ → Option (List ℕ)
 whole_of most came = if nat_lt most (length came) then None else Some came

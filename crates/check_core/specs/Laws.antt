@@ -1,4 +1,4 @@
--- What a finding tells of two texts.
+-- The meaning of a finding of two texts.
 use Rattle.std.specs.Prelude.{◌≡◌, ℕ, ◌+◌, ◌==◌, List, [], ◌∷◌, ◌++◌, length, take, count_by, Option, Some, None, Result, Ok, Err}
 use Rattle.words_core.specs.Cutting.{lines_of_trace}
 use Rattle.words_core.specs.Grammar.{reading_of}
@@ -14,20 +14,20 @@ use Rattle.check_core.specs.declared.finding.Finding.TheVariants.{Kept, Broken}
 use Rattle.check_core.specs.Finding.{fault_reply, finding_of}
 use Rattle.check_core.specs.Ranges.{Fits}
 
--- where it is kept, the replies are the text of replies to the trace's events, each of which is allowed from the opening on
+-- if a finding is kept, the replies are the text of replies to the trace's events, and each is allowed, from the opening on
 abbrev pub KeptIsAllowed : Type 0
 KeptIsAllowed = (limit order superblocks tenants lines : ℕ) (trace replies : List ℕ)
     → finding_of (opening limit order superblocks tenants) trace replies ≡ Kept lines
     → IsAllowedText None limit order superblocks tenants (lines_of_trace trace) replies
 
--- no allowed reply to a line that reads so begins the bytes; every value of the type `Reply` fits
+-- the bytes begin with no allowed reply to a line with this reading; every value of the type `Reply` fits
 abbrev pub HasNoReply : Result (Option Event) LineFault → List ℕ → Known → Type 0
 HasNoReply (Ok None) bytes w = ⊥
 HasNoReply (Err fault) bytes w = (rest : List ℕ) → bytes ≡ text_of (fault_reply fault) ++ rest → ⊥
 HasNoReply (Ok (Some event)) bytes w = (reply : Reply) (rest : List ℕ) (after : Known)
     → Fits reply → bytes ≡ text_of reply ++ rest → allowed event reply w ≡ Ok after → ⊥
 
--- the same of the first of these lines; if there is none, bytes follow
+-- the same for the first of these lines; if no line is left, bytes are
 abbrev pub IsWrong : List (List ℕ) → List ℕ → Known → Type 0
 IsWrong [] bytes w = bytes ≡ [] → ⊥
 IsWrong (line ∷ lines) bytes w = HasNoReply (reading_of line) bytes w
@@ -45,7 +45,7 @@ pub record IsBreach (limit order superblocks tenants : ℕ) (lines : List (List 
   pub line : breach.line ≡ length before + length (take 1 left)
   pub reply : breach.reply ≡ count_by (λ b. b == 10) front + 1
 
--- where it is broken, no reply that begins at the breach is allowed
+-- if a finding is broken, the replies before the breach are allowed, and none that begins at the breach is
 abbrev pub BrokenIsNotAllowed : Type 0
 BrokenIsNotAllowed = (limit order superblocks tenants : ℕ) (trace replies : List ℕ) (breach : Breach)
     → finding_of (opening limit order superblocks tenants) trace replies ≡ Broken breach

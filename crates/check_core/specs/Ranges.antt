@@ -1,4 +1,4 @@
--- What the types of a reply have room for.
+-- The ranges of the types in a reply.
 use Rattle.std.specs.Prelude.{◌^◌, ◌<◌, ◌≤◌, length, Option, IfSome}
 use Rattle.std.specs.List.{AllByRecursion}
 use Rattle.model_core.specs.declared.owner.Owner.{Owner}

@@ -1,4 +1,4 @@
--- What a reader of lines has left, and what it gives.
+-- The bytes that a reader of lines has left, and the bytes that it gives.
 use Rattle.std.specs.Prelude.{◌≡◌, ℕ, ◌+◌, ◌-◌, ◌==◌, Bool, true, false, if◌then◌else◌, List, [], ◌∷◌, ◌++◌, map, Option, Some, None, Result, Ok, Err, length, take, slice_index}
 use Rattle.std.specs.Io.KnownBytes.{Consumes, IsAtEnd}
 use Rattle.words_core.specs.declared.event.Event.{Event}
@@ -7,7 +7,7 @@ use Rattle.words_core.specs.Cutting.{lines_of_trace}
 use Rattle.words_core.specs.Grammar.{reading_of}
 use Rattle.streams.specs.Lines.{IsOneLine}
 
--- the bytes that are left, where they are known, how many there are at most, whether a pull has given the end, and whether one has
+-- the bytes that are left, if they are known, their largest number, whether a pull has reached the end, and whether one has
 -- failed
 pub record Source : Type 0 where
   pub left : Option (List ℕ)
@@ -15,26 +15,26 @@ pub record Source : Type 0 where
   pub ended : Bool
   pub failed : Bool
 
--- a pull has given the end, and no known byte is left
+-- a pull has reached the end, and no known byte is left
 abbrev pub HasEnded : Source → Type 0
 HasEnded source = (source.ended ≡ true) × IsAtEnd source.left
 
--- a source gave these bytes, counted each of them, and gave none after its end
+-- a source gave these bytes, counted each one, and gave none after its end
 pub record HasGiven (old new : Source) (given : List ℕ) : Type 0 where
   pub bytes : Consumes old.left new.left given
   pub count : new.room + length given ≡ old.room
   pub none_later : HasEnded old → (given ≡ []) × HasEnded new
 
--- the source may still give these bytes: any, or none once it has ended
+-- the bytes that the source may still give: any, but none once it has ended
 abbrev pub MayFollow : Source → List ℕ → Type 0
 MayFollow source more = HasEnded source → more ≡ []
 
--- that is so of two texts which begin with what two sources gave, whatever follows
+-- the property holds for all texts that begin with what the two sources gave
 abbrev pub WhateverFollows : (trace replies : Source) → (asked told : List ℕ) → (List ℕ → List ℕ → Type 0) → Type 0
 WhateverFollows trace replies asked told IsSo =
     (more later : List ℕ) → MayFollow trace more → MayFollow replies later → IsSo (asked ++ more) (told ++ later)
 
--- what was given of a line, unless the source failed: all of it up to and with its LF, or what follows the last LF
+-- the part of a line that was given, unless the source failed: the whole line with its LF, or the text behind the last LF
 abbrev pub IsPartAtOk : {E : Type 0} → Result Bool E → List ℕ → Source → Type 0
 IsPartAtOk (Ok true) part new = (line : List ℕ) × IsOneLine line × (part ≡ line ++ 10 ∷ [])
 IsPartAtOk (Ok false) part new = IsOneLine part × HasEnded new
@@ -47,7 +47,7 @@ without_line_feed line = if slice_index line (length line - 1) == 10 then take (
 abbrev pub readings_of : List ℕ → List (Result (Option Event) LineFault)
 readings_of trace = map reading_of (lines_of_trace trace)
 
--- What was given is the next line, which reads so, whatever follows; None where nothing was given, at the end.
+-- The part that was given is the next line, with this reading, whatever follows. It is None if nothing was given, at the end.
 abbrev pub IsNextReading : Option (Result (Option Event) LineFault) → List ℕ → Source → Type 0
 IsNextReading None part new = (part ≡ []) × HasEnded new
 IsNextReading (Some reading) part new =

@@ -1,4 +1,4 @@
--- Reading a reply from left to right: the first form that is at the front decides what it is.
+-- Reading a reply from left to right: the first form that matches the front decides what it is.
 use Rattle.std.specs.Prelude.{ℕ, ◌*◌, ◌^◌, ◌==◌, ◌&&◌, List, [], ◌∷◌, codes, length, take, drop, take_while, not, find, slice_index, nat_lt, nat_le, Bool, true, if◌then◌else◌, Option, Some, None, Result, Ok, Err}
 use Rattle.std.specs.Str.{bytes_eq}
 use Rattle.hex.specs.Hex.{decode_of, encode_lower}
@@ -13,18 +13,18 @@ use Rattle.words_core.specs.Texts.{number_of_refusal, name_of_refusal, name_of_f
 use Rattle.words_core.specs.declared.reply.TheConstants.{REFUSALS}
 use Rattle.check_core.specs.Forms.{◌>>=◌, form_at}
 
--- what is made of the numbers in a form at the front of the text, if they fit, and what follows it
+-- the value made from the numbers in a form at the front of the text, if they fit, and the text that follows it
 abbrev pub made_at : {A : Type 0} → List ℕ → (List ℕ → Bool) → (List ℕ → A) → List ℕ → Option (A × List ℕ)
 made_at form fits make text =
     form_at form text >>= (λ found. if fits found.0 then Some (make found.0, found.1) else None)
 
--- the first, or where it found nothing the second
+-- the first value, or the second if the first is `None`
 infixr 10 ◌or_else◌
 abbrev pub ◌or_else◌ : {A : Type 0} → Option A → Option A → Option A
 Some x or_else other = Some x
 None or_else other = other
 
--- ---- what is said to a tenant
+-- ---- replies to a tenant
 
 unfoldable pub frame_at : List ℕ → Option (Body × List ℕ)
 frame_at text = made_at (codes "frame #\n") (λ ns. true) (λ ns. Body.Frame (slice_index ns 0)) text
@@ -64,7 +64,7 @@ refused_at text = do
   ended ← form_at (codes "\n") named.1
   Some (Body.Refused refusal, ended.1)
 
--- the bytes that a word is in hex, in lower case: written again they are that word
+-- the bytes that a word spells in lower-case hex: encoded again they are that word
 abbrev pub bytes_again : List ℕ → Result (List ℕ) FromHexError → Option (List ℕ)
 bytes_again word (Ok bytes) = if bytes_eq (encode_lower bytes) word then Some bytes else None
 bytes_again word (Err e) = None
@@ -80,14 +80,14 @@ bytes_at text = do
   ended ← form_at (codes "\n") (drop size found.1)
   Some (Body.Bytes (record { items = bytes }), ended.1)
 
--- ---- what is said to the administrator, and of a faulty line
+-- ---- replies to the administrator, and to a faulty line
 
--- the numbers of a tenant, of a slot and of a superblock
+-- the numbers fit those of a tenant, a slot and a superblock
 abbrev pub fit_place : List ℕ → Bool
 fit_place ns =
     nat_lt (slice_index ns 0) (2 ^ 8) && (nat_lt (slice_index ns 1) (2 ^ 16) && nat_lt (slice_index ns 2) (2 ^ 16))
 
--- the number of a tenant, and one of slots or superblocks
+-- the numbers fit that of a tenant, and one of a slot or a number of superblocks
 abbrev pub fit_tenant : List ℕ → Bool
 fit_tenant ns = nat_lt (slice_index ns 0) (2 ^ 8) && nat_lt (slice_index ns 1) (2 ^ 16)
 
@@ -107,7 +107,7 @@ unfoldable pub moved_at : List ℕ → Option (Body × List ℕ)
 moved_at text = made_at (codes "moved # slot # superblock #\n") fit_place
     (λ ns. Body.Moved (slice_index ns 0) (slice_index ns 1) (slice_index ns 2)) text
 
--- this fault
+-- this fault at the front of the text
 unfoldable pub fault_at : LineFault → List ℕ → Option (Body × List ℕ)
 fault_at fault text = do
   found ← form_at (codes "fault ") text
@@ -115,7 +115,7 @@ fault_at fault text = do
   ended ← form_at (codes "\n") named.1
   Some (Body.Fault fault, ended.1)
 
--- any fault
+-- any fault at the front of the text
 unfoldable pub some_fault_at : List ℕ → Option (Body × List ℕ)
 some_fault_at text =
     fault_at LineFault.Long text or_else fault_at LineFault.Unknown text or_else fault_at LineFault.Words text or_else fault_at LineFault.Number text or_else fault_at LineFault.Hex text
@@ -123,7 +123,7 @@ some_fault_at text =
 unfoldable pub notice_at : List ℕ → Option (Body × List ℕ)
 notice_at text = granted_at text or_else taken_at text or_else reset_at text or_else moved_at text or_else some_fault_at text
 
--- what is said, and what follows it
+-- the body at the front of the text, and the text that follows it
 unfoldable pub rare_at : List ℕ → Option (Body × List ℕ)
 rare_at text = refused_at text or_else cache_at text or_else destroyed_at text or_else reaped_at text or_else notice_at text
 
@@ -132,7 +132,7 @@ said_at text =
     bytes_at text or_else written_at text or_else frame_at text or_else freed_at text or_else object_at text or_else given_at text
     or_else rare_at text
 
--- ---- whom it is for
+-- ---- the addressee
 
 unfoldable pub tenant_at : List ℕ → Option (Addressee × List ℕ)
 tenant_at text = made_at (codes "#> ") (λ ns. nat_lt (slice_index ns 0) (2 ^ 8)) (λ ns. Addressee.Tenant (slice_index ns 0)) text
@@ -143,13 +143,13 @@ admin_at text = made_at (codes "admin> ") (λ ns. true) (λ ns. Addressee.Admin)
 unfoldable pub nobody_at : List ℕ → Option (Addressee × List ℕ)
 nobody_at text = made_at (codes "!> ") (λ ns. true) (λ ns. Addressee.Nobody) text
 
--- whom it is for, and what follows
+-- the addressee at the front of the text, and the text that follows it
 unfoldable pub addressee_at : List ℕ → Option (Addressee × List ℕ)
 addressee_at text = tenant_at text or_else admin_at text or_else nobody_at text
 
 -- ---- a reply of one line, the whole text
 
--- what was found, if nothing follows it
+-- the value that was found, if no text follows it
 abbrev pub whole : {A : Type 0} → A × List ℕ → Option A
 whole (found, []) = Some found
 whole (found, _ ∷ _) = None

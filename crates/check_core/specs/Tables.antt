@@ -1,4 +1,4 @@
--- Reading a report and the table of owners: a line at the head, and then rows, each begun as that line.
+-- Reading a report and the table of owners: a first line, and then rows that begin with the same front as that line.
 use Rattle.std.specs.Prelude.{ℕ, true, zero, suc, ◌+◌, ◌-◌, ◌^◌, ◌==◌, ◌&&◌, List, [], ◌∷◌, codes, length, take, drop, slice_index, nat_lt, count_by, is_none, if◌then◌else◌, Option, Some, None}
 use Rattle.std.specs.Str.{bytes_eq}
 use Rattle.model_core.specs.declared.owner.Owner.{Owner}
@@ -12,7 +12,7 @@ use Rattle.words_core.specs.declared.reply.TheConstants.{OWNERS}
 use Rattle.check_core.specs.Forms.{◌>>=◌, form_at}
 use Rattle.check_core.specs.Replies.{made_at, ◌or_else◌, fit_tenant, addressee_at, whole, answer_of}
 
--- what follows this front of a line
+-- the text that follows this front of a line
 unfoldable pub after_front : List ℕ → List ℕ → Option (List ℕ)
 after_front front text = if bytes_eq (take (length front) text) front then Some (drop (length front) text) else None
 
@@ -20,12 +20,12 @@ after_front front text = if bytes_eq (take (length front) text) front then Some 
 abbrev pub row_behind : {A : Type 0} → (List ℕ → Option (A × List ℕ)) → List ℕ → List ℕ → Option (A × List ℕ)
 row_behind row_at front text = after_front front text >>= row_at
 
--- a row before those that follow it, or none
+-- a row and those that follow it, or none
 abbrev pub then_rows : {A : Type 0} → Option (A × List ℕ) → List ℕ → (List ℕ → List A × List ℕ) → List A × List ℕ
 then_rows None text more = ([], text)
 then_rows (Some found) text more = (found.0 ∷ (more found.1).0, (more found.1).1)
 
--- rows by their index, each behind the front, from this index on, until there is none or there are `most`; and what follows them
+-- the rows from this index on, each behind the front, at most this many, and the text that follows them
 unfoldable pub rows_from : {A : Type 0} → (ℕ → List ℕ → Option (A × List ℕ)) → List ℕ → ℕ → ℕ → List ℕ → List A × List ℕ
 rows_from row_at front zero index text = ([], text)
 rows_from row_at front (suc most) index text =
@@ -47,7 +47,7 @@ cache_row_at index text = made_at (codes "cache # full # partial # empty # live 
       live = slice_index ns 4;
     }) text
 
--- the greatest order of a free block, and the share outside one
+-- the greatest order of a free block, and the share of free frames outside one such block
 unfoldable pub top_at : List ℕ → Option ((Option ℕ × ℕ) × List ℕ)
 top_at text =
     made_at (codes "# split #\n") (λ ns. nat_lt (slice_index ns 0) (2 ^ 8)) (λ ns. (Some (slice_index ns 0), slice_index ns 1)) text
@@ -58,7 +58,7 @@ no_top_at text = made_at (codes "none split #\n") (λ ns. true) (λ ns. (None, s
 unfoldable pub some_top_at : List ℕ → Option ((Option ℕ × ℕ) × List ℕ)
 some_top_at text = top_at text or_else no_top_at text
 
--- the line at the head of a report, and then its rows
+-- the first line of a report, and then its rows
 unfoldable pub report_at : List ℕ → List ℕ → Option (Body × List ℕ)
 report_at front text =
     form_at (codes "frames # live # free # top ") text >>= (λ head.
@@ -85,7 +85,7 @@ unfoldable pub owned_at : List ℕ → Option (Option Owner × List ℕ)
 owned_at text = made_at (codes "tenant # slot #\n") fit_tenant
     (λ ns. Some (record { tenant = slice_index ns 0; slot = slice_index ns 1 })) text
 
--- what is said of this superblock
+-- the owner in the row of this superblock
 abbrev pub owner_of : ℕ → List ℕ × List ℕ → Option (Option Owner × List ℕ)
 owner_of superblock found =
     if slice_index found.0 0 == superblock then unowned_at found.1 or_else owned_at found.1 else None
@@ -93,7 +93,7 @@ owner_of superblock found =
 unfoldable pub owner_at : ℕ → List ℕ → Option (Option Owner × List ℕ)
 owner_at superblock text = form_at (codes "superblock # ") text >>= owner_of superblock
 
--- the counts at the head of the table are those of its rows
+-- a table of owners; the counts in its first line are those of its rows
 unfoldable pub pool_at : List ℕ → List ℕ → Option (Body × List ℕ)
 pool_at front text =
     form_at (codes "pool free # of #\n") text >>= (λ head.
@@ -110,6 +110,6 @@ table_of text =
     (report_at front found.1 or_else pool_at front found.1) >>= (λ body.
     whole body >>= (λ alone. Some (record { addressee = found.0; body = alone }))))
 
--- the reply whose text it is, of one line or of several
+-- the reply that a text is, with one line or several
 unfoldable pub reply_of_text : List ℕ → Option Reply
 reply_of_text text = answer_of text or_else table_of text

@@ -1,4 +1,4 @@
--- What is noted of a reply that gives a page block which is taken.
+-- The note on a reply whose page block is taken already.
 use Rattle.std.specs.Prelude.{◌≡◌, ℕ, ◌≤◌, List, Option, Some, None, Result, Ok, Err, MatchOption, IfSome, option_map}
 use Rattle.words_core.specs.declared.reply.Body.{Body}
 use Rattle.words_core.specs.declared.event.Command.{Command}
@@ -16,30 +16,30 @@ use Rattle.check_core.specs.Replies.{answer_of}
 use Rattle.check_core.specs.declared.shown.TheConstants.{MOST_TEXT_BYTES}
 use Rattle.check_core.specs.declared.taken.TakenFrame.{TakenFrame}
 
--- the frame is the first that both blocks have
+-- the frame is the first one that both blocks share
 pub record IsFirstShared (a b : Block) (frame : ℕ) : Type 0 where
   pub one : HasFrame a frame
   pub other : HasFrame b frame
   pub first : (x : ℕ) → HasFrame a x → HasFrame b x → frame ≤ x
 
--- the page block in the way, if there is one, and the first frame that it shares with the block that the reply gives
+-- the live page block in the way of the reply's block, if there is one, and the first frame that both share
 pub record IsInWay (x : SeenMachine) (event : Event) (body : Body) (taken : Option TakenFrame) : Type 0 where
   pub page : option_map (λ found. found.page) taken ≡ page_in_way x event body
   pub frame : (t k f : ℕ) → event ≡ Event.Tenant t (Command.Alloc k) → body ≡ Body.Frame f
       → IfSome taken (λ found. IsFirstShared (block f k) found.page found.frame)
 
--- the event that a line says
+-- the event of a line, if it has one
 abbrev pub event_read : Result (Option Event) LineFault → Option Event
 event_read (Ok event) = event
 event_read (Err fault) = None
 
--- the event of a line and the reply of one line that were read so, if they were
+-- the event of the line and the reply, if they were read as an event and a reply of one line
 abbrev pub answer_read : (asked told : List ℕ) → Option (Event × Reply)
 answer_read asked told =
     event_read (reading_of (without_line_feed asked)) >>= (λ event.
     (whole_of MOST_TEXT_BYTES told >>= answer_of) >>= (λ reply. Some (event, reply)))
 
--- what is in the way is noted, if a line and its reply were read so; else the note stays
+-- the block in the way is noted, if there are such an event and reply; otherwise the note stays unchanged
 abbrev pub IsNoted : (asked told : List ℕ) → SeenMachine → (old new : Option TakenFrame) → Type 0
 IsNoted asked told x old new =
     MatchOption (answer_read asked told) (new ≡ old) (λ read. IsInWay x read.0 read.1.body new)

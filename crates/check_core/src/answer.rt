@@ -1,4 +1,4 @@
-//! Answers: the replies of one line.
+//! Answers, which are the replies of one line.
 
 ghost use Rattle.std.specs.Prelude.{◌≡◌, true, IfSome, MatchOption};
 ghost use Rattle.words_core.specs.Requests.{is_table, reply_to};
@@ -13,18 +13,18 @@ use crate::said::said_at;
 use model_core::limits::MOST_BYTES;
 use words_core::{Addressee, Answer};
 
-/// Reads bytes as the whole text of a reply of one line, with its line feed. Returns the addressee and the answer; the bytes of a
-/// read are then in `buffer`. Returns `None` if the bytes are the text of no such reply.
+/// Reads `text` as a whole reply of one line, with its line feed. Returns the addressee and the answer. The bytes of a read are
+/// stored in `buffer`. Returns `None` if `text` is no such reply.
 pub fn read_answer<'a>(
     text: &'a [u8],
     buffer: &'a mut [u8; MOST_BYTES],
 ) -> Option<(Addressee, Answer<'a>)>
-    // What is read has this text.
+    // The reply that is returned has this text.
     ensures found { IfSome result (λ found. text_of (reply_to found.0 found.1) ≡ text.now) }
-    // What has this text is read, unless it is a table.
+    // A reply with this text is returned, unless it is a table.
     ensures only { (due : Reply) → Fits due → text_of due ≡ text.now
         → MatchOption result (is_table due.body ≡ true) (λ found. reply_to found.0 found.1 ≡ due) }
-    // The same as a function.
+    // The result as a function of the text.
     ensures exact { Gives (λ found. reply_to found.0 found.1) result (answer_of text.now) }
 {
     answer_of(text, buffer)
@@ -46,7 +46,7 @@ fn answer_of<'a>(
     }
 }
 
-/// Returns the addressee at the front of a line and what follows it.
+/// Returns the addressee at the front of a line, and the text that follows it.
 #[tactic(auto, unfolding(crate::specs::Replies::addressee_at))]
 pub fn addressee_at(text: &[u8]) -> Option<(Addressee, &[u8])>
     ensures { Gives (λ found. (found.0, found.1.now)) result (addressee_at text.now) }

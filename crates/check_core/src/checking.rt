@@ -1,4 +1,4 @@
-//! The check of a trace and the replies to it.
+//! Checks a trace and the replies to it.
 
 ghost use Rattle.std.specs.Prelude.{◌≡◌, ℕ, ◌+◌, ◌^◌, ◌<◌, ◌==◌, List, IfOk, true, false, length};
 ghost use Rattle.promise_core.specs.State.{Known};
@@ -17,10 +17,11 @@ use judge::Machine;
 use promise_core::promise::Promise;
 use streams::{Feed, Stopped};
 
-/// Checks the replies to a trace, each against what the replies before it said, up to the first that is not allowed.
+/// Checks the replies to a trace, each against what earlier replies reported, up to the first that is not allowed. Returns `Err`
+/// if an end fails or memory runs out.
 ///
-/// `shown` then holds the line and what was read as its reply. If a reply follows that of the last line, it holds this reply and
-/// no line.
+/// `shown` then holds the last line and what was read as its reply. If a reply is left over behind the last line's, `shown` holds
+/// this reply and no line.
 pub fn check<T: Feed, R: Feed>(
     machine: &mut Machine,
     trace: &mut LineReader<T>,
@@ -29,12 +30,12 @@ pub fn check<T: Feed, R: Feed>(
 ) -> Result<Finding, Unchecked>
     requires trace_fine { trace.old.failed ≡ false }
     requires replies_fine { replies.old.failed ≡ false }
-    // What was given of the trace and of the replies. The finding is that of both, whatever follows.
+    // What was read of the trace and of the replies. The finding is right for all texts that begin so.
     ensures found { (asked : List ℕ) × (told : List ℕ) × HasGiven trace.old trace.new asked × HasGiven replies.old replies.new told
         × ((w : Known) → ShowsKnown machine.old w → IfOk result (λ finding. WhateverFollows trace.new replies.new asked told
         (λ trace replies. finding ≡ finding_of w trace replies))) }
     ensures kept { IfOk result (λ finding. IsKeptAtEnd finding trace.new replies.new) }
-    // Memory runs out only if something more has to be kept and no promise was broken before.
+    // Memory runs out only if an allowed reply adds something and no promise was broken before.
     ensures end { IsEndedBy result trace.new.failed replies.new.failed ((asked : List ℕ) × (told : List ℕ)
         × HasGiven trace.old trace.new asked × HasGiven replies.old replies.new told
         × ((w : Known) → ShowsKnown machine.old w → WhateverFollows trace.new replies.new asked told
@@ -58,7 +59,7 @@ pub fn check<T: Feed, R: Feed>(
     }
 }
 
-/// Returns that the promise is broken at this line, after this number of lines of replies.
+/// Returns the finding that the promise is broken at this line, by the reply that begins behind this number of reply lines.
 fn broken(line: u128, replies: u128, promise: Promise) -> Finding
     requires { replies + 1 < 2 ^ 128 }
     ensures { result ≡ Finding.Broken (record { line = line; reply = replies + 1; promise = promise }) }
@@ -70,7 +71,7 @@ fn broken(line: u128, replies: u128, promise: Promise) -> Finding
     })
 }
 
-/// Reads one more line. Returns true if there was none.
+/// Reads one more line of the replies. Returns true if there is none.
 fn has_ended<R: Feed>(
     replies: &mut LineReader<R>,
     text: &mut Gathered<MOST_TEXT_BYTES>,

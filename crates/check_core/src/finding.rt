@@ -1,28 +1,27 @@
-//! What the replies to a trace are found to be.
+//! The result of checking the replies to a trace.
 
 ghost use Rattle.std.specs.Prelude.{◌≡◌};
 
 use promise_core::promise::Promise;
 use std::alloc::AllocError;
 
-/// What the replies to a trace are found to be.
+/// The result of checking the replies to a trace.
 #[derive(Clone, Copy, Debug, PartialEq, Eq)]
 pub enum Finding {
-    /// Each is allowed, and none is missing or left over. Has the number of lines of the trace.
+    /// Every reply is allowed, and none is missing or left over. The value is the number of lines of the trace.
     Kept(u128),
-    /// One is not allowed.
+    /// One reply is not allowed, missing or left over.
     Broken(Breach),
 }
 
-/// The first reply that is not allowed.
+/// The first reply that is not allowed, missing or left over.
 #[derive(Clone, Copy, Debug, PartialEq, Eq)]
 pub struct Breach {
-    /// The number of the line of the trace that it answers, from 1. If a reply follows that of the last line, the number of the
-    /// last line.
+    /// The number of the line of the trace that it answers, from 1. For a reply that is left over, the number of the last line.
     pub line: u128,
-    /// The number of its first line in the replies, from 1.
+    /// The number of the first line of the reply in the replies, from 1.
     pub reply: u128,
-    /// The first promise that it breaks.
+    /// The first promise that the reply breaks.
     pub promise: Promise,
 }
 

@@ -1,4 +1,4 @@
-//! Forms: texts in which each `#` stands for a number.
+//! Forms, which are texts with a `#` in the place of each number.
 
 ghost use Rattle.std.specs.Prelude.{◌≡◌, ◌<◌, ◌≤◌, ◌^◌, ◌==◌, [], ◌∷◌, ◌++◌, None, count_by, length, take_while};
 ghost use Rattle.std.specs.Char.{is_ascii_digit};
@@ -6,10 +6,10 @@ ghost use Rattle.check_core.specs.Forms.{Gives, plain_number, number_at, letter_
 
 use arrayvec::ArrayVec;
 
-/// Limit on the decimal digits of a number.
+/// The largest number of decimal digits of a number.
 const MOST_DIGITS: usize = 10;
 
-/// Returns the number that a word is, in decimal without leading zeros and below `2^32`.
+/// Returns the number that a word spells in decimal, without leading zeros and below `2^32`. Returns `None` for other words.
 fn plain_number(word: &[u8]) -> Option<u32>
     ensures { result ≡ plain_number word.now }
 {
@@ -26,7 +26,7 @@ fn plain_number(word: &[u8]) -> Option<u32>
     u32::try_from(value).ok()
 }
 
-/// Returns the number with which the text begins, and what follows it.
+/// Returns the number at the front of the text, and the text that follows it.
 #[tactic(auto, unfolding(crate::specs::Forms::number_at))]
 fn number_at(text: &[u8]) -> Option<(u32, &[u8])>
     ensures { Gives (λ found. (found.0, found.1.now)) result (number_at text.now) }
@@ -36,7 +36,7 @@ fn number_at(text: &[u8]) -> Option<(u32, &[u8])>
     Some((plain_number(digits)?, rest))
 }
 
-/// Returns the number of digits with which the text begins.
+/// Returns how many digits are at the front of the text.
 fn digits_len(text: &[u8]) -> usize
     ensures value { result ≡ length (take_while is_ascii_digit text.now) }
     ensures fits { result ≤ length text.now }
@@ -44,7 +44,8 @@ fn digits_len(text: &[u8]) -> usize
     text.iter().take_while(|byte| byte.is_ascii_digit()).count()
 }
 
-/// Returns the number at a `#` of a form, no number at any other byte, which the text has to begin with; and what follows.
+/// Matches one byte of a form with the front of the text. Returns the number for a `#`, no number for any other byte, which must
+/// be at the front, and the text that follows.
 #[tactic(auto, unfolding(crate::specs::Forms::mark_at))]
 fn mark_at(mark: u8, text: &[u8]) -> Option<(Option<u32>, &[u8])>
     ensures { Gives (λ found. (found.0, found.1.now)) result (mark_at mark text.now) }
@@ -56,7 +57,7 @@ fn mark_at(mark: u8, text: &[u8]) -> Option<(Option<u32>, &[u8])>
     Some((None, letter_at(mark, text)?))
 }
 
-/// Returns what follows a letter with which the text begins.
+/// Returns the text that follows a letter, if the text begins with this letter.
 #[inline(always)]
 fn letter_at(letter: u8, text: &[u8]) -> Option<&[u8]>
     ensures { Gives (λ rest. (None, rest.now)) result (letter_at letter text.now) }
@@ -67,7 +68,7 @@ fn letter_at(letter: u8, text: &[u8]) -> Option<&[u8]>
     }
 }
 
-/// Returns the numbers in the form with which the text begins, and what follows it.
+/// Matches the form with the front of the text. Returns the numbers in the form, and the text that follows it.
 pub fn form_at<'a, const N: usize>(form: &[u8], text: &'a [u8]) -> Option<([u32; N], &'a [u8])>
     requires few { N < 2 ^ 32 }
     requires marks { count_by (λ b. b == 35) form.now ≡ N }
@@ -88,7 +89,7 @@ pub fn form_at<'a, const N: usize>(form: &[u8], text: &'a [u8]) -> Option<([u32;
     Some((numbers, rest))
 }
 
-/// Returns what follows a word with which the text begins.
+/// Returns the text that follows a word, if the text begins with this word.
 #[inline(always)]
 pub fn behind_word<'a>(word: &[u8], text: &'a [u8]) -> Option<&'a [u8]>
     requires { count_by (λ b. b == 35) word.now ≡ 0 }
@@ -101,7 +102,7 @@ pub fn behind_word<'a>(word: &[u8], text: &'a [u8]) -> Option<&'a [u8]>
     Some(rest)
 }
 
-/// Returns the number between two words with which the text begins, and what follows the second.
+/// Returns the number between two words and the text that follows the second, if the text begins with these three.
 #[inline(always)]
 pub fn number_between<'a>(before: &[u8], after: &[u8], text: &'a [u8]) -> Option<(u32, &'a [u8])>
     requires before { count_by (λ b. b == 35) before.now ≡ 0 }

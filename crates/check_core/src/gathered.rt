@@ -6,7 +6,7 @@ ghost use Rattle.check_core.specs.Forms.{Gives};
 
 use arrayvec::ArrayVec;
 
-/// The first `N` of bytes that come in pieces, and whether there were more.
+/// The first `N` bytes of what comes in pieces, and whether more came.
 #[derive(Debug, Drop)]
 pub struct Gathered<const N: usize> {
     held: ArrayVec<u8, N>,
@@ -14,7 +14,7 @@ pub struct Gathered<const N: usize> {
 }
 
 impl<const N: usize> Gathered<N> {
-    /// Holds no byte yet.
+    /// Returns an empty value, without any bytes.
     pub fn new() -> Self
         ensures { Gathers N [] result }
     {
@@ -47,7 +47,7 @@ impl<const N: usize> Gathered<N> {
         }
     }
 
-    /// Returns true if no byte has come.
+    /// Returns whether no byte has come.
     pub fn is_empty(&self) -> bool
         requires { 0 < N }
         ensures { (came : List ℕ) → Gathers N came self.now → result ≡ (length came == 0) }
@@ -55,7 +55,7 @@ impl<const N: usize> Gathered<N> {
         self.held.is_empty()
     }
 
-    /// Returns all bytes that have come. `None` if there were more than `N`.
+    /// Returns all bytes that have come, `None` if there were more than `N`.
     pub fn whole(&self) -> Option<&[u8]>
         ensures { (came : List ℕ) → Gathers N came self.now → Gives (λ bytes. bytes.now) result (whole_of N came) }
     {
@@ -66,7 +66,7 @@ impl<const N: usize> Gathered<N> {
         }
     }
 
-    /// Returns the first bytes that have come, at most `N`.
+    /// Returns the bytes that have come, or the first `N` of them if there were more.
     pub fn front(&self) -> &[u8]
         ensures { (came : List ℕ) → Gathers N came self.now → result.now ≡ take N came }
     {

@@ -1,4 +1,4 @@
-//! The lines of a reply, gathered.
+//! Gathers the lines of a reply.
 
 ghost use Rattle.std.specs.Prelude.{◌≡◌, ℕ, ◌+◌, ◌≤◌, List, ◌++◌, None, Ok, IfOk, MatchBool, length, true, false};
 ghost use Rattle.std.specs.Str.{bytes_eq};
@@ -13,7 +13,7 @@ use crate::reader::LineReader;
 use crate::shown::MOST_TEXT_BYTES;
 use streams::{Feed, Stopped};
 
-/// Returns true if these bytes were gathered.
+/// Returns whether exactly the bytes `due` were gathered.
 pub fn is_text(text: &Gathered<MOST_TEXT_BYTES>, due: &[u8]) -> bool
     requires { length due.now ≤ MOST_TEXT_BYTES }
     ensures { (came : List ℕ) → Gathers MOST_TEXT_BYTES came text.now → result ≡ bytes_eq came due.now }
@@ -24,7 +24,7 @@ pub fn is_text(text: &Gathered<MOST_TEXT_BYTES>, due: &[u8]) -> bool
     }
 }
 
-/// Reads this number of lines behind what was gathered. Returns true if there were as many, each with its LF.
+/// Reads this number of lines and adds them to what was gathered. Returns whether there were that many, each with its LF.
 pub fn gather<F: Feed>(
     replies: &mut LineReader<F>,
     lines: u128,

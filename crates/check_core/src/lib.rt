@@ -1,7 +1,7 @@
-//! Checks the replies to a trace. `specs/` defines what two texts are found to be; `check` reads both in step, a line at a time,
-//! and returns that finding.
+//! Checks the replies to a trace. `specs/` defines the finding of two texts. `check` reads both in step, one line at a time, and
+//! returns that finding.
 //!
-//! Bytes are read as the reply whose text they are, and as none if they are the text of no reply.
+//! Bytes are read as the reply that has them as its text, if there is one.
 #![tactic(auto)]
 
 mod answer;

@@ -1,4 +1,4 @@
-//! The lines of a trace, as they read.
+//! Reads the lines of a trace.
 
 ghost use Rattle.std.specs.Prelude.{◌≡◌, ℕ, ◌<◌, ◌≤◌, List, Some, IfOk, IfSome, false, is_err, is_ok};
 ghost use Rattle.words_core.specs.Grammar.{reading_of};
@@ -13,7 +13,8 @@ use crate::shown::MOST_PART_BYTES;
 use streams::Feed;
 use words_core::{Event, LineFault, read_line};
 
-/// Returns what the next line of a trace says, and gathers the line. `None` at the end of the trace.
+/// Reads the next line of a trace into `line`. Returns its event, nothing for a line without one, or its fault. Returns `None` at
+/// the end of the trace.
 pub fn next_reading<F: Feed>(
     trace: &mut LineReader<F>,
     line: &mut Gathered<MOST_PART_BYTES>,
@@ -37,7 +38,7 @@ pub fn next_reading<F: Feed>(
     Ok(Some(reading(line)))
 }
 
-/// Returns what a line says, with or without its LF.
+/// Returns the event of a line, nothing for a line without one, or its fault. The line may or may not have its LF.
 pub(crate) fn reading(line: &Gathered<MOST_PART_BYTES>) -> Result<Option<Event>, LineFault>
     ensures { (part : List ℕ) → Gathers MOST_PART_BYTES part line.now → result ≡ reading_of (without_line_feed part) }
 {

@@ -1,4 +1,4 @@
-//! A text, a line at a time.
+//! Reads a text one line at a time.
 
 ghost use Rattle.std.specs.Prelude.{◌≡◌, ℕ, ◌^◌, ◌<◌, List, ◌++◌, false, is_err, Some, Ok, IfSome, IfNone};
 ghost use Rattle.check_core.specs.Gathered.{Gathers};
@@ -12,14 +12,14 @@ use std::marker::Model;
 use streams::{Feed, Stopped, line_end};
 use words_core::Event;
 
-/// Limit on the bytes of one pull.
+/// The largest number of bytes of one pull.
 const PIECE_BYTES: usize = 65_536;
 
-/// Reads the lines of what a feed gives.
+/// Reads the lines of a feed.
 #[derive(Debug, Drop)]
 pub struct LineReader<F: Feed> {
     feed: F,
-    // What was pulled and not yet read are the bytes from `start` to `end`.
+    // The bytes from `start` to `end` were pulled and are not yet read.
     piece: [u8; PIECE_BYTES],
     start: usize,
     end: usize,
@@ -39,12 +39,12 @@ impl<F: Feed> Model for LineReader<F> {
       failed = F.has_failed a.feed;
     } };
 
-    // Nothing is held after the end.
+    // After the feed's end, no bytes are left in the piece.
     ghost invariant = { λ a. (a.start ≤ a.end) × (a.end ≤ length a.piece) × (F.has_ended a.feed ≡ true → a.start ≡ a.end) };
 }
 
 impl<F: Feed> LineReader<F> {
-    /// Reads what this feed gives.
+    /// Returns a reader of this feed.
     pub fn new(feed: F) -> Self
         ensures left { result.left ≡ F.remaining feed }
         ensures room { result.room ≡ F.room_left feed }
@@ -59,7 +59,7 @@ impl<F: Feed> LineReader<F> {
         }
     }
 
-    /// Returns a limit on the number of bytes that are left.
+    /// Returns an upper bound of the number of bytes that are left.
     pub fn room(&self) -> u128
         ensures value { result ≡ self.now.room }
         ensures most { result < 2 ^ 65 }
@@ -67,11 +67,11 @@ impl<F: Feed> LineReader<F> {
         (self.end - self.start) as u128 + u128::from(self.feed.room())
     }
 
-    /// Reads the next line behind what was gathered, with its LF if it has one. Returns true if it has: what follows the last LF
-    /// has none, is read whole, and may be empty.
+    /// Reads the next line and adds it to what was gathered, with its LF if it has one. Returns whether it has one. The text
+    /// behind the last LF has none. It is read whole, and may be empty. Returns `Err` if the feed fails.
     pub fn next<const N: usize>(&mut self, into: &mut Gathered<N>) -> Result<bool, Stopped>
         requires fine { self.old.failed ≡ false }
-        // What was given.
+        // The part that was read.
         ensures taken { (part : List ℕ) × HasGiven self.old self.new part × IsPartAtOk result part self.new
             × ((front : List ℕ) → Gathers N front into.old → Gathers N (front ++ part) into.new) }
         ensures failed { self.new.failed ≡ is_err result }
@@ -94,8 +94,8 @@ impl<F: Feed> LineReader<F> {
         }
     }
 
-    /// Reads the next line of a trace behind what was gathered, and returns its event. Returns `None` and reads nothing if the line
-    /// is not a quick request.
+    /// Reads the next line of a trace, adds it to what was gathered, and returns its event. Returns `None` and reads nothing if
+    /// the line is not a quick request, or is not yet pulled as a whole.
     #[inline(always)]
     pub fn next_event<const N: usize>(&mut self, into: &mut Gathered<N>) -> Option<Event>
         ensures reading { IfSome result (λ event. (part : List ℕ) × HasGiven self.old self.new part

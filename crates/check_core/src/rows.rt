@@ -1,4 +1,4 @@
-//! The rows of a table, each with the front of its first line.
+//! The rows of a table. Each begins with the same front as the table's first line.
 
 ghost use Rattle.std.specs.Prelude.{◌≡◌, ◌<◌, ◌^◌, ℕ, List, Option};
 ghost use Rattle.check_core.specs.Forms.{Gives};
@@ -11,15 +11,15 @@ use model_core::report::{CacheRow, OrderRow};
 
 /// A row of a table.
 pub trait Row: Default + Sized {
-    // What is read as the row of this index, and what follows it.
+    // The row of this index at the front of a text, and the text that follows it.
     ghost row_at: { ℕ → List ℕ → Option (Self × List ℕ) };
 
-    /// Reads the row of this index, without the front, and returns what follows it.
+    /// Reads the row of this index, without the front. Returns it and the text that follows it.
     fn read(index: u32, text: &[u8]) -> Option<(Self, &[u8])>
         ensures { Gives (λ found. (found.0, found.1.now)) result (row_at index text.now) };
 }
 
-/// Reads the rows with this front from index 0 on, at most `N`, and returns what follows them.
+/// Reads the rows with this front from index 0 on, at most `N`. Returns them and the text that follows them.
 pub fn rows_at<'a, R: Row + Drop, const N: usize>(
     front: &[u8],
     text: &'a [u8],
@@ -46,7 +46,7 @@ fn row_behind<'a, R: Row>(front: &[u8], index: u32, text: &'a [u8]) -> Option<(R
     R::read(index, after_front(front, text)?)
 }
 
-/// Returns what follows the front.
+/// Returns the text that follows the front, if the text begins with it.
 #[tactic(auto, unfolding(crate::specs::Tables::after_front))]
 fn after_front<'a>(front: &[u8], text: &'a [u8]) -> Option<&'a [u8]>
     ensures { Gives (λ rest. rest.now) result (after_front front.now text.now) }

@@ -1,4 +1,4 @@
-//! Replies of one line: what they say behind their front.
+//! Reads replies of one line, behind the addressee at their front.
 
 ghost use Rattle.std.specs.Prelude.{◌≡◌, ◌≤◌, ◌==◌, length, not, take_while};
 ghost use Rattle.words_core.specs.Requests.{body_of_answer};
@@ -10,7 +10,7 @@ use crate::hexed::bytes_of;
 use model_core::limits::MOST_BYTES;
 use words_core::{Answer, LineFault, REFUSALS, Refusal};
 
-/// Returns the answer with which the text begins, and what follows it. The bytes of a read are in `buffer`.
+/// Returns the answer at the front of the text, and the text that follows it. The bytes of a read are stored in `buffer`.
 #[tactic(auto, unfolding(crate::specs::Replies::said_at))]
 pub fn said_at<'a>(
     text: &'a [u8],
@@ -29,7 +29,7 @@ pub fn said_at<'a>(
         .or_else(|| rare_at(text))
 }
 
-/// The same of rare answers.
+/// Does what [`said_at`] does, for rare answers.
 #[tactic(auto, unfolding(crate::specs::Replies::rare_at))]
 #[inline(never)]
 fn rare_at(text: &[u8]) -> Option<(Answer<'_>, &[u8])>
@@ -42,7 +42,7 @@ fn rare_at(text: &[u8]) -> Option<(Answer<'_>, &[u8])>
         .or_else(|| notice_at(text))
 }
 
-/// The same of answers to the administrator and to faulty lines.
+/// Does what [`said_at`] does, for answers to the administrator and to faulty lines.
 #[tactic(auto, unfolding(crate::specs::Replies::notice_at))]
 fn notice_at(text: &[u8]) -> Option<(Answer<'_>, &[u8])>
     ensures { Gives (λ found. (body_of_answer found.0, found.1.now)) result (notice_at text.now) }
@@ -128,7 +128,7 @@ fn reaped_at(text: &[u8]) -> Option<(Answer<'_>, &[u8])>
     Some((Answer::Reaped(frames), rest))
 }
 
-/// Returns the refusal of this number.
+/// Returns the refusal of this number, if there is one.
 fn refusal_of(number: u32) -> Option<Refusal>
     ensures { result ≡ refusal_of number }
 {
@@ -149,7 +149,7 @@ fn refused_at(text: &[u8]) -> Option<(Answer<'_>, &[u8])>
     Some((Answer::Refused(refusal), rest))
 }
 
-/// Returns the number of bytes of the first line, without its line feed.
+/// Returns the length of the first line in bytes, without its line feed.
 fn line_len(text: &[u8]) -> usize
     ensures value { result ≡ length (take_while (λ b. not (b == 10)) text.now) }
     ensures fits { result ≤ length text.now }
@@ -217,7 +217,7 @@ fn moved_at(text: &[u8]) -> Option<(Answer<'_>, &[u8])>
     Some((answer, rest))
 }
 
-/// Returns this fault, if the text begins with it, and what follows it.
+/// Returns this fault and the text that follows it, if the text begins with the fault.
 #[tactic(auto, unfolding(crate::specs::Replies::fault_at))]
 fn fault_at(fault: LineFault, text: &[u8]) -> Option<(Answer<'_>, &[u8])>
     ensures { Gives (λ found. (body_of_answer found.0, found.1.now)) result (fault_at fault text.now) }

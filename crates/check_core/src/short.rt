@@ -8,7 +8,7 @@ use arrayvec::ArrayVec;
 use quick_core::RequestLine;
 use words_core::{Command, Event, Request};
 
-/// Returns the event of a line that the quick reader read.
+/// Returns the event of a line from the quick reader.
 pub(crate) fn event_of(line: RequestLine<'_>) -> Event
     requires { IsAskable line.request }
     ensures { result ≡ Tenant line.entry.tenant (command_of line.entry.request) }
@@ -16,7 +16,7 @@ pub(crate) fn event_of(line: RequestLine<'_>) -> Event
     Event::Tenant(line.tenant, command_of(line.request))
 }
 
-/// Returns the command that is requested.
+/// Returns the request as a command.
 fn command_of(request: Request<'_>) -> Command
     requires { IsAskable request }
     ensures { result ≡ command_of request.entry }

@@ -10,25 +10,25 @@ use crate::taken::{TakenFrame, taken_frame};
 use judge::Machine;
 use model_core::limits::MOST_BYTES;
 
-/// Limit on the bytes of a line of a trace: 255, a carriage return and a line feed.
+/// The largest number of bytes of a line of a trace: 255, a carriage return and a line feed.
 pub const MOST_PART_BYTES: usize = 257;
 
-/// Limit on the bytes of a reply: 257 lines of 256 bytes.
+/// The largest number of bytes of a reply: 257 lines of 256 bytes.
 pub const MOST_TEXT_BYTES: usize = 65_792;
 
-/// The line that was read last, and the lines that were read as its reply.
+/// The last line that was read, and the lines that were read as its reply.
 #[derive(Debug, Drop)]
 pub struct Shown {
     pub line: Gathered<MOST_PART_BYTES>,
     pub reply: Gathered<MOST_TEXT_BYTES>,
-    /// What is in the way of the page block that the reply gives, if that was looked for.
+    /// The live page block that overlaps the page block of the reply, if a search has found one.
     pub taken: Option<TakenFrame>,
 }
 
 impl Shown {
     ghost use Rattle.check_core.specs.Taken.{IsNoted};
 
-    /// Shows no line yet.
+    /// Returns an empty value, without a line.
     pub fn new() -> Self
         ensures line { Gathers MOST_PART_BYTES [] result.line }
         ensures reply { Gathers MOST_TEXT_BYTES [] result.reply }
@@ -41,7 +41,7 @@ impl Shown {
         }
     }
 
-    /// Looks for what is in the way, on the machine that the line was judged on.
+    /// Searches the machine that judged the line for a live page block that overlaps the page block of the reply.
     pub fn look_for_taken(&mut self, machine: &Machine)
         ensures line { self.new.line ≡ self.old.line }
         ensures reply { self.new.reply ≡ self.old.reply }

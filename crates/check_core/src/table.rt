@@ -1,4 +1,4 @@
-//! Reports and the table of owners: a first line, and then rows, each with the front of that line.
+//! Reports and the table of owners. Each has a first line, and then rows that begin with the same front as that line.
 
 ghost use Rattle.std.specs.Prelude.{◌≡◌, ◌==◌, ◌&&◌, count_by, is_none, length, true, Some, IfSome};
 ghost use Rattle.words_core.specs.Requests.{is_table};
@@ -15,17 +15,16 @@ use model_core::owner::Owner;
 use model_core::report::{CacheRow, OrderRow};
 use words_core::{Body, CACHES, ORDERS, OWNERS, Reply, Report};
 
-/// Returns the report or the table of owners whose whole text the bytes are, with its line feeds. `None` if they are the text of
-/// neither.
+/// Reads `text` as a whole report or table of owners, with its line feeds. Returns `None` if it is neither.
 #[cold]
 #[inline(never)]
 pub fn read_table(text: &[u8]) -> Option<Reply>
-    // What is read has this text.
+    // The table that is returned has this text.
     ensures found { IfSome result (λ table. text_of table ≡ text.now) }
-    // A table that has this text is read.
+    // A table with this text is returned.
     ensures only { (due : ReplyValue) → Fits due → is_table due.body ≡ true → text_of due ≡ text.now → result ≡ Some due }
     ensures table { IfSome result (λ table. is_table table.body ≡ true) }
-    // The same as a function.
+    // The result as a function of the text.
     ensures exact { result ≡ table_of text.now }
 {
     table_of(text)
@@ -64,7 +63,8 @@ fn report_at<'a>(front: &[u8], text: &'a [u8]) -> Option<(Body, &'a [u8])>
     Some((Body::Report(report), rest))
 }
 
-/// Returns the greatest order of a free block, if there is one, and the share of the free frames outside a block of it.
+/// Returns the greatest order of a free block, if there is one, the share of free frames outside a block of that order, and the
+/// text that follows.
 #[tactic(auto, unfolding(crate::specs::Tables::some_top_at))]
 fn some_top_at(text: &[u8]) -> Option<(Option<u8>, u32, &[u8])>
     ensures { Gives (λ found. ((found.0, found.1), found.2.now)) result (some_top_at text.now) }
@@ -100,7 +100,7 @@ fn pool_at<'a>(front: &[u8], text: &'a [u8]) -> Option<(Body, &'a [u8])>
     Some((Body::Owners(owners), rest))
 }
 
-/// Returns whether `free` of these superblocks have no owner, and `count` is their number.
+/// Returns whether there are `count` superblocks and `free` of them have no owner.
 fn are_counts(free: u32, count: u32, owners: &[Option<Owner>]) -> bool
     ensures { result ≡ (count_by is_none owners.now == free && length owners.now == count) }
 {

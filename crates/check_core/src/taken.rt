@@ -1,4 +1,4 @@
-//! What is in the way of a page block that a reply gives.
+//! Finds a live page block that overlaps the page block of a reply.
 
 ghost use Rattle.std.specs.Prelude.{◌≡◌, ℕ, IfSome, option_map};
 ghost use Rattle.model_core.specs.Blocks.{block};
@@ -14,20 +14,20 @@ use judge_core::FrameBlock;
 use model_core::limits::MOST_ORDER;
 use words_core::{Answer, Command, Event};
 
-/// A frame that a reply gives and that a live page block of the tenant has already.
+/// A frame of the page block of a reply that is also in a live page block of the tenant.
 #[derive(Clone, Copy, Debug)]
 pub struct TakenFrame {
-    /// The first frame that both blocks have.
+    /// The first frame that both blocks share.
     pub frame: u32,
     /// The live page block.
     pub page: FrameBlock,
 }
 
-/// Returns what is in the way of the page block that this answer gives: the tenant's first live page block that shares a frame
-/// with it. `None` if there is none, or if the answer is another.
+/// Returns the tenant's first live page block that shares a frame with the page block of this answer, and the first shared frame.
+/// Returns `None` if there is none, or if the answer allocates no page block.
 pub fn taken_frame(machine: &Machine, event: &Event, answer: &Answer<'_>) -> Option<TakenFrame>
     ensures page { option_map (λ taken. taken.page) result ≡ page_in_way machine.now event.now (body_of_answer answer.now) }
-    // The frame is the first that both blocks have.
+    // The frame is the first one that both blocks share.
     ensures frame { (t k f : ℕ) → event.now ≡ Event.Tenant t (Command.Alloc k) → body_of_answer answer.now ≡ Body.Frame f
         → IfSome result (λ taken. IsFirstShared (block f k) taken.page taken.frame) }
 {

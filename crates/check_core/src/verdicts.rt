@@ -1,4 +1,4 @@
-//! Verdicts on the reply to one line.
+//! Judges the reply to one line.
 
 ghost use Rattle.std.specs.Prelude.{◌≡◌, ℕ, ◌+◌, ◌<◌, ◌≤◌, ◌^◌, List, [], ◌++◌, Option, Some, None, Ok, IfOk, false};
 ghost use Rattle.words_core.specs.declared.reply.Reply.{Reply};
@@ -27,7 +27,7 @@ use words_core::{
     write_answer_to,
 };
 
-/// The number of lines of an allowed reply, or the first promise that a reply breaks.
+/// The number of lines of an allowed reply, else the first promise that the reply breaks.
 pub(crate) type LineVerdict = Result<u128, Promise>;
 
 /// Reads the reply to a line, and judges it.
@@ -107,7 +107,7 @@ fn judge_event<R: Feed>(
     }
 }
 
-/// Reads the `more` lines that follow the first of the reply to an event, and judges it.
+/// Reads the `more` lines that follow the first line of the reply to an event, and judges the reply.
 #[inline(never)]
 fn judge_lines<R: Feed>(
     machine: &mut Machine,
@@ -133,7 +133,8 @@ fn judge_lines<R: Feed>(
     judge_gathered(machine, event, more + 1, refused, text)
 }
 
-/// Judges the lines that were gathered as the reply to an event. If they are no reply, the first is this refusal, or none.
+/// Judges the lines that were gathered as the reply to an event. If they are no reply, `refused` is the refusal in the first
+/// line, if there is one.
 #[inline(always)]
 fn judge_gathered(
     machine: &mut Machine,
@@ -158,7 +159,7 @@ fn judge_gathered(
     }
 }
 
-/// Judges what was gathered as the reply to an event; `None` if it is no reply.
+/// Judges what was gathered as the reply to an event. Returns `None` if it is no reply.
 #[inline(always)]
 fn judge_text(
     machine: &mut Machine,
@@ -180,7 +181,7 @@ fn judge_text(
     }
 }
 
-/// The same of a table. It needs a large buffer, which is cleared only here.
+/// Does the same for a table. It needs a large buffer, which is cleared only here.
 #[cold]
 #[inline(never)]
 fn judge_table(machine: &mut Machine, event: &Event, text: &[u8]) -> Option<Verdict>
@@ -190,7 +191,7 @@ fn judge_table(machine: &mut Machine, event: &Event, text: &[u8]) -> Option<Verd
     Some(machine.judge_table(event, &table))
 }
 
-/// Returns the refusal that was gathered, and to whom it goes.
+/// Returns the refusal that was gathered, with its addressee. Returns `None` if no refusal was.
 fn refusal_in(text: &Gathered<MOST_TEXT_BYTES>) -> Option<(Addressee, Refusal)>
     ensures { (came : List ℕ) → Gathers MOST_TEXT_BYTES came text.now → result ≡ refusal_read (text_read came) }
 {
@@ -203,7 +204,8 @@ fn refusal_in(text: &Gathered<MOST_TEXT_BYTES>) -> Option<(Addressee, Refusal)>
     }
 }
 
-/// Returns the promise that is broken by lines that are no reply, of which the first alone is this refusal, or none.
+/// Returns the promise that is broken by lines that are no reply. `refused` is the refusal in the first line alone, if there is
+/// one.
 fn broken_by(
     machine: &mut Machine,
     event: &Event,
@@ -221,7 +223,7 @@ fn broken_by(
     }
 }
 
-/// Returns the number of lines that the reply to an event has behind the first.
+/// Returns the number of lines behind the first in a reply to an event, if the reply is no refusal.
 fn more_lines(machine: &Machine, event: &Event) -> u128
     ensures lines { (w : Known) → ShowsKnown machine.now w → result ≡ more_lines event.now w }
     ensures most { result + 1 < 2 ^ 128 }

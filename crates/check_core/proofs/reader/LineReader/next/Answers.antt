@@ -83,7 +83,7 @@ returns-then-count-eq0-clause-taken g c =
           (c.add-in-loop-at.ensures (front ++ passed) (here.3 front gathers)),
     )
 
--- two pulls of as many bytes
+-- equal results of pulls have equal numbers of bytes
 same_count : {E : Type 0} (m n : ℕ) → ◌≡◌ {A = Result ℕ E} (Ok m) (Ok n) → m ≡ n
 same_count m n e = cc
 
