@@ -1,4 +1,4 @@
--- What a finding tells of a new machine.
+-- The meaning of a finding on a new machine.
 use Rattle.std.proofs.Common.{◌≡◌, ℕ, List, ◌++◌, Some, subst, sym}
 use Rattle.model_core.specs.declared.config.Config.{Config}
 use Rattle.model_core.specs.declared.limits.TheConstants.{MOST_CACHES}
@@ -19,7 +19,7 @@ pub finds : KeptIsAllowed → BrokenIsNotAllowed → (config : Config) (finding 
     → finding ≡ finding_of (opening_of config) asked told → IsFindingOf config finding asked told
 finds kept broken config finding asked told is = (is, sound kept broken config finding asked told is)
 
--- the texts that were known are what was given, and what follows
+-- known texts are what was read, and what follows
 pub known_texts : {trace trace' replies replies' : Source} {asked told : List ℕ} (IsSo : List ℕ → List ℕ → Type 0) → HasGiven trace trace' asked
     → HasGiven replies replies' told → WhateverFollows trace' replies' asked told IsSo → (whole answers : List ℕ) → trace.left ≡ Some whole
     → replies.left ≡ Some answers → IsSo whole answers

@@ -1,4 +1,4 @@
--- How a check ends, and what its finding says of two texts.
+-- How a check ends, and what its finding means for two texts.
 use Rattle.std.specs.Prelude.{◌≡◌, ℕ, List, None}
 use Rattle.model_core.specs.declared.config.Config.{Config}
 use Rattle.model_core.specs.declared.limits.TheConstants.{MOST_CACHES}
@@ -20,19 +20,19 @@ status_of_check (Checked.Failed Not.Replies error) = 1
 status_of_check (Checked.Failed Not.Memory error) = 3
 status_of_check Checked.Unwritten = 1
 
--- before the first line of a machine of these sizes
+-- what is known of a machine of these sizes before the first line
 abbrev pub opening_of : Config → Known
 opening_of config = opening MOST_CACHES config.order config.superblocks config.tenants
 
--- if they are found kept, the replies are the text of replies to the trace's events, each of which is allowed; if they are found
--- broken, no reply that begins at the breach is
+-- if the finding is kept, the replies are the text of allowed replies to the trace's events; if it is broken, no reply that
+-- begins at the breach is allowed
 abbrev pub IsSoundFinding : Config → Finding → (trace replies : List ℕ) → Type 0
 IsSoundFinding config (Finding.Kept lines) trace replies =
     IsAllowedText None MOST_CACHES config.order config.superblocks config.tenants (lines_of_trace trace) replies
 IsSoundFinding config (Finding.Broken breach) trace replies =
     IsBreach MOST_CACHES config.order config.superblocks config.tenants (lines_of_trace trace) replies breach
 
--- it is the finding of these texts, and says this of them
+-- it is the finding of these texts, with its meaning
 abbrev pub IsFindingOf : Config → Finding → (trace replies : List ℕ) → Type 0
 IsFindingOf config finding trace replies =
     (finding ≡ finding_of (opening_of config) trace replies) × IsSoundFinding config finding trace replies

@@ -1,4 +1,4 @@
--- What a command line asks for: which word stands under which name, in clap's words.
+-- What a command line requests: which word belongs to which name, in clap's terms.
 use Rattle.std.specs.Prelude.{◌≡◌, ◌⊎◌, true, if◌then◌else◌, List, [], Option, Some, None, codes, unwrap_or}
 use Rattle.std.specs.Str.{bytes_eq}
 use Rattle.std.specs.String.{string_bytes}
@@ -14,19 +14,19 @@ use Rattle.check_core.specs.declared.finding.Unchecked.{Unchecked}
 abbrev pub trace_file : Settings → Option Text
 trace_file settings = if bytes_eq (string_bytes settings.trace) (codes "-") then None else Some (string_bytes settings.trace)
 
--- the name of the file without which a check ended so
+-- the name of the file that could not be read when a check ended for this reason
 abbrev pub file_without : Settings → Unchecked → Text
 file_without settings Unchecked.Replies = string_bytes settings.replies
 file_without settings Unchecked.Trace = unwrap_or (trace_file settings) (codes "standard input")
 file_without settings Unchecked.Memory = unwrap_or (trace_file settings) (codes "standard input")
 
--- the settings are what stands under the arguments' names: `read` of those that are read as a type, `whole` of the files
+-- the settings are the values of the arguments: `read` returns those that are read as a type, `whole` the paths of files
 pub record AsksCheck (read whole : Text → Option Text) (settings : Settings) : Type 0 where
   pub sizes : AsksSizes read settings.config
   pub trace : whole (codes "TRACE") ≡ Some (string_bytes settings.trace)
   pub replies : whole (codes "REPLIES") ≡ Some (string_bytes settings.replies)
 
--- a file that has to be given
+-- a required file
 abbrev pub file_rule : Text → Rule
 file_rule name = record (positional_rule name) { required = true }
 
@@ -43,21 +43,21 @@ IsCheckRequestedBy words settings = let rows = matches_of check_command_line wor
 unfoldable pub IsCheckInOrder : List Text → Type 0
 IsCheckInOrder words = takes check_command_line words ≡ true
 
--- why a file is not found: it is not named, or there is no memory for its name
+-- why there is no path of a file: it is not named, or memory runs out for its name
 abbrev pub IsNoFile : Option Text → Outcome → Type 0
 IsNoFile path outcome =
     ((path ≡ None) × IsBadLine (codes "error: TRACE and REPLIES are required\n") outcome) ⊎ (outcome ≡ Outcome.NoMemory)
 
--- why what is under the arguments' names is no settings: a size is faulty, or a file is not found
+-- why the values of the arguments are no settings: a size is faulty, or there is no path of a file
 abbrev pub IsNoCheck : (read whole : Text → Option Text) → Outcome → Type 0
 IsNoCheck read whole outcome =
     (AsksNoSizes read × IsBadLine bad_size_text outcome) ⊎ IsNoFile (whole (codes "TRACE")) outcome ⊎ IsNoFile (whole (codes "REPLIES")) outcome
 
--- the kinds of error by which clap's model refuses these words: none if it takes them
+-- the kinds of error for which clap's model refuses these words, none if it takes them
 unfoldable pub check_faults : List Text → Kinds
 check_faults words = fault_of check_command_line words
 
--- why these words are refused: clap's model refuses them, or it takes them and they ask for no settings
+-- why these words are refused: clap's model refuses them, or it takes them and they name no settings
 abbrev pub IsCheckRefusedFor : List Text → Outcome → Type 0
 IsCheckRefusedFor words outcome = let rows = matches_of check_command_line words in
     IsRefusedBy (check_faults words) outcome

@@ -1,4 +1,4 @@
--- The line of a finding. A text that was read is shown as a plain one, or in quotes.
+-- The line of a finding. A text is shown as it is if it is plain, else in quotes.
 use Rattle.std.specs.Prelude.{ℕ, ◌-◌, ◌==◌, ◌||◌, ◌&&◌, Bool, not, nat_le, nat_lt, if◌then◌else◌, List, [], ◌∷◌, ◌++◌, Option, Some, None, codes, decimal, flat_map, length, slice_index, take}
 use Rattle.std.specs.Char.Escape.{escape_ascii}
 use Rattle.std.specs.Io.KnownBytes.{Appends}
@@ -15,21 +15,21 @@ use Rattle.check_core.specs.declared.shown.Shown.{Shown}
 use Rattle.check_core.specs.declared.shown.TheConstants.{MOST_PART_BYTES, MOST_TEXT_BYTES}
 use Rattle.check_core.specs.declared.taken.TakenFrame.{TakenFrame}
 
--- one of a thing, or several
+-- the word for one thing, or for several
 abbrev pub counted_word : (one several : List ℕ) → ℕ → List ℕ
 counted_word one several count = if count == 1 then one else several
 
--- the line if every reply is allowed
+-- the line if all replies are allowed
 unfoldable pub kept_text : (lines tenants : ℕ) → List ℕ
 kept_text lines tenants = concat (codes "kept: " ∷ decimal lines ∷ codes " " ∷ counted_word (codes "line") (codes "lines") lines
     ∷ codes ", " ∷ decimal tenants ∷ codes " " ∷ counted_word (codes "tenant") (codes "tenants") tenants ∷ codes "\n" ∷ [])
 
--- a byte that commands and replies have: a digit, a letter, a blank (32), `!` (33), `>` (62) or a line feed (10)
+-- a byte of commands and replies: a digit, a letter, a blank (32), `!` (33), `>` (62) or a line feed (10)
 abbrev pub is_reply_byte : ℕ → Bool
 is_reply_byte byte = (nat_le 48 byte && nat_le byte 57) || (nat_le 65 byte && nat_le byte 90) || (nat_le 97 byte && nat_le byte 122)
     || byte == 32 || byte == 33 || byte == 62 || byte == 10
 
--- a text has a byte, and no blank at either end
+-- a text is not empty, and has no blank at either end
 abbrev pub has_filled_ends : List ℕ → Bool
 has_filled_ends text = nat_lt 0 (length text) && not (slice_index text 0 == 32) && not (slice_index text (length text - 1) == 32)
 
@@ -41,24 +41,24 @@ is_plain_text text = has_filled_ends text && list_all is_reply_byte text
 abbrev pub plain_byte : ℕ → List ℕ
 plain_byte byte = if byte == 10 then codes " / " else byte ∷ []
 
--- a text is plain, and does not read as the words for none
+-- a text is plain, and differs from the words for no text
 abbrev pub is_shown_plain : (none text : List ℕ) → Bool
 is_shown_plain none text = is_plain_text text && not (bytes_eq text none)
 
--- the beginning of a text: as it is, or escaped and in quotes if the text is not plain or reads as the words for none
+-- the beginning of a text: as it is, or escaped and in quotes if the text is not plain or equals the words for no text
 unfoldable pub begin_text : (none text begin : List ℕ) → List ℕ
 begin_text none text begin = if is_shown_plain none text then flat_map plain_byte begin
     else codes "'" ++ (flat_map escape_ascii begin ++ codes "'")
 
--- what a text ends with if it is cut: `…`
+-- the mark at the end of a text that is cut: `…`
 abbrev pub cut_mark : Bool → List ℕ
 cut_mark is_cut = if is_cut then 226 ∷ 128 ∷ 166 ∷ [] else []
 
--- a text whose first bytes are shown, at most this number
+-- the first bytes of a text, at most this number, with a mark if it is cut
 unfoldable pub excerpt_of : (none : List ℕ) → (most : ℕ) → (text : List ℕ) → List ℕ
 excerpt_of none most text = begin_text none text (take most text) ++ cut_mark (nat_lt most (length text))
 
--- the same, or the words for none
+-- the same, or the words for no text
 abbrev pub excerpt_text : (none : List ℕ) → (most : ℕ) → Option (List ℕ) → List ℕ
 excerpt_text none most None = none
 excerpt_text none most (Some text) = excerpt_of none most text
@@ -67,12 +67,12 @@ excerpt_text none most (Some text) = excerpt_of none most text
 abbrev pub trace_line : List ℕ → List ℕ
 trace_line line = if slice_index line (length line - 1) == 10 then strip_carriage_return (take (length line - 1) line) else line
 
--- what was cut of bytes that were read, if any were
+-- the bytes that were read, cut, if any were read
 abbrev pub if_read : (List ℕ → List ℕ) → List ℕ → Option (List ℕ)
 if_read cut [] = None
 if_read cut (byte ∷ bytes) = Some (cut (byte ∷ bytes))
 
--- what a promise asks
+-- what a promise requires
 abbrev pub words_of_promise : Promise → List ℕ
 words_of_promise Promise.Form = codes "a reply is for whom it has to be, and a refusal or the reply to that command"
 words_of_promise Promise.Refusals = codes "a refusal comes where its condition stands, the first of several, and no other"
@@ -92,7 +92,7 @@ abbrev pub taken_text : TakenFrame → List ℕ
 taken_text taken = codes "frame " ++ (decimal taken.frame ++ (codes " lies in the block of order " ++ (decimal taken.page.order
     ++ (codes " at frame " ++ decimal taken.page.first))))
 
--- why a promise on page blocks is broken: the block in the way, if one was found
+-- why the promise Blocks is broken: the block in the way, if one was found
 abbrev pub blocks_text : Option TakenFrame → List ℕ
 blocks_text None = words_of_promise Promise.Blocks
 blocks_text (Some taken) = taken_text taken
@@ -112,19 +112,19 @@ reason_text Promise.Bytes taken = words_of_promise Promise.Bytes
 reason_text Promise.Report taken = words_of_promise Promise.Report
 reason_text Promise.Still taken = words_of_promise Promise.Still
 
--- these bytes were read as the line of a trace, and as its reply
+-- these bytes were read as a line of the trace, and as its reply
 pub record HasRead (asked told : List ℕ) (shown : Shown) : Type 0 where
   pub line : Gathers MOST_PART_BYTES asked shown.line
   pub reply : Gathers MOST_TEXT_BYTES told shown.reply
 
--- the line if a reply is not allowed: of what was read as the line of the trace 255 bytes are shown, and of the reply 200
+-- the line if a reply is not allowed; it shows at most 255 bytes of the trace's line, and at most 200 of the reply
 unfoldable pub breach_text : Breach → (asked told : List ℕ) → Option TakenFrame → List ℕ
 breach_text breach asked told taken = concat (codes "line " ∷ decimal breach.line ∷ codes ", reply " ∷ decimal breach.reply ∷ codes ": "
     ∷ excerpt_text (codes "no more lines") 255 (if_read trace_line (take MOST_PART_BYTES asked)) ∷ codes ", answered "
     ∷ excerpt_text (codes "nothing") 200 (if_read without_line_feed (take MOST_TEXT_BYTES told)) ∷ codes ": " ∷ name_of_promise breach.promise ∷ codes ": "
     ∷ reason_text breach.promise taken ∷ codes "\n" ∷ [])
 
--- the line of a finding was written: of a breach it shows what was read last
+-- the line of a finding was written; for a breach it shows the last line and reply that were read
 abbrev pub AppendsFinding : Finding → Shown → (tenants : ℕ) → (old new : Option (List ℕ)) → Type 0
 AppendsFinding (Finding.Kept lines) shown tenants old new = Appends old new (kept_text lines tenants)
 AppendsFinding (Finding.Broken breach) shown tenants old new =

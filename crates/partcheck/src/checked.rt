@@ -12,9 +12,9 @@ use std::process::ExitCode;
 /// How a check ended.
 #[derive(Clone, Copy, Debug)]
 pub enum Checked {
-    /// With a finding, which was written.
+    /// With a finding, which was written to the output.
     Found(Finding),
-    /// Without one. Has the error of the file that could not be opened or read, if there is one.
+    /// Without a finding. The error is that of the file that could not be opened or read, if there is one.
     Failed(Unchecked, Option<FileError>),
     /// With a finding that could not be written.
     Unwritten,
@@ -24,7 +24,7 @@ pub enum Checked {
 const BROKEN: u8 = 4;
 
 /// Prints on standard error why there is no finding, if there is none, and which file could not be opened or read. Returns the
-/// exit status.
+/// exit status: 0 if every reply is allowed, 4 if one is not, else that of the error.
 pub fn tell_checked(rt: &impl Eprint, settings: &Settings, checked: Checked) -> ExitCode
     ensures { exit_status result ≡ status_of_check checked }
 {
@@ -35,7 +35,7 @@ pub fn tell_checked(rt: &impl Eprint, settings: &Settings, checked: Checked) -> 
     code
 }
 
-/// Prints why there is no finding, if there is none, and returns the exit status.
+/// Prints on standard error why there is no finding, if there is none. Returns the exit status.
 fn tell_status(rt: &impl Eprint, checked: Checked) -> ExitCode
     ensures { exit_status result ≡ status_of_check checked }
 {

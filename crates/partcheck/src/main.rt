@@ -4,13 +4,13 @@
 //!
 //! | Status | When | Standard output | Standard error, behind the program's name |
 //! |---|---|---|---|
-//! | 0 | every reply is allowed | `kept: 218508 lines, 6 tenants` | nothing |
-//! | 4 | a reply is not | `line 391, reply 402: LINE, answered REPLY: PROMISE: what it asks` | nothing |
-//! | 1 | the trace cannot be opened, or not be read to its end | nothing | `trace could not be read` |
-//! | 1 | the replies cannot be | nothing | `replies could not be read` |
+//! | 0 | all replies are allowed | `kept: 218508 lines, 6 tenants` | nothing |
+//! | 4 | a reply is not allowed | `line 391, reply 402: LINE, answered REPLY: PROMISE: what it requires` | nothing |
+//! | 1 | the trace cannot be opened or read to its end | nothing | `trace could not be read` |
+//! | 1 | the replies cannot be opened or read to their end | nothing | `replies could not be read` |
 //! | 1 | the finding, help or the version cannot be written | | `finding could not be written` |
 //!
-//! If a file could not be opened or read, its name and the system's reason are printed too. The other exits are those of
+//! If a file could not be opened or read, its name and the system's reason are printed too. The other exit statuses are those of
 //! `command_line::Outcome`.
 #![tactic(auto)]
 
@@ -66,7 +66,7 @@ fn read_command_line(rt: &(impl Env + AllocGlobal)) -> Result<Settings, Outcome>
     read_words(rt.alloc(), texts.as_slice())
 }
 
-/// Checks the files, and writes what is found to standard output.
+/// Checks the files, and writes the finding to standard output.
 fn check_files<P: Eprint + Clock>(
     rt: &(impl Files + Input + Print + AllocGlobal),
     settings: &Settings,
@@ -85,7 +85,7 @@ fn check_files<P: Eprint + Clock>(
     }
 }
 
-/// Checks the trace of TRACE, a file or standard input: a copy of the loop for each.
+/// Checks the trace TRACE, which is a file or standard input. Each has its own copy of the loop.
 fn find<P: Eprint + Clock>(
     rt: &(impl Files + Input + AllocGlobal),
     settings: &Settings,
@@ -102,7 +102,7 @@ fn find<P: Eprint + Clock>(
     }
 }
 
-/// Checks the trace of a reader beside REPLIES. Both may be of any length.
+/// Checks a reader's trace against the file REPLIES. Both may have any length.
 fn find_beside<R: Read + Drop>(
     rt: &(impl Files + AllocGlobal),
     settings: &Settings,
@@ -130,7 +130,7 @@ fn find_beside<R: Read + Drop>(
     }
 }
 
-/// A file could not be opened.
+/// Returns the end of a check without this file, which could not be opened.
 fn unopened(file: Unchecked, error: io::Error) -> Checked {
     Checked::Failed(file, Some(FileError::Open(error)))
 }

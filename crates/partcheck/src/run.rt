@@ -1,4 +1,4 @@
-//! A check on a new machine.
+//! Runs a check on a new machine.
 
 ghost use Rattle.std.specs.Prelude.{◌≡◌, ℕ, List, true, false, Some, IfOk, ◌⊎◌};
 ghost use Rattle.model_core.specs.Booting.{is_bootable};
@@ -13,8 +13,8 @@ use std::alloc::Global;
 use std::mem;
 use streams::Feed;
 
-/// Checks the replies to a trace on a machine of these sizes, of which nothing was granted before; `shown` holds at the end what
-/// [`check`] says.
+/// Checks the replies to a trace on a machine of these sizes, where no superblock is granted yet. Returns `Err` if an end fails
+/// or memory runs out. At the end `shown` holds the line and the reply, as after [`check`].
 pub fn run<T: Feed, R: Feed>(
     alloc: Global,
     config: Config,
@@ -25,14 +25,14 @@ pub fn run<T: Feed, R: Feed>(
     requires bootable { is_bootable config ≡ true }
     requires trace_fine { trace.old.failed ≡ false }
     requires replies_fine { replies.old.failed ≡ false }
-    // What was given of the trace and of the replies. Both are found to be this and say so, whatever follows.
+    // What was read of the trace and of the replies. The finding, with its meaning, is that of all texts that begin so.
     ensures found { (asked : List ℕ) × (told : List ℕ) × HasGiven trace.old trace.new asked × HasGiven replies.old replies.new told
         × IfOk result (λ finding. WhateverFollows trace.new replies.new asked told (IsFindingOf config finding)) }
     ensures kept { IfOk result (λ finding. IsKeptAtEnd finding trace.new replies.new) }
-    // The same of texts that were known.
+    // If the two texts are known, the finding is theirs.
     ensures known { (asked told : List ℕ) → trace.old.left ≡ Some asked → replies.old.left ≡ Some told
         → IfOk result (λ finding. IsFindingOf config finding asked told) }
-    // Memory runs out before the first line, or where something more has to be kept and no promise was broken before.
+    // Memory runs out before the first line, or if an allowed reply adds something and no promise was broken before.
     ensures end { IsEndedBy result trace.new.failed replies.new.failed (((trace.new ≡ trace.old) × (replies.new ≡ replies.old))
         ⊎ ((asked : List ℕ) × (told : List ℕ) × HasGiven trace.old trace.new asked × HasGiven replies.old replies.new told
         × WhateverFollows trace.new replies.new asked told
@@ -50,7 +50,7 @@ pub fn run<T: Feed, R: Feed>(
     if let Ok(Finding::Broken(_)) = &found {
         shown.look_for_taken(&machine);
     }
-    // The system takes all memory back at once when the process ends, sooner than piece by piece.
+    // The machine is not dropped: the process ends soon, and the system frees its memory faster than drops would.
     mem::forget(machine);
     found
 }

@@ -1,4 +1,4 @@
-//! What a command line requests, and what the program prints of itself.
+//! The settings that a command line requests, and what the program prints about itself.
 
 ghost use Rattle.std.specs.Prelude.{◌≡◌, true};
 ghost use Rattle.model_core.specs.Booting.{is_bootable};
@@ -7,7 +7,7 @@ use check_core::Unchecked;
 use command_line::Program;
 use model_core::config::Config;
 
-/// What this program prints of itself.
+/// What this program prints about itself.
 pub const PROGRAM: Program<'static> = Program {
     name: "partcheck",
     about: "Checks replies to a trace against what a partitioning kernel owes its tenants",
@@ -16,7 +16,7 @@ pub const PROGRAM: Program<'static> = Program {
     unwritten: "finding could not be written",
 };
 
-/// The same if the replies cannot be read.
+/// The same, for a run in which the replies cannot be read.
 pub const REPLIES_PROGRAM: Program<'static> = Program {
     unread: "replies could not be read",
     ..PROGRAM
@@ -46,7 +46,7 @@ Example:
 /// The path that means standard input.
 const STANDARD_INPUT: &str = "-";
 
-/// What a command line requests.
+/// The settings that a command line requests.
 #[derive(Debug, Drop)]
 pub struct Settings {
     /// The sizes of the machine, each in its range.
@@ -62,7 +62,7 @@ impl Settings {
     ghost use Rattle.std.specs.Prelude.{option_copied};
     ghost use Rattle.partcheck.specs.Settings.{file_without, trace_file};
 
-    /// Returns the path of the trace. `None` if it is standard input.
+    /// Returns the path of the trace, `None` for standard input.
     pub fn trace_path(&self) -> Option<&str>
         ensures { option_copied result ≡ trace_file self.now }
     {
@@ -72,7 +72,7 @@ impl Settings {
         }
     }
 
-    /// Returns the name of the file without which a check ended so.
+    /// Returns the name of the file that could not be read when a check ended for this reason.
     pub fn name_of(&self, why: Unchecked) -> &str
         ensures { result.now ≡ file_without self.now why }
     {

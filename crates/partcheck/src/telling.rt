@@ -1,4 +1,4 @@
-//! The line of a finding.
+//! Writes the line of a finding.
 
 ghost use Rattle.std.specs.Prelude.{◌≡◌, ℕ, List, OnOk, flat_map, option_copied, take};
 ghost use Rattle.std.specs.Char.Escape.{escape_ascii};
@@ -14,10 +14,10 @@ use check_core::{Breach, Finding, Shown, TakenFrame};
 use promise_core::promise::Promise;
 use std::io::{self, Write};
 
-/// Limit on the bytes of a line of a trace that are printed. Only a faulty line has more.
+/// The largest number of printed bytes of a trace line. Only a faulty line has more.
 const MOST_LINE_BYTES: usize = 255;
 
-/// Limit on the bytes of a reply that are printed.
+/// The largest number of printed bytes of a reply.
 const MOST_REPLY_BYTES: usize = 200;
 
 /// Writes the line of a finding on a machine with this number of tenants, and flushes.
@@ -55,7 +55,7 @@ fn write_kept<W: Write>(out: &mut W, lines: u128, tenants: u32) -> io::Result<()
     writeln!(out, "kept: {lines} {lines_word}, {tenants} {tenants_word}")
 }
 
-/// Returns the word for a number of things.
+/// Returns `one` if the count is 1, else `several`.
 fn counted<'a>(one: &'a str, several: &'a str, count: u128) -> &'a str
     ensures { result.now ≡ counted_word one.entry.now several.entry.now count }
 {
@@ -82,7 +82,7 @@ fn write_breach<W: Write>(out: &mut W, breach: &Breach, shown: &Shown) -> io::Re
     out.write_all(b"\n")
 }
 
-/// Writes why a promise is broken: the page block in the way if one was found, or what the promise asks.
+/// Writes why a promise is broken: the page block in the way if one was found, else what the promise requires.
 fn write_reason<W: Write>(
     out: &mut W,
     promise: Promise,
@@ -102,7 +102,7 @@ fn write_reason<W: Write>(
     }
 }
 
-/// Returns a line of a trace without the line feed and the carriage return at its end. `None` if nothing was read.
+/// Returns a line of a trace without the line feed and the carriage return at its end. Returns `None` if nothing was read.
 fn line_read(text: &[u8]) -> Option<&[u8]>
     ensures { option_copied result ≡ if_read trace_line text.now }
 {
@@ -122,7 +122,7 @@ fn without_return(line: &[u8]) -> &[u8]
     }
 }
 
-/// Returns the lines of a reply without the last line feed. `None` if nothing was read.
+/// Returns the lines of a reply without the last line feed. Returns `None` if nothing was read.
 fn lines_read(text: &[u8]) -> Option<&[u8]>
     ensures { option_copied result ≡ if_read without_line_feed text.now }
 {
@@ -133,7 +133,7 @@ fn lines_read(text: &[u8]) -> Option<&[u8]>
     }
 }
 
-/// Writes a text, up to `most` bytes, or the words for none.
+/// Writes the first bytes of a text, at most `most`, or the words `none` if there is no text.
 fn write_shown<W: Write>(
     out: &mut W,
     text: Option<&[u8]>,
@@ -155,7 +155,7 @@ fn write_excerpt<W: Write>(out: &mut W, text: &[u8], most: usize, none: &str) ->
     out.write_all(cut_mark(most < text.len()).as_bytes())
 }
 
-/// Returns what a text ends with if it is cut.
+/// Returns the mark at the end of a shown text: `…` if the text is cut, else nothing.
 fn cut_mark(is_cut: bool) -> &'static str
     ensures { result.now ≡ cut_mark is_cut }
 {
@@ -169,8 +169,8 @@ fn front(text: &[u8], most: usize) -> &[u8]
     &text[..most.min(text.len())]
 }
 
-/// Writes the beginning of a text. A plain text has its lines joined by ` / `. Any other one, and one that reads as the words for
-/// none, is in quotes and escaped: so none looks like another text or like a finding.
+/// Writes the beginning of a text. The lines of a plain text are joined by ` / `. Any other text, and one that equals the words
+/// for no text, is escaped and in quotes. So no text looks like another one, or like a finding.
 fn write_begin<W: Write>(out: &mut W, text: &[u8], begin: &[u8], none: &str) -> io::Result<()>
     ensures { OnOk result (Appends (W.contents out.old) (W.contents out.new) (begin_text none.now text.now begin.now)) }
 {
@@ -182,14 +182,14 @@ fn write_begin<W: Write>(out: &mut W, text: &[u8], begin: &[u8], none: &str) -> 
     out.write_all(b"'")
 }
 
-/// Returns true if a text is plain, and does not read as the words for none.
+/// Returns whether a text is plain and differs from the words for no text.
 fn is_shown_plain(text: &[u8], none: &str) -> bool
     ensures { result ≡ is_shown_plain none.now text.now }
 {
     is_plain(text) && text != none.as_bytes()
 }
 
-/// Returns true if a text has only bytes that commands and replies have, at least one of them, and no blank at either end.
+/// Returns whether a text is not empty, has only bytes of commands and replies, and has no blank at either end.
 fn is_plain(text: &[u8]) -> bool
     ensures { result ≡ is_plain_text text.now }
 {
@@ -223,7 +223,7 @@ fn write_plain<W: Write>(out: &mut W, text: &[u8]) -> io::Result<()>
     Ok(())
 }
 
-/// Writes the bytes of a text that is in quotes.
+/// Writes the bytes of a quoted text, escaped.
 fn write_escaped<W: Write>(out: &mut W, text: &[u8]) -> io::Result<()>
     ensures { OnOk result (Appends (W.contents out.old) (W.contents out.new) (flat_map escape_ascii text.now)) }
 {
@@ -243,7 +243,7 @@ fn write_escape<W: Write>(out: &mut W, byte: u8) -> io::Result<()>
     Ok(())
 }
 
-/// Returns what a promise asks.
+/// Returns the words for what a promise requires.
 fn words_of(promise: Promise) -> &'static str
     ensures { result.now ≡ words_of_promise promise }
 {

@@ -1,4 +1,4 @@
-//! The words of a command line.
+//! Reads the words of a command line.
 
 ghost use Rattle.std.specs.Prelude.{◌≡◌, Some, IfErr, IfOk, map};
 ghost use Rattle.std.specs.String.{string_bytes};
@@ -13,12 +13,12 @@ use std::alloc::{AllocError, Global};
 
 /// Reads the words of a command line, without the program's name.
 ///
-/// Refused with `Help` or `Version` if that is asked for, with `BadLine` if the words are faulty, or with `NoMemory`.
+/// Returns `Help` or `Version` if the words request that, `BadLine` if they are faulty, or `NoMemory`.
 pub fn read_words<'a>(alloc: Global, words: &'a [&'a str]) -> Result<Settings, Outcome>
-    // Which word is under which name is as clap's model says.
+    // Clap's model says which word belongs to which name.
     ensures asked { IfOk result (IsCheckRequestedBy (map (λ word. word.now) words.entry.now)) }
     ensures refused { IfErr result (IsCheckRefusedFor (map (λ word. word.now) words.entry.now)) }
-    // Settings that are asked for are refused for want of memory alone.
+    // Words that request settings are refused only if memory runs out.
     ensures given { IfErr result (λ outcome. IsCheckInOrder (map (λ word. word.now) words.entry.now)
         → (settings : Settings) → IsCheckRequestedBy (map (λ word. word.now) words.entry.now) settings → outcome ≡ Outcome.NoMemory) }
 {
@@ -30,9 +30,9 @@ pub fn read_words<'a>(alloc: Global, words: &'a [&'a str]) -> Result<Settings, O
     })
 }
 
-/// Returns the path under this name, as it was written.
+/// Returns the path of the argument of this name, as it was written.
 ///
-/// Refused with `BadLine` if there is none, or with `NoMemory`.
+/// Returns `BadLine` if there is none, or `NoMemory`.
 fn required_path(alloc: Global, matches: &ArgMatches<'_>, name: &str) -> Result<String, Outcome>
     ensures path { IfOk result (λ path. first_value (found_of matches.now) name.now ≡ Some (string_bytes path)) }
     ensures refused { IfErr result (IsNoFile (first_value (found_of matches.now) name.now)) }
@@ -46,7 +46,7 @@ fn required_path(alloc: Global, matches: &ArgMatches<'_>, name: &str) -> Result<
     }
 }
 
-/// The arguments that there are, with their ranges.
+/// Returns the program's command line: its arguments, with their ranges.
 fn command<'a>(alloc: Global) -> Result<Command<'a>, AllocError>
     ensures { IfOk result (λ command. app_of command ≡ check_command_line) }
 {
