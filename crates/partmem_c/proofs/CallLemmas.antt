@@ -18,7 +18,7 @@ use Rattle.replay_core.proofs.LineLemmas.{lines_cut}
 use Rattle.partmem_c.specs.Lines.{AnswersLine}
 use Rattle.partmem_c.specs.Laws.{Call, lines_of_calls, texts_of, Ran, OwnLinesOfCalls, SameLinesOfCalls, StandsAfterCalls}
 
--- what a line with this reading does to a world, and what it shows of it
+-- how a line with this reading changes a world, and the text that it writes
 record Follows (k k' : KernelContent) (reading : Result (Option Event) LineFault) (text : List ℕ) (w : World) : Type 0 where
   pub order : k'.order ≡ k.order
   pub shows : Shows k' (world_after cache_limit k.order w (event_in reading))
@@ -42,7 +42,7 @@ follows k k' (Err fault) text w did shows = record {
   shown = did.1;
 }
 
--- the same of a list of calls
+-- the same for a list of calls
 record AllFollow (k k' : KernelContent) (calls : List Call) (w : World) : Type 0 where
   pub shows : Shows k' (world_after cache_limit k.order w (events_of (lines_of_calls calls)))
   pub shown : texts_of calls ≡ shown_lines None cache_limit k.order (lines_of_calls calls) w
@@ -77,7 +77,7 @@ cut_again k k' calls ran =
 few_tenants : (k : KernelContent) (superblocks tenants : ℕ) → Shows k (opening_world superblocks tenants) → tenants ≤ 64
 few_tenants k superblocks tenants shows = omega (arith, shows.tenants, shows.agree.tenants, opening_tenants superblocks tenants)
 
--- all that was written is the output of the trace
+-- the written texts are the output of the trace
 output_is : (k k' : KernelContent) (superblocks tenants : ℕ) (calls : List Call) → Shows k (opening_world superblocks tenants) → Ran k calls k'
     → texts_of calls ≡ output_of cache_limit k.order (with_line_feeds (lines_of_calls calls)) (opening_world superblocks tenants)
 unfolding output_of

@@ -1,9 +1,9 @@
--- The rows of a report put one after another.
+-- Copying the rows of a report one after another.
 use Rattle.std.proofs.Common.{◌≡◌, ℕ, zero, suc, ◌<◌, ◌≤◌, List, [], ◌∷◌, ◌++◌, length, map, take, drop, slice_set, slice_index_or, refl, ap, ◌∙◌, arith}
 use Rattle.std.proofs.lemmas.List.{take_all, length-map}
 use Rattle.partmem_c.specs.Figures.{over}
 
--- the next row put behind those that are
+-- the next row is copied behind the earlier ones
 pub row_put : {A B : Type 0} (f : A → B) (rows : List A) (before : List B) (at : ℕ) (d : A) → at < length rows → length rows ≤ length before
     → slice_set (map f (take at rows) ++ drop at before) at (f (slice_index_or rows at d)) ≡ map f (take (suc at) rows) ++ drop (suc at) before
 row_put f [] before at d some few = absurd (omega (arith, some))
@@ -12,7 +12,7 @@ row_put f (row ∷ rows) (b ∷ before) zero d some few = refl
 row_put f (row ∷ rows) (b ∷ before) (suc at) d some few =
     ap (λ xs. f row ∷ xs) (row_put f rows before at d (omega (arith, some)) (omega (arith, few)))
 
--- all are
+-- all rows are copied
 pub rows_put : {A B : Type 0} (f : A → B) (rows : List A) (before : List B) (at : ℕ) → at ≤ length rows → length rows ≤ at
     → map f (take at rows) ++ drop at before ≡ over (map f rows) before
 rows_put f rows before at most least =

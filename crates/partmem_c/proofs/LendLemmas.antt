@@ -1,4 +1,4 @@
--- What commands that lend return.
+-- The results of commands that lend.
 use Rattle.std.proofs.Common.{◌≡◌, ℕ, ◌*◌, ◌/◌, ◌^◌, Some, Result, Ok, Err, IfOk, sym, subst}
 use Rattle.model_core.specs.declared.limits.TheConstants.{FRAME_BYTES}
 use Rattle.words_core.specs.declared.reply.Refusal.{Refusal}

@@ -1,4 +1,4 @@
--- A slot in a proof by hand: what it owns, put into it and taken out of it. Assumes `Logic`.
+-- A slot in a proof by hand: putting what it owns into it and taking that out again. Assumes `Logic`.
 use Rattle.std.proofs.Common.{◌≡◌, List, [], ◌∷◌, ◌++◌, true, Option, Some, None, is_some, refl, subst}
 use mathlib.Core.Bool.{◌&&◌}
 use lib.Dec.{T, lit<}
@@ -20,7 +20,7 @@ use Rattle.partmem_c.specs.contracts.slot.Slot as slot
 abbrev pub word : Ptr → Val
 word p = vstruct (vcons (ptr_val p) vnil)
 
--- which kernel is held, where one is
+-- the held kernel, if there is one
 pub holds : (held : Option KernelContent) → is_some held ≡ true → (k : KernelContent) × (held ≡ Some k)
 holds (Some k) some = (k, refl)
 holds None some = cc

@@ -1,4 +1,4 @@
--- A text written part by part.
+-- A text that is written part by part.
 use Rattle.std.proofs.Common.{◌≡◌, ℕ, cond, suc, ◌+◌, ◌-◌, ◌*◌, ◌≤◌, ◌==◌, Bool, true, false, ◌||◌, List, [], ◌∷◌, ◌++◌, Some, Ok, length, take, drop, position, refl, sym, ap, ◌∙◌, arith, append_assoc, length-append}
 use Rattle.std.proofs.lemmas.List.{take-append-le, take-append-drop, take_all, length-take-le, length-drop}
 use Rattle.std.proofs.lemmas.Slice.{drop-append-drop}
@@ -18,7 +18,7 @@ pub one_line : (bytes : List ℕ) → has_line_feed bytes ≡ false → IsOneLin
 one_line [] none = tt
 one_line (b ∷ bytes) none = let facts = or_parts (b == 10) (has_line_feed bytes) none in (facts.0, one_line bytes facts.1)
 
--- of the text all but the rest is written
+-- the text is written, except for the rest
 pub record IsPart (text rest buffer buffer' : List ℕ) (written : ℕ) : Type 0 where
   pub front : List ℕ
   pub split : text ≡ front ++ rest
@@ -29,7 +29,7 @@ take-front : (xs ys : List ℕ) → take (length xs) (xs ++ ys) ≡ xs
 take-front [] ys = refl
 take-front (x ∷ xs) ys = ap (λ zs. x ∷ zs) (take-front xs ys)
 
--- the next part was put behind what is written
+-- the next part is copied behind the written ones
 pub written_more : (text rest line after buffer now then : List ℕ) (written written' : ℕ) → IsPart text rest buffer now written → rest ≡ line ++ after
     → then ≡ take written now ++ (line ++ drop (written + length line) now) → written' ≡ written + length line
     → IsPart text after buffer then written'
@@ -49,11 +49,11 @@ written_more text rest line after buffer now then written written' had cut put c
           (sym (append_assoc had.front line (drop (length had.front + length line) buffer)));
     }
 
--- the last n bytes, from where they begin on to the end
+-- the last n bytes
 abbrev pub last : ℕ → List ℕ → List ℕ
 last n bytes = take (length bytes - (length bytes - n)) (drop (length bytes - n) bytes)
 
--- the first n bytes and the last n are all of them
+-- copying the first n bytes and the last n copies all bytes, if there are at most 2 * n
 pub ends_put : (n : ℕ) (bytes old mid out : List ℕ) → n ≤ length bytes → length bytes ≤ 2 * n
     → mid ≡ take 0 old ++ (take n bytes ++ drop (0 + length (take n bytes)) old)
     → out ≡ take (length bytes - n) mid ++ (last n bytes ++ drop (length bytes - n + length (last n bytes)) mid)
@@ -87,14 +87,14 @@ ended_put line old mid out line_first second =
     let front : take (length line) mid ≡ line = ap (take (length line)) line_first ∙ take-front line (drop (length line) old) in
     second ∙ ap (λ xs. xs ++ 10 ∷ drop (length line + 1) mid) front ∙ ap (λ xs. line ++ 10 ∷ xs) rest
 
--- where its line feed is found
+-- the first line feed is the one behind the line
 found_end : (k : ℕ) (line rest : List ℕ) → has_line_feed line ≡ false → position_from (λ b. b == 10) k (line ++ 10 ∷ rest) ≡ Some (k + length line)
 found_end k [] rest none = ap (λ n. Some n) (omega arith)
 found_end k (b ∷ line) rest none =
     let facts = or_parts (b == 10) (has_line_feed line) none in
     rw facts.0 (found_end (k + 1) line rest facts.1 ∙ ap (λ n. Some n) (omega arith))
 
--- what is read of these bytes is what the line reads as
+-- a request that is read at the front of these bytes is the reading of the line
 pub line_reads : (line rest bytes : List ℕ) (tenant : ℕ) (command : Command) (len : ℕ) → has_line_feed line ≡ false
     → bytes ≡ line ++ 10 ∷ rest → ReadsAs bytes tenant command len → reading_of line ≡ Ok (Some (Tenant tenant command))
 line_reads line rest bytes tenant command len none are read =
@@ -103,12 +103,12 @@ line_reads line rest bytes tenant command len none are read =
     let end : len - 1 ≡ length line = same_Some _ _ (sym read.ended ∙ at) in
     ap reading_of (sym (ap (take (len - 1)) are ∙ ap (λ n. take n (line ++ 10 ∷ rest)) end ∙ take-front line (10 ∷ rest))) ∙ read.reading
 
--- a line that was read so is answered so
+-- a line with this reading is answered as this command
 pub answered_as : (k k' : KernelContent) (line text : List ℕ) (tenant : ℕ) (command : Command) → reading_of line ≡ Ok (Some (Tenant tenant command))
     → AnswersLine k (Ok (Some (Tenant tenant command))) k' text → AnswersLine k (reading_of line) k' text
 answered_as k k' line text tenant command reads answers = rw reads answers
 
--- so it is answered as that
+-- so a line in these bytes is answered as the request that was read
 pub line_answered : (k k' : KernelContent) (line rest bytes text : List ℕ) (tenant : ℕ) (command : Command) (len : ℕ) → has_line_feed line ≡ false
     → bytes ≡ line ++ 10 ∷ rest → ReadsAs bytes tenant command len
     → AnswersLine k (Ok (Some (Tenant tenant command))) k' text → AnswersLine k (reading_of line) k' text
@@ -118,7 +118,7 @@ line_answered k k' line rest bytes text tenant command len none are read answers
 no_longer : (k n : ℕ) → k ≡ k + suc n → ⊥
 no_longer k n e = omega (arith, e)
 
--- bytes before the first line feed have none
+-- the bytes before the first line feed have no line feed
 found_none : (k : ℕ) (line rest : List ℕ) → position_from (λ b. b == 10) k (line ++ rest) ≡ Some (k + length line) → has_line_feed line ≡ false
 found_none k [] rest found = refl
 found_none k (b ∷ line) rest found =

@@ -1,4 +1,4 @@
--- Calls on machines of 2 and of 3 superblocks that nobody was granted, and an instance of the law of threads.
+-- Calls on machines with 2 and with 3 superblocks that nobody owns, and an instance of the law of threads.
 use Rattle.std.proofs.Common.{◌≡◌, [], ◌∷◌, Some, true, codes, refl, subst, arith}
 use base.Shift.{Keyless}
 use denote.RawPtr.{block_ptr}
@@ -37,7 +37,7 @@ stays : (k : KernelContent) (w : World) (event : Event) (to : Addressee) (body :
 stays k w event to body shown same =
     steps_answered k event to body (λ v there. subst (λ x. world_step cache_limit k.order event x ≡ answer to body x) (one_world k w v shown there) same)
 
--- a tenant without superblock asks for a frame
+-- a tenant without a superblock requests a frame
 abbrev pub by_0 : Call
 by_0 = record { line = codes "0 alloc 0"; text = codes "0> refused 1 NoFrames\n" }
 
@@ -93,7 +93,7 @@ pub same_order : great.order ≡ small.order
 unfolding opening_content
 same_order = refl
 
--- a machine with a kernel in it
+-- a machine that holds a kernel
 abbrev booted : the_row.Denot
 booted = record { is_booted = true; slot = record { at = block_ptr 1 0; held = Some small }; agrees = refl }
 

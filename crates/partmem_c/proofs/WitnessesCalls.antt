@@ -1,6 +1,6 @@
--- For each law of calls of `partmem_line` an instance of its premises, on memory that was granted. On one machine tenant 0 is alone:
--- it takes a frame, writes a byte there and reads it. On the other one tenant 1 comes first, and has a superblock, a frame and a
--- byte of its own.
+-- An instance of the premises of each law of calls of `partmem_line`, on granted memory. On one machine tenant 0 is alone: it
+-- allocates a frame, writes a byte there and reads it. On the other machine tenant 1 comes first, and has a superblock, a frame
+-- and a byte of its own.
 use Rattle.std.proofs.Common.{◌≡◌, ℕ, Bool, true, false, not, ◌==◌, List, [], ◌∷◌, Some, None, codes, refl, arith}
 use Rattle.std.specs.List.{list_all}
 use Rattle.std.specs.Fmt.{digits}
@@ -247,7 +247,7 @@ same_lists : HaveSameOwnList cache_limit 3 2 2 2 2 0 (events_of (lines_of_calls 
 unfolding reading_of words_of reading_of_words event_of hex_on_literals opening_history opening_world world_step grant_step tenant_step answer command_step
 same_lists = record { tenant = omega arith; tenant' = omega arith; own = refl }
 
--- also on machines of different sizes, where it is refused
+-- also on machines of different sizes, where tenant 0 is refused
 SameLinesOfCalls-met : SameLinesOfCalls → (lines_for 0 (texts_of alone) ≡ lines_for 0 (texts_of beside))
     × (lines_for 0 (texts_of (by_0 ∷ [])) ≡ lines_for 0 (texts_of (by_1 ∷ by_0 ∷ [])))
 SameLinesOfCalls-met law = (

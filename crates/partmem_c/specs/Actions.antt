@@ -1,4 +1,4 @@
--- What is done with a machine of the library, by calls and between them, as actions of the kernel that it holds.
+-- Everything that is done with a machine of the library, by calls and between them, as actions of the kernel that it holds.
 use Rattle.std.specs.Prelude.{◌≡◌, ℕ, ◌<◌, List, [], ◌∷◌, ◌++◌, length, drop, Option, Some, None, Result, Ok, Err}
 use Rattle.model_core.specs.Machine.{empty_machine}
 use Rattle.words_core.specs.declared.event.Event as events
@@ -19,17 +19,17 @@ use Rattle.partmem_c.specs.Events.{requested_event, numbers_of_body, answered_by
 use Rattle.partmem_c.specs.Calls.{numbers_in_reply, call_status}
 
 pub data Done : Type 0 where
-  -- a line was run by `partmem_line`: it, and what was written
+  -- a line was run by `partmem_line`: the line, and the text that was written
   Line : List ℕ → List ℕ → Done
   -- an event was run by `partmem_event`: its numbers and bytes, the numbers of its reply, and the buffer before and after
   Event : RequestNumbers → List ℕ → ReplyNumbers → List ℕ → List ℕ → Done
-  -- a direct call ran an event: the reply, from which all numbers follow that the call returned but the address and the size of
-  -- what it lent, and its status
+  -- a direct call ran an event: the event, the reply and the status; all numbers that the call returned follow from the reply,
+  -- except the address and the size of lent bytes
   Call : events.Event → Reply → ℕ → Done
   -- a call of the kernel itself, a store or a load
   Direct : Action → Done
 
--- it led from one kernel to another, as the contract of the call says
+-- it led from one kernel to the other, as the contract of the call says
 abbrev pub Did : KernelContent → Done → KernelContent → Type 0
 Did k (Line line text) k' = AnswersLine k (reading_of line) k' text × IsKernel k'
 Did k (Event a bytes numbers buffer buffer') k' =
@@ -41,14 +41,14 @@ abbrev pub AllDid : KernelContent → List Done → KernelContent → Type 0
 AllDid k [] k' = k' ≡ k
 AllDid k (done ∷ all) k' = (next : KernelContent) × Did k done next × AllDid next all k'
 
--- A line with this reading is the action of its event, and what was written is the reply's text. A line without event is none,
--- and of it no tenant is told.
+-- A line with this reading is the action of its event, and the reply's text was written. A line without an event is no action,
+-- and its reply goes to no tenant.
 abbrev pub IsOfReading : Result (Option events.Event) LineFault → List ℕ → List Action → Type 0
 IsOfReading (Ok (Some event)) text actions = (reply : Reply) × (actions ≡ Runs event reply ∷ []) × (text ≡ text_of reply)
 IsOfReading (Ok None) text actions = (actions ≡ []) × (text ≡ [])
 IsOfReading (Err fault) text actions = (actions ≡ []) × (text ≡ text_of (record { addressee = Addressee.Nobody; body = Body.Fault fault }))
 
--- the actions that one thing done is
+-- the actions of one thing that was done
 abbrev pub IsOf : Done → List Action → Type 0
 IsOf (Line line text) actions = IsOfReading (reading_of line) text actions
 IsOf (Event a bytes numbers buffer buffer') actions = (event : events.Event) × (reply : Reply)
@@ -61,8 +61,8 @@ abbrev pub AreOf : List Done → List Action → Type 0
 AreOf [] actions = actions ≡ []
 AreOf (done ∷ all) actions = (first rest : List Action) × IsOf done first × AreOf all rest × (actions ≡ first ++ rest)
 
--- Whatever the others do: all that is done with a machine from boot on, by lines, events, calls, in place and in any order, are
--- actions from which a tenant sees what its private machine gives to its own list.
+-- Everything that is done with a machine from boot on, by lines, events, calls and in place, in any order, is a list of actions.
+-- From these a tenant sees what its private machine returns for its own list, whatever the others do.
 abbrev pub OwnSightsOfCalls : Type 0
 OwnSightsOfCalls = (k k' : KernelContent) (superblocks tenants t : ℕ) (all : List Done) →
     IsBooted k superblocks tenants → t < tenants → AllDid k all k' →

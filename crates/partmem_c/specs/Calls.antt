@@ -1,4 +1,4 @@
--- Direct calls: each is an event, and what it returns follows from the numbers of the reply.
+-- Direct calls: each runs an event, and what it returns follows from the numbers of the reply.
 use Rattle.std.specs.Prelude.{◌≡◌, ◌<◌, ◌≤◌, ℕ, ◌+◌, ◌-◌, ◌*◌, ◌/◌, ◌%◌, ◌^◌, ◌==◌, nat_le, min, ◌&&◌, Bool, if◌then◌else◌, List, [], ◌++◌, length, take, drop, Option, Some, None, is_some}
 use Rattle.words_core.specs.declared.reply.Addressee.{Addressee}
 use Rattle.words_core.specs.declared.reply.Body.{Body}
@@ -21,7 +21,7 @@ use Rattle.partmem_c.specs.declared.pages.TheConstants.{NO_FRAME}
 use Rattle.partmem_c.specs.declared.objects.MadeCache.{MadeCache}
 use Rattle.partmem_c.specs.Events.{numbers_of_body, answered_bytes}
 
--- the event was a step of the kernel that was held, with this reply
+-- the event was a step of the held kernel, with this reply
 pub record IsRun (old : Option KernelContent) (event : Event) (new : Option KernelContent) (reply : Reply) : Type 0 where
   pub before : KernelContent
   pub after : KernelContent
@@ -34,7 +34,7 @@ abbrev pub Replies : Option KernelContent → Event → Option KernelContent →
 Replies old event new None = (old ≡ None) × (new ≡ None)
 Replies old event new (Some reply) = IsRun old event new reply
 
--- The call is this event, and `Returns` holds of what it returns with this reply.
+-- The call runs this event, and `Returns` holds for what it returns with this reply.
 pub record RunsCall (old : Option KernelContent) (event : Event) (new : Option KernelContent) (Returns : Option Reply → Type 0)
     : Type 0 where
   pub reply : Option Reply
@@ -51,7 +51,7 @@ abbrev pub bytes_in_reply : Option Reply → List ℕ
 bytes_in_reply None = []
 bytes_in_reply (Some reply) = answered_bytes reply.body
 
--- what is passed is no event of the call, and nothing changes
+-- the arguments are no event of the call, and nothing changes
 abbrev pub IsNoEvent : Option KernelContent → Option KernelContent → ℕ → Type 0
 IsNoEvent old new status = (new ≡ old) × (status ≡ (if is_some old then NOT_AN_EVENT else NO_MACHINE))
 
@@ -90,12 +90,12 @@ abbrev pub reaped_frames : Option ReplyNumbers → ℕ
 reaped_frames None = 0
 reaped_frames (Some numbers) = if numbers.kind == REAPED then numbers.first else 0
 
--- the bytes over the first of these, as far as there are places
+-- `to` with the bytes over its front, as many as fit
 abbrev pub read_over : List ℕ → List ℕ → List ℕ
 read_over bytes to = take (min (length bytes) (length to)) bytes ++ drop (min (length bytes) (length to)) to
 
--- The event was a step of the kernel, and these are the numbers of its reply. It has at most 64 bytes, which are over the first of
--- those that were there.
+-- The event was a step of the kernel, and these are the numbers of its reply. The reply has at most 64 bytes, which are copied
+-- over the front of the buffer.
 pub record ReadsOver (old : KernelContent) (event : Event) (new : KernelContent) (numbers : ReplyNumbers) (to to' : List ℕ)
     : Type 0 where
   pub reply : Reply
@@ -112,11 +112,11 @@ read_length len = min len (2 ^ 32 - 1)
 abbrev pub is_writable : List ℕ → Bool
 is_writable bytes = nat_le 1 (length bytes) && nat_le (length bytes) MOST_BYTES
 
--- The frame that begins at a place. If none does, it is a number above those of all frames.
+-- The frame that begins at a place. If none does, it is a number above that of any frame.
 abbrev pub frame_at_place : ℕ → ℕ
 frame_at_place place = place / FRAME_BYTES + place % FRAME_BYTES * NO_FRAME
 
--- A free at a place at which no frame begins is refused: no page block begins there.
+-- A free at a place where no frame begins is refused, since no page block begins there.
 abbrev pub OffsetsAreRefused : Type 0
 OffsetsAreRefused = (k : KernelContent) (w : World) (t place : ℕ) →
     IsKernel k → Shows k w → t < k.tenants → 0 < place % FRAME_BYTES →

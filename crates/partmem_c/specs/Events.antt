@@ -1,4 +1,4 @@
--- An event as numbers, and its answer as numbers.
+-- Events and their replies as numbers.
 use Rattle.std.specs.Prelude.{◌≡◌, ℕ, ◌+◌, ◌==◌, nat_lt, nat_le, Bool, not, ◌&&◌, ◌||◌, List, [], ◌++◌, length, drop, if◌then◌else◌, Option, Some, None, is_some, is_none, option_map}
 use Rattle.arrayvec.specs.ArrayVec.{ArrayVec}
 use Rattle.words_core.specs.declared.event.AdminCommand.{AdminCommand}
@@ -46,13 +46,13 @@ requested_command a bytes =
     else (if a.kind == request.REPORT then Some Command.Report
     else None)))))))))
 
--- a kind of command that takes no bytes and is answered none
+-- a kind of command that neither uses nor returns bytes
 abbrev pub is_plain : ℕ → Bool
 is_plain kind =
     kind == request.ALLOC || (kind == request.FREE || (kind == request.TAKE || (kind == request.GIVE
     || (kind == request.DESTROY || kind == request.REAP))))
 
--- the event that the numbers and bytes say, if they say one
+-- the event of the numbers and bytes, if they are one
 abbrev pub requested_event : RequestNumbers → List ℕ → Option Event
 requested_event a bytes =
     if nat_le a.kind request.POOL then option_map Event.Admin (admin_command_of a)
@@ -61,12 +61,12 @@ requested_event a bytes =
 abbrev pub reply_numbers : ℕ → ℕ → ℕ → ℕ → ℕ → ℕ → ReplyNumbers
 reply_numbers of a b c d e = record { kind = of; first = a; second = b; third = c; fourth = d; fifth = e }
 
--- the order of the greatest free block and one more, 0 where there is none
+-- the order of the greatest free block plus 1, or 0 if there is none
 abbrev pub top_number : Option ℕ → ℕ
 top_number None = 0
 top_number (Some order) = order + 1
 
--- a reply as numbers: of a report the figures, of the table of owners how many superblocks there are
+-- a reply as numbers: the figures for a report, the number of superblocks for the table of owners
 abbrev pub numbers_of_body : Body → ReplyNumbers
 numbers_of_body (Body.Granted tenant slot superblock) = reply_numbers kind.GRANTED tenant slot superblock 0 0
 numbers_of_body (Body.TakenBack superblock) = reply_numbers kind.TAKEN_BACK superblock 0 0 0 0
@@ -87,7 +87,7 @@ numbers_of_body (Body.Report report) =
 numbers_of_body (Body.Refused refusal) = reply_numbers kind.REFUSED (number_of_refusal refusal) 0 0 0 0
 numbers_of_body (Body.Fault fault) = reply_numbers kind.NOTHING 0 0 0 0 0
 
--- the bytes that a reply tells
+-- the bytes in a reply
 abbrev pub answered_bytes : Body → List ℕ
 answered_bytes (Body.Bytes bytes) = bytes.items
 answered_bytes (Body.Granted tenant slot superblock) = []
@@ -107,23 +107,23 @@ answered_bytes (Body.Report report) = []
 answered_bytes (Body.Refused refusal) = []
 answered_bytes (Body.Fault fault) = []
 
--- what a call answers that a machine is all there has to be for
+-- the status of a call that only requires a machine
 abbrev pub machine_status : Option KernelContent → ℕ
 machine_status held = if is_some held then DONE else NO_MACHINE
 
--- the same of a call that is passed an event, where there is one
+-- the status of a call that requires a machine and an event: the first error, else this status
 abbrev pub status_of_event : Option KernelContent → RequestNumbers → List ℕ → ℕ → ℕ
 status_of_event held a bytes status =
     if is_some held then (if is_some (requested_event a bytes) then status else NOT_AN_EVENT) else NO_MACHINE
 
--- The status of such a call: the first error that applies.
+-- the status of a call that also requires a buffer: the first error that applies
 abbrev pub event_status : Option KernelContent → RequestNumbers → List ℕ → List ℕ → ℕ
 event_status held a bytes buffer =
     if not (is_some held) then NO_MACHINE
     else (if is_none (requested_event a bytes) then NOT_AN_EVENT
     else (if nat_lt (length buffer) MOST_BYTES then BUFFER_TOO_SMALL else DONE))
 
--- the event was a step of the kernel, and was answered by these numbers and bytes
+-- the event was a step of the kernel, and these are the numbers and bytes of its reply
 pub record AnswersEvent (old : KernelContent) (event : Event) (new : KernelContent) (numbers : ReplyNumbers)
     (buffer buffer' : List ℕ) : Type 0 where
   pub reply : Reply
@@ -131,7 +131,7 @@ pub record AnswersEvent (old : KernelContent) (event : Event) (new : KernelConte
   pub are : numbers ≡ numbers_of_body reply.body
   pub over : buffer' ≡ answered_bytes reply.body ++ drop (length (answered_bytes reply.body)) buffer
 
--- the numbers and bytes say an event, which was run on the kernel that was held
+-- the numbers and bytes are an event, which was run on the held kernel
 pub record RunsEvent (old new : Option KernelContent) (a : RequestNumbers) (bytes : List ℕ) (numbers : ReplyNumbers)
     (buffer buffer' : List ℕ) : Type 0 where
   pub before : KernelContent
@@ -142,11 +142,11 @@ pub record RunsEvent (old new : Option KernelContent) (a : RequestNumbers) (byte
   pub says : requested_event a bytes ≡ Some event
   pub answers : AnswersEvent before event after numbers buffer buffer'
 
--- the same of an event that neither takes bytes nor tells some, whatever bytes and buffer there are
+-- the same for an event that neither uses nor returns bytes, for any bytes and any buffer
 abbrev pub RunsApart : Option KernelContent → Option KernelContent → RequestNumbers → ReplyNumbers → Type 0
 RunsApart old new a numbers = (bytes buffer : List ℕ) → RunsEvent old new a bytes numbers buffer buffer
 
--- nothing was done, and the reply was not written
+-- nothing changed, and the reply was not written
 abbrev pub IsNothingDone : Option KernelContent → Option KernelContent → ReplyNumbers → ReplyNumbers → Type 0
 IsNothingDone old new numbers numbers' = (new ≡ old) × (numbers' ≡ numbers)
 

@@ -41,16 +41,16 @@ no_figures = record {
   cache = replicate CACHES no_cache;
 }
 
--- the bytes of a greatest free block, 0 if there is none
+-- the size of a greatest free block in bytes, 0 if there is none
 abbrev pub greatest_bytes : Option ℕ → ℕ
 greatest_bytes None = 0
 greatest_bytes (Some order) = block_bytes order
 
--- the rows, and behind them what was there
+-- the rows, and the old rows behind them
 abbrev pub over : {A : Type 0} → List A → List A → List A
 over rows before = rows ++ drop (length rows) before
 
--- a report, its rows filled up with zeroes
+-- a report as figures, with zeroes behind its rows
 abbrev pub figures_of_report : words.Report → Figures
 figures_of_report report = record {
   frames = report.frames;

@@ -1,4 +1,4 @@
--- What lies under a slot, and at a place.
+-- Lookups of the superblock in a slot, and of the block at a place.
 use Rattle.std.specs.Prelude.{◌≡◌, ℕ, ◌*◌, ◌/◌, ◌^◌, ◌<◌, ◌≤◌, nat_lt, if◌then◌else◌, Option, Some, None, Result, Ok, Err, MatchOption, unwrap_or}
 use Rattle.words_core.specs.declared.reply.Refusal.{Refusal}
 use Rattle.model_core.specs.declared.limits.TheConstants.{FRAME_BYTES}
@@ -15,12 +15,12 @@ use Rattle.partmem_c.specs.declared.lookups.TheConstants.{NO_SUCH_SLOT, FREE_FRA
 use Rattle.partmem_c.specs.declared.lookups.Block.{Block}
 use Rattle.partmem_c.specs.declared.granting.HeldSlot.{HeldSlot}
 
--- what a lookup found is returned with DONE; a refusal as its status, with nothing found
+-- if a lookup succeeds, its value is returned with DONE; if it is refused, the refusal's status, with `nothing`
 abbrev pub Returns : {A : Type 0} → A → Result A Refusal → ℕ → A → Type 0
 Returns nothing (Ok there) status found = (status ≡ DONE) × (found ≡ there)
 Returns nothing (Err refusal) status found = (status ≡ number_of_refusal refusal) × (found ≡ nothing)
 
--- The call returns what `Finds` says of the kernel that is held. Without a machine nothing is found.
+-- The call returns a result that `Finds` allows for the held kernel. Without a machine nothing is found.
 abbrev pub LooksUp : {A : Type 0} → A → Option KernelContent → (KernelContent → Result A Refusal → Type 0) → ℕ → A → Type 0
 LooksUp nothing None Finds status found = (status ≡ NO_MACHINE) × (found ≡ nothing)
 LooksUp {A} nothing (Some k) Finds status found =
@@ -30,7 +30,7 @@ abbrev pub slot_over : ℕ → Option ℕ → Result HeldSlot Refusal
 slot_over slot None = Err Refusal.NoSlot
 slot_over slot (Some superblock) = Ok (record { slot = slot; superblock = superblock })
 
--- the superblock under a slot of a tenant, or why there is none
+-- the superblock in a slot of a tenant, or the refusal
 abbrev pub slot_at : KernelContent → ℕ → ℕ → Result HeldSlot Refusal
 slot_at k t slot = if nat_lt t k.tenants then slot_over slot (superblock_at k t slot) else Err Refusal.NoTenant
 
@@ -45,7 +45,7 @@ use_of FrameKind.Full = SLAB
 use_of FrameKind.Partial = SLAB
 use_of FrameKind.Empty = SLAB
 
--- the first frame and the order of what has a frame that is not taken: of the slot if it is not held, else of the frame alone
+-- the first frame and the order for a frame in no taken block: those of the slot if it is not held, else those of the frame alone
 abbrev pub untaken : FrameKind → ℕ → ℕ → ℕ × ℕ
 untaken FrameKind.NotHeld frame order = (frame / 2 ^ order * 2 ^ order, order)
 untaken FrameKind.Free frame order = (frame, 0)
@@ -54,14 +54,14 @@ untaken FrameKind.Full frame order = (frame, 0)
 untaken FrameKind.Partial frame order = (frame, 0)
 untaken FrameKind.Empty frame order = (frame, 0)
 
--- These are the first frame and the order of the taken block that has a frame. If none has it, `untaken` says them.
+-- These are the first frame and the order of the taken block that contains a frame. If none does, they are those of `untaken`.
 pub record AreAround (k : KernelContent) (t frame : ℕ) (kind : FrameKind) (around : ℕ × ℕ) : Type 0 where
   pub taken : Option (ℕ × ℕ)
   pub block : MatchOption taken (IsTaken (taken_of (holding_of t k.buddy)) frame → ⊥)
       (λ b. (taken_of (holding_of t k.buddy) b.0 ≡ Some b.1) × HasFrame (block b.0 b.1) frame)
   pub is : around ≡ unwrap_or taken (untaken kind frame k.order)
 
--- a frame of a tenant is of this kind in its private machine, and these are the place and the bytes of what it lies in
+-- a tenant's frame has this kind in its private machine, and these are the place and the size of the block that contains it
 pub record IsBlockAt (k : KernelContent) (t frame : ℕ) (found : Block) : Type 0 where
   pub kind : FrameKind
   pub is : (m : Machine) → ShowsMachine k t m → IsFrame k.order m frame kind
@@ -72,7 +72,7 @@ pub record IsBlockAt (k : KernelContent) (t frame : ℕ) (found : Block) : Type 
   pub begins : found.place ≡ first * FRAME_BYTES
   pub counted : found.bytes ≡ FRAME_BYTES * 2 ^ order
 
--- the block that contains a tenant's place, or that there is no such tenant
+-- the block that contains a tenant's place, or the refusal if there is no such tenant
 abbrev pub FindsBlock : KernelContent → ℕ → ℕ → Result Block Refusal → Type 0
 FindsBlock k t place (Ok found) = (t < k.tenants) × IsBlockAt k t (place / FRAME_BYTES) found
 FindsBlock k t place (Err refusal) = (k.tenants ≤ t) × (refusal ≡ Refusal.NoTenant)

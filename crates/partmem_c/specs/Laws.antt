@@ -1,4 +1,4 @@
--- Lists of calls of `partmem_line` on one machine, each done.
+-- Lists of calls of `partmem_line` on one machine, each with status `DONE`.
 use Rattle.std.specs.Prelude.{◌≡◌, ℕ, ◌<◌, List, [], ◌∷◌, map}
 use Rattle.std.specs.List.{concat}
 use Rattle.std.specs.Thread.{IsSend}
@@ -13,7 +13,7 @@ use Rattle.streams.specs.Lines.{IsOneLine}
 use Rattle.partmem_c.specs.Lines.{AnswersLine}
 use Rattle.partmem_c.specs.contracts.machine.Machine.{the_row}
 
--- a call that was done: its line, and what it wrote
+-- a call with status `DONE`: its line, and the text that it wrote
 pub record Call : Type 0 where
   pub line : List ℕ
   pub text : List ℕ
@@ -30,13 +30,13 @@ Ran k [] k' = k' ≡ k
 Ran k (call ∷ calls) k' =
     (next : KernelContent) × IsOneLine call.line × AnswersLine k (reading_of call.line) next call.text × Ran next calls k'
 
--- In every world that the first kernel shows, the last one shows what the lines make of it.
+-- If the first kernel shows a world, the last one shows this world after the lines.
 abbrev pub StandsAfterCalls : Type 0
 StandsAfterCalls = (k k' : KernelContent) (calls : List Call) → Ran k calls k' → (w : World) → Shows k w →
     Shows k' (world_after cache_limit k.order w (events_of (lines_of_calls calls)))
 
--- From boot on, whatever the others do: of all that was written, the lines for a tenant are those of its private machine on
--- its own list of the trace that the lines are.
+-- From boot on, whatever the others do: the lines that were written for a tenant are those of its private machine, run on its own
+-- list of the trace of all lines.
 abbrev pub OwnLinesOfCalls : Type 0
 OwnLinesOfCalls = (k k' : KernelContent) (superblocks tenants t : ℕ) (calls : List Call) →
     Shows k (opening_world superblocks tenants) → t < tenants → Ran k calls k' →
@@ -52,6 +52,6 @@ SameLinesOfCalls = (k k' m m' : KernelContent) (superblocks tenants superblocks'
     (events_of (lines_of_calls calls)) (events_of (lines_of_calls calls')) →
     Ran k calls k' → Ran m calls' m' → lines_for t (texts_of calls) ≡ lines_for t (texts_of calls')
 
--- What C holds between two calls owns nothing of the thread that made it: it is the same in every thread.
+-- The value that C holds between two calls owns nothing of the thread that made it: it is the same in every thread.
 abbrev pub MayChangeThreads : Type 0
 MayChangeThreads = IsSend the_row

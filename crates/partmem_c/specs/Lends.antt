@@ -25,21 +25,21 @@ use Rattle.partmem_c.specs.declared.telling.ReplyNumbers.{ReplyNumbers}
 abbrev pub no_lent : Lent
 no_lent = record { at = null_ptr; place = 0; bytes = 0 }
 
--- these are the place and the number of the bytes lent, and their address is not null
+-- these are the place and the number of the lent bytes, and their address is not null
 pub record IsLentAt (place bytes : ℕ) (lent : Lent) : Type 0 where
   pub begins : lent.place ≡ place
   pub counted : lent.bytes ≡ bytes
   pub somewhere : lent.at ≢ null_ptr
 
--- Lookups of bytes to lend: in each, the tenant's, or why nothing is lent.
+-- Lookups of bytes to lend: each finds bytes of the tenant, or a refusal.
 
--- this number of bytes from a place on, inside one live page block or one live object
+-- `len` bytes from a place on, inside one live page block or one live object
 abbrev pub FindsRange : KernelContent → ℕ → ℕ → ℕ → Result Lent Refusal → Type 0
 FindsRange k t place len (Ok lent) = (t < k.tenants) × IsInReach k.space k.buddy k.slabs t place len × IsLentAt place len lent
 FindsRange k t place len (Err refusal) =
     IsNotLent k t (λ why. (why ≡ Refusal.OutOfReach) × ((m : Machine) → ShowsMachine k t m → in_reach m place len ≡ false)) refusal
 
--- the whole live page block in which a place lies
+-- the whole live page block that contains a place
 abbrev pub FindsWholeBlock : KernelContent → ℕ → ℕ → Result Lent Refusal → Type 0
 FindsWholeBlock k t place (Ok lent) = (t < k.tenants)
     × ((m : Machine) → ShowsMachine k t m → HasBlock m place lent.place lent.bytes) × IsLentAt lent.place lent.bytes lent
@@ -54,7 +54,7 @@ FindsObject k t cache place (Ok lent) = (t < k.tenants)
 FindsObject k t cache place (Err refusal) =
     IsNotLent k t (λ why. (m : Machine) → ShowsMachine k t m → give_body (give_step cache place m).answer ≡ Body.Refused why) refusal
 
--- Commands that lend what they take: the reply follows from the outcome.
+-- Commands that lend what they allocate: the reply follows from the outcome.
 
 abbrev pub alloc_reply : KernelContent → ℕ → Result Lent Refusal → Reply
 alloc_reply k t outcome = reply_for k t (body_of (λ lent. Body.Frame (lent.place / FRAME_BYTES)) outcome)
@@ -67,7 +67,7 @@ pub record AllocLends (old : KernelContent) (t order : ℕ) (new : KernelContent
 abbrev pub take_reply : KernelContent → ℕ → Result Lent Refusal → Reply
 take_reply k t outcome = reply_for k t (body_of (λ lent. Body.Object lent.place) outcome)
 
--- what is lent, if something is, are the bytes of a live object of the cache
+-- the lent bytes, if any, are those of a live object of the cache
 abbrev pub IsObjectOf : KernelContent → ℕ → ℕ → Lent → Type 0
 IsObjectOf k t cache lent = lent.at ≢ null_ptr → (m : Machine) → ShowsMachine k t m → HasObject m cache lent.place lent.bytes
 
@@ -77,18 +77,18 @@ pub record TakeLends (old : KernelContent) (t cache : ℕ) (new : KernelContent)
   pub lent : IfOk outcome (λ lent. IsLentAt lent.place lent.bytes lent)
   pub object : IfOk outcome (IsObjectOf new t cache)
 
--- this number of bytes at a place is lent, or nothing is
+-- this number of bytes at a place is lent if the condition is true, otherwise nothing is
 abbrev pub IsLentIf : Bool → ℕ → ℕ → Lent → Type 0
 IsLentIf true place bytes lent = IsLentAt place bytes lent
 IsLentIf false place bytes lent = lent ≡ no_lent
 
--- what an alloc returns by the numbers of its reply: the block that it says, if it is one
+-- the bytes that an alloc lends, by the numbers of its reply: the block in the reply, if there is one
 abbrev pub IsBlockLent : ℕ → Option ReplyNumbers → Lent → Type 0
 IsBlockLent order None lent = lent ≡ no_lent
 IsBlockLent order (Some numbers) lent =
     IsLentIf (numbers.kind == FRAME) (FRAME_BYTES * numbers.first) (FRAME_BYTES * 2 ^ order) lent
 
--- what a take returns: the object that it says, if it is one
+-- the bytes that a take lends: the object in the reply, if there is one
 abbrev pub IsObjectLent : Option ReplyNumbers → Lent → Type 0
 IsObjectLent None lent = lent ≡ no_lent
 IsObjectLent (Some numbers) lent = IsLentIf (numbers.kind == OBJECT) numbers.first lent.bytes lent

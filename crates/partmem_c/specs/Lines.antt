@@ -1,4 +1,4 @@
--- A line run on the kernel that is held.
+-- Lines that are run on the held kernel.
 use Rattle.std.specs.Prelude.{◌≡◌, ℕ, ◌==◌, ◌≤◌, nat_lt, Bool, true, false, not, List, [], ◌++◌, length, drop, if◌then◌else◌, Option, Some, None, is_some, MatchOption, Result, Ok, Err}
 use Rattle.std.specs.List.{list_any}
 use Rattle.words_core.specs.declared.reply.Addressee.{Addressee}
@@ -18,24 +18,24 @@ use Rattle.partmem_c.specs.declared.status.TheConstants.{DONE, NO_MACHINE, NOT_A
 abbrev pub has_line_feed : List ℕ → Bool
 has_line_feed bytes = list_any (λ b. b == line_feed) bytes
 
--- The status of such a call: the first error that applies.
+-- the status of a call with a line: the first error that applies
 abbrev pub line_status : Option KernelContent → List ℕ → List ℕ → ℕ
 line_status held line buffer =
     if not (is_some held) then NO_MACHINE
     else (if has_line_feed line then NOT_A_LINE else (if nat_lt (length buffer) most_reply_bytes then BUFFER_TOO_SMALL else DONE))
 
--- A line with this reading was run, and answered by this text: an event is a step of the kernel's, a faulty line is told to
--- nobody, and a blank line or a comment is answered nothing.
+-- A line with this reading was run, and answered by this text. An event is a step of the kernel. The reply to a faulty line is
+-- addressed to nobody. A blank line or a comment has no reply.
 abbrev pub AnswersLine : KernelContent → Result (Option Event) LineFault → KernelContent → List ℕ → Type 0
 AnswersLine old (Ok (Some event)) new text = (reply : Reply) × Steps old event new reply × (text ≡ text_of reply)
 AnswersLine old (Ok None) new text = (new ≡ old) × (text ≡ [])
 AnswersLine old (Err fault) new text = (new ≡ old) × (text ≡ text_of (record { addressee = Addressee.Nobody; body = Body.Fault fault }))
 
--- it has buffer for the longest reply
+-- the buffer is large enough for the longest reply
 abbrev pub IsWide : List ℕ → Type 0
 IsWide buffer = most_reply_bytes ≤ length buffer
 
--- the text is at the front of the buffer, and is counted
+-- the text is at the front of the buffer, and `written` is the number of its bytes
 pub record IsTextWritten (text buffer buffer' : List ℕ) (written : ℕ) : Type 0 where
   pub counted : written ≡ length text
   pub over : buffer' ≡ text ++ drop (length text) buffer
@@ -45,7 +45,7 @@ abbrev pub PutsAnswer : KernelContent → Result (Option Event) LineFault → Ke
 PutsAnswer old reading new buffer buffer' written =
     (text : List ℕ) × AnswersLine old reading new text × IsTextWritten text buffer buffer' written
 
--- it has no line feed, was run on the kernel, and was answered in full
+-- the line has no line feed, was run on the kernel, and was answered in full
 pub record AnswersWhole (old : KernelContent) (line buffer : List ℕ) (new : KernelContent) (buffer' : List ℕ) (written : ℕ)
     : Type 0 where
   pub text : List ℕ
@@ -53,18 +53,18 @@ pub record AnswersWhole (old : KernelContent) (line buffer : List ℕ) (new : Ke
   pub answers : AnswersLine old (reading_of line) new text
   pub puts : IsTextWritten text buffer buffer' written
 
--- it has a line feed, and nothing was done
+-- the line has a line feed, and nothing was done
 pub record IsNoLine (old : KernelContent) (line buffer : List ℕ) (new : KernelContent) (buffer' : List ℕ) : Type 0 where
   pub several : has_line_feed line ≡ true
   pub kernel : new ≡ old
   pub same_buffer : buffer' ≡ buffer
 
--- one of the two, by whether there is a count
+-- the first case if there is a count, else the second
 abbrev pub AnswersOrNot : KernelContent → List ℕ → List ℕ → KernelContent → List ℕ → Option ℕ → Type 0
 AnswersOrNot old line buffer new buffer' counted =
     MatchOption counted (IsNoLine old line buffer new buffer') (λ written. AnswersWhole old line buffer new buffer' written)
 
--- the line was run on the kernel that was held, and answered in full
+-- the line was run on the held kernel, and answered in full
 pub record RunsLine (old new : Option KernelContent) (line buffer buffer' : List ℕ) (written : ℕ) : Type 0 where
   pub before : KernelContent
   pub after : KernelContent

@@ -1,4 +1,4 @@
--- The size of superblocks, and the owner of one as numbers.
+-- The size of superblocks, and the owner of a superblock as numbers.
 use Rattle.std.specs.Prelude.{ℕ, ◌*◌, ◌^◌, nat_lt, not, if◌then◌else◌, List, [], length, Option, Some, None, is_some}
 use Rattle.model_core.specs.declared.limits.TheConstants.{FRAME_BYTES}
 use Rattle.model_core.specs.declared.owner.Owner as model
@@ -7,12 +7,12 @@ use Rattle.kernel_core.specs.Content.{KernelContent}
 use Rattle.partmem_c.specs.declared.owners.Owner.{Owner}
 use Rattle.partmem_c.specs.declared.status.TheConstants.{DONE, NO_MACHINE, NO_SUPERBLOCK}
 
--- the bytes of each superblock of the machine that is held
+-- the size of each superblock of the held machine in bytes, 0 without a machine
 abbrev pub size_of_superblock : Option KernelContent → ℕ
 size_of_superblock None = 0
 size_of_superblock (Some k) = FRAME_BYTES * 2 ^ k.order
 
--- the owners of the superblocks of the machine that is held
+-- the owners of the superblocks of the held machine
 abbrev pub owners_held : Option KernelContent → List (Option model.Owner)
 owners_held None = []
 owners_held (Some k) = k.space.owners
@@ -21,13 +21,13 @@ abbrev pub owner_numbers : Option model.Owner → Owner
 owner_numbers None = record { is_owned = 0; tenant = 0; slot = 0 }
 owner_numbers (Some owner) = record { is_owned = 1; tenant = owner.tenant; slot = owner.slot }
 
--- What such a call answers.
+-- the status of a lookup of an owner
 abbrev pub owner_status : Option KernelContent → ℕ → ℕ
 owner_status held superblock =
     if not (is_some held) then NO_MACHINE
     else (if nat_lt superblock (length (owners_held held)) then DONE else NO_SUPERBLOCK)
 
--- what there is to tell of a superblock of that number
+-- the owner to report for a superblock of this number, if the superblock exists
 abbrev pub owner_reported : List (Option model.Owner) → ℕ → Option Owner
 owner_reported owners superblock =
     if nat_lt superblock (length owners) then Some (owner_numbers (owner_at owners superblock)) else None

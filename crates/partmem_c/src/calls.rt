@@ -55,7 +55,8 @@ pub(crate) fn run_admin_command(
     Some(numbers)
 }
 
-/// Returns the status of a call with this reply: that of the refusal, if it is one.
+/// Returns the status of a call with this reply: the refusal's number if it is one, `NO_MACHINE` if there is no reply, else
+/// `DONE`.
 #[inline(always)]
 pub(crate) fn call_status(reply: Option<ReplyNumbers>) -> u32
     ensures { result ≡ call_status reply }

@@ -42,7 +42,8 @@ pub const FREE: u32 = 7;
 pub const READ: u32 = 8;
 /// The tenant writes the 1 to 64 bytes that are passed, from place `first` on.
 pub const WRITE: u32 = 9;
-/// The tenant makes a cache of objects of `first` bytes, aligned to `second`, constructed with the 1 to 16 bytes that are passed.
+/// The tenant makes a cache of objects of `first` bytes, aligned to `second`. The 1 to 16 bytes that are passed are the pattern
+/// of its objects.
 pub const CACHE: u32 = 10;
 /// The tenant destroys cache `first`.
 pub const DESTROY: u32 = 11;
@@ -55,8 +56,8 @@ pub const REAP: u32 = 14;
 /// The tenant requests the figures of its memory.
 pub const REPORT: u32 = 15;
 
-/// An event as numbers: its kind, the tenant that requests it or that it is about, and the numbers of the command, as the
-/// constants say.
+/// An event as numbers: its kind, the tenant that requests it or that it concerns, and the numbers of the command. The constants
+/// of this module say which numbers a kind has.
 ///
 /// A number that the kind does not use is ignored.
 #[repr(C)]
@@ -68,7 +69,7 @@ pub struct RequestNumbers {
     pub second: u32,
 }
 
-/// Returns true if the numbers and bytes are an event.
+/// Returns whether the numbers and bytes are an event.
 #[inline(always)]
 pub fn is_event(request: &RequestNumbers, bytes: &[u8]) -> bool
     ensures { result ≡ is_some (requested_event request.now bytes.now) }
@@ -80,7 +81,7 @@ pub fn is_event(request: &RequestNumbers, bytes: &[u8]) -> bool
     }
 }
 
-/// Returns the event of the numbers and bytes, or `None` if they are none.
+/// Returns the event of the numbers and bytes, or `None` if they are not an event.
 pub fn event_of(request: &RequestNumbers, bytes: &[u8]) -> Option<Event>
     ensures says { result ≡ requested_event request.now bytes.now }
     ensures pattern { IfSome result (λ event. HasPattern event) }
@@ -169,7 +170,7 @@ fn some_bytes<const N: usize>(bytes: &[u8]) -> Option<ArrayVec<u8, N>>
 /// The bytes of a read are copied to the front of `buffer`, which needs `MOST_BYTES` bytes for any event. The status of a refused
 /// event is `DONE`, and its reply is the refusal.
 ///
-/// Returns `NO_MACHINE`, `NOT_AN_EVENT` or `BUFFER_TOO_SMALL`; then the reply and the buffer are as before.
+/// Returns `NO_MACHINE`, `NOT_AN_EVENT` or `BUFFER_TOO_SMALL`. The reply and the buffer are then unchanged.
 #[unsafe(no_mangle)]
 pub extern "C" fn partmem_event(
     alloc: Global,
@@ -195,7 +196,7 @@ pub extern "C" fn partmem_event(
     }
 }
 
-/// Returns the kind, or `NOTHING`, which is no event's, if the buffer is too small.
+/// Returns the kind, or `NOTHING`, which is the kind of no event, if the buffer is too small.
 ///
 /// So one test separates the four frequent kinds, which use neither the bytes nor the buffer, from all others. The pointers of C
 /// are made into slices only after that test.
@@ -226,8 +227,8 @@ fn status_without_buffer(machine: &Machine, request: &RequestNumbers, bytes: &[u
 
 /// [`partmem_event`] for a kind that neither uses nor returns bytes.
 ///
-/// Each kind has its own instance, out of line, which saves only the registers that it needs. The instance tests that there is a
-/// machine, so that its caller can end in a tail call.
+/// Each kind has its own instance, out of line, which saves only the registers that it needs. The instance tests whether there is
+/// a machine, so that its caller can end in a tail call.
 #[inline(never)]
 fn plain_event<const KIND: u32>(
     alloc: Global,
@@ -245,7 +246,7 @@ fn plain_event<const KIND: u32>(
     ask(alloc, machine, request.tenant, command, reply)
 }
 
-/// Returns the command of such a kind. `kind` is a constant, so the compiler knows the command.
+/// Returns the command of a kind that neither uses nor returns bytes. `kind` is a constant, so the compiler knows the command.
 #[inline(always)]
 fn plain_request(kind: u32, request: &RequestNumbers) -> Request<'static>
     requires kind { request.now.kind ≡ kind }
@@ -430,7 +431,7 @@ fn cache_event(
     ask(alloc, machine, request.tenant, command, reply)
 }
 
-/// Returns the status of a call whose numbers and bytes are no event.
+/// Returns the status of a call whose numbers and bytes are not an event.
 pub(crate) fn status_of_none(machine: &Machine) -> u32
     ensures { result ≡ (if is_some machine.now.slot.held then NOT_AN_EVENT else NO_MACHINE) }
 {
@@ -489,7 +490,7 @@ fn step(kernel: &mut Kernel, event: &Event, buffer: &mut [u8]) -> ReplyNumbers
     }
 }
 
-/// Returns the number of superblocks as the reply for the table of owners, which is not written.
+/// Returns the reply for the table of owners, which is the number of superblocks. The table itself is not written.
 fn pool(kernel: &Kernel) -> ReplyNumbers
     ensures { (buffer : List ℕ) → AnswersEvent kernel.now (On.Admin Do.Pool) kernel.now result buffer buffer }
 {

@@ -40,17 +40,17 @@ pub struct CacheFigures {
 pub struct Figures {
     /// The number of frames in the tenant's slots.
     pub frames: u32,
-    /// The number of these in page blocks and slabs.
+    /// The number of these frames that are in page blocks and slabs.
     pub live: u32,
-    /// The number of these that are free.
+    /// The number of these frames that are free.
     pub free: u32,
-    /// The bytes of a largest free block, 0 if no frame is free.
+    /// The size of a largest free block in bytes, 0 if no frame is free.
     pub greatest: u32,
     /// The share of the free frames outside one largest free block, in thousandths.
     pub split: u32,
-    /// The number of rows of `order`, from order 0 on.
+    /// The number of used rows of `order`, from order 0 on.
     pub orders: u32,
-    /// The number of rows of `cache`, in ascending order of the caches' numbers.
+    /// The number of used rows of `cache`, in ascending order of the caches' numbers.
     pub caches: u32,
     pub order: [OrderFigures; ORDERS],
     pub cache: [CacheFigures; CACHES],
@@ -104,7 +104,7 @@ pub extern "C" fn partmem_report(
     status
 }
 
-/// Fills in the figures of a tenant, which were all zeros, and returns the status. If there is no such tenant they stay zeros.
+/// Fills in the figures of a tenant, which were all zeros, and returns the status. If there is no such tenant, they stay zeros.
 fn put_figures(kernel: &Kernel, tenant: u32, figures: &mut Figures) -> u32
     requires { figures.old ≡ no_figures }
     ensures { PutsFigures kernel.now tenant result figures.new }

@@ -11,7 +11,7 @@ use kernel_core::Kernel;
 use std::alloc::Global;
 use words_core::Refusal;
 
-/// The number of no cache, given for a page block.
+/// The cache number of a page block, which is in no cache.
 pub const OF_NO_CACHE: u32 = u32::MAX;
 
 /// A live object or a live page block: its cache ([`OF_NO_CACHE`] for a page block), the place of its first byte, and its size in

@@ -2,7 +2,7 @@
 
 /// The kind of no reply.
 pub const NOTHING: u32 = 0;
-/// Refused, with nothing changed: the number of the refusal.
+/// The event was refused, and nothing changed: the number of the refusal.
 pub const REFUSED: u32 = 1;
 /// The tenant, its slot, and its superblock.
 pub const GRANTED: u32 = 2;

@@ -10,9 +10,9 @@ use crate::machine::Machine;
 use std::alloc::Global;
 use world_core::laws;
 
-/// If only `partmem_line` is called on a machine from boot on, and each call has status `DONE`, the lines are a trace, after which
-/// the kernel is in its state. The lines for a tenant are those that its private machine gives to its own list, whatever the others
-/// do.
+/// If only `partmem_line` is called on a machine from boot on, and each call has status `DONE`, the lines are a trace, and the
+/// kernel is in the state after this trace. The lines for a tenant are those that its private machine returns for its own list,
+/// whatever the others do.
 pub fn own_lines()
     ensures stands { StandsAfterCalls }
     ensures lines { OwnLinesOfCalls }
@@ -22,15 +22,15 @@ pub fn own_lines()
     laws::non_interference();
 }
 
-/// Lines with an event, events, direct calls, calls of the kernel, and stores and loads in place, from boot on, are actions. From any list of
-/// them a tenant sees what its private machine gives to its own list, whatever the others do.
+/// From boot on, lines with an event, events, direct calls, calls of the kernel, and stores and loads in place are actions. From
+/// any list of actions a tenant sees what its private machine returns for its own list, whatever the others do.
 pub fn own_sights()
     ensures { OwnSightsOfCalls }
 {
     kernel_core::laws::own_sights();
 }
 
-/// A [`crate::pages::partmem_free`] by an existing tenant, at a place that is no multiple of 4096, is refused with
+/// A [`crate::pages::partmem_free`] by an existing tenant at a place that is not a multiple of 4096 is refused with
 /// `NOT_A_BLOCK`.
 pub fn offsets_are_refused()
     ensures { OffsetsAreRefused }
@@ -49,7 +49,7 @@ pub fn is_kernel(alloc: Global, machine: &mut Machine)
     machine.put_in(kernel);
 }
 
-/// What C holds between two calls may be passed to another thread. The caller's duty is to make one call at a time.
+/// The machine that C holds between two calls may be passed to another thread. The caller must make one call at a time.
 pub fn may_change_threads()
     ensures { MayChangeThreads }
 {}

@@ -24,7 +24,7 @@ pub struct Lent {
 }
 
 impl Lent {
-    /// Returns the value for no bytes.
+    /// Returns the value for no lent bytes, which is all zero.
     #[inline(always)]
     pub fn none() -> Lent
         ensures { result ≡ no_lent }
@@ -95,7 +95,7 @@ fn first_of(bytes: &mut [u8]) -> *mut u8
     bytes.as_mut_ptr()
 }
 
-/// Lends one or more bytes from `place` on, which have to be inside one live page block or one live object.
+/// Lends one or more bytes from `place` on. They must be inside one live page block or one live object.
 ///
 /// Returns `NO_MACHINE`, `NO_TENANT` or `OUT_OF_REACH`.
 #[unsafe(no_mangle)]

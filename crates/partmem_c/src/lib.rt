@@ -5,8 +5,8 @@
 //! bytes in place; [`lookups`], [`holders`], [`figures`] and [`owners`] look things up.
 //!
 //! An export tests everything that C can get wrong without breaking memory. After an error or a refusal nothing has changed, and
-//! the results are zeros; only a read leaves its bytes as they were, and [`events::partmem_event`] its reply. No number makes an
-//! export write more than its results.
+//! the results are zeros. There are two exceptions: a read leaves its bytes as they were, and [`events::partmem_event`] its
+//! reply. No number makes an export write more than its results.
 #![tactic(auto)]
 
 pub mod booting;

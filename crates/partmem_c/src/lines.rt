@@ -27,16 +27,16 @@ use words_core::{
     write_answer_to,
 };
 
-/// An upper bound on the bytes of a reply to a line, which the table of owners decides.
+/// An upper bound of the bytes of a reply to a line. The longest reply is the table of owners.
 pub const MOST_TEXT_BYTES: usize = MOST_ROWS * MOST_REPLY_BYTES;
 
 /// Runs a line of a trace, and writes its reply lines to the front of `buffer`. `written` is the number of their bytes, 0 if the
 /// status is not `DONE`.
 ///
-/// The line comes without its line feed. The reply to a faulty line is the line that says so. A buffer of `MOST_TEXT_BYTES` bytes
-/// is large enough for any line.
+/// The line is passed without its line feed. The reply to a faulty line names the fault. A buffer of `MOST_TEXT_BYTES` bytes is
+/// large enough for any line.
 ///
-/// Returns `NO_MACHINE`, `NOT_A_LINE` or `BUFFER_TOO_SMALL`; then the buffer is as before.
+/// Returns `NO_MACHINE`, `NOT_A_LINE` or `BUFFER_TOO_SMALL`. The buffer is then unchanged.
 #[unsafe(no_mangle)]
 pub extern "C" fn partmem_line(
     alloc: Global,
@@ -81,13 +81,13 @@ fn status_without_buffer(line: &[u8]) -> u32
     }
 }
 
-/// Size of a buffer for a frequent line with its line feed: a tenant, a word, a place, and bytes in hex.
+/// The size of a buffer for a frequent line with its line feed: a tenant, a word, a place, and bytes in hex.
 const MOST_SHORT_LINE: usize = 160;
 
-/// Runs a line on the kernel, writes the answer to the front of `buffer`, and returns the number of its bytes. Returns `None` and
-/// does nothing if the line has a line feed.
+/// Runs a line on the kernel, writes the answer to the front of `buffer`, and returns the number of the answer's bytes. Returns
+/// `None` and does nothing if the line has a line feed.
 ///
-/// A line that was read as a quick request as a whole has none, and is not searched for one.
+/// If a quick request is the whole line, the line has no line feed, and is not searched for one.
 #[inline(always)]
 fn run_line(kernel: &mut Kernel, line: &[u8], buffer: &mut [u8]) -> Option<usize>
     requires { IsWide buffer.old }
@@ -110,8 +110,8 @@ fn run_line(kernel: &mut Kernel, line: &[u8], buffer: &mut [u8]) -> Option<usize
     run_any(kernel, line, buffer)
 }
 
-/// [`run_line`] for a longer quick request, such as a write. Returns `None` and does nothing if it is none, or if that is not
-/// sure. Kept out of line, since it needs more stack than most quick requests.
+/// [`run_line`] for a longer quick request, such as a write. Returns `None` and does nothing if the line may be no quick request.
+/// Kept out of line, since it needs more stack than most quick requests.
 #[inline(never)]
 fn run_long(kernel: &mut Kernel, line: &[u8], buffer: &mut [u8]) -> Option<usize>
     requires { IsWide buffer.old }
@@ -153,7 +153,7 @@ fn read(line: &[u8]) -> Result<Option<Event>, LineFault>
     read_line(line)
 }
 
-/// Copies a line to the front of some bytes, and a line feed behind it.
+/// Copies a line to the front of `out`, with a line feed behind it.
 #[inline(always)]
 fn put_ended(line: &[u8], out: &mut [u8])
     requires { length line.now < length out.old }
@@ -246,7 +246,7 @@ fn answer_apart(tenant: u32, request: Request<'_>, kernel: &mut Kernel, buffer: 
     answer_as::<RARE>(tenant, request, kernel, buffer)
 }
 
-/// Writes an answer to a tenant to the front of `buffer` and returns the number of its bytes. The other functions here do the
+/// Writes an answer to a tenant to the front of `buffer`, and returns the number of its bytes. The other functions here do the
 /// same.
 #[inline(always)]
 fn put_answer(tenant: u8, answer: Answer<'_>, buffer: &mut [u8]) -> usize
@@ -310,7 +310,7 @@ fn answer(
     }
 }
 
-/// Kept out of line, so that no other line pays for the memory of a report.
+/// Writes the report of a tenant. Kept out of line, so that no other line pays for the memory of a report.
 #[cold]
 #[inline(never)]
 fn put_report(tenant: u32, kernel: &Kernel, buffer: &mut [u8]) -> usize
@@ -393,7 +393,7 @@ fn put_short(bytes: &[u8], buffer: &mut [u8])
     }
 }
 
-/// Copies the first `N` bytes and the last `N` bytes.
+/// Copies the first `N` bytes and the last `N` bytes to their places in the buffer.
 #[inline(always)]
 fn put_ends<const N: usize>(bytes: &[u8], buffer: &mut [u8])
     requires long { N ≤ length bytes.now }

@@ -128,8 +128,8 @@ fn block_around(kernel: &Kernel, t: u8, frame: u32) -> Block
     }
 }
 
-/// Returns the first frame and the order of the taken block that contains a frame of this kind. If none does, these are those of
-/// the frame alone, or of the slot if it is not held.
+/// Returns the first frame and the order of the taken block that contains a frame of this kind. If none does, it returns those of
+/// the frame alone, or those of its slot if the slot is not held.
 fn frames_around(kernel: &Kernel, t: u8, frame: u32, kind: FrameKind) -> (u32, u32)
     requires { t < kernel.now.tenants }
     ensures around { AreAround kernel.now t frame kind result }
@@ -145,7 +145,7 @@ fn frames_around(kernel: &Kernel, t: u8, frame: u32, kind: FrameKind) -> (u32, u
     }
 }
 
-/// Returns the first frame and the order of the slot of a frame if the slot is not held, else of the frame alone.
+/// Returns the first frame and the order of a frame's slot if the slot is not held, else those of the frame alone.
 fn untaken(kind: FrameKind, frame: u32, order: u32) -> (u32, u32)
     requires { order ≤ MOST_ORDER }
     ensures value { result ≡ untaken kind frame order }

@@ -17,7 +17,7 @@ pub struct Machine {
 }
 
 impl Machine {
-    /// Returns true if it holds a machine.
+    /// Returns whether the place holds a machine.
     pub fn is_booted(&self) -> bool
         ensures { result ≡ is_some self.now.slot.held }
     {

@@ -19,8 +19,8 @@ use model_core::limits::MOST_PATTERN;
 use std::alloc::Global;
 use words_core::{Refusal, Request};
 
-/// A new cache: its number, the bytes from one object to the next, the bytes of a slab, and the numbers of objects and colours of
-/// a slab.
+/// A new cache: its number, the distance from one object to the next and the size of a slab, both in bytes, and the numbers of
+/// objects and colours of a slab.
 #[repr(C)]
 #[derive(Clone, Copy, Debug)]
 pub struct MadeCache {
@@ -123,7 +123,7 @@ fn take_object(kernel: &mut Kernel, tenant: u32, cache: u32) -> Result<Lent, Ref
     Ok(lent_of(kernel, span))
 }
 
-/// Gives back the object of the cache that begins at a place.
+/// Gives back the object of a cache that begins at a place.
 ///
 /// Returns `NO_MACHINE`, `NO_TENANT`, `NO_CACHE` or `NOT_AN_OBJECT`.
 #[unsafe(no_mangle)]

@@ -10,7 +10,8 @@ use crate::status::{DONE, NO_MACHINE, NO_SUPERBLOCK};
 use kernel_core::Kernel;
 use std::alloc::Global;
 
-/// The owner of a superblock: a slot of a tenant. `is_owned` is 1 if the superblock has an owner; else all are 0.
+/// The owner of a superblock, which is a slot of a tenant. `is_owned` is 1 if the superblock has an owner; otherwise all fields
+/// are 0.
 #[repr(C)]
 #[derive(Clone, Copy, Debug)]
 pub struct Owner {

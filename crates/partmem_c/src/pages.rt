@@ -15,7 +15,7 @@ use model_core::limits::FRAME_BYTES;
 use std::alloc::Global;
 use words_core::{Refusal, Request};
 
-/// A number above those of all frames of any machine.
+/// A number above the number of any frame of any machine.
 const NO_FRAME: u32 = 1 << 20;
 
 /// Allocates a page block of `2^order` frames, and lends it.
@@ -62,7 +62,7 @@ pub extern "C" fn partmem_free(alloc: Global, machine: &mut Machine, tenant: u32
     call_status(run_command(alloc, machine, tenant, Request::Free { frame }))
 }
 
-/// Returns the frame that begins at a place. If none does, it returns a number above those of all frames.
+/// Returns the frame that begins at a place. If none does, it returns a number above that of any frame.
 #[inline(always)]
 fn frame_at_place(place: u32) -> u32
     ensures { result ≡ frame_at_place place }

@@ -1,4 +1,4 @@
-//! A box as its pointer and its allocator's handle, which together own the value.
+//! A box, taken apart into its pointer and its allocator's handle. Together they own the value.
 //!
 //! A `#[repr(C)]` struct can hold the pointer, but not the box.
 
@@ -11,7 +11,7 @@ use std::marker::Model;
 /// The pointer of a box with the handle that frees its block. Clauses call the value there `value`.
 ///
 /// It is not `Drop`, so it cannot be dropped as a whole. A caller that takes it apart into its fields, or forgets the box that
-/// `into_box` makes, loses the value and its block; no contract excludes that.
+/// `into_box` makes, leaks the value and its block. No contract excludes that.
 pub struct RawBox<T, A: Allocator> {
     pub at: *mut T,
     pub alloc: A,
@@ -31,7 +31,7 @@ impl<T: Drop, A: Allocator> RawBox<T, A> {
         RawBox { at, alloc }
     }
 
-    /// Returns the box.
+    /// Returns the box of this pointer and handle.
     pub fn into_box(self) -> Box<T, A>
         ensures { result.value ≡ self.value }
     {

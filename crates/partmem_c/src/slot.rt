@@ -1,4 +1,4 @@
-//! The place of a machine between two calls.
+//! The place that holds a machine between two calls.
 
 ghost use Rattle.std.specs.Prelude.{◌≡◌, IsSome, Option, Some, None};
 ghost use Rattle.std.specs.Coded.{coded_option};
@@ -14,8 +14,8 @@ use std::ptr::null_mut;
 
 /// The pointer of a boxed kernel, or null. Clauses call the kernel there `held`.
 ///
-/// C may hold one, but not a box. It is not `Drop`: outside of this file a machine leaves it only by [`Slot::unpark`]. That its
-/// box is then dropped and not forgotten, if a machine ends, is said by no clause.
+/// C may hold a slot, but not a box. It is not `Drop`: outside this file a machine leaves it only by [`Slot::unpark`]. When a
+/// machine ends, its box is dropped and not forgotten, but no clause says so.
 #[repr(C)]
 pub struct Slot {
     at: *mut u8,
@@ -36,7 +36,7 @@ impl Slot {
         Slot { at: null_mut() }
     }
 
-    /// Returns the place of this kernel.
+    /// Returns a place that holds this kernel.
     pub fn park(kernel: RawBox<Kernel, Global>) -> Slot
         ensures { result.held ≡ Some kernel.value }
     {
@@ -56,7 +56,7 @@ impl Slot {
         }
     }
 
-    /// Ends a place without a machine.
+    /// Consumes a place without a machine.
     pub fn discard(self)
         requires { self.held ≡ None }
     {

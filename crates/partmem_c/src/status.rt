@@ -7,7 +7,7 @@ pub const DONE: u32 = 0;
 /// The place holds no machine: it was not booted, or the machine has ended.
 pub const NO_MACHINE: u32 = 32;
 
-/// The place already holds a machine, which stays.
+/// The place already holds a machine, which is unchanged.
 pub const HAS_MACHINE: u32 = 33;
 
 /// A number of the configuration is out of its range.
@@ -22,7 +22,7 @@ pub const NO_SUPERBLOCK: u32 = 37;
 /// The bytes of a line contain a line feed.
 pub const NOT_A_LINE: u32 = 39;
 
-/// The kind is no event's, or the bytes are too few or too many for it.
+/// The kind is not that of an event, or there are too few or too many bytes for it.
 pub const NOT_AN_EVENT: u32 = 40;
 
 /// The buffer is smaller than the function requires.

@@ -1,4 +1,4 @@
--- `discard` lets go of a pointer that owns nothing.
+-- `discard` drops a pointer that owns nothing.
 use Rattle.std.proofs.Common.{List, [], ◌∷◌, ◌++◌, refl, sym, subst}
 use mir.Val.{Val, vunit}
 use base.Logic.{SProp, ent, id⊢}

@@ -1,4 +1,4 @@
--- `park` keeps the pointer alone: what it owns goes into the slot.
+-- `park` keeps only the pointer: what the box owned goes into the slot.
 use Rattle.std.proofs.Common.{◌≡◌, List, [], ◌∷◌, ◌++◌, Some, refl, sym, subst}
 use mir.Val.{Val, vptr}
 use base.Logic.{SProp, ent, emp, id⊢}

@@ -1,4 +1,4 @@
--- `unpark` has the kernel's box again from the pointer.
+-- `unpark` makes the kernel's box again from the pointer.
 use Rattle.std.proofs.Common.{◌≡◌, List, [], ◌∷◌, ◌++◌, Option, Some, is_some, true, refl, sym, subst, ap, ◌∙◌}
 use mir.Val.{Val, vptr}
 use mir.Raw.{raw as bare}
