@@ -1,4 +1,4 @@
--- The rectangles of a tone have its cells, and no others.
+-- The rectangles of a tone contain its cells, and no others.
 use Rattle.std.proofs.Common.{◌≡◌, ◌≢◌, ℕ, zero, suc, ◌+◌, ◌-◌, ◌<◌, ◌≤◌, true, false, List, [], ◌∷◌, ◌++◌, Some, Any, length, drop, take, get_or, slice_get, ap, subst, sym, ◌∙◌, refl, ◌⊎◌, inl, inr, arith, length-append}
 use Rattle.std.proofs.lemmas.Bool.{cases_order, cases_Bool, cases_eq, cases_lt, cond-true, cond-false, false≢true}
 use Rattle.std.proofs.lemmas.List.{get_or-drop, get_or-take, length-drop, length-take, get_or_append_left}
@@ -25,7 +25,7 @@ run_begins tone cells row some = go (cases_Bool (goes_on tone cells row))
         absurd (omega arith)
     go (inr off) = cond-false (goes_on tone cells row) 0 (prefix_len (is_tone tone) (drop row cells)) off
 
--- its cells have the tone
+-- the cells of a run have the tone
 run_has_tone : (tone : Tone) (cells : List Tone) (first row : ℕ) (cell : Tone) → first ≤ row → row < first + run_at tone cells first
     → get_or cells row cell ≡ cell → is_tone tone cell ≡ true
 run_has_tone tone cells first row cell from to read =
@@ -37,7 +37,7 @@ run_has_tone tone cells first row cell from to read =
     get_or-drop first cells (row - first) cell ∙ ap (λ k. get_or cells k cell) at ∙ read in
     ap (is_tone tone) (sym here) ∙ passes
 
--- one begins at a cell of the tone where the cell below is none
+-- a run begins at a cell of the tone if the cell below does not have the tone
 run_starts : (tone : Tone) (cells : List Tone) (row : ℕ) → goes_on tone cells row ≡ false → row < length cells
     → is_tone tone (get_or cells row not_held) ≡ true → row < row + run_at tone cells row
 run_starts tone cells row off within is =
@@ -47,7 +47,7 @@ run_starts tone cells row off within is =
     prefix_len-drop_yes (is_tone tone) cells row not_held within is in
     omega arith
 
--- and goes on to the next cell if that has the tone
+-- a run goes on to the next cell if that cell has the tone
 run_goes_on : (tone : Tone) (cells : List Tone) (first row : ℕ) → first ≤ row → row < first + run_at tone cells first → suc row < length cells
     → is_tone tone (get_or cells (suc row) not_held) ≡ true → suc row < first + run_at tone cells first
 run_goes_on tone cells first row from to within is = go (run_begins tone cells first (omega arith)) (cases_lt (suc row) (first + run_at tone cells first))
@@ -81,7 +81,7 @@ run_of_cell tone cells (suc row) within is =
 
 -- ---- the columns with one run
 
--- the columns from c on have the run, up to e, which is no column or one with another run
+-- the columns from c up to e have the run; e is behind the last column, or a column with another run
 record IsUntil (runs : ℕ → ℕ) (run n c e : ℕ) : Type 0 where
   more : c < e
   most : e ≤ n
@@ -129,7 +129,7 @@ until runs run n c (suc k) at is = go (cases_eq (runs (c + 1)) run) (until runs 
 
 -- ---- the rectangles
 
--- a rectangle of the run at a row that ends where the columns with this run do begins at the first of them or before
+-- if a rectangle of the run at a row ends where the columns with this run end, it begins at their first column or before
 reaches : (runs : ℕ → ℕ) (n c e : ℕ) (r : Rectangle) → IsUntil runs (runs c) n c e → IsRectangle runs n e r
     → (r.column ≤ c) × (r.rows ≡ runs c)
 reaches runs n c e r here rectangle =
@@ -171,7 +171,7 @@ module _ (columns : List (List Tone)) (tone : Tone) (rows : ℕ) (rectangles : L
       let run : run_at tone (take rows cells) r.row ≡ r.rows = sym (runs_here r.row) ∙ rectangle.same column has.left has.right in
       run_has_tone tone (take rows cells) r.row row cell has.lower (omega (arith, has.upper, run)) (read_here cell)
 
-  -- the rectangle that ends where the columns with the run do has the cell
+  -- the rectangle that ends where the columns with the run end contains the cell
   ends_there : (first e : ℕ) → first ≤ row → row < first + run_in columns tone rows first column
       → IsUntil (run_in columns tone rows first) (run_in columns tone rows first column) (length columns) column e
       → GoesOn (run_in columns tone rows first) (length columns) e ⊎ Any (λ r. (r.row ≡ first) × (r.column + r.columns ≡ e)) rectangles
@@ -208,7 +208,7 @@ module _ (columns : List (List Tone)) (tone : Tone) (rows : ℕ) (rectangles : L
         },
       )
 
-  -- a cell of the tone is one of a rectangle
+  -- a cell of the tone is in a rectangle
   pub cell_is_covered : is_tone tone cell ≡ true → Any (HasCell column row) rectangles
   cell_is_covered is =
       let within : column < length columns = slice_get_within columns column cells there in
@@ -220,7 +220,7 @@ module _ (columns : List (List Tone)) (tone : Tone) (rows : ℕ) (rectangles : L
       let last = until (run_in columns tone rows first) (run_in columns tone rows first column) (length columns) column (length columns - column - 1) (omega arith) refl in
       ends_there first last.0 from to last.1 (are.all last.0 first (omega (arith, last.1.more)) last.1.most (omega arith))
 
--- so the rectangles of a tone have its cells
+-- so the rectangles of a tone contain exactly its cells
 pub covers : (columns : List (List Tone)) (tone : Tone) (rows : ℕ) (rectangles : List Rectangle)
     → AreRectangles columns tone rows rows 0 (length columns) rectangles → CoverTone columns tone rows rectangles
 covers columns tone rows rectangles are column row cells cell there here shown = (
@@ -241,7 +241,7 @@ any_after P (x ∷ xs) ys any =
     let less : later.0 < length (xs ++ ys) = later.2 in
     (suc later.0, later.1, omega arith, later.3, later.4)
 
--- none yet
+-- no rectangle yet
 pub rectangles_none : (columns : List (List Tone)) (tone : Tone) (rows height from : ℕ) → AreRectangles columns tone rows height from from []
 rectangles_none columns tone rows height from = record {
   each = λ k d less. absurd (omega arith);
@@ -254,7 +254,7 @@ rows_none columns tone rows from to = record {
   all = λ end row above upto less. absurd (omega arith);
 }
 
--- those that end behind these
+-- the rectangles that end behind these
 pub rectangles_on : (columns : List (List Tone)) (tone : Tone) (rows height from mid to : ℕ) (front back : List Rectangle) → mid ≤ to
     → AreRectangles columns tone rows height from mid front → AreRectangles columns tone rows height mid to back
     → AreRectangles columns tone rows height from to (front ++ back)
@@ -282,7 +282,7 @@ rectangles_on columns tone rows height from mid to front back le before after = 
         ahead (inl on) = inl on
         ahead (inr any) = inr (any_before (λ r. (r.row ≡ row) × (r.column + r.columns ≡ end)) front back any)
 
--- the row above these, where a rectangle ends before column `end` ..
+-- the next row, if a rectangle ends before column `end` ..
 pub row_with : (columns : List (List Tone)) (tone : Tone) (rows height end : ℕ) (rectangles : List Rectangle) (r : Rectangle) → r.row ≡ height
     → IsRectangle (run_in columns tone rows height) (length columns) end r → AreRectangles columns tone rows height (end - 1) end rectangles
     → AreRectangles columns tone rows (height + 1) (end - 1) end (rectangles ++ r ∷ [])
@@ -324,7 +324,7 @@ row_with columns tone rows height end rectangles r top_row rectangle are = recor
     split at row above upto less (inr top) =
         inr (Any-push (λ x. (x.row ≡ row) × (x.column + x.columns ≡ at)) rectangles r (omega (arith, top_row), omega (arith, ends)))
 
--- .. and where none does
+-- .. and if none does
 pub row_without : (columns : List (List Tone)) (tone : Tone) (rows height end : ℕ) (rectangles : List Rectangle)
     → GoesOn (run_in columns tone rows height) (length columns) end → AreRectangles columns tone rows height (end - 1) end rectangles
     → AreRectangles columns tone rows (height + 1) (end - 1) end rectangles

@@ -1,17 +1,17 @@
--- The greatest of more and more numbers.
+-- The greatest of a growing set of numbers.
 use Rattle.std.proofs.Common.{◌≡◌, ℕ, ◌+◌, ◌<◌, ◌≤◌, max, ap, refl, subst, sym, ◌∙◌, ◌⊎◌, inl, inr, arith}
 use Rattle.std.proofs.lemmas.Bool.{cases_order}
 use Rattle.frame_picture.specs.Bounds.{IsGreatest}
 
--- of none
+-- of no numbers
 pub greatest_none : (P : ℕ → Type 0) (lowest : ℕ) → ((n : ℕ) → P n → ⊥) → IsGreatest P lowest lowest
 greatest_none P lowest none = record { above = omega arith; all = λ n p. absurd (none n p); some = inl refl }
 
--- of one
+-- of one number
 pub greatest_one : (v : ℕ) → IsGreatest (λ n. n ≡ v) 0 v
 greatest_one v = record { above = omega arith; all = λ n e. omega arith; some = inr refl }
 
--- of these and those
+-- of two sets of numbers
 pub greatest_both : (P Q R : ℕ → Type 0) (lowest a b : ℕ) → IsGreatest P lowest a → IsGreatest Q 0 b
     → ((n : ℕ) → P n → R n) → ((n : ℕ) → Q n → R n) → ((n : ℕ) → R n → P n ⊎ Q n) → IsGreatest R lowest (max b a)
 greatest_both P Q R lowest a b first second left right split = record {

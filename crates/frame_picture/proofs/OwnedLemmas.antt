@@ -1,4 +1,4 @@
--- The search goes on by a sheet: it is listed, or has no frame of the tenant.
+-- One more sheet is searched: it is listed, or has no frame of the tenant.
 use Rattle.std.proofs.Common.{◌≡◌, ◌≢◌, ℕ, ◌+◌, ◌^◌, ◌<◌, ◌≤◌, ◌==◌, min, List, [], ◌∷◌, ◌++◌, Some, length, take, count_by, get_or, set, slice_get, slice_index, ap, sym, subst, ◌∙◌, refl, ◌⊎◌, inl, inr, append_assoc, arith, length-append}
 use Rattle.std.proofs.lemmas.List.Sums.{sum_by-append, count_by-le-length}
 use Rattle.std.proofs.Math.ListN.{length-set}
@@ -19,7 +19,7 @@ listed_cells-append order t first end sheets (x ∷ xs) ys =
     ap (λ cells. cells_of order t first end (slice_get sheets x) ++ cells) (listed_cells-append order t first end sheets xs ys)
     ∙ sym (append_assoc (cells_of order t first end (slice_get sheets x)) _ _)
 
--- with one more that is listed
+-- the cells with one more listed sheet
 pub listed_more : (order t first end : ℕ) (sheets : List Sheet) (listed : List ℕ) (j : ℕ) (sheet : Sheet) → j < length listed
     → slice_index listed j < length sheets → sheet ≡ get_or sheets (slice_index listed j) sheet
     → listed_cells order t first end sheets (take (j + 1) listed) ≡ listed_cells order t first end sheets (take j listed) ++ cells_in order t first end sheet
@@ -29,7 +29,7 @@ listed_more order t first end sheets listed j sheet within there is =
     ∙ ap (λ cells. listed_cells order t first end sheets (take j listed) ++ cells)
     (append-nil _ ∙ ap (cells_of order t first end) (slice_get-get_or sheets (slice_index listed j) sheet there ∙ ap Some (sym is)))
 
--- the counts with the cells of one more
+-- the counts with the cells of one more sheet
 pub counts_more : (before here after : List FrameKind) (old new : List ℕ) → after ≡ before ++ here
     → ((k : ℕ) → k < 6 → length before < 2 ^ 64 → get_or old k 0 ≡ count_by (λ cell. rank_of cell == k) before)
     → ((k : ℕ) → k < 6 → get_or old k 0 + length here < 2 ^ 64 → get_or new k 0 ≡ get_or old k 0 + count_by (λ cell. rank_of cell == k) here)
@@ -41,7 +41,7 @@ counts_more before here after old new more was counted k less fits =
     let few : count_by test before ≤ length before = count_by-le-length test before in
     counted k less (omega (arith, fits, long, is, few)) ∙ ap (λ n. n + count_by test here) is ∙ sym (ap (count_by test) more ∙ sum_by-append _ before here)
 
--- and how many there are
+-- the total with the cells of one more sheet
 pub shown_more : (before here after : List FrameKind) (old new : ℕ) → after ≡ before ++ here → (length before < 2 ^ 64 → old ≡ length before)
     → new ≡ min (old + length here) 18446744073709551615 → length after < 2 ^ 64 → new ≡ length after
 shown_more before here after old new more was is fits =
@@ -49,13 +49,13 @@ shown_more before here after old new more was is fits =
     let before_is : old ≡ length before = was (omega (arith, fits, long)) in
     omega (arith, is, before_is, long, fits)
 
--- a sheet of another's is not listed
+-- a sheet without frames of the tenant is not listed
 pub passed_more : (order t first end : ℕ) (sheets : List Sheet) (i : ℕ) (sheet : Sheet) → i < length sheets → sheet ≡ get_or sheets i sheet
     → cells_in order t first end sheet ≡ [] → row_cells order t first end (take (i + 1) sheets) ≡ row_cells order t first end (take i sheets)
 passed_more order t first end sheets i sheet within is none =
     row_cells_more order t first end sheets i sheet within is ∙ ap (λ cells. row_cells order t first end (take i sheets) ++ cells) none ∙ append-nil _
 
--- what is listed stays, and the new index is behind it
+-- the listed indices stay, and the new index is behind them
 pub listed_set : (order t first end : ℕ) (sheets : List Sheet) (listed : List ℕ) (len i : ℕ) (sheet : Sheet) → len < length listed
     → i < length sheets → sheet ≡ get_or sheets i sheet
     → listed_cells order t first end sheets (take (len + 1) (set listed len i)) ≡ listed_cells order t first end sheets (take len listed) ++ cells_in order t first end sheet
@@ -65,7 +65,7 @@ listed_set order t first end sheets listed len i sheet within there is =
     (subst (λ (n : ℕ). n < length sheets) (sym same) there) (is ∙ ap (λ (n : ℕ). get_or sheets n sheet) (sym same))
     ∙ ap (λ (xs : List ℕ). listed_cells order t first end sheets xs ++ cells_in order t first end sheet) (take-set listed len i)
 
--- the indices that are listed are indices of sheets
+-- the listed indices are indices of sheets
 pub listed_inside : (listed : List ℕ) (len i most : ℕ) → len < length listed → i < most → ((j : ℕ) → j < len → slice_index listed j < most)
     → (j : ℕ) → j < len + 1 → slice_index (set listed len i) j < most
 listed_inside listed len i most within less before j below = go (cases_order j len)

@@ -32,7 +32,7 @@ row_cells_more order t first end sheets i sheet within is =
     ∙ ap (λ x. row_cells order t first end (take i sheets) ++ (cells_in order t first end x ++ [])) (sym is)
     ∙ ap (λ cells. row_cells order t first end (take i sheets) ++ cells) (append-nil (cells_in order t first end sheet))
 
--- the counts of the cells, to the last of which the frames are added that have none
+-- the counts of the cells, with the frames without a cell added to the last count
 pub counted : (counts : List ℕ) (cells : List FrameKind) (frames v : ℕ) → length counts ≡ 6
     → ((k : ℕ) → k < 6 → get_or counts k 0 ≡ count_by (λ cell. rank_of cell == k) cells)
     → v ≡ get_or counts 5 0 + (frames - length cells)
@@ -52,7 +52,7 @@ counted counts cells frames v six each is k less = go (eqb_tells k 5)
         let none : count_by (λ cell. rank_of cell == k) cells ≡ count_by (λ cell. rank_of cell == k) cells + 0 = omega arith in
         same ∙ each k less ∙ none ∙ ap total (sym another)
 
--- equal counts have the same greatest
+-- equal counts have the same most common kind
 most_along : (kinds : ℕ) (count same : ℕ → ℕ) (kind : ℕ) → kinds ≤ 6 → ((k : ℕ) → k < 6 → count k ≡ same k)
     → IsMostCommon kinds count kind → IsMostCommon kinds same kind
 most_along kinds count same kind few equal most =
@@ -63,7 +63,7 @@ most_along kinds count same kind few equal most =
       first = λ k less. omega (arith, most.first k less, equal k (omega (arith, most.among)), here);
     }
 
--- and as many taken frames
+-- equal counts have the same number of taken frames
 pub taken_along : (count same : ℕ → ℕ) → ((k : ℕ) → k < 6 → count k ≡ same k) → taken_cells count ≡ taken_cells same
 taken_along count same equal =
     omega (arith, equal 0 (omega arith), equal 1 (omega arith), equal 2 (omega arith), equal 3 (omega arith))

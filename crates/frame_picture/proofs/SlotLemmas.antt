@@ -1,4 +1,4 @@
--- The slots of a tenant: those that one sheet, or one column, shows more.
+-- The slots of a tenant, with one more sheet or column.
 use Rattle.std.proofs.Common.{◌≡◌, ℕ, ◌+◌, ◌<◌, max, List, Some, None, length, get_or, ap, refl, subst, sym, ◌∙◌, ◌⊎◌, inl, inr, arith}
 use Rattle.std.proofs.lemmas.Bool.{cases_order}
 use Rattle.std.proofs.lemmas.List.{get_or_default}
@@ -22,18 +22,18 @@ held_slot t sheet owner is mine = record {
   some = inr (owner.slot, is ∙ ap (λ (tenant : ℕ). Some (let o : Owner = record { tenant = tenant; slot = owner.slot } in o)) mine, refl);
 }
 
--- none, if another tenant does
+-- no slot, if another tenant holds it
 pub other_slot : (t : ℕ) (sheet : Sheet) (owner : Owner) → sheet.owner ≡ Some owner → (owner.tenant ≡ t → ⊥)
     → IsGreatest (IsAbove (λ slot. IsSheetOf t slot sheet)) 0 0
 other_slot t sheet owner is other = greatest_none (IsAbove (λ slot. IsSheetOf t slot sheet)) 0
     (λ n held. other (ap (λ (o : Owner). o.tenant) (same_Some owner (record { tenant = t; slot = held.0 }) (sym is ∙ held.1))))
 
--- or nobody
+-- no slot, if nobody does
 pub no_slot : (t : ℕ) (sheet : Sheet) → sheet.owner ≡ None → IsGreatest (IsAbove (λ slot. IsSheetOf t slot sheet)) 0 0
 no_slot t sheet is = greatest_none (IsAbove (λ slot. IsSheetOf t slot sheet)) 0
     (λ n held. let none : None ≡ Some (let o : Owner = record { tenant = t; slot = held.0 } in o) = sym is ∙ held.1 in cc none)
 
--- P holds of one of the first n elements
+-- P holds for one of the first n elements
 abbrev pub AnyBefore : {X : Type 0} → (X → Type 0) → List X → ℕ → Type 0
 AnyBefore {X} P xs n = (k : ℕ) × (x : X) × (k < n) × (get_or xs k x ≡ x) × P x
 

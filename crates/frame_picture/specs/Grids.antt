@@ -1,4 +1,4 @@
--- Which frames of a tenant the rows of its band show.
+-- The frames of a tenant that the rows of its band show.
 use Rattle.std.specs.Prelude.{◌≡◌, ℕ, ◌*◌, ◌^◌, ◌≤◌, max}
 use Rattle.std.specs.Int.{div_ceil}
 use Rattle.frame_picture.specs.Bounds.{IsGreatest, IsLeastPower}
@@ -7,8 +7,8 @@ use Rattle.frame_picture.specs.Slots.{IsAbove, HaveSlot}
 use Rattle.frame_picture.specs.declared.grid.Grid.{Grid}
 use Rattle.frame_picture.specs.declared.history.History.{History}
 
--- The slots up to the greatest that the tenant held in a column are shown, and one at least. A row has the least power of two of
--- their frames that makes at most so many rows. If 2^15 frames are too few, all frames are one row.
+-- All slots up to the greatest one that the tenant held in a column are shown, and at least one slot. The number of frames of a
+-- row is the least power of two that gives at most `most_rows` rows. If 2^15 is too small, all frames are one row.
 pub record IsGridOf (history : History) (t most_rows : ℕ) (grid : Grid) : Type 0 where
   pub order : grid.order ≡ drawn_order history
   pub slots : ℕ

@@ -1,21 +1,21 @@
--- The cells of the sheets that are listed for a tenant.
+-- The cells of a tenant's listed sheets.
 use Rattle.std.specs.Prelude.{◌≡◌, ℕ, ◌<◌, ◌≤◌, List, [], ◌∷◌, ◌++◌, Option, Some, None, length, take, slice_get, slice_index}
 use Rattle.kernel_core.specs.declared.frames.FrameKind.{FrameKind}
 use Rattle.frame_picture.specs.declared.history.Sheet.{Sheet}
 use Rattle.frame_picture.specs.declared.owned.OwnSheets.{OwnSheets}
 use Rattle.frame_picture.specs.Rows.{cells_in, row_cells}
 
--- the cells of the frames of tenant t from first on and below end in a sheet, if there is one
+-- the cells of tenant t's frames from first on and below end in a sheet, if there is one
 abbrev pub cells_of : ℕ → ℕ → ℕ → ℕ → Option Sheet → List FrameKind
 cells_of order t first end None = []
 cells_of order t first end (Some sheet) = cells_in order t first end sheet
 
--- and in the sheets with these indices
+-- the same in the sheets with these indices
 abbrev pub listed_cells : ℕ → ℕ → ℕ → ℕ → List Sheet → List ℕ → List FrameKind
 listed_cells order t first end sheets [] = []
 listed_cells order t first end sheets (i ∷ listed) = cells_of order t first end (slice_get sheets i) ++ listed_cells order t first end sheets listed
 
--- before the rest all sheets that have frames of the tenant are listed
+-- all sheets before `rest` that have frames of the tenant are listed
 pub record IsOwn (t : ℕ) (sheets : List Sheet) (own : OwnSheets) : Type 0 where
   pub rest : own.rest ≤ length sheets
   pub few : own.len ≤ length own.listed

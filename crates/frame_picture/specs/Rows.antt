@@ -1,4 +1,4 @@
--- The frames of a row of a tenant's band in a column, and how many of them have which kind.
+-- The frames of a row of a tenant's band in a column, and their number of each kind.
 use Rattle.std.specs.Prelude.{ℕ, ◌+◌, ◌-◌, ◌*◌, ◌^◌, ◌==◌, min, if◌then◌else◌, List, [], ◌∷◌, ◌++◌, Option, Some, None, length, count_by, slice_range}
 use Rattle.model_core.specs.declared.owner.Owner.{Owner}
 use Rattle.kernel_core.specs.declared.frames.FrameKind.{FrameKind}
@@ -6,11 +6,11 @@ use Rattle.frame_picture.specs.declared.history.Sheet.{Sheet}
 use Rattle.frame_picture.specs.Kinds.{rank_of}
 use Rattle.frame_picture.specs.declared.grid.Grid.{Grid}
 
--- of the cells of a slot that begins at frame base, those of the frames from first on and below end
+-- the cells of the frames from first on and below end, in a slot that begins at frame base
 abbrev pub cells_between : ℕ → ℕ → ℕ → List FrameKind → List FrameKind
 cells_between base first end cells = slice_range cells (min (length cells) (first - base)) (min (length cells) (end - base))
 
--- those of tenant t, where a slot with this owner has the cells; slots have 2 ^ order frames
+-- the cells of tenant t, if a slot with this owner has these cells; slots have 2 ^ order frames
 abbrev pub owned_cells : ℕ → ℕ → ℕ → ℕ → Option Owner → List FrameKind → List FrameKind
 owned_cells order t first end None cells = []
 owned_cells order t first end (Some owner) cells =
@@ -19,12 +19,12 @@ owned_cells order t first end (Some owner) cells =
 abbrev pub cells_in : ℕ → ℕ → ℕ → ℕ → Sheet → List FrameKind
 cells_in order t first end sheet = owned_cells order t first end sheet.owner sheet.cells.items
 
--- the cells of the frames of tenant t from first on and below end, by superblock
+-- the cells of tenant t's frames from first on and below end, in the order of superblocks
 abbrev pub row_cells : ℕ → ℕ → ℕ → ℕ → List Sheet → List FrameKind
 row_cells order t first end [] = []
 row_cells order t first end (sheet ∷ sheets) = cells_in order t first end sheet ++ row_cells order t first end sheets
 
--- how many of so many frames have the kind of this rank: those that have no cell are not held
+-- how many of `frames` frames have the kind of this rank; frames without a cell are not held
 abbrev pub kind_count : List FrameKind → ℕ → ℕ → ℕ
 kind_count cells frames k =
     count_by (λ cell. rank_of cell == k) cells + (if k == rank_of FrameKind.NotHeld then frames - length cells else 0)

@@ -1,4 +1,4 @@
--- What is drawn of a tenant beside and below the rows of its band: its figures, its free frames by the order of their blocks, and
+-- The values drawn beside and below the rows of a tenant's band: its figures, its free frames by the order of their blocks, and
 -- its refusals.
 use Rattle.std.specs.Prelude.{ℕ, zero, suc, ◌+◌, ◌-◌, ◌*◌, ◌^◌, List, replicate, slice_get, slice_index, slice_index_or, Option, Some, None}
 use Rattle.frame_picture.specs.declared.history.Column.{Column}
@@ -8,25 +8,25 @@ use Rattle.frame_picture.specs.declared.history.Figures.{Figures}
 abbrev pub empty_figures : Figures
 empty_figures = record { held = 0; taken = 0; free = replicate 9 0 }
 
--- what tenant t has of frames in a column, if it is there
+-- the figures of tenant t in a column, if there is one
 abbrev pub column_figures : ℕ → Option Column → Figures
 column_figures t None = empty_figures
 column_figures t (Some column) = slice_index_or column.figures.items t empty_figures
 
--- in column n; none where there is no column
+-- the figures in column n, which are empty if there is no such column
 abbrev pub figures_in_column : List Column → ℕ → ℕ → Figures
 figures_in_column columns t n = column_figures t (slice_get columns n)
 
--- how many of them are taken
+-- the number of taken frames in column n
 abbrev pub taken_in_column : List Column → ℕ → ℕ → ℕ
 taken_in_column columns t n = (figures_in_column columns t n).taken
 
--- how many frames lie in the free blocks of n orders from k on, where there are so many of each order
+-- the number of frames in the free blocks of n orders from k on; `free` has the number of free blocks of each order
 abbrev pub frames_of_orders : List ℕ → ℕ → ℕ → ℕ
 frames_of_orders free k zero = 0
 frames_of_orders free k (suc n) = frames_of_orders free k n + slice_index free (k + n) * 2 ^ (k + n)
 
--- in those of order k and greater ones; the greatest is 8
+-- the number of frames in the free blocks of order k and above; the greatest order is 8
 abbrev pub free_in : ℕ → Option Figures → ℕ
 free_in k None = 0
 free_in k (Some figures) = frames_of_orders figures.free k (9 - k)
@@ -35,16 +35,16 @@ abbrev pub free_of : ℕ → ℕ → Option Column → ℕ
 free_of t k None = 0
 free_of t k (Some column) = free_in k (slice_get column.figures.items t)
 
--- tenant t's in column n; 0 where there is no column
+-- that of tenant t in column n, 0 if there is no such column
 abbrev pub free_in_column : List Column → ℕ → ℕ → ℕ → ℕ
 free_in_column columns t k n = free_of t k (slice_get columns n)
 
--- and before it: the stack begins at 0
+-- that in the column before column n; the stack begins at 0
 abbrev pub free_before : List Column → ℕ → ℕ → ℕ → ℕ
 free_before columns t k zero = 0
 free_before columns t k (suc n) = free_in_column columns t k n
 
--- how many requests of tenant t had been refused up to a column, for want of frames
+-- the number of requests of tenant t that were refused for lack of frames up to a column
 abbrev pub refused_in : ℕ → Option Column → ℕ
 refused_in t None = 0
 refused_in t (Some column) = slice_index_or column.refused.items t 0

@@ -1,4 +1,4 @@
--- What a row of a tenant's band is drawn as in a column.
+-- The tone of a row of a tenant's band in a column.
 use Rattle.std.specs.Prelude.{◌≡◌, ℕ, ◌+◌, ◌-◌, ◌*◌, ◌^◌, ◌<◌, ◌≤◌, ◌==◌, ◌&&◌, min, Bool, if◌then◌else◌, length}
 use Rattle.std.specs.Int.{div_ceil}
 use Rattle.kernel_core.specs.declared.frames.FrameKind.TheVariants.{NotHeld}
@@ -15,25 +15,25 @@ not_held = record { kind = NotHeld; quarters = 0 }
 abbrev pub is_tone : Tone → Tone → Bool
 is_tone tone cell = (rank_of cell.kind == rank_of tone.kind) && (cell.quarters == tone.quarters)
 
--- of the first counts the greatest stands there, of several the first
+-- `kind` is the index of the greatest of the first counts, the first one if several are greatest
 pub record IsMostCommon (kinds : ℕ) (count : ℕ → ℕ) (kind : ℕ) : Type 0 where
   pub among : kind < kinds
   pub greatest : (k : ℕ) → k < kinds → count k ≤ count kind
   pub first : (k : ℕ) → k < kind → count k < count kind
 
--- how many frames are taken, by the counts of the kinds
+-- the number of taken frames, from the counts of the kinds
 abbrev pub taken_cells : (ℕ → ℕ) → ℕ
 taken_cells count = count 0 + count 1 + count 2 + count 3
 
--- a row has one of the first four kinds where a frame is taken, however many are free
+-- if a frame is taken, a row has one of the first four kinds, however many frames are free
 abbrev pub drawn_kinds : ℕ → ℕ
 drawn_kinds taken = if taken == 0 then 6 else 4
 
--- how many quarters of so many frames are taken, rounded up
+-- the taken share of the frames in quarters, rounded up
 abbrev pub quarters_of : ℕ → ℕ → ℕ
 quarters_of taken frames = min (div_ceil (4 * min taken frames) frames) 4
 
--- the row is drawn as what most of its taken frames are, and as dark as many are taken
+-- the row is drawn as the most common kind of its taken frames, darker the more of its frames are taken
 pub record IsRowTone (column : Column) (t : ℕ) (grid : Grid) (row : ℕ) (tone : Tone) : Type 0 where
   pub most : let cells = row_cells grid.order t (first_of grid row) (end_of grid row) column.sheets.items in
       let count = kind_count cells (end_of grid row - first_of grid row) in

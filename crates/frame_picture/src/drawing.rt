@@ -20,7 +20,7 @@ pub const MOST_ROWS: usize = 256;
 /// The tone of a row.
 #[derive(Clone, Copy, Debug)]
 pub struct Tone {
-    /// The kind of most of its taken frames. If none is taken, free or not held.
+    /// The most common kind of the row's taken frames. If no frame is taken: free or not held, whichever is more common.
     pub kind: FrameKind,
     /// The taken share of its frames in quarters, rounded up: 0 to 4.
     pub quarters: u8,
@@ -34,7 +34,7 @@ impl Tone {
     };
 }
 
-/// Returns true if the tones are equal.
+/// Returns whether the tones are equal.
 pub fn is_tone(tone: Tone, cell: Tone) -> bool
     ensures { result ≡ is_tone tone cell }
 {
@@ -127,7 +127,7 @@ fn quarters_of(taken: usize, frames: u32) -> u8
     (4 * taken).div_ceil(u64::from(frames)).min(4) as u8
 }
 
-/// Counts tenant `t`'s frames from `first` up to `end` that the sheets show: of each kind, and together.
+/// Counts tenant `t`'s frames from `first` up to `end` that the sheets show, by kind and in total.
 fn count_kinds(
     sheets: &[Sheet],
     own: &OwnSheets,
@@ -197,7 +197,7 @@ fn cells_of(sheet: &Sheet, t: u8, order: u32, first: u32, end: u32) -> &[FrameKi
     &cells[from..to]
 }
 
-/// Counts cells, of each kind and together.
+/// Counts cells, by kind and in total.
 fn count_cells(cells: &[FrameKind], counts: &mut [usize; KINDS], shown: &mut usize)
     ensures kinds { (k : ℕ) → k < 6 → slice_index counts.old k + length cells.now < 2 ^ 64
         → slice_index counts.new k ≡ slice_index counts.old k + count_by (λ cell. rank_of cell == k) cells.now }
@@ -210,7 +210,7 @@ fn count_cells(cells: &[FrameKind], counts: &mut [usize; KINDS], shown: &mut usi
     *shown = shown.saturating_add(cells.len());
 }
 
-/// Returns the index of the greatest of the first `kinds` counts, of several the first.
+/// Returns the index of the greatest of the first `kinds` counts. If several are greatest, it returns the first one.
 fn greatest_at(counts: &[usize; KINDS], kinds: usize) -> usize
     requires some { 0 < kinds }
     requires all { kinds ≤ KINDS }

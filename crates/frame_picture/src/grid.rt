@@ -13,7 +13,7 @@ use std::ops::Range;
 pub struct Grid {
     /// A superblock has `2^order` frames.
     pub order: u32,
-    /// The number of frames shown: those of the slots up to the greatest that was ever held, and of at least one slot.
+    /// The number of frames shown: those of all slots up to the greatest one that was ever held, and of at least one slot.
     pub frames: u32,
     /// The number of frames of a row, a power of two. The last row may have fewer.
     pub frames_per_row: u32,
@@ -58,8 +58,8 @@ impl Grid {
         start..start.saturating_add(self.frames_per_row).min(self.frames)
     }
 
-    /// Returns the distance in slots between marks, if there are at most `most_marks`, the first one at slot 0: the least power of
-    /// two. If 2^15 is too few, there is only one mark.
+    /// Returns the distance between marks in slots, the first mark being at slot 0: the least power of two that gives at most
+    /// `most_marks` marks. If 2^15 is too small, there is only one mark.
     pub fn slots_between(self, most_marks: u32) -> u32
         requires { 0 < most_marks }
         ensures some { 0 < result }
@@ -91,7 +91,8 @@ impl Grid {
     }
 }
 
-/// Returns the least power of two such that `frames` frames make at most `most_rows` rows. If 2^15 is too few, all are one row.
+/// Returns the number of frames of a row: the least power of two that gives at most `most_rows` rows for `frames` frames. If 2^15
+/// is too small, all frames are one row.
 fn frames_per_row(frames: u32, most_rows: u32) -> u32
     requires { 0 < most_rows }
     ensures some { 0 < result }
@@ -107,7 +108,7 @@ fn frames_per_row(frames: u32, most_rows: u32) -> u32
     frames.max(1)
 }
 
-/// Returns the number of rows of a number of frames.
+/// Returns the number of rows for a number of frames.
 fn rows_up_to(frames: u32, frames_per_row: u32) -> u32
     requires { 0 < frames_per_row }
     ensures { result ≡ div_ceil frames frames_per_row }

@@ -28,7 +28,7 @@ pub const ORDERS: usize = 9;
 pub struct Figures {
     /// The number of frames of its slots.
     pub held: u32,
-    /// The number of these in taken blocks.
+    /// The number of these frames that are in taken blocks.
     pub taken: u32,
     /// The number of free blocks of each order.
     pub free: [u32; ORDERS],
@@ -37,13 +37,13 @@ pub struct Figures {
 /// The machine after some line.
 #[derive(Debug, Drop)]
 pub struct Column {
-    /// The number of lines run before.
+    /// The number of lines that were run before.
     pub line: u32,
     /// The superblocks, by number.
     pub sheets: Vec<Sheet>,
     /// The figures of each tenant.
     pub figures: Vec<Figures>,
-    /// For each tenant, the number of its requests refused so far for lack of frames.
+    /// For each tenant, the number of its requests that were refused so far for lack of frames.
     pub refused: Vec<u32>,
 }
 
@@ -59,13 +59,13 @@ pub struct History {
     superblocks: u32,
     tenants: u32,
     columns: Vec<Column>,
-    /// For each tenant, the number of its requests refused for lack of frames.
+    /// For each tenant, the number of its requests that were refused for lack of frames.
     refused: Vec<u32>,
     /// The number of columns in use.
     kept: usize,
     /// The number of lines of a column.
     width: u32,
-    /// The number of lines run.
+    /// The number of lines that were run.
     lines: u32,
     ghost small: { order ≤ MOST_ORDER },
     ghost few: { tenants ≤ MOST_TENANTS },
@@ -78,7 +78,7 @@ impl History {
     ghost use Rattle.frame_picture.specs.Columns.{IsColumnAfter};
     ghost use Rattle.frame_picture.specs.Histories.{drawn_order, superblocks_of, tenants_of, columns_of, most_columns_of, width_of, line_count, refusals_of, SameShape, Doubles, IsEven, IsComplete};
 
-    /// Makes the history of a machine that has run no line, with at most `most_columns` columns.
+    /// Returns the history of a machine that has run no line, with at most `most_columns` columns. Fails if memory runs out.
     pub fn new(alloc: Global, kernel: &Kernel, most_columns: u32) -> Result<History, AllocError>
         ensures order { IfOk result (λ history. drawn_order history ≡ kernel.now.order) }
         ensures superblocks { IfOk result (λ history. superblocks_of history ≡ kernel.now.superblocks) }
@@ -152,7 +152,7 @@ impl History {
         self.width
     }
 
-    /// The number of lines run.
+    /// Returns the number of lines that were run.
     pub fn lines(&self) -> u32
         ensures { result ≡ line_count self.now }
     {
@@ -289,7 +289,7 @@ impl Column {
     ghost use Rattle.world_core.specs.World.{World};
     ghost use Rattle.frame_picture.specs.Columns.{IsColumnOf, IsColumnAfter};
 
-    /// Makes a column that shows no machine yet.
+    /// Returns a column that shows no machine yet. Fails if memory runs out.
     fn new(alloc: Global, kernel: &Kernel) -> Result<Column, AllocError> {
         kernel.parts_agree();
         let mut sheets = Vec::with_capacity(alloc, kernel.superblocks() as usize)?;
@@ -307,7 +307,8 @@ impl Column {
         })
     }
 
-    /// Stores the state of the kernel after `line` lines, and each tenant's number of requests refused for lack of frames.
+    /// Stores the state of the kernel after `line` lines, and for each tenant the number of its requests that were refused for
+    /// lack of frames.
     fn show(&mut self, kernel: &Kernel, line: u32, refused: &[u32])
         ensures { IsColumnAfter kernel.now line refused.now self.new }
     {

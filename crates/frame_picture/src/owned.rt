@@ -13,10 +13,10 @@ pub const MOST_LISTED: usize = MOST_SUPERBLOCKS as usize;
 /// The indices of a tenant's sheets in a column, found once for all rows.
 #[derive(Debug, Drop)]
 pub struct OwnSheets {
-    /// The indices of the first of them, ascending, and the number of these.
+    /// The indices of the first sheets of the tenant, ascending. Only the first `len` are used.
     pub listed: [u16; MOST_LISTED],
     pub len: usize,
-    /// Sheets from this index on were not searched. On a machine within its limits there are none of the tenant.
+    /// Sheets from this index on were not searched. On a machine within its limits, none of these is the tenant's.
     pub rest: usize,
 }
 
@@ -30,12 +30,12 @@ impl OwnSheets {
         }
     }
 
-    /// Lists the sheets of tenant `t` among these, in place of what was listed before.
+    /// Lists the sheets of tenant `t` among these. Replaces the old list.
     pub fn list(&mut self, sheets: &[Sheet], t: u8)
         ensures { IsOwn t sheets.now self.new }
     {
         let most = sheets.len().min(1 << 16);
-        // A local count: one in `self` would be written back after each sheet.
+        // These counts are local, since fields of `self` would be written back after each sheet.
         let (mut len, mut rest) = (0, 0);
         'sheets: while rest < most && len < MOST_LISTED {
             if is_of(&sheets[rest], t) {
@@ -49,7 +49,7 @@ impl OwnSheets {
     }
 }
 
-/// Returns true if tenant `t` owns the superblock of a sheet.
+/// Returns whether tenant `t` owns the superblock of a sheet.
 fn is_of(sheet: &Sheet, t: u8) -> bool
     ensures { result ≡ false → (order first end : ℕ) → cells_in order t first end sheet.now ≡ [] }
 {

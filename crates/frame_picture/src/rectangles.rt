@@ -9,13 +9,13 @@ use crate::drawing::{MOST_ROWS, Tone, is_tone};
 /// A rectangle of cells of one tone.
 #[derive(Clone, Copy, Debug, PartialEq, Eq)]
 pub struct Rectangle {
-    /// Its first column.
+    /// The first column of the rectangle.
     pub column: usize,
-    /// Its lowest row.
+    /// The lowest row.
     pub row: usize,
-    /// The number of its columns.
+    /// The number of columns.
     pub columns: usize,
-    /// The number of its rows.
+    /// The number of rows.
     pub rows: usize,
 }
 
@@ -52,7 +52,7 @@ pub fn rectangle_at(
     })
 }
 
-/// Returns the number of rows of the tone from this one on in a column, if a run of the tone begins here, else 0.
+/// Returns the number of rows of the tone from this row on in a column, if a run of the tone begins at this row, else 0.
 fn run_in(
     columns: &[[Tone; MOST_ROWS]],
     tone: Tone,
@@ -68,7 +68,7 @@ fn run_in(
     run_at(tone, &columns[column][..rows], row)
 }
 
-/// Returns the number of cells of the tone from this row on, if a run of the tone begins here, else 0.
+/// Returns the number of cells of the tone from this row on, if a run of the tone begins at this row, else 0.
 fn run_at(tone: Tone, cells: &[Tone], row: usize) -> usize
     requires { row < length cells.now }
     ensures { result ≡ run_at tone cells.now row }

@@ -31,7 +31,8 @@ pub fn most_taken(columns: &[Column], t: u8) -> u32
     most
 }
 
-/// Returns the number of tenant `t`'s frames in free blocks of this order and above, in a column.
+/// Returns the number of tenant `t`'s frames in free blocks of this order and above, in a column. Returns 0 if there is no such
+/// column.
 pub fn free_at(columns: &[Column], t: u8, order: usize, column: usize) -> u64
     requires { order < ORDERS }
     ensures { result ≡ free_in_column columns.now t order column }
@@ -67,7 +68,7 @@ fn frames_of_blocks(blocks: u32, order: usize) -> u64
     u64::from(blocks) << order
 }
 
-/// Returns [`free_at`] of a column if it differs from that of the column before, which is 0 before the first.
+/// Returns [`free_at`] of a column if it differs from that of the column before. Before the first column it is 0.
 pub fn turn_at(columns: &[Column], t: u8, order: usize, column: usize) -> Option<u64>
     requires { order < ORDERS }
     ensures { MatchOption result (free_in_column columns.now t order column ≡ free_before columns.now t order column)
@@ -93,7 +94,7 @@ pub fn most_free(columns: &[Column], t: u8) -> u64
     most
 }
 
-/// Returns the number of requests of tenant `t` refused for lack of frames in the lines of a column.
+/// Returns the number of requests of tenant `t` that were refused for lack of frames in the lines of a column.
 pub fn refused_in(columns: &[Column], t: u8, column: usize) -> u32
     ensures { result ≡ refused_until columns.now t column - refused_before columns.now t column }
 {
@@ -105,7 +106,7 @@ pub fn refused_in(columns: &[Column], t: u8, column: usize) -> u32
     refused_at(columns, t, column).saturating_sub(before)
 }
 
-/// Returns the number of those refused up to a column.
+/// Returns the number of requests that were refused for lack of frames up to a column.
 pub fn refused_at(columns: &[Column], t: u8, column: usize) -> u32
     ensures { result ≡ refused_until columns.now t column }
 {

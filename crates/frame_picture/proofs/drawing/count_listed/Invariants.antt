@@ -3,7 +3,7 @@ use Rattle.frame_picture.specs.Kinds.{rank_of}
 use Rattle.frame_picture.specs.Owned.{listed_cells}
 use Rattle.frame_picture.proofs.drawing.count_listed.Given as goal
 
--- the listed sheets so far
+-- the counts are those of the listed sheets so far
 abbrev pub invariant-loop-j : goal.invariant-loop-j
 invariant-loop-j l = record {
   long : length l.counts ≡ 6;

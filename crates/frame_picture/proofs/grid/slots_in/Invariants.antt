@@ -4,7 +4,7 @@ use Rattle.frame_picture.specs.Slots.{IsAbove, IsSheetOf}
 use Rattle.frame_picture.proofs.SlotLemmas.{AnyBefore}
 use Rattle.frame_picture.proofs.grid.slots_in.Given as goal
 
--- of the sheets so far
+-- the greatest slot is that of the sheets so far
 abbrev pub invariant-loop-sheet : goal.invariant-loop-sheet
 invariant-loop-sheet l = record {
   few : l.slots ≤ 2 ^ 16;

@@ -9,7 +9,7 @@ use Rattle.frame_picture.specs.Slots.{IsAbove, HasSlot}
 use Rattle.frame_picture.proofs.SlotLemmas.{AnyBefore, slots_none, slots_more}
 use Rattle.frame_picture.proofs.grid.Grid.of.Goals as goal
 
--- so many slots of so many frames fit
+-- the number of frames of the slots fits its type
 slots_fit : (slots p : ℕ) → slots ≤ 2 ^ 16 → p ≤ 2 ^ 8 → slots * p % 2 ^ 32 ≡ slots * p
 slots_fit slots p few small = let most : slots * p ≤ 2 ^ 16 * p = mul-le-mul_right p few in omega (arith, most)
 

@@ -5,7 +5,7 @@ use Rattle.frame_picture.specs.Slots.{IsAbove, HasSlot}
 use Rattle.frame_picture.proofs.SlotLemmas.{AnyBefore}
 use Rattle.frame_picture.proofs.grid.Grid.of.Given as goal
 
--- of the columns so far
+-- the slots shown are those of the columns so far
 abbrev pub invariant-loop-column : goal.invariant-loop-column
 invariant-loop-column l = record {
   few : l.slots ≤ 2 ^ 16;

@@ -1,7 +1,7 @@
 use Rattle.std.proofs.Common.{◌≡◌, ℕ, ◌+◌, ◌*◌, ◌<◌, ◌≤◌, slice_get, vec_len}
 use Rattle.frame_picture.proofs.history.History.halve.Given as goal
 
--- what was passed stands for two columns each, and the columns ahead are as they were
+-- each column so far is the second one of a pair, and the remaining columns are unchanged
 abbrev pub invariant-loop-i : goal.invariant-loop-i
 invariant-loop-i l = record {
   lines : l.self.lines ≡ l.initial.self.lines;
