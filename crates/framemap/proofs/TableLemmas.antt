@@ -1,4 +1,4 @@
--- A text for each number of a range, and the parts of a row.
+-- Texts of the numbers in a range, and the parts of a row.
 use Rattle.std.proofs.Common.{◌≡◌, ℕ, zero, suc, ◌+◌, ◌-◌, ◌≤◌, List, [], ◌∷◌, ◌++◌, codes, flat_map, take, ap, sym, ◌∙◌, append_assoc, append-nil, arith}
 use Rattle.std.specs.Fmt.{decimal}
 use Rattle.std.specs.List.{concat, range_with_len}
@@ -12,7 +12,7 @@ each_more f a (suc n) =
     ∙ sym (append_assoc (f a) (flat_map f (range_with_len (a + 1) n)) (f (a + 1 + n)))
     ∙ ap (λ k. (f a ++ flat_map f (range_with_len (a + 1) n)) ++ f k) (let e : a + 1 + n ≡ a + suc n = omega arith in e)
 
--- of a range that ends one number later
+-- the texts of a range that ends one number later
 pub range_more : (f : ℕ → List ℕ) (first t : ℕ) → first ≤ t
     → flat_map f (range_with_len first (t + 1 - first)) ≡ flat_map f (range_with_len first (t - first)) ++ f t
 range_more f first t from =
@@ -20,12 +20,12 @@ range_more f first t from =
     ∙ each_more f first (t - first)
     ∙ ap (λ k. flat_map f (range_with_len first (t - first)) ++ f k) (let e : first + (t - first) ≡ t = omega (arith, from) in e)
 
--- eleven parts
+-- eleven parts, joined
 eleven : (a b c d e f g h i j k : List ℕ) → ((a ++ (b ++ (c ++ (d ++ (e ++ (f ++ (g ++ (h ++ i)))))))) ++ j) ++ k
     ≡ concat (a ∷ b ∷ c ∷ d ∷ e ∷ f ∷ g ∷ h ∷ i ∷ j ∷ k ∷ [])
 eleven a b c d e f g h i j k = simp (append_assoc, append-nil)
 
--- a row of these parts
+-- a row has these parts
 pub row_is : (orders line t refused refused' : ℕ) (figures figures' : Figures) → figures ≡ figures' → refused ≡ refused'
     → ((decimal line ++ (codes "," ++ (decimal t ++ (codes "," ++ (decimal figures.held ++ (codes "," ++ (decimal figures.taken
     ++ (codes "," ++ decimal refused)))))))) ++ flat_map free_cell (take orders figures.free)) ++ codes "\n"

@@ -1,4 +1,4 @@
--- One more line is counted.
+-- Counting one more line.
 use Rattle.std.proofs.Common.{◌≡◌, ℕ, ◌+◌, ◌-◌, ◌^◌, ◌<◌, List, [], ◌∷◌, ◌++◌, Ok, Option, Some, None, length, take, drop, refl, ap, sym, subst, ◌∙◌, arith, length-append}
 use Rattle.std.proofs.lemmas.List.{append-nil}
 use Rattle.std.specs.Io.KnownBytes.{Consumes, IsAtEnd}
@@ -31,7 +31,7 @@ request_counted s mid s' bytes rest known tenant command len read gone events li
       whole = refl;
     })
 
--- one line more ..
+-- one more line ..
 one_watched : (old : Watched) (xs : List (List ℕ)) (line taken here : List ℕ) (s s' : Watched × KernelContent) → HasWatched xs old s.0 → watches s line here [] s'
     → HasWatched (xs ++ line ∷ []) old s'.0
 one_watched old xs line taken here s s' sofar did =
@@ -55,7 +55,7 @@ have_watched old before lines taken s ran =
     run_keeps watches (λ xs _ s. HasWatched xs old s.0) (one_watched old) [] lines [] taken (old, before) s
     (record { events = omega arith; lines = λ below. omega arith }) ran
 
--- what was given up to the end is the trace
+-- if all of the trace was given, the given bytes are the trace
 pub all_given : (old new : Option (List ℕ)) (trace given : List ℕ) → old ≡ Some trace → Consumes old new given → IsAtEnd new → given ≡ trace
 all_given old new trace given is consumes end = go new (subst (λ (known : Option (List ℕ)). Consumes known new given) is consumes) end
   where

@@ -28,7 +28,7 @@ figures_row orders line t figures refused = concat (decimal line ∷ codes "," �
 abbrev pub row_text : ℕ → Column → ℕ → List ℕ
 row_text orders column t = figures_row orders column.line t (column_figures t (Some column)) (refused_in t (Some column))
 
--- those of the tenants from `first` on and below `end`
+-- the rows of the tenants from `first` on and below `end`
 abbrev pub column_rows : ℕ → ℕ → ℕ → Column → List ℕ
 column_rows orders first end column = flat_map (row_text orders column) (range_with_len first (end - first))
 

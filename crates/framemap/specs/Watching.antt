@@ -1,4 +1,4 @@
--- What is counted of the lines of a trace.
+-- Counting the lines and events of a trace.
 use Rattle.std.specs.Prelude.{◌≡◌, ℕ, ◌+◌, ◌^◌, ◌<◌, List, [], length}
 use Rattle.words_core.specs.Grammar.{reading_of}
 use Rattle.world_core.specs.Output.{event_in, events_of}
@@ -13,11 +13,11 @@ pub record WatchesLine (more : ℕ) (s : Watched × KernelContent) (line taken r
   pub events : s'.0.events ≡ s.0.events + length (event_in (reading_of line))
   pub lines : line_count s.0.history + more < 2 ^ 32 → line_count s'.0.history ≡ line_count s.0.history + more
 
--- what a line does
+-- the effect of a line
 abbrev pub watches : Watched × KernelContent → List ℕ → List ℕ → List ℕ → Watched × KernelContent → Type 0
 watches = WatchesLine 1
 
--- before the history is given it
+-- the effect of a line before it is added to the history
 abbrev pub watches_first : Watched × KernelContent → List ℕ → List ℕ → List ℕ → Watched × KernelContent → Type 0
 watches_first = WatchesLine 0
 

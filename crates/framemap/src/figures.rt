@@ -8,7 +8,7 @@ ghost use Rattle.framemap.specs.Tables.{column_rows, free_cell, heading_text, ro
 use frame_picture::history::{Column, Figures, History, ORDERS};
 use std::io::{self, Write};
 
-/// Writes a row for each column and each tenant from `first` on and below `end`, under a row of headings, and flushes.
+/// Writes a row of headings, then a row for each column and each tenant from `first` on and below `end`, and flushes.
 pub fn write_figures<W: Write>(out: &mut W, history: &History, first: u8, end: u8) -> io::Result<()>
     ensures { WritesText result (W.contents out.old) (W.contents out.new) (λ text. text ≡ table_text history.now first end) }
 {
@@ -20,7 +20,7 @@ pub fn write_figures<W: Write>(out: &mut W, history: &History, first: u8, end: u
     out.flush()
 }
 
-/// Writes the headings of a row's cells, for this number of orders.
+/// Writes the row of headings for this number of orders.
 fn write_headings<W: Write>(out: &mut W, orders: usize) -> io::Result<()>
     ensures { WritesText result (W.contents out.old) (W.contents out.new) (λ text. text ≡ heading_text orders) }
 {
@@ -31,7 +31,7 @@ fn write_headings<W: Write>(out: &mut W, orders: usize) -> io::Result<()>
     out.write_all(b"\n")
 }
 
-/// Writes the rows of a column.
+/// Writes the rows of a column, one for each tenant.
 fn write_column<W: Write>(
     out: &mut W,
     column: &Column,
@@ -49,8 +49,8 @@ fn write_column<W: Write>(
     Ok(())
 }
 
-/// Writes the row of a tenant: the lines that had been run, its number, its frames that are held and taken, how many of its
-/// requests had been refused for want of frames, and how many blocks are free, by order.
+/// Writes the row of a tenant: the number of lines run so far, the tenant's number, its held frames and its taken frames, the
+/// number of its requests that were refused so far for lack of frames, and its number of free blocks of each order.
 fn write_row<W: Write>(out: &mut W, column: &Column, orders: usize, t: u8) -> io::Result<()>
     requires { orders ≤ ORDERS }
     ensures { WritesText result (W.contents out.old) (W.contents out.new) (λ text. text ≡ row_text orders column.now t) }
@@ -64,7 +64,7 @@ fn write_row<W: Write>(out: &mut W, column: &Column, orders: usize, t: u8) -> io
     out.write_all(b"\n")
 }
 
-/// Writes each number behind a comma.
+/// Writes the numbers, each behind a comma.
 fn write_cells<W: Write>(out: &mut W, numbers: &[u32]) -> io::Result<()>
     ensures { WritesText result (W.contents out.old) (W.contents out.new) (λ text. text ≡ flat_map free_cell numbers.now) }
 {
@@ -74,7 +74,7 @@ fn write_cells<W: Write>(out: &mut W, numbers: &[u32]) -> io::Result<()>
     Ok(())
 }
 
-/// What tenant `t` has of frames in a column.
+/// Returns the figures of tenant `t` in a column.
 fn figures_of(column: &Column, t: u8) -> Figures
     ensures { result ≡ column_figures t (Some column.now) }
 {
@@ -85,7 +85,7 @@ fn figures_of(column: &Column, t: u8) -> Figures
         .unwrap_or(Figures::NONE)
 }
 
-/// How many requests of tenant `t` had been refused for want of frames.
+/// Returns the number of requests of tenant `t` that were refused for lack of frames up to a column.
 fn refused_to(column: &Column, t: u8) -> u32
     ensures { result ≡ refused_in t (Some column.now) }
 {

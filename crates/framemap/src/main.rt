@@ -2,8 +2,8 @@
 //!
 //! `framemap --order S --superblocks N --tenants T [--only T] [--columns C] [--figures] [FILE]`
 //!
-//! The exits are those of `command_line::Outcome`. If a FILE could not be opened or read, its name and the system's reason
-//! are printed too.
+//! The exit statuses are those of `command_line::Outcome`. If FILE cannot be opened or read, its name and the system's reason are
+//! printed too.
 #![tactic(auto)]
 
 ghost use Rattle.std.specs.Prelude.{◌≡◌, OnErr};
@@ -25,7 +25,7 @@ use std::io::{self, BufWriter, IsTerminal, Read};
 use std::process::ExitCode;
 use std::rt::Env;
 
-/// The bytes that are written at once.
+/// The size of the output buffer in bytes.
 const BUFFER_BYTES: usize = 65_536;
 
 fn main(rt: HostRuntime) -> ExitCode {
@@ -44,14 +44,14 @@ fn main(rt: HostRuntime) -> ExitCode {
     }
 }
 
-/// How a run ended, and why the trace could not be opened or read.
+/// How a run ended, and the error if the trace could not be opened or read.
 #[derive(Drop)]
 struct Ran {
     drawn: Drawn,
     error: Option<FileError>,
 }
 
-/// Prints how a run ended, and then if the trace had no event, and which file could not be opened or read.
+/// Prints how a run ended, whether the trace had no event, and which file could not be opened or read. Returns the exit status.
 fn tell_run(rt: &impl Eprint, settings: &Settings, ran: Ran) -> ExitCode {
     let is_of_nothing = ran.drawn.is_of_nothing();
     let code = tell(rt, PROGRAM, &ran.drawn.outcome);
@@ -64,15 +64,15 @@ fn tell_run(rt: &impl Eprint, settings: &Settings, ran: Ran) -> ExitCode {
     code
 }
 
-/// What the command line asks for.
+/// Returns the settings that the command line requests.
 fn read_command_line(rt: &(impl Env + AllocGlobal)) -> Result<Settings, Outcome> {
     let words = words_given(rt)?;
     let texts = texts_of(rt.alloc(), words.as_slice())?;
     read_words(rt.alloc(), texts.as_slice())
 }
 
-/// Runs the trace of a reader into standard output; one that could not be opened, for whatever cause, is unreadable. It may
-/// be of any length: what bounds it is the number of its lines.
+/// Runs the trace of a reader, and writes to standard output. A trace that could not be opened, for any reason, is unreadable. A
+/// trace may have any number of bytes; only the number of its lines is limited.
 fn run_opened<R: Read + Drop>(
     rt: &(impl Print + AllocGlobal),
     settings: &Settings,
@@ -97,7 +97,7 @@ fn run_opened<R: Read + Drop>(
     }
 }
 
-/// Runs the trace of a reader into standard output.
+/// Runs the trace of a reader, and writes to standard output.
 fn run_read<R: Read + Drop>(
     rt: &(impl Print + AllocGlobal),
     settings: &Settings,

@@ -1,4 +1,4 @@
-//! A trace on a new machine, and its picture or its figures.
+//! Runs a trace on a new machine, and writes its picture or its figures.
 
 ghost use Rattle.std.specs.Prelude.{◌≡◌, ℕ, List, Some, false, length, OnOk};
 ghost use Rattle.command_line.specs.declared.outcome.Outcome.TheVariants as Outcome;
@@ -18,10 +18,10 @@ use std::alloc::Global;
 use std::io::{self, Write};
 use streams::LineLimit;
 
-/// The line feeds of a trace are fewer than this, 2^30.
+/// A trace has fewer line feeds than this, 2^30.
 const LINES_ABOVE: u64 = 1 << 30;
 
-/// How a run ended, and how many lines of the trace were events.
+/// How a run ended, and the number of events in the lines of the trace.
 #[derive(Debug, Drop)]
 pub struct Drawn {
     pub outcome: Outcome,
@@ -29,24 +29,24 @@ pub struct Drawn {
 }
 
 impl Drawn {
-    /// No line was run.
+    /// Returns the end of a run in which no line was run.
     pub fn at_once(outcome: Outcome) -> Drawn
         ensures { result.outcome ≡ outcome }
     {
         Drawn { outcome, events: 0 }
     }
 
-    /// The picture is done, and of a trace in which nothing was an event.
+    /// Returns whether the picture is done and the trace had no event.
     pub fn is_of_nothing(&self) -> bool {
         matches!(self.outcome, Outcome::Done) && self.events == 0
     }
 }
 
-/// How many pixels the word below the lowest number of the axis is moved down, so that it is read beside that number.
+/// The distance in pixels by which the word below the lowest number of the axis is moved down, so that it is beside that number.
 const LABEL_GAP: u32 = 4;
 
-/// Runs a trace on a new machine of these settings, and draws what became of its frames. Nothing is drawn of a trace that
-/// can't be read to its end.
+/// Runs a trace on a new machine with these settings, and draws its frames over the lines. If the trace cannot be read to its
+/// end, nothing is drawn.
 pub fn run<F: Feed + Drop, W: Write>(
     alloc: Global,
     settings: &Settings,
@@ -99,7 +99,7 @@ fn write<W: Write>(
     picture.draw(history, name, writer)
 }
 
-/// What follows the last slash of a path.
+/// Returns the part of a path behind its last slash.
 fn file_name(path: &str) -> &str {
     match path.rsplit_once('/') {
         Some((_, name)) => name,
@@ -107,7 +107,7 @@ fn file_name(path: &str) -> &str {
     }
 }
 
-/// Runs all lines of a trace of fewer than [`LINES_ABOVE`] line feeds, and keeps what the machine is like after them.
+/// Runs all lines of a trace with fewer than [`LINES_ABOVE`] line feeds, and keeps the history of the machine's states.
 fn watch<F: Feed + Drop>(
     kernel: &mut Kernel,
     feed: F,
@@ -120,7 +120,7 @@ fn watch<F: Feed + Drop>(
 {
     let mut limited = LineLimit::new(feed, LINES_ABOVE);
     let mut unheard = WriterDrain::new(io::sink());
-    // As many events as there are bytes at most.
+    // There are at most as many events as bytes.
     let _most = limited.room();
     do_lines(kernel, watched, &mut limited, &mut unheard)?;
     watched.history.end(kernel);

@@ -5,10 +5,10 @@ use command_line::{Machine, Outcome, Program, number, parse, path_of, positional
 use frame_picture::history::MOST_COLUMNS;
 use std::alloc::{AllocError, Global};
 
-/// How many columns a picture has at most where the command line doesn't say.
+/// The largest number of columns of a picture, if the command line does not say.
 const DEFAULT_COLUMNS: u32 = 600;
 
-/// What this program tells of itself.
+/// What this program prints about itself.
 pub const PROGRAM: Program<'static> = Program {
     name: "framemap",
     about: "Runs a trace on a machine that tenants share, and draws what became of its frames",
@@ -17,10 +17,10 @@ pub const PROGRAM: Program<'static> = Program {
     unwritten: "picture could not be written",
 };
 
-/// What `--help` tells of `--only`.
+/// What `--help` prints about `--only`.
 const ONLY: &str = "Draws this tenant alone, a number below the tenants";
 
-/// What `--help` tells below the arguments.
+/// What `--help` prints below the arguments.
 const AFTER_HELP: &str = "\
 The picture is one SVG on standard output. The lines of a trace are those of partmem --help.
 
@@ -36,16 +36,16 @@ Exit status:
 Example:
   printf 'admin grant 0\\n0 alloc 1\\n' | framemap --order 3 --superblocks 2 --tenants 2 > picture.svg";
 
-/// What a command line asks for.
+/// The settings that a command line requests.
 #[derive(Debug, Drop)]
 pub struct Settings {
-    /// The machine, and the tenant who alone is drawn.
+    /// The machine, and the tenant to draw if only one is drawn.
     pub machine: Machine,
-    /// How many columns the picture has at most: 1 to 4096.
+    /// The largest number of columns of the picture, 1 to 4096.
     pub columns: u32,
-    /// A table of the figures is written, and no picture.
+    /// Whether a table of the figures is written instead of a picture.
     pub figures: bool,
-    /// The path of the trace, as it was written; standard input without it.
+    /// The path of the trace, as it was written. `None` is standard input.
     pub file: Option<String>,
 }
 
@@ -61,7 +61,7 @@ pub fn read_words<'a>(alloc: Global, words: &'a [&'a str]) -> Result<Settings, O
     })
 }
 
-/// The arguments that there are, with their ranges.
+/// Returns the program's command line: its arguments, with their ranges.
 fn command<'a>(alloc: Global) -> Result<Command<'a>, AllocError> {
     command_line::command(alloc, PROGRAM, ONLY)?
         .arg(

@@ -1,4 +1,4 @@
-//! What a picture makes of the lines of a trace.
+//! Runs the lines of a trace for a picture.
 
 ghost use Rattle.std.specs.Prelude.{◌≡◌, ℕ, ◌+◌, ◌^◌, ◌<◌, ◌≤◌, List, Option, length};
 ghost use Rattle.frame_picture.specs.Histories.{line_count};
@@ -12,17 +12,17 @@ use quick_core::{CR_LF, LF, read_ended_request};
 use replay_core::{Drain, Sink, Stopped};
 use words_core::{Addressee, Answer, Event, LineFault, Refusal};
 
-/// Keeps what the machine is like after each line of a trace, and counts the events. No reply is written.
+/// Keeps the history of the machine's states over the lines of a trace, and counts the events. No reply is written.
 #[derive(Debug, Drop)]
 pub struct Watched {
     pub history: History,
-    /// How many of the lines were events.
+    /// The number of events in the lines.
     pub events: u64,
 }
 
 impl Watched {
-    /// Runs the requests at the front of a piece as long as they are read the short way, and returns the rest of the piece. The
-    /// lines end in LF, or in CR LF if `RETURNS`.
+    /// Runs the quick requests at the front of a piece, and returns the rest of the piece. The lines end in LF, or in CR LF if
+    /// `RETURNS`.
     fn watch_requests<'a, const RETURNS: bool>(
         &mut self,
         piece: &'a [u8],
@@ -33,7 +33,7 @@ impl Watched {
             → HasGone watches (self.old, kernel.old) piece.now result.now known known (self.new, kernel.new) }
         ensures left { self.new.events + length result.now ≤ self.old.events + length piece.now }
     {
-        // The bytes of a write: one buffer for all lines.
+        // One buffer for the bytes of a write, for all lines.
         let mut buffer = [0; MOST_BYTES];
         let mut rest = piece;
         'lines: while let Some(line) = read_ended_request::<RETURNS>(rest, &mut buffer) {
@@ -48,7 +48,7 @@ impl Watched {
         rest
     }
 
-    /// Notes a request that was refused for want of frames.
+    /// Counts the request if it was refused for lack of frames.
     fn note_refusal(&mut self, addressee: Addressee, answer: Answer<'_>)
         ensures events { self.new.events ≡ self.old.events }
         ensures lines { line_count self.new.history ≡ line_count self.old.history }
@@ -79,7 +79,7 @@ impl Sink for Watched {
         kernel: &mut Kernel,
         _drain: &mut D,
     ) -> Result<&'a [u8], Stopped> {
-        // It is no more than the type has.
+        // The count fits its type.
         let _events = self.events;
         if returns {
             Ok(self.watch_requests::<CR_LF>(piece, kernel))

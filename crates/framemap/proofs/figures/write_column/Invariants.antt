@@ -4,7 +4,7 @@ use Rattle.picture_svg.specs.Texts.{AppendsText}
 use Rattle.framemap.specs.Tables.{row_text}
 use Rattle.framemap.proofs.figures.write_column.Given as goal
 
--- the tenants so far
+-- the rows of the tenants so far are written
 abbrev pub invariant-loop-t : goal.invariant-loop-t
 invariant-loop-t g l = record {
   within : l.t ≤ max l.first l.end;
