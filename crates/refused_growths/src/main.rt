@@ -1,8 +1,8 @@
-//! Makes one call after a number of allocations, and prints what it returned.
+//! Makes one call after a number of allocations, and prints its result.
 //!
-//! Standard input has `SPENT CALL`: SPENT allocations are made and freed first, and then the call of that name is made. When one
-//! allocation of the run is refused by its number, SPENT decides which growth of the call that is. `tests/refused-growths` goes
-//! through all of them.
+//! Standard input is a line `SPENT CALL`: first SPENT allocations are made and freed, then the call of that name is made. If the
+//! allocation with a certain number is refused, SPENT decides which growth of the call that is. `tests/refused-growths` tries all
+//! of them.
 #![tactic(auto)]
 
 use buddy_core::Buddy;
@@ -24,7 +24,7 @@ fn main(rt: HostRuntime) -> io::Result<()> {
     }
 }
 
-/// Runs a line `SPENT CALL`. Returns the answer of the call, if there is such a call.
+/// Runs a line `SPENT CALL`. Returns the result of the call, if there is such a call.
 fn run(alloc: Global, line: &[u8]) -> Option<&'static str> {
     let line = str::from_utf8(line).ok()?;
     let (spent, call) = line.trim_end().split_once(' ')?;
@@ -42,7 +42,7 @@ const MACHINE: Config = Config {
     tenants: 2,
 };
 
-/// Makes a part of the small machine, or boots a kernel. Returns the answer, if there is such a call.
+/// Makes a part of the small machine, or boots a kernel. Returns the result, if there is such a call.
 fn made(alloc: Global, call: &str) -> Option<&'static str> {
     match call {
         "Lists::new" => Some(part(&Lists::new(alloc, 16, 6))),
@@ -81,7 +81,7 @@ const BAD: [(u32, u32, u32); 7] = [
     (u32::MAX, u32::MAX, u32::MAX),
 ];
 
-/// Boots kernels that cannot be. Returns the first answer that is not `BadConfig`, if there is one.
+/// Boots kernels with bad sizes. Returns the first result that is not `BadConfig`, if there is one.
 fn badly_booted(alloc: Global) -> &'static str {
     for (order, superblocks, tenants) in BAD {
         let answer = booted(
@@ -99,7 +99,7 @@ fn badly_booted(alloc: Global) -> &'static str {
     "BadConfig"
 }
 
-/// Command lines: one that is in order, and some that are refused.
+/// Command lines: one that is accepted, and some that are refused.
 const IN_ORDER: [&str; 9] = [
     "--order",
     "3",
@@ -125,7 +125,7 @@ const ONLY_TWO: [&str; 8] = [
 
 const ORDER_TWO: [&str; 6] = ["--order", "2", "--superblocks", "2", "--tenants", "2"];
 
-/// Reads the words of a command line. Returns the answer, if there is such a call.
+/// Reads the words of a command line. Returns the result, if there is such a call.
 fn read(alloc: Global, call: &str) -> Option<&'static str> {
     match call {
         "read_words" => Some(answered(alloc, &IN_ORDER)),
