@@ -1,4 +1,4 @@
--- The marks of refusals, and the turns of free frames.
+-- The marks of refusals, and the steps of free frames.
 use Rattle.std.proofs.Common.{◌≡◌, ◌≢◌, ℕ, ◌+◌, ◌-◌, ◌*◌, ◌/◌, ◌^◌, ◌++◌, List, [], codes, flat_map, length, ap, sym, ◌∙◌, append_assoc, append-nil, ne_eqb, eq-eqb}
 use Rattle.std.specs.List.{range_with_len}
 use Rattle.std.specs.Fmt.{decimal}
@@ -35,7 +35,7 @@ pub no_turn : (columns : List Column) (t k column : ℕ) → free_in_column colu
 unfolding turn_text
 no_turn columns t k column same = cond-true _ [] _ (eq-eqb (free_in_column columns t k column) (free_before columns t k column) same)
 
--- a layer, of these parts
+-- a layer, from these parts
 abbrev layer_of : List Column → ℕ → ℕ → ℕ → List ℕ → ℕ → ℕ → List ℕ
 layer_of columns t foot k class width height =
     (codes "<path class=\"cells " ++ (class ++ (codes "\" transform=\"translate(" ++ (decimal LEFT ++ (codes " " ++ (decimal foot ++ (codes ") scale("

@@ -1,4 +1,4 @@
--- Texts of these parts.
+-- Texts that are joined from parts.
 use Rattle.std.proofs.Common.{◌≡◌, ℕ, ◌+◌, ◌-◌, List, [], ◌∷◌, ◌++◌, Option, codes, ap, ◌∙◌, append_assoc, append-nil}
 use Rattle.std.specs.Fmt.{decimal}
 use Rattle.std.specs.List.{concat}
@@ -6,7 +6,7 @@ use Rattle.picture_svg.specs.declared.svg.TheConstants.{ABOVE, LEFT}
 use Rattle.picture_svg.specs.Sizes.{lower}
 use Rattle.picture_svg.specs.Texts.{figures_text, name_text, title_text}
 
--- of twelve parts, and one more
+-- twelve parts, and one more
 twelve : (a b c d e f g h i j k l rest : List ℕ) → (a ++ (b ++ (c ++ (d ++ (e ++ (f ++ (g ++ (h ++ (i ++ (j ++ (k ++ l))))))))))) ++ rest
     ≡ a ++ (b ++ (c ++ (d ++ (e ++ (f ++ (g ++ (h ++ (i ++ (j ++ (k ++ (l ++ rest)))))))))))
 twelve a b c d e f g h i j k l rest = simp append_assoc

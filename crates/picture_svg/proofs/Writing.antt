@@ -14,7 +14,7 @@ nothing a P is = record { text = []; appended = Appends-nil a; is = is }
 pub exactly : (a b : Option (List ℕ)) (text : List ℕ) → Appends a b text → AppendsText a b (λ x. x ≡ text)
 exactly a b text h = record { text = text; appended = h; is = refl }
 
--- and another one behind it
+-- .. and another text behind it
 pub then_exactly : {a b : Option (List ℕ)} {front : List ℕ} (c : Option (List ℕ)) (text : List ℕ) → AppendsText a b (λ x. x ≡ front)
     → Appends b c text → AppendsText a c (λ x. x ≡ front ++ text)
 then_exactly {a} {b} {front} c text first last = record {
@@ -31,18 +31,18 @@ then_text {a} {b} {c} {front} {back} first last = record {
   is = ap (λ x. x ++ last.text) first.is ∙ ap (λ x. front ++ x) last.is;
 }
 
--- which is this text
+-- the same text in another form
 pub renamed : {a b : Option (List ℕ)} {text : List ℕ} (whole : List ℕ) → text ≡ whole → AppendsText a b (λ x. x ≡ text) → AppendsText a b (λ x. x ≡ whole)
 renamed whole e h = record { text = h.text; appended = h.appended; is = h.is ∙ e }
 
 pub as_text : {a b : Option (List ℕ)} {text : List ℕ} (whole : List ℕ) → AppendsText a b (λ x. x ≡ text) → text ≡ whole → AppendsText a b (λ x. x ≡ whole)
 as_text whole h e = renamed whole e h
 
--- whatever it is
+-- some text, which is not specified
 pub whatever : {a b : Option (List ℕ)} {P : List ℕ → Type 0} → AppendsText a b P → AppendsText a b (λ _. ⊤)
 whatever h = record { text = h.text; appended = h.appended; is = tt }
 
--- two of them
+-- two texts, one after the other
 pub both : {a b c : Option (List ℕ)} {P Q : List ℕ → Type 0} (R : List ℕ → Type 0) → AppendsText a b P → AppendsText b c Q
     → ((x y : List ℕ) → P x → Q y → R (x ++ y)) → AppendsText a c R
 both {a} {b} {c} R first second joined = record {
@@ -60,7 +60,7 @@ and_text {a} {b} c text R first last joined = record {
   is = joined first.text first.is;
 }
 
--- of whatever was written, and a text behind it
+-- some text, and this text behind it
 pub more : {a b : Option (List ℕ)} {P : List ℕ → Type 0} (c : Option (List ℕ)) (text : List ℕ) → AppendsText a b P
     → Appends b c text → AppendsText a c (λ _. ⊤)
 more c text first last = and_text c text (λ _. ⊤) first last (λ _ _. tt)
@@ -90,7 +90,7 @@ pub last_exactly : {E : Type 0} {a b : Option (List ℕ)} {front : List ℕ} (c 
 last_exactly c (Ok x) text whole first last e = renamed whole e (then_exactly c text first last)
 last_exactly c (Err x) text whole first last e = tt
 
--- what was written stays
+-- a flush leaves what was written unchanged
 pub flushed : {E : Type 0} {a b : Option (List ℕ)} {P : List ℕ → Type 0} (c : Option (List ℕ)) (r : Result (Unit {0}) E) → AppendsText a b P → Keeps b c
     → WritesText r a c P
 flushed {E} {a} {b} c (Ok x) h kept = record { text = h.text; appended = Appends-kept a b c h.text h.appended kept; is = h.is }
@@ -105,13 +105,13 @@ each_more f a (suc n) =
     ∙ sym (append_assoc (f a) (flat_map f (range_with_len (a + 1) n)) (f (a + 1 + n)))
     ∙ ap (λ k. (f a ++ flat_map f (range_with_len (a + 1) n)) ++ f k) (let e : a + 1 + n ≡ a + suc n = omega arith in e)
 
--- of one number more
+-- one more number
 pub texts_more : (f : ℕ → List ℕ) (n : ℕ) → flat_map f (range_with_len 0 (n + 1)) ≡ flat_map f (range_with_len 0 n) ++ f n
 texts_more f n =
     ap (λ k. flat_map f (range_with_len 0 k)) (let e : n + 1 ≡ suc n = omega arith in e) ∙ each_more f 0 n
     ∙ ap (λ k. flat_map f (range_with_len 0 n) ++ f k) (let e : 0 + n ≡ n = omega arith in e)
 
--- a number whose text is empty
+-- one more number, whose text is empty
 pub texts_same : (f : ℕ → List ℕ) (n : ℕ) → f n ≡ [] → flat_map f (range_with_len 0 n) ≡ flat_map f (range_with_len 0 (n + 1))
 texts_same f n none =
     sym (texts_more f n ∙ ap (λ t. flat_map f (range_with_len 0 n) ++ t) none ∙ append-nil (flat_map f (range_with_len 0 n)))

@@ -22,21 +22,21 @@ class_of FrameKind.Full = codes "full"
 class_of FrameKind.Partial = codes "partial"
 class_of FrameKind.Empty = codes "empty"
 
--- so many rows are drawn
+-- the number of rows that are drawn
 abbrev pub drawn_rows : Grid → ℕ
 drawn_rows grid = min MOST_ROWS grid.rows
 
--- a path of the cells of this tone
+-- a path with the cells of this tone
 pub record IsTonePath (columns : List (List Tone)) (rows : ℕ) (tone : Tone) (shade text : List ℕ) : Type 0 where
   pub rectangles : List Rectangle
   pub cells : CoverTone columns tone rows rectangles
   pub whole : text ≡ path_text (class_of tone.kind) shade (flat_map rectangle_path rectangles)
 
--- the shades of a kind by how many quarters of a row are taken, each a class more
+-- the shade of a row, by the number of its quarters that are taken, as an additional class
 abbrev pub shade_of : ℕ → List ℕ
 shade_of quarters = if quarters == 1 then codes " one" else if quarters == 2 then codes " two" else if quarters == 3 then codes " three" else []
 
--- those that are drawn: where a row is one frame, only that of four quarters
+-- whether a shade is drawn: if a row is one frame, only that of four quarters is
 abbrev pub is_drawn : Grid → ℕ → Bool
 is_drawn grid quarters = (quarters == 4) || nat_lt 1 grid.frames_per_row
 
@@ -59,7 +59,7 @@ AreKindPaths columns grid FrameKind.Full text = AreShadePaths columns grid Frame
 AreKindPaths columns grid FrameKind.Partial text = AreShadePaths columns grid FrameKind.Partial text
 AreKindPaths columns grid FrameKind.Empty text = AreShadePaths columns grid FrameKind.Empty text
 
--- what follows is drawn over a foot in units of columns and rows, of which there are so many
+-- what follows is drawn upwards from the height `foot`, in units of columns and rows, for these numbers of both
 unfoldable pub group_begin : ℕ → ℕ → ℕ → List ℕ
 group_begin columns rows foot = concat (codes "<g class=\"cells\" transform=\"translate(" ∷ decimal LEFT ∷ codes " "
     ∷ decimal foot

@@ -1,4 +1,5 @@
--- What stands below the rows of a band: marks where the tenant was refused some frames, and its free frames by the order of their block.
+-- The part below the rows of a band: marks where a request of the tenant was refused for lack of frames, and its free frames by
+-- the order of their block.
 use Rattle.std.specs.Prelude.{ℕ, ◌+◌, ◌-◌, ◌*◌, ◌/◌, ◌^◌, ◌==◌, min, if◌then◌else◌, List, [], ◌∷◌, ◌++◌, codes, decimal, flat_map, length}
 use Rattle.std.specs.List.{concat, range_with_len}
 use Rattle.frame_picture.specs.declared.history.Column.{Column}
@@ -7,22 +8,22 @@ use Rattle.picture_svg.specs.declared.svg.TheConstants.{LEFT, REFUSALS, STACK, W
 use Rattle.picture_svg.specs.Sizes.{lower}
 use Rattle.picture_svg.specs.Texts.{ratio_text}
 
--- a number stops at the greatest of 64 bits
+-- a number, at most the greatest number of 64 bits
 abbrev pub capped : ℕ → ℕ
 capped n = min n (2 ^ 64 - 1)
 
--- how far to the right the middle of a column is, of n
+-- the distance of the middle of a column from the first column's left, for n columns
 abbrev pub middle_of : ℕ → ℕ → ℕ
 middle_of column n = min (capped (capped (capped (column * 2) + 1) * (WIDTH / 2)) / n) WIDTH
 
--- the mark of a column in whose lines tenant t was refused some frames, in a path
+-- the mark of a column with lines in which tenant t was refused frames, in a path
 unfoldable pub refusal_mark : List Column → ℕ → ℕ → ℕ → List ℕ
 refusal_mark columns t y column = if refused_until columns t column - refused_before columns t column == 0 then []
     else codes "M"
     ++ (decimal (lower LEFT (middle_of column (length columns)))
     ++ (codes " " ++ (decimal y ++ (codes "v" ++ decimal REFUSALS))))
 
--- a word at the left of the marks, which is moved down by a gap, and the beginning of their path
+-- the word to the left of the marks, moved down by a gap, and the beginning of their path
 unfoldable pub refusals_begin : ℕ → ℕ → List ℕ
 refusals_begin y gap = concat (codes "<text class=\"right\" x=\"" ∷ decimal (LEFT - 9) ∷ codes "\" y=\""
     ∷ decimal (lower (lower y REFUSALS) gap)
@@ -34,16 +35,17 @@ refusals_text columns t y gap =
     concat (refusals_begin y gap ∷ flat_map (refusal_mark columns t y) (range_with_len 0 (length columns)) ∷ codes "\"/>\n"
     ∷ [])
 
--- where a column begins, to how many the frames turn that are free in blocks of order k and of greater ones, if to another number
+-- if the number of free frames in blocks of order k and above changes at a column, the step to the new number where the column
+-- begins
 unfoldable pub turn_text : List Column → ℕ → ℕ → ℕ → List ℕ
 turn_text columns t k column = if free_in_column columns t k column == free_before columns t k column then []
     else codes "H" ++ (decimal column ++ (codes "V" ++ decimal (free_in_column columns t k column)))
 
--- the class of an order that is so far below that of a superblock
+-- the class of an order that is `depth` below that of a superblock
 abbrev pub depth_class : ℕ → List ℕ
 depth_class depth = codes "d" ++ decimal (min depth 8)
 
--- the layer of order k in a stack that is as high as `most` frames; slots are of this order
+-- the layer of order k in a stack whose height stands for `most` frames; slots have 2 ^ order frames
 unfoldable pub layer_text : List Column → ℕ → ℕ → ℕ → ℕ → ℕ → List ℕ
 layer_text columns t order foot most k = concat (codes "<path class=\"cells " ∷ depth_class (order - k)
     ∷ codes "\" transform=\"translate(" ∷ decimal LEFT
@@ -52,7 +54,7 @@ layer_text columns t order foot most k = concat (codes "<path class=\"cells " �
     ∷ flat_map (turn_text columns t k) (range_with_len 0 (length columns)) ∷ codes "H" ∷ decimal (length columns)
     ∷ codes "V0z\"/>\n" ∷ [])
 
--- the frame of a stack, and how many frames its top and its foot mean
+-- the border of a stack, and the numbers of frames at its top and at its foot
 unfoldable pub scale_text : ℕ → ℕ → ℕ → List ℕ
 scale_text top foot most = concat (codes "<rect class=\"frame\" x=\"" ∷ decimal LEFT ∷ codes "\" y=\"" ∷ decimal top
     ∷ codes "\" width=\"" ∷ decimal WIDTH
@@ -62,7 +64,7 @@ scale_text top foot most = concat (codes "<rect class=\"frame\" x=\"" ∷ decima
     ∷ decimal foot
     ∷ codes "\">0</text>\n" ∷ [])
 
--- the stack over a foot
+-- the stack, upwards from the height `foot`
 unfoldable pub stack_text : List Column → ℕ → ℕ → ℕ → ℕ → List ℕ
 stack_text columns t order foot most = concat (codes "<text x=\"" ∷ decimal LEFT ∷ codes "\" y=\"" ∷ decimal (foot - STACK - 5)
     ∷ codes "\">free frames, at most "

@@ -14,44 +14,44 @@ use Rattle.picture_svg.specs.Bands.{AreCellsOf, IsBand}
 use Rattle.picture_svg.specs.Sizes.{band_height, lower}
 use Rattle.picture_svg.specs.Texts.{opening_text, title_text}
 
--- the first tenant who is drawn, and the number above the last
+-- the number of the first tenant that is drawn, and the number above the last one's
 abbrev pub first_tenant : Picture → ℕ
 first_tenant picture = picture.first
 
 abbrev pub end_of_tenants : Picture → ℕ
 end_of_tenants picture = picture.end
 
--- how many columns it has cells for
+-- the number of columns that the picture has cells for
 abbrev pub most_columns_in : Picture → ℕ
 most_columns_in picture = vec_len picture.cells
 
--- how many pixels the word at the marks of refusals is moved down
+-- the number of pixels by which the word at the marks of refusals is moved down
 abbrev pub label_gap_of : Picture → ℕ
 label_gap_of picture = picture.label_gap
 
--- how many tenants are drawn
+-- the number of tenants that are drawn
 abbrev pub drawn_tenants : Picture → ℕ
 drawn_tenants picture = end_of_tenants picture - first_tenant picture
 
--- the same tenants are drawn in as many columns
+-- the same tenants are drawn, in the same number of columns and with the same gap
 pub record IsSamePicture (old new : Picture) : Type 0 where
   pub first : first_tenant new ≡ first_tenant old
   pub end : end_of_tenants new ≡ end_of_tenants old
   pub columns : most_columns_in new ≡ most_columns_in old
   pub gap : label_gap_of new ≡ label_gap_of old
 
--- how many rows each of so many bands has at most
+-- the largest number of rows of each of this number of bands
 abbrev pub most_rows_of : ℕ → ℕ
 most_rows_of bands = TALL_BANDS * MOST_ROWS / max bands TALL_BANDS
 
--- where bands of so many rows end, the first of which begins at a height
+-- the height at which bands with these numbers of rows end, if the first begins at `top`
 abbrev pub bottom_of : ℕ → List ℕ → ℕ
 bottom_of top rows = fold (λ top rows. lower top (band_height rows)) top rows
 
 abbrev pub rows_of : List Grid → List ℕ
 rows_of grids = map (λ grid. grid.rows) grids
 
--- the band of tenant t, of as many columns as there are cells for
+-- the band of tenant t, with the columns that there are cells for
 pub record IsBandOf (picture : Picture) (history : History) (t : ℕ) (grid : Grid) (top : ℕ) (text : List ℕ) : Type 0 where
   pub cells : List (List Tone)
   pub is_grid : IsGridOf history t (most_rows_of (drawn_tenants picture)) grid
@@ -66,7 +66,7 @@ AreBands picture history t top (grid ∷ grids) text = (band : List ℕ) × (res
     × IsBandOf picture history t grid top band
     × AreBands picture history (t + 1) (lower top (band_height grid.rows)) grids rest × (text ≡ band ++ rest)
 
--- The picture of a history, of the trace of this name: a title, and a band for each tenant that is drawn. The legend is open.
+-- The picture of a history of the trace of this name: a title, and a band for each drawn tenant. The legend is not specified.
 pub record IsPictureOf (picture : Picture) (history : History) (name : Option (List ℕ)) (text : List ℕ) : Type 0 where
   pub grids : List Grid
   pub legend : List ℕ

@@ -1,19 +1,19 @@
--- How high the parts of a picture are, in pixels. A sum stops at the greatest number of 32 bits.
+-- The heights of the parts of a picture, in pixels. A sum is at most the greatest number of 32 bits.
 use Rattle.std.specs.Prelude.{ℕ, ◌+◌, ◌-◌, ◌*◌, ◌/◌, ◌^◌, max, min}
 use Rattle.picture_svg.specs.declared.svg.TheConstants.{ABOVE, BELOW, ROWS_HEIGHT, MOST_ROW_HEIGHT}
 
--- so many pixels lower
+-- the height this number of pixels lower
 abbrev pub lower : ℕ → ℕ → ℕ
 lower y pixels = min (y + pixels) (2 ^ 32 - 1)
 
--- one of so many rows
+-- the height of each of this number of rows
 abbrev pub row_height : ℕ → ℕ
 row_height rows = max 1 (min (ROWS_HEIGHT / rows) MOST_ROW_HEIGHT)
 
--- all of them
+-- the height of all rows together
 abbrev pub rows_height : ℕ → ℕ
 rows_height rows = min (rows * row_height rows) (2 ^ 32 - 1)
 
--- a band, with its title, its free frames and its axes
+-- the height of a band, with its title, its free frames and its axes
 abbrev pub band_height : ℕ → ℕ
 band_height rows = lower (rows_height rows) (ABOVE + BELOW)

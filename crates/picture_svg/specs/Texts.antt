@@ -1,4 +1,4 @@
--- What the values of a picture are written as. A text is in the form of SVG.
+-- The texts of the values of a picture, in SVG.
 use Rattle.std.specs.Prelude.{ℕ, ◌+◌, ◌-◌, ◌*◌, ◌/◌, ◌%◌, ◌^◌, ◌==◌, nat_lt, false, if◌then◌else◌, List, [], ◌∷◌, ◌++◌, Option, Some, None, Result, OnOk, codes, decimal, flat_map}
 use Rattle.std.specs.Fmt.{format_spec, padded_integral}
 use Rattle.std.specs.Io.KnownBytes.{Appends}
@@ -13,16 +13,16 @@ pub record AppendsText (old new : Option (List ℕ)) (IsText : List ℕ → Type
   pub appended : Appends old new text
   pub is : IsText text
 
--- they have if the result is `Ok`
+-- if the result is `Ok`, the known bytes have grown so
 abbrev pub WritesText : {E : Type 0} → Result (Unit {0}) E → Option (List ℕ) → Option (List ℕ) → (List ℕ → Type 0) → Type 0
 WritesText result old new IsText = OnOk result (AppendsText old new IsText)
 
--- so many parts of 10^8, with eight digits behind the point
+-- a number of parts of 10^8, as a decimal with eight digits behind the point
 abbrev pub parts_text : ℕ → List ℕ
 parts_text parts = decimal (parts / 10 ^ 8)
     ++ (codes "." ++ padded_integral (format_spec 32 0 4 8 (2 ^ 64 - 1)) false [] (decimal (parts % 10 ^ 8)))
 
--- n parts of d; none if d is 0
+-- n divided by d, 0 if d is 0
 abbrev pub ratio_text : ℕ → ℕ → List ℕ
 ratio_text n d = parts_text (n * 10 ^ 8 / d)
 
@@ -33,12 +33,12 @@ opening_text height = concat (codes "<svg xmlns=\"http://www.w3.org/2000/svg\" v
     ∷ codes "\" width=\"" ∷ decimal WHOLE_WIDTH ∷ codes "\" height=\"" ∷ decimal height ∷ codes "\">\n" ∷ STYLE.now
     ∷ codes "<rect width=\"" ∷ decimal WHOLE_WIDTH ∷ codes "\" height=\"" ∷ decimal height ∷ codes "\" fill=\"#fff\"/>\n" ∷ [])
 
--- a byte of a name; a control character, which no text can hold, is a question mark
+-- a byte of a name; a control character, which SVG text cannot contain, becomes a question mark
 abbrev pub escaped : ℕ → List ℕ
 escaped byte = if byte == 38 then codes "&amp;" else if byte == 60 then codes "&lt;" else if byte == 62 then codes "&gt;"
     else if nat_lt byte 32 then codes "?" else byte ∷ []
 
--- the trace of this name
+-- the name of the trace, or `a trace` without a name
 abbrev pub name_text : Option (List ℕ) → List ℕ
 name_text None = codes "a trace"
 name_text (Some name) = flat_map escaped name
@@ -52,7 +52,7 @@ title_text lines name superblocks frames width = concat (codes "<text class=\"he
     ∷ codes ", of " ∷ decimal frames ∷ codes " frames each. Lines to a column: " ∷ decimal width
     ∷ codes "; it shows the machine after the last of them.</text>\n" ∷ [])
 
--- what stands at the right above the rows of a band, if each is several frames
+-- the note to the right above the rows of a band, if each row is several frames
 unfoldable pub row_note : ℕ → ℕ → List ℕ
 row_note frames y = if nat_lt 1 frames then concat (codes "<text class=\"right\" x=\"" ∷ decimal (LEFT + WIDTH)
     ∷ codes "\" y=\"" ∷ decimal y
@@ -66,7 +66,7 @@ tenant_title t frames_per_row top = let y = lower top (ABOVE - 8) in
     ∷ codes "</text>\n"
     ∷ row_note frames_per_row y ∷ [])
 
--- of a tenant the frames that are taken and held at the end, the most that were taken in a column, and its refusals for want of frames
+-- a tenant's taken and held frames at the end, the most frames that were taken in a column, and its refusals for lack of frames
 unfoldable pub figures_text : ℕ → ℕ → ℕ → ℕ → ℕ → List ℕ
 figures_text taken held most refused top =
     concat (codes "<text x=\"" ∷ decimal (LEFT + 90) ∷ codes "\" y=\"" ∷ decimal (lower top (ABOVE - 8))
@@ -75,12 +75,12 @@ figures_text taken held most refused top =
     ∷ codes " taken; refused for want of frames: " ∷ decimal refused
     ∷ codes "</text>\n" ∷ [])
 
--- a rectangle of cells, in a path: columns are units to the right, and rows units upwards
+-- a rectangle of cells in a path: columns are units to the right, and rows units upwards
 unfoldable pub rectangle_path : Rectangle → List ℕ
 rectangle_path r = concat (codes "M" ∷ decimal r.column ∷ codes " " ∷ decimal r.row ∷ codes "h" ∷ decimal r.columns ∷ codes "v"
     ∷ decimal r.rows
     ∷ codes "h-" ∷ decimal r.columns ∷ codes "z" ∷ [])
 
--- a path of these classes
+-- a path with these classes
 unfoldable pub path_text : List ℕ → List ℕ → List ℕ → List ℕ
 path_text kind shade path = concat (codes "<path class=\"" ∷ kind ∷ shade ∷ codes "\" d=\"" ∷ path ∷ codes "\"/>\n" ∷ [])

@@ -1,7 +1,7 @@
-//! The picture of what became of the frames of a machine, as text in SVG.
+//! The picture of a machine's frames over a trace, as SVG text.
 //!
 //! A [`picture::Picture`] draws a history: for each tenant a band of its frames over the lines of the trace. `frame_picture`
-//! works out what is drawn, as values; `svg` writes these values where they stand.
+//! computes the values that are drawn; `svg` writes each of them at its position.
 #![tactic(auto)]
 
 pub mod picture;

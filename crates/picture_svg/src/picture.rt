@@ -14,22 +14,23 @@ use std::alloc::{AllocError, Global};
 use std::io::{self, Write};
 use std::ops::Range;
 
-/// So many bands may have 256 rows; where there are more, each has fewer.
+/// The largest number of bands that can have 256 rows each. If there are more bands, each has fewer rows.
 const TALL_BANDS: u32 = 4;
 
-/// Which tenants are drawn, and the cells of one band.
+/// The tenants that are drawn, and the cells of one band.
 #[derive(Debug, Drop)]
 pub struct Picture {
-    /// The first tenant who is drawn, and the number above the last.
+    /// The number of the first tenant that is drawn, and the number above the last one's.
     first: u8,
     end: u8,
     cells: Vec<[Tone; MOST_ROWS]>,
-    /// How many pixels the word `refused` is moved down, away from the lowest number of the axis.
+    /// The number of pixels by which the word `refused` is moved down, away from the lowest number of the axis.
     label_gap: u32,
 }
 
 impl Picture {
-    /// A picture of a history, drawn when it is at its end: of the tenant `only`, or of all without it.
+    /// Returns a picture that can draw this history once it has ended, with the tenant `only`, or with all tenants if that is
+    /// `None`. Fails if memory runs out.
     pub fn new(alloc: Global, history: &History, only: Option<u8>) -> Result<Picture, AllocError>
         ensures one { IfOk result (λ picture. IfSome only
             (λ t. (first_tenant picture ≡ t) × (end_of_tenants picture ≡ min (t + 1) u8.MAX))) }
@@ -57,8 +58,8 @@ impl Picture {
         self.label_gap = pixels;
     }
 
-    /// Draws what became of the frames in the trace of this name, and flushes. Of a history with more columns than that of `new`
-    /// the first are drawn.
+    /// Draws the frames of a history, with the name of its trace, and flushes. If the history has more columns than the one given
+    /// to `new`, only the first ones are drawn.
     pub fn draw<W: Write>(
         &mut self,
         history: &History,
@@ -88,7 +89,7 @@ impl Picture {
         out.flush()
     }
 
-    /// The rows of a tenant's band.
+    /// Returns the rows of a tenant's band.
     fn grid(&self, history: &History, t: u8) -> Grid
         ensures { IsGridOf history.now t (most_rows_of (drawn_tenants self.now)) result }
     {

@@ -1,4 +1,4 @@
-//! The text of a picture, in SVG: what the other modules work out, each value where it stands.
+//! Writes the SVG text of a picture, each computed value at its position. Positions and sizes are in pixels.
 
 ghost use Rattle.std.specs.Prelude.{◌≡◌, ◌+◌, ◌-◌, ◌*◌, ◌/◌, ◌^◌, ◌<◌, ◌≤◌, ◌++◌, ℕ, List, ⊤, flat_map, length, option_copied};
 ghost use Rattle.std.specs.List.{range_with_len};
@@ -21,40 +21,40 @@ use kernel_core::FrameKind;
 use std::fmt;
 use std::io::{self, Write};
 
-/// Where the columns begin.
+/// The position of the first column, from the left.
 const LEFT: u32 = 72;
 
-/// How wide all columns are together.
+/// The width of all columns together.
 const WIDTH: u32 = 1200;
 
-/// How wide the picture is.
+/// The width of the picture.
 const WHOLE_WIDTH: u32 = LEFT + WIDTH + 36;
 
-/// How high what stands above the bands is.
+/// The height of the part above the bands.
 pub const HEAD: u32 = 116;
 
-/// Where the rows of a band begin in it, and what stands below them.
+/// The height of a band above its rows, and below them.
 const ABOVE: u32 = 26;
 
 const BELOW: u32 = 132;
 
-/// How high the free frames below a band are drawn, and where they begin below the rows.
+/// The height of the free frames below a band, and their distance from the rows.
 const STACK: u32 = 56;
 
 const STACK_TOP: u32 = 36;
 
-/// Where the marks of refusals begin below the rows, and how high they are.
+/// The distance of the marks of refusals from the rows, and their height.
 const REFUSALS_TOP: u32 = 4;
 
 const REFUSALS: u32 = 9;
 
-/// About how high the rows of a band are.
+/// The approximate height of the rows of a band.
 const ROWS_HEIGHT: u32 = 192;
 
-/// How high a row is at most.
+/// The largest height of a row.
 const MOST_ROW_HEIGHT: u32 = 16;
 
-/// At most so many slots have a line and a number, and at most so many a tick.
+/// The largest number of slots with a line and a number, and the largest number with a tick.
 const MOST_SLOT_LINES: u32 = 8;
 
 const MOST_SLOT_TICKS: u32 = 64;
@@ -90,14 +90,14 @@ text{font:12px sans-serif;fill:#444}\
 .frame{fill:none;stroke:#888;shape-rendering:crispEdges}\
 </style>\n";
 
-/// A number with eight digits behind its point.
+/// A number with eight digits behind the point.
 #[derive(Clone, Copy)]
 struct Decimal {
     hundred_millionths: u64,
 }
 
 impl Decimal {
-    /// `n` parts of `d`; none where `d` is 0.
+    /// Returns `n` divided by `d`, rounded down. Returns 0 if `d` is 0.
     fn ratio(n: u32, d: u64) -> Decimal
         ensures { result.hundred_millionths ≡ n * 10 ^ 8 / d }
     {
@@ -120,10 +120,10 @@ impl fmt::Display for Decimal {
     }
 }
 
-/// The classes of rows of several frames by how many quarters of these are taken; whole rows need none.
+/// The classes of rows of several frames, with the number of their quarters that are taken. Full rows need no class.
 const SHADES: [(&str, u8); 4] = [(" one", 1), (" two", 2), (" three", 3), ("", 4)];
 
-/// The class of a kind of cells.
+/// Returns the class of a kind of cells.
 fn class_of(cell: FrameKind) -> &'static str
     ensures { result.now ≡ class_of cell }
 {
@@ -137,7 +137,7 @@ fn class_of(cell: FrameKind) -> &'static str
     }
 }
 
-/// What the legend calls a kind of cells.
+/// Returns the name of a kind of cells in the legend.
 fn name_of(cell: FrameKind) -> &'static str {
     match cell {
         FrameKind::NotHeld => "not held",
@@ -164,7 +164,7 @@ pub fn draw_opening<W: Write>(out: &mut W, height: u32) -> io::Result<()>
     )
 }
 
-/// Draws the title and the legend; a trace that was read from standard input has no name.
+/// Draws the title and the legend. A trace that was read from standard input has no name.
 pub fn draw_head<W: Write>(out: &mut W, history: &History, name: Option<&str>) -> io::Result<()>
     ensures { WritesText result (W.contents out.old) (W.contents out.new) (λ text. (legend : List ℕ)
         × (text ≡ title_text (line_count history.now) (option_copied name.entry) (superblocks_of history.now)
@@ -204,7 +204,7 @@ fn draw_kinds<W: Write>(out: &mut W) -> io::Result<()>
     draw_word(out, x, 64, "a request was refused for want of frames")
 }
 
-/// Draws the legend of the free frames: a colour for each order, the greatest one first.
+/// Draws the legend of the free frames: a colour for each order, the greatest order first.
 fn draw_orders<W: Write>(out: &mut W, order: usize) -> io::Result<()>
     requires { order < ORDERS }
     ensures { WritesText result (W.contents out.old) (W.contents out.new) (λ _. ⊤) }
@@ -227,7 +227,7 @@ fn draw_orders<W: Write>(out: &mut W, order: usize) -> io::Result<()>
     Ok(())
 }
 
-/// The class of free blocks whose order is so far below that of a superblock.
+/// Returns the class of free blocks whose order is `depth` below that of a superblock.
 fn depth_class(depth: usize) -> &'static str
     ensures { result.now ≡ depth_class depth }
 {
@@ -244,7 +244,7 @@ fn depth_class(depth: usize) -> &'static str
     }
 }
 
-/// Writes a name as text of SVG. A control character, which no such text can hold, becomes a question mark.
+/// Writes a name as SVG text. A control character, which SVG text cannot contain, becomes a question mark.
 fn write_escaped<W: Write>(out: &mut W, name: &[u8]) -> io::Result<()>
     ensures { WritesText result (W.contents out.old) (W.contents out.new) (λ text. text ≡ flat_map escaped name.now) }
 {
@@ -260,7 +260,8 @@ fn write_escaped<W: Write>(out: &mut W, name: &[u8]) -> io::Result<()>
     Ok(())
 }
 
-/// Draws the band of tenant `t` from a height on, of these columns of cells; the word at the refusals is `gap` pixels lower.
+/// Draws the band of tenant `t` with these columns of cells, from the height `top` down. The word at the marks of refusals is
+/// `gap` pixels lower.
 pub fn draw_band<W: Write>(
     out: &mut W,
     history: &History,
@@ -291,7 +292,7 @@ pub fn draw_band<W: Write>(
     draw_lines_axis(out, history, foot)
 }
 
-/// Draws the cells of a band over a foot.
+/// Draws the cells of a band, upwards from the height `foot`.
 fn draw_rows<W: Write>(
     out: &mut W,
     columns: &[[Tone; MOST_ROWS]],
@@ -317,7 +318,8 @@ fn draw_rows<W: Write>(
     out.write_all(b"</g>\n")
 }
 
-/// Draws all rows of a kind of taken frames, the more are taken the darker; where a row is one frame, there is one shade.
+/// Draws all rows of a kind of taken frames. A row is darker the more of its frames are taken. If a row is one frame, there is
+/// only one shade.
 fn draw_shades<W: Write>(
     out: &mut W,
     kind: FrameKind,
@@ -351,7 +353,7 @@ fn draw_tone<W: Write>(
     out.write_all(b"\"/>\n")
 }
 
-/// Draws all cells of a tone, as rectangles. The columns are units to the right, and the rows units upwards.
+/// Draws all cells of a tone as rectangles. Columns are units to the right, and rows units upwards.
 fn draw_cells<W: Write>(
     out: &mut W,
     tone: Tone,
@@ -369,7 +371,7 @@ fn draw_cells<W: Write>(
     Ok(())
 }
 
-/// Draws the rectangles of a tone that end before column `end`, by their rows.
+/// Draws the rectangles of a tone that end before column `end`, from the lowest row up.
 fn draw_ended<W: Write>(
     out: &mut W,
     tone: Tone,
@@ -405,14 +407,14 @@ fn draw_rectangle<W: Write>(out: &mut W, rectangle: Rectangle) -> io::Result<()>
     write!(out, "M{column} {row}h{columns}v{rows}h-{columns}z")
 }
 
-/// How wide each of so many columns is.
+/// Returns the width of each of this number of columns.
 fn column_width(columns: usize) -> Decimal
     ensures { result.hundred_millionths ≡ WIDTH * 10 ^ 8 / columns }
 {
     Decimal::ratio(WIDTH, columns as u64)
 }
 
-/// How high a row is.
+/// Returns the height of a row.
 fn row_height(grid: Grid) -> u32
     ensures { result ≡ row_height grid.rows }
 {
@@ -422,14 +424,14 @@ fn row_height(grid: Grid) -> u32
         .clamp(1, MOST_ROW_HEIGHT)
 }
 
-/// How high the rows are together.
+/// Returns the height of all rows together.
 fn rows_height(grid: Grid) -> u32
     ensures { result ≡ rows_height grid.rows }
 {
     grid.rows.saturating_mul(row_height(grid))
 }
 
-/// How high a band is, with its title, free frames and axes.
+/// Returns the height of a band in pixels, with its title, free frames and axes.
 pub fn band_height(grid: Grid) -> u32
     ensures { result ≡ band_height grid.rows }
 {
@@ -446,7 +448,7 @@ fn draw_swatch<W: Write>(out: &mut W, x: u32, y: u32, class: &str) -> io::Result
     )
 }
 
-/// Says beside a colour what it stands for.
+/// Draws the word beside a colour.
 fn draw_word<W: Write>(out: &mut W, x: u32, y: u32, word: &str) -> io::Result<()>
     ensures { WritesText result (W.contents out.old) (W.contents out.new) (λ _. ⊤) }
 {
@@ -475,7 +477,7 @@ fn draw_title<W: Write>(out: &mut W, t: u8, grid: Grid, top: u32) -> io::Result<
     Ok(())
 }
 
-/// Draws the frame of the rows, and the numbers of frames at their left.
+/// Draws the border of the rows, and the numbers of frames to their left.
 fn draw_frames_axis<W: Write>(out: &mut W, grid: Grid, y: u32, bottom: u32) -> io::Result<()>
     ensures { WritesText result (W.contents out.old) (W.contents out.new) (λ _. ⊤) }
 {
@@ -507,8 +509,8 @@ fn draw_frames_axis<W: Write>(out: &mut W, grid: Grid, y: u32, bottom: u32) -> i
     Ok(())
 }
 
-/// Draws at the right of the rows a tick where a slot begins, and of some slots the number and a line across. However many
-/// slots there are, both stay apart.
+/// Draws to the right of the rows a tick where a slot begins, and for some slots the number and a line across. Ticks and numbers
+/// do not overlap, however many slots there are.
 fn draw_slots_axis<W: Write>(out: &mut W, grid: Grid, y: u32, bottom: u32) -> io::Result<()>
     ensures { WritesText result (W.contents out.old) (W.contents out.new) (λ _. ⊤) }
 {
@@ -535,7 +537,7 @@ fn draw_slots_axis<W: Write>(out: &mut W, grid: Grid, y: u32, bottom: u32) -> io
     draw_slot_ticks(out, grid, bottom)
 }
 
-/// Draws a tick where a slot begins, as far as ticks stay apart.
+/// Draws a tick where a slot begins, leaving out slots if ticks would overlap.
 fn draw_slot_ticks<W: Write>(out: &mut W, grid: Grid, bottom: u32) -> io::Result<()>
     ensures { WritesText result (W.contents out.old) (W.contents out.new) (λ _. ⊤) }
 {
@@ -551,13 +553,13 @@ fn draw_slot_ticks<W: Write>(out: &mut W, grid: Grid, bottom: u32) -> io::Result
     out.write_all(b"\"/>\n")
 }
 
-/// How high above the foot of the rows a frame begins.
+/// Returns the height above the foot of the rows at which a frame begins.
 fn height_of(grid: Grid, frame: u32) -> u32 {
     let rows = frame.checked_div(grid.frames_per_row).unwrap_or(0);
     rows.saturating_mul(row_height(grid))
 }
 
-/// A power of two of which at most eight make so many frames.
+/// Returns the distance between numbers of the frames' axis: a power of two that gives at most eight steps.
 fn frames_step(frames: u32) -> u32 {
     let mut step = 1u32;
     for _ in 0..31 {
@@ -569,8 +571,8 @@ fn frames_step(frames: u32) -> u32 {
     step
 }
 
-/// Says beside the title of a band what there is at the end, the most that was taken in a column, and how often the tenant was
-/// refused for want of frames.
+/// Writes beside the title of a band the tenant's figures at the end, the most frames that were taken in a column, and the number
+/// of requests that were refused for lack of frames.
 fn draw_figures<W: Write>(out: &mut W, columns: &[Column], t: u8, top: u32) -> io::Result<()>
     ensures { WritesText result (W.contents out.old) (W.contents out.new) (IsFiguresText columns.now t top) }
 {
@@ -587,7 +589,8 @@ fn draw_figures<W: Write>(out: &mut W, columns: &[Column], t: u8, top: u32) -> i
     )
 }
 
-/// Marks the columns in whose lines tenant `t` was refused for want of frames. The word that names the marks is `gap` pixels lower.
+/// Marks the columns with lines in which a request of tenant `t` was refused for lack of frames. The word that names the marks is
+/// `gap` pixels lower.
 fn draw_refusals<W: Write>(
     out: &mut W,
     columns: &[Column],
@@ -613,7 +616,7 @@ fn draw_refusals<W: Write>(
     out.write_all(b"\"/>\n")
 }
 
-/// How far to the right the middle of a column is, of so many.
+/// Returns the distance of the middle of a column from the first column's left, for this number of columns.
 fn middle_of(column: usize, columns: usize) -> u32
     ensures { result ≡ middle_of column columns }
 {
@@ -625,7 +628,8 @@ fn middle_of(column: usize, columns: usize) -> u32
     way.min(u64::from(WIDTH)) as u32
 }
 
-/// Draws the free frames of tenant `t` over a foot, by the order of their free block: those of the greatest order lowest.
+/// Draws the free frames of tenant `t`, upwards from the height `foot`, by the order of their free block. The greatest order is
+/// lowest.
 fn draw_stack<W: Write>(out: &mut W, history: &History, t: u8, foot: u32) -> io::Result<()>
     ensures { WritesText result (W.contents out.old) (W.contents out.new) (IsStackText history.now t foot) }
 {
@@ -640,7 +644,7 @@ fn draw_stack<W: Write>(out: &mut W, history: &History, t: u8, foot: u32) -> io:
     draw_scale(out, top, foot, most)
 }
 
-/// Draws a layer of a stack for each order; the stack is as high as `most` frames.
+/// Draws a layer of a stack for each order. The height of the stack stands for `most` frames.
 fn draw_layers<W: Write>(
     out: &mut W,
     history: &History,
@@ -668,7 +672,7 @@ fn draw_layers<W: Write>(
     Ok(())
 }
 
-/// Draws the frame of a stack, and how many frames its top and its foot mean.
+/// Draws the border of a stack, and the numbers of frames at its top and at its foot.
 fn draw_scale<W: Write>(out: &mut W, top: u32, foot: u32, most: u64) -> io::Result<()>
     ensures { WritesText result (W.contents out.old) (W.contents out.new) (λ text. text ≡ scale_text top foot most) }
 {
@@ -689,7 +693,7 @@ fn draw_scale<W: Write>(out: &mut W, top: u32, foot: u32, most: u64) -> io::Resu
     )
 }
 
-/// Draws where the free frames in blocks of an order and of greater ones become another number.
+/// Draws the outline of a layer: where the number of free frames in blocks of this order and above changes, and to what.
 fn draw_turns<W: Write>(out: &mut W, columns: &[Column], t: u8, order: usize) -> io::Result<()>
     requires { order < ORDERS }
     ensures { WritesText result (W.contents out.old) (W.contents out.new)
@@ -727,7 +731,7 @@ fn draw_lines_axis<W: Write>(out: &mut W, history: &History, foot: u32) -> io::R
     )
 }
 
-/// How far to the right the column ends that shows the machine after so many lines.
+/// Returns the distance from the first column's left to the end of the column that shows the machine after this number of lines.
 fn way_of(history: &History, line: u32) -> u32 {
     let lines = u64::from(history.width()).saturating_mul(history.columns().len() as u64);
     let way = (u64::from(line) * u64::from(WIDTH))
@@ -736,7 +740,7 @@ fn way_of(history: &History, line: u32) -> u32 {
     way.min(u64::from(WIDTH)) as u32
 }
 
-/// A round number of which at most ten make so many lines.
+/// Returns the distance between numbers of the lines' axis: a round number that gives at most ten steps.
 fn lines_step(lines: u32) -> u32 {
     let mut decade = 1u32;
     for _ in 0..9 {
