@@ -1,4 +1,4 @@
-//! Worked traces that are built, since most of their lines are alike.
+//! Worked traces that are built by code, since most of their lines are alike.
 
 use crate::running::{PIECES, replayed};
 use crate::tables::{MACHINE, WIDEST};
@@ -7,7 +7,7 @@ use std::io::Write;
 use std::process::Abort;
 use std::test::Fail;
 
-/// Runs the trace in every piece, and expects this output each time.
+/// Runs the trace in pieces of each size, and expects this output each time.
 fn expect_output(
     rt: &(impl AllocGlobal + Abort),
     config: Config,
@@ -21,7 +21,7 @@ fn expect_output(
     Ok(())
 }
 
-/// 254 objects of 16 bytes lie beside the record of a frame, 254 * 16 = 4096 - 32.
+/// A frame holds 254 objects of 16 bytes and their record: 254 * 16 = 4096 - 32.
 #[test]
 fn the_255th_object_of_16_bytes_is_on_another_frame(rt: HostRuntime) -> Result<(), Fail> {
     let mut trace = b"admin grant 0\n0 cache 1 8 00\n".to_vec(rt.alloc())?;

@@ -1,4 +1,4 @@
-//! The command line of `partmem`: what its words ask for, how they are refused, and how a run ends.
+//! The command line of `partmem`: the settings that its words request, how words are refused, and how a run ends.
 
 use command_line::{Outcome, PROGRAM, Settings, outcome_of, read_words};
 use kernel_core::Config;
@@ -7,19 +7,19 @@ use std::alloc::{AllocError, Global};
 use std::process::Abort;
 use std::test::Fail;
 
-/// The functions have these types.
+/// Compiles only if the functions have these types.
 fn types() {
     let _: fn(&Outcome) -> u8 = Outcome::status;
     let _: fn(&Result<Tally, ReplayError>) -> Outcome = outcome_of;
 }
 
-/// Reads a line of words that are apart by blanks.
+/// Reads a command line whose words are separated by blanks.
 fn read(alloc: Global, line: &str) -> Result<Result<Settings, Outcome>, AllocError> {
     let words: Vec<&str> = line.split_whitespace().collect(alloc)?;
     Ok(read_words(alloc, &words))
 }
 
-/// Command lines that are in order: the order, the superblocks and the tenants, and the tenant of `--only`.
+/// Valid command lines, with their order, superblocks and tenants, and the tenant of `--only`.
 const IN_ORDER: [(&str, (u32, u32, u32), Option<u8>); 3] = [
     (
         "--order 3 --superblocks 256 --tenants 64 --only 63",
@@ -76,7 +76,7 @@ enum Refused {
     BadOnly,
 }
 
-/// Whether it was refused so.
+/// Returns whether the command line was refused in this way.
 fn is_refused(read: &Result<Settings, Outcome>, refused: Refused) -> bool {
     match (read, refused) {
         (Err(Outcome::Help(_)), Refused::Help)

@@ -1,4 +1,4 @@
-//! Worked traces and long lines whose feed or drain fails, at each call of it.
+//! Worked traces and long lines, with a feed or a drain that fails at each of its calls.
 
 use crate::pieces::{in_pieces, taking};
 use crate::running::{ALL, WHOLE};
@@ -19,7 +19,7 @@ fn ends_fail_at_each_call(rt: HostRuntime) -> Result<(), Fail> {
     Ok(())
 }
 
-/// The lengths of lines, and how they end.
+/// The lengths of lines, without their ends, and the ends.
 const LINES: [(usize, &[u8]); 4] = [(255, b"\n"), (255, b"\r\n"), (256, b"\n"), (255, b"")];
 
 const REPLIES: &[u8] =
@@ -43,8 +43,8 @@ fn ends_fail_at_each_call_of_long_lines(rt: HostRuntime) -> Result<(), Fail> {
     fails_at_each_call(&rt, &table, &trace, REPLIES)
 }
 
-/// Runs a trace on the machine of a table while call 1, 2, 3 and so on of its feed fails, and then of its drain: in pieces of
-/// one byte if one tenant's lines alone are shown, else of 20.
+/// Runs a trace on the machine of a table, first with a feed that fails at call 1, 2, 3 and so on, then with such a drain. Pieces
+/// have one byte if only one tenant's lines are shown, else 20.
 fn fails_at_each_call(
     rt: &(impl AllocGlobal + Abort),
     table: &Table,
@@ -64,11 +64,11 @@ fn fails_at_each_call(
     Ok(())
 }
 
-/// Runs a trace whose feed or drain fails after so many good calls, and returns whether neither was called so often.
+/// Runs a trace with a feed and a drain that fail after these numbers of good calls. Returns true if neither failed.
 ///
-/// What was pushed is a beginning of what the trace writes, as long as the tally says. The kernel then runs the lines behind
-/// those that the tally counts: after a failed feed the rest is written, and after a failed drain the rest behind the reply
-/// that was cut.
+/// Checks that the pushed bytes are a beginning of the trace's output, as long as the tally says. The kernel then runs the lines
+/// behind those in the tally. After a failed feed, they write the rest of the output; after a failed drain, the rest behind the
+/// reply that was cut.
 fn is_done_after(
     rt: &(impl AllocGlobal + Abort),
     table: &Table,
@@ -100,18 +100,19 @@ fn is_done_after(
     Ok(ran.is_ok())
 }
 
-/// What was taken is a beginning, as long as the tally says.
+/// Returns whether the drain took a beginning of the output, as long as the tally says.
 fn begins(output: &[u8], taken: &[u8], tally: Tally) -> bool {
     output.starts_with(taken) && tally.written == taken.len() as u128
 }
 
-/// The rest is an end, behind what was taken: there is something between them where a reply was cut, and only there.
+/// Returns whether `rest` is an end of the output behind what was taken. Bytes are missing between the two only if a reply was
+/// cut.
 fn goes_on(output: &[u8], taken: &[u8], rest: &[u8], is_cut: bool) -> bool {
     let answered = output.len().saturating_sub(rest.len());
     output.ends_with(rest) && taken.len() <= answered && (taken.len() < answered) == is_cut
 }
 
-/// What is behind the first lines of a trace.
+/// Returns the part of a trace behind its first lines.
 fn behind(trace: &[u8], lines: u64) -> &[u8] {
     let mut rest = trace;
     for _line in 0..lines {

@@ -1,4 +1,4 @@
-//! Ends that fail, and replies that go out before the trace is asked for more.
+//! Ends that fail, and replies that are sent before more of the trace is read.
 
 ghost use Rattle.std.specs.Prelude.{◌≡◌, false, IfOk};
 
@@ -15,7 +15,7 @@ use streams::line_end;
 
 const TRACE: &[u8] = b"admin grant 0\n0 alloc 0\n0 read 0 4\n";
 
-/// Each line is an event here, and none is faulty.
+/// Returns the tally of a replay in which each line is an event, and none is faulty.
 fn tally(lines: u64, written: u128) -> Tally {
     Tally {
         lines,
@@ -33,7 +33,7 @@ enum End {
     DrainFails,
 }
 
-/// Whether a replay ended so, after so many lines and with so much written.
+/// Returns whether a replay ended in this way, after this number of lines and of written bytes.
 fn is_ended(ran: Result<Tally, ReplayError>, end: End, lines: u64, written: u128) -> bool {
     let tally = tally(lines, written);
     match (ran, end) {
@@ -44,10 +44,10 @@ fn is_ended(ran: Result<Tally, ReplayError>, end: End, lines: u64, written: u128
     }
 }
 
-/// Good pulls, and what is told then: lines and bytes written.
+/// The number of good pulls, and then the tally: lines, and bytes written.
 const FAILING_FEEDS: [(u32, u64, u128); 4] = [(0, 0, 0), (14, 1, 37), (19, 1, 37), (24, 2, 48)];
 
-/// After a failed feed the lines that ended are done, and the unfinished one is not.
+/// After a failed feed, the finished lines have been run, and the unfinished one has not.
 #[test]
 fn feed_fails(rt: HostRuntime) -> Result<(), Fail> {
     for (good_pulls, lines, written) in FAILING_FEEDS {
@@ -60,7 +60,7 @@ fn feed_fails(rt: HostRuntime) -> Result<(), Fail> {
     Ok(())
 }
 
-/// Good pushes, what is told then, and the reply to a next line.
+/// The number of good pushes, then the tally (lines and bytes written), and the reply to one more line.
 const FAILING_DRAINS: [(u32, u64, u128, &[u8]); 2] = [
     (1, 1, 10, b"0> frame 0\n"),
     (4, 2, 37, b"0> frame 1\n"),
@@ -68,7 +68,7 @@ const FAILING_DRAINS: [(u32, u64, u128, &[u8]); 2] = [
 
 const NEXT_LINE: &[u8] = b"0 alloc 0";
 
-/// After a failed drain the kernel stands after the line whose reply was cut.
+/// After a failed drain, the kernel is in the state after the line whose reply was cut.
 #[test]
 fn drain_fails(rt: HostRuntime) -> Result<(), Fail> {
     for (good_pushes, lines, written, next) in FAILING_DRAINS {
@@ -84,7 +84,7 @@ fn drain_fails(rt: HostRuntime) -> Result<(), Fail> {
     Ok(())
 }
 
-/// How much less or more room than the trace needs, how the replay ends then, and what is told.
+/// The limit of a feed in bytes, around the length of the trace, how the replay ends then, and the tally.
 const ROOMS: [(u64, End, u64, u128); 4] = [
     (0, End::FeedFails, 0, 0),
     (LEN - 1, End::FeedFails, 2, 48),
@@ -92,11 +92,11 @@ const ROOMS: [(u64, End, u64, u128); 4] = [
     (LEN + 1, End::Done, 3, 66),
 ];
 
-/// The bytes of the trace.
+/// The length of the trace in bytes.
 const LEN: u64 = TRACE.len() as u64;
 
-/// A reader that has used up the room of its feed is asked once more: the feed has ended where the reader has, and
-/// failed where it has more.
+/// When a feed has reached its limit, it reads once more. If the reader has ended, so has the feed; if the reader has more, the
+/// feed fails.
 #[test]
 fn room_ends(rt: HostRuntime) -> Result<(), Fail> {
     for (room, end, lines, written) in ROOMS {
@@ -112,15 +112,15 @@ fn room_ends(rt: HostRuntime) -> Result<(), Fail> {
     Ok(())
 }
 
-/// What a reader and a writer tell of one another.
+/// What a reader and a writer record about each other's calls.
 #[derive(Drop)]
 struct Log {
-    /// Calls of the writer that were good.
+    /// The number of successful writes.
     writes: Cell<u32>,
     flushes: Cell<u32>,
-    /// Bytes were written after the last flush.
+    /// Whether bytes were written after the last flush.
     unsent: Cell<bool>,
-    /// The reader was called while they were.
+    /// Whether the reader was called while written bytes were not flushed.
     late: Cell<bool>,
 }
 
@@ -133,7 +133,7 @@ fn no_calls() -> Log {
     }
 }
 
-/// Gives a line a read. One read is interrupted, and the next gives that line.
+/// Returns one line per read. After `good_reads` reads one read is interrupted, and the next one returns the line.
 #[derive(Drop)]
 struct LineReader<'a> {
     rest: &'a [u8],
@@ -162,7 +162,8 @@ impl Read for LineReader<'_> {
     }
 }
 
-/// Takes all, and counts its calls. One write takes no byte, or one flush is interrupted, and the next is good.
+/// Takes all bytes, and counts its calls. After `good_writes` writes one write takes no byte, and after `good_flushes` flushes
+/// one flush is interrupted. The next call succeeds.
 #[derive(Drop)]
 struct LogWriter<'a> {
     good_writes: u32,
@@ -196,13 +197,13 @@ impl Write for LogWriter<'_> {
     }
 }
 
-/// How many reads, writes and flushes are good.
+/// The numbers of good reads, writes and flushes.
 type Good = (u32, u32, u32);
 
-/// The size of a drain's buffer, in bytes: none, less than a reply, less than two, and more than are written.
+/// The sizes of a drain's buffer in bytes: none, less than one reply, less than two replies, and more than the whole output.
 const SIZES: [usize; 4] = [0, 16, 64, 4096];
 
-/// A drain that holds so many bytes; with 0, one that holds none.
+/// Returns a drain with a buffer of `size` bytes, or without a buffer if `size` is 0.
 fn drain_into<'a>(
     alloc: Global,
     size: usize,
@@ -216,7 +217,7 @@ fn drain_into<'a>(
     Ok(WriterDrain::holding(writer, Vec::with_capacity(alloc, size)?))
 }
 
-/// How a replay ended, whether the flush at its end was good, and how many bytes were then not written.
+/// How a replay ended, whether the flush at its end succeeded, and how many bytes were then unwritten.
 #[derive(Drop)]
 struct Told {
     ran: Result<Tally, ReplayError>,
@@ -224,7 +225,7 @@ struct Told {
     unwritten: usize,
 }
 
-/// A replay between such ends.
+/// Runs a replay with such a reader and writer.
 fn between(alloc: Global, trace: &[u8], size: usize, log: &Log, good: Good) -> Result<Told, Fail> {
     let (good_reads, good_writes, good_flushes) = good;
     let mut kernel = Kernel::boot(alloc, MACHINE)?;
@@ -251,11 +252,12 @@ fn between(alloc: Global, trace: &[u8], size: usize, log: &Log, good: Good) -> R
     })
 }
 
-/// How a replay ends, what is told, whether the flush at its end was good, and how many bytes were not written.
+/// How a replay ends, its tally (lines and bytes written), whether the flush at its end succeeds, and the number of unwritten
+/// bytes.
 type Ending = (End, u64, u128, bool, usize);
 
-/// Good reads, writes and flushes, and the ending of a drain that holds none, 16, 64 and 4,096 bytes. With 16 the second of the
-/// three replies is held until it is sent, with more each.
+/// The numbers of good reads, writes and flushes, and the ending with each size of the drain's buffer: 0, 16, 64 and 4,096 bytes.
+/// With 16 bytes the second of the three replies is held until it is sent, with more bytes each reply is.
 const STAYING: [(Good, [Ending; 4]); 9] = [
     ((ALL, ALL, ALL), [(End::Done, 3, 66, true, 0); 4]),
     ((0, ALL, ALL), [(End::FeedFails, 0, 0, false, 0); 4]),
@@ -284,8 +286,8 @@ const STAYING: [(Good, [Ending; 4]); 9] = [
     ((ALL, ALL, 3), [(End::Done, 3, 66, false, 0); 4]),
 ];
 
-/// A failed read, a write that took nothing and a failed flush are not tried again, though they would be good. One that failed
-/// while the drain sent is told by the next push, or by the flush at the end.
+/// A failed read, a write that took no byte and a failed flush are not tried again, although they would succeed. If a call fails
+/// while the drain sends its buffer, the next push reports it, or the flush at the end does.
 #[test]
 fn failures_stay(rt: HostRuntime) -> Result<(), Fail> {
     for (good, endings) in STAYING {
@@ -305,7 +307,7 @@ fn failures_stay(rt: HostRuntime) -> Result<(), Fail> {
     Ok(())
 }
 
-/// Traces, and how often is written and flushed for them.
+/// Traces, and the numbers of writes and flushes for them.
 const CALLS: [(&[u8], u32, u32); 4] = [
     (TRACE, 3, 4),
     (b"", 0, 1),
@@ -313,7 +315,7 @@ const CALLS: [(&[u8], u32, u32); 4] = [
     (b"# note\nfrob\n\n# note\n", 1, 2),
 ];
 
-/// Each reply has gone out when the reader is called again, and where nothing was pushed nothing is flushed.
+/// Each reply is sent before the reader is called again, and these are the numbers of writes and flushes.
 #[test]
 fn answers_at_once(rt: HostRuntime) -> Result<(), Fail> {
     for (trace, writes, flushes) in CALLS {
@@ -332,10 +334,10 @@ fn answers_at_once(rt: HostRuntime) -> Result<(), Fail> {
 /// The size of the buffer of a program's drain, in bytes.
 const FULL: usize = 65_536;
 
-/// How many bytes are pushed, and how many of them the drain holds then.
+/// The number of bytes that are pushed, and the number that the drain holds then.
 const FILLINGS: [(usize, usize); 3] = [(FULL - 1, FULL - 1), (FULL, FULL), (FULL + 1, 1)];
 
-/// A drain is flushed without an error if its buffer is full, if it lacks a byte, and if a byte did not fit.
+/// A drain is flushed without an error if its buffer is full, if one byte is free, and if one byte did not fit.
 #[test]
 fn full_buffer_is_flushed(rt: HostRuntime) -> Result<(), Fail> {
     for (len, held) in FILLINGS {

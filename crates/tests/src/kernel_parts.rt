@@ -10,7 +10,7 @@ use std::alloc::Global;
 use std::process::Abort;
 use std::test::Fail;
 
-/// A machine of two superblocks of eight frames and two tenants, after a trace.
+/// Returns a machine with two superblocks of eight frames and two tenants, after a trace.
 fn kernel_after(alloc: Global, trace: &[u8]) -> Result<Kernel, Fail> {
     let config = Config {
         order: 3,
@@ -28,7 +28,7 @@ fn kernel_after(alloc: Global, trace: &[u8]) -> Result<Kernel, Fail> {
     Ok(kernel)
 }
 
-/// All blocks are freed and joined again.
+/// All blocks are freed and joined.
 const JOINED: &[u8] = b"admin grant 0\n0 alloc 0\n0 alloc 1\n0 alloc 2\n0 alloc 0\n\
     0 free 0\n0 free 1\n0 free 2\n0 free 4\n";
 
@@ -40,7 +40,7 @@ const PASSED_OVER: &[u8] = b"admin grant 0\n0 alloc 0\n0 alloc 1\n0 alloc 2\n0 a
 const BESIDE_SPLIT: &[u8] = b"admin grant 0\n0 alloc 0\n0 alloc 0\n0 alloc 0\n\
     0 free 0\n0 free 2\n";
 
-/// How many blocks of each order of 0 to 3 tenant 0 has free.
+/// Returns the number of free blocks of tenant 0 of each order, 0 to 3.
 fn free_counts(rt: &impl Abort, buddy: &Buddy) -> [u32; 4] {
     assert!(rt; 0 < buddy.tenants());
     assert!(rt; buddy.order() == 3);
@@ -81,7 +81,7 @@ fn table_and_live_orders_follow_splits(rt: HostRuntime) -> Result<(), Fail> {
     Ok(())
 }
 
-/// Whether a block of the order would be found for tenant 0, if its empty slabs were given back.
+/// Returns whether a block of the order would be found for tenant 0 if its empty slabs were freed.
 fn would_fit(kernel: &Kernel, order: u8) -> bool {
     kernel.parts_agree();
     let (space, slabs) = (kernel.space(), kernel.slabs());
@@ -90,7 +90,7 @@ fn would_fit(kernel: &Kernel, order: u8) -> bool {
         && slabs.would_fit(space, kernel.buddy(), 0, order)
 }
 
-/// One object keeps a slab, and so its superblock is no free block.
+/// One live object keeps its slab, so the superblock is not one free block.
 const LIVE_OBJECT: &[u8] = b"admin grant 0\n0 cache 64 8 00\n0 take 0\n";
 
 const EMPTY_SLAB: &[u8] = b"admin grant 0\n0 cache 64 8 00\n0 take 0\n0 give 0 0\n";
@@ -138,13 +138,13 @@ fn parts_begin_empty(rt: HostRuntime) -> Result<(), Fail> {
 /// A page block at frame 0, a slab at frame 1, and its first object of 100 bytes.
 const OBJECT: &[u8] = b"admin grant 0\n0 alloc 0\n0 cache 100 8 5a\n0 take 0\n";
 
-/// Whether a slab of tenant 0 begins at a frame. The kernel's parts agree.
+/// Returns whether a slab of tenant 0 begins at a frame.
 fn is_slab(kernel: &Kernel, frame: u32) -> bool {
     kernel.parts_agree();
     0 < kernel.space().tenants() && kernel.slabs().is_slab(kernel.space(), 0, frame)
 }
 
-/// Whether a range of tenant 0 lies inside one live object.
+/// Returns whether a range of tenant 0 lies inside one live object.
 fn object_at(kernel: &Kernel, place: u32, len: u32) -> bool {
     kernel.parts_agree();
     let space = kernel.space();

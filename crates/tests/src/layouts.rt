@@ -3,7 +3,7 @@
 use layout_core::{Layout, Pattern};
 use std::process::Abort;
 
-/// Size, alignment, chunk, order, bytes for objects, objects, bytes behind the last object, and colours.
+/// Size, alignment, chunk, order, bytes for objects, number of objects, bytes behind the last object, and number of colours.
 type Row = (u32, u32, u32, u8, u32, u32, u32, u32);
 
 const ROWS: [Row; 22] = [
@@ -31,7 +31,7 @@ const ROWS: [Row; 22] = [
     (4096, 8, 4096, 0, 4096, 1, 0, 1),
 ];
 
-/// Whether a layout has the numbers of its row. The record of a small slab has the last 32 bytes of its frame.
+/// Returns whether a layout has the numbers of its row. The record of a small slab is the last 32 bytes of its frame.
 fn has_numbers(layout: &Layout, row: Row) -> bool {
     let (size, align, chunk, order, bytes, count, rest, colours) = row;
     layout.size() == size

@@ -6,11 +6,11 @@ use kernel_core::Kernel;
 use std::alloc::Global;
 use std::test::Fail;
 
-/// Lines, and then of a superblock its first byte, byte 4095 and whether it is marked.
+/// Lines, and then a superblock: its number, its first byte, its byte 4095, and whether it is marked.
 type Step = (&'static [u8], u16, u8, u8, bool);
 
-/// What is written stands in the memory of the machine, stays there after a take-back, and is set to zero by the next grant. A
-/// move takes it along, and marks what it leaves.
+/// Written bytes are in the memory of the machine. They stay there after a take-back, and the next grant sets them to zero. A
+/// move copies them, and marks the superblock that it leaves.
 const STEPS: [Step; 6] = [
     (
         b"admin grant 1\n1 alloc 0\n1 alloc 0\n1 write 4095 aabb\n",
@@ -53,20 +53,21 @@ fn bytes_change_hands(rt: HostRuntime) -> Result<(), Fail> {
     Ok(())
 }
 
-/// The bytes of a frame, and of the record at its end.
+/// The sizes of a frame and of the record at its end, in bytes.
 const FRAME_BYTES: usize = 4096;
 
 const RECORD_BYTES: usize = 32;
 
-/// The bits of 248 objects, and of 6 more.
+/// The bits of 254 live objects: 31 bytes for 248 of them, and 6 bits more.
 const FULLEST: &[u8] = b"\xff\xff\xff\xff\xff\xff\xff\xff\xff\xff\xff\xff\xff\xff\xff\xff\xff\xff\
     \xff\xff\xff\xff\xff\xff\xff\xff\xff\xff\xff\xff\xff\x3f";
 
-/// A cache, takes out of it, and what comes after them; the bytes that end a frame of a superblock then, but for zeroes.
+/// A cache, the number of takes out of it, and the lines behind these. Then a superblock, one of its frames, and the record at
+/// the end of that frame, without the zeroes behind it.
 type Case = (&'static [u8], u32, &'static [u8], u16, usize, &'static [u8]);
 
-/// One bit stands for each live object, the least for the first; behind the bits are zeroes. A slab that is given back leaves
-/// zeroes, a move takes the record along, and a slab of large objects has objects there.
+/// A record has one bit for each live object, the least for the first object, and zeroes behind the bits. A freed slab leaves
+/// zeroes, a move copies the record, and a slab of large objects has object bytes there instead.
 const CASES: [Case; 8] = [
     (b"200 8 a5", 21, b"", 0, 0, b"\xff\xff\x0f"),
     (b"200 8 a5", 21, b"", 0, 1, b"\x01"),
@@ -93,7 +94,7 @@ fn records_stand(rt: HostRuntime) -> Result<(), Fail> {
     Ok(())
 }
 
-/// Whether the frame ends with the record.
+/// Returns whether the frame ends with the record.
 fn stands(alloc: Global, case: &Case) -> Result<bool, Fail> {
     let (_, _, _, superblock, frame, record) = *case;
     let trace = trace_of(alloc, case)?;
@@ -110,7 +111,7 @@ fn stands(alloc: Global, case: &Case) -> Result<bool, Fail> {
     )
 }
 
-/// The lines that make the cache, take out of it, and come after.
+/// Returns the lines that make the cache and take objects, and the lines behind these.
 fn trace_of(alloc: Global, case: &Case) -> Result<Vec<u8>, Fail> {
     let (cache, takes, after, ..) = *case;
     let mut trace = b"admin grant 0\n0 cache ".to_vec(alloc)?;

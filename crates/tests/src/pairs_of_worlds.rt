@@ -1,4 +1,4 @@
-//! Pairs of worlds in which one tenant does the same: it is told the same, whatever comes between.
+//! Pairs of worlds in which one tenant has the same commands: it gets the same replies, whatever comes between.
 
 use crate::running::{WHOLE, replayed};
 use crate::tables::own::ROWS;
@@ -7,10 +7,10 @@ use std::alloc::Global;
 use std::process::Abort;
 use std::test::Fail;
 
-/// The gaps of its trace: before, between and behind the lines.
+/// The number of gaps in the tenant's trace: before, between and behind its lines.
 const GAPS: usize = 7;
 
-/// What others do, as far as they get.
+/// The commands of others. Tests use prefixes of this list.
 const NOISE: [&[u8]; 7] = [
     b"admin grant 1\n",
     b"1 cache 16 8 ee\n",
@@ -21,10 +21,10 @@ const NOISE: [&[u8]; 7] = [
     b"admin reset 1\n",
 ];
 
-/// What is done with the tenant itself, and told to the administrator alone.
+/// Commands about the tenant itself, whose replies go only to the administrator.
 const QUIET: [&[u8]; 2] = [b"admin takeback 0 1\n", b"admin move 0 0\n"];
 
-/// The trace `alone` with these lines in the gaps from `first` to `last`.
+/// Returns the trace `alone` with these lines in the gaps from `first` to `last`.
 fn among(
     alloc: Global,
     alone: &[u8],
@@ -47,7 +47,7 @@ fn among(
     Ok(trace)
 }
 
-/// A tenant that is alone, with six lines, is told the same with these lines in these gaps.
+/// Checks that a tenant with six lines gets the same replies as alone, with these lines in these gaps.
 fn is_told_alike(
     rt: &(impl AllocGlobal + Abort),
     noise: &[&[u8]],
@@ -65,8 +65,8 @@ fn is_told_alike(
     begins_alike(rt, &trace, alone.output)
 }
 
-/// Of each beginning of the trace the tenant is told what its lines that ended are answered, a beginning of the whole, and
-/// at most one line more: a last line that was cut is a line too.
+/// Checks that each beginning of the trace gives the tenant the replies to its finished lines, which begin the whole output. A
+/// cut last line is a line too, and may add a reply.
 fn begins_alike(rt: &(impl AllocGlobal + Abort), trace: &[u8], output: &[u8]) -> Result<(), Fail> {
     let (mut ended, _) = replayed(rt.alloc(), MACHINE, b"", WHOLE, Some(0))?;
     for len in 0..=trace.len() {
@@ -87,7 +87,7 @@ fn begins_alike(rt: &(impl AllocGlobal + Abort), trace: &[u8], output: &[u8]) ->
     Ok(())
 }
 
-/// Each beginning of the noise in each gap, and all of it in every gap.
+/// Each prefix of the noise in each gap, and all of the noise in every gap.
 #[test]
 fn others_make_noise(rt: HostRuntime) -> Result<(), Fail> {
     for count in 0..=NOISE.len() {
@@ -98,7 +98,7 @@ fn others_make_noise(rt: HostRuntime) -> Result<(), Fail> {
     is_told_alike(&rt, &NOISE, 0, GAPS)
 }
 
-/// A take-back that is refused, and a move of all that the tenant has, in each gap and in every gap.
+/// A refused take-back, and a move of the tenant's only slot, in each gap and in every gap.
 #[test]
 fn administrator_is_quiet(rt: HostRuntime) -> Result<(), Fail> {
     for line in &QUIET {

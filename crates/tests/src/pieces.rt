@@ -1,4 +1,4 @@
-//! A feed and a drain over memory, in pieces, each of which can fail.
+//! A feed and a drain over memory that work in pieces, and that can fail.
 
 ghost use Rattle.std.specs.Prelude.{◌≡◌, ◌≤◌, true, false, [], length};
 ghost use Rattle.tests.specs.declared.pieces.TheConstants.{BUFFER_BYTES};
@@ -6,10 +6,10 @@ ghost use Rattle.tests.specs.declared.pieces.TheConstants.{BUFFER_BYTES};
 use replay_core::{Drain, Feed, Stopped};
 use streams::{TEXT_BYTES, Text};
 
-/// More than any worked trace writes.
+/// More bytes than any worked trace writes.
 const BUFFER_BYTES: usize = 8192;
 
-/// Gives a slice in pieces of at most `piece` bytes, at least one, and fails after so many good pulls.
+/// Returns a slice in pieces of at most `piece` bytes (one if that is 0), and fails after `good_pulls` pulls.
 #[derive(Debug, Drop)]
 pub struct PieceFeed<'a> {
     rest: &'a [u8],
@@ -20,7 +20,7 @@ pub struct PieceFeed<'a> {
     ghost whole: { ended ≡ true → rest.now ≡ [] },
 }
 
-/// Such a feed of these bytes.
+/// Returns such a feed of these bytes.
 pub fn in_pieces<'a>(bytes: &'a [u8], piece: usize, good_pulls: u32) -> PieceFeed<'a>
     ensures remaining { ⟦<PieceFeed<'a> as Feed>⟧.remaining result ≡ Some bytes.now }
     ensures room { ⟦<PieceFeed<'a> as Feed>⟧.room_left result ≡ length bytes.now }
@@ -76,7 +76,7 @@ impl<'a> Feed for PieceFeed<'a> {
     }
 }
 
-/// Takes at most `piece` bytes a push, at least one, into a fixed array, and fails after so many good pushes.
+/// Takes at most `piece` bytes (one if that is 0) per push into a fixed array, and fails after `good_pushes` pushes.
 #[derive(Debug, Drop)]
 pub struct PieceDrain {
     bytes: [u8; BUFFER_BYTES],
@@ -87,7 +87,7 @@ pub struct PieceDrain {
     ghost within: { len ≤ BUFFER_BYTES },
 }
 
-/// Such a drain, with nothing taken.
+/// Returns such a drain, which has taken nothing.
 pub fn taking(piece: usize, good_pushes: u32) -> PieceDrain
     ensures contents { ⟦<PieceDrain as Drain>⟧.contents result ≡ Some [] }
     ensures fine { ⟦<PieceDrain as Drain>⟧.has_failed result ≡ false }
@@ -102,7 +102,7 @@ pub fn taking(piece: usize, good_pushes: u32) -> PieceDrain
 }
 
 impl PieceDrain {
-    /// What it has taken.
+    /// Returns the bytes that the drain has taken.
     pub fn taken(&self) -> &[u8]
         ensures { ⟦<PieceDrain as Drain>⟧.contents self.now ≡ Some result.now }
     {
@@ -118,7 +118,7 @@ impl Drain for PieceDrain {
 
     ghost has_failed = { λ s. s.failed };
 
-    // A text is one push, where a push may be as long.
+    // A text is one push, if a push may be that long.
     ghost is_roomy = { λ s. nat_le 1 s.good_pushes && (nat_le TEXT_BYTES s.piece && nat_le (s.len + TEXT_BYTES) BUFFER_BYTES) };
 
     fn push(&mut self, bytes: &[u8]) -> Result<usize, Stopped> {

@@ -113,13 +113,13 @@ fn kernel() {
     let _: fn(&Kernel) -> u32 = Kernel::tenants;
 }
 
-/// The parts of a kernel, and the lists of its slabs.
+/// Returns the parts of a kernel, and the lists of its slabs.
 fn parts(kernel: &Kernel) -> (&Space, &Buddy, &Slabs, &Lists) {
     let slabs: &Slabs = kernel.slabs();
     (kernel.space(), kernel.buddy(), slabs, slabs.lists())
 }
 
-/// The bytes of a superblock as the kernel and as the memory return them, and its words.
+/// Returns the bytes of a superblock, once from the kernel and once from its memory, and the words of its tree.
 fn superblock(kernel: &Kernel, m: u16) -> Option<(&[u8], &[u8], &[u16])> {
     let (space, buddy, ..) = parts(kernel);
     if u32::from(m) < kernel.superblocks() && m < space.superblocks() && m < buddy.superblocks() {

@@ -1,4 +1,4 @@
-//! A trace on a new machine, between ends over memory.
+//! Runs a trace on a machine, with a feed and a drain over memory.
 
 use crate::pieces::{PieceDrain, in_pieces, taking};
 use crate::tables::MACHINE;
@@ -7,17 +7,17 @@ use replay_core::{ReaderFeed, Tally, WriterDrain, replay};
 use std::alloc::Global;
 use std::test::Fail;
 
-/// As many pulls or pushes as no test makes.
+/// More pulls or pushes than any test makes.
 pub const ALL: u32 = 1_000_000;
 
-/// More bytes than a trace has or writes.
+/// More bytes than any trace has or writes.
 pub const WHOLE: usize = 200_000;
 
-/// The pieces that a trace is run in, the last of them whole.
+/// The sizes of the pieces in which a trace is run. With the last one, the trace is one piece.
 pub const PIECES: [usize; 5] = [1, 2, 3, 7, WHOLE];
 
-/// What is written and counted on a new machine when the trace comes in pieces of at most `piece` bytes, and so does
-/// what it writes.
+/// Runs a trace on a new machine, with pulls and pushes of at most `piece` bytes. Returns the drain with the output, and the
+/// tally.
 pub fn replayed(
     alloc: Global,
     config: Config,
@@ -36,7 +36,7 @@ pub fn replayed(
     Ok((drain, tally))
 }
 
-/// What a machine writes that goes on with a trace, which is read and written at once.
+/// Runs a trace on this machine, without cutting it into pieces. Returns the output.
 pub fn written_by(alloc: Global, kernel: &mut Kernel, trace: &[u8]) -> Result<Vec<u8>, Fail> {
     let mut replies = Vec::new(alloc);
     replay(
@@ -48,7 +48,7 @@ pub fn written_by(alloc: Global, kernel: &mut Kernel, trace: &[u8]) -> Result<Ve
     Ok(replies)
 }
 
-/// The small machine after the trace, and all that was written.
+/// Runs a trace on a new small machine. Returns the machine after the trace, and the output.
 pub fn run(alloc: Global, trace: &[u8]) -> Result<(Kernel, Vec<u8>), Fail> {
     let mut kernel = Kernel::boot(alloc, MACHINE)?;
     let replies = written_by(alloc, &mut kernel, trace)?;

@@ -1,4 +1,4 @@
-//! Lines that have to be read the short way: what is read is proved, and that none of these is left to the whole way is not.
+//! Lines that the quick reader must read. It is proved that what it reads is right, but not that it reads these lines.
 
 use model_core::limits::MOST_BYTES;
 use quick_core::{WINDOW, read_request};
@@ -6,7 +6,7 @@ use std::process::Abort;
 use std::test::Fail;
 use words_core::Request;
 
-/// The line and a line feed, and behind them another line.
+/// Returns the line with a line feed, and other lines behind it.
 fn window_of(line: &[u8]) -> [u8; WINDOW] {
     let mut window = *b"7 free 7\n7 free 7\n7 free 7\n7 fre";
     let len = line.len().min(WINDOW - 1);
@@ -15,12 +15,12 @@ fn window_of(line: &[u8]) -> [u8; WINDOW] {
     window
 }
 
-/// Numbers of tenants, and other numbers.
+/// Numbers of tenants, and then other numbers.
 const TENANTS: [u32; 6] = [0, 1, 9, 10, 63, 999];
 
 const NUMBERS: [u32; 8] = [0, 1, 9, 10, 255, 4096, 12_345, 999_999_999];
 
-/// What comes before and behind a number.
+/// The words before a number, and those behind it.
 const COMMANDS: [(&str, &str); 8] = [
     ("alloc", ""),
     ("free", ""),

@@ -1,4 +1,4 @@
-//! Worked traces with all that they write, by what they show.
+//! Worked traces with their whole output, by topic.
 
 mod caches;
 mod limits;
@@ -18,21 +18,21 @@ pub const MACHINE: Config = Config {
     tenants: 2,
 };
 
-/// One with more superblocks and tenants.
+/// A machine with more superblocks and tenants.
 pub const WIDER: Config = Config {
     superblocks: 3,
     tenants: 3,
     ..MACHINE
 };
 
-/// One with as many of both as there may be.
+/// A machine with the largest number of both.
 pub const WIDEST: Config = Config {
     superblocks: 256,
     tenants: 64,
     ..MACHINE
 };
 
-/// A trace, and what it writes.
+/// A trace, and its output.
 #[derive(Debug)]
 pub struct Row {
     pub trace: &'static [u8],
@@ -44,12 +44,12 @@ pub struct Row {
 pub struct Table {
     pub name: &'static str,
     pub config: Config,
-    /// The tenant whose lines alone are written; all lines without it.
+    /// The tenant whose lines alone are written. `None` writes all lines.
     pub only: Option<u8>,
     pub rows: &'static [Row],
 }
 
-/// All rows.
+/// Returns all tables.
 pub fn tables() -> [Table; 10] {
     [
         of_all("lines", &lines::ROWS),
@@ -68,7 +68,7 @@ pub fn tables() -> [Table; 10] {
     ]
 }
 
-/// All that is written on the small machine.
+/// Returns a table of rows on the small machine, with the lines for everyone.
 fn of_all(name: &'static str, rows: &'static [Row]) -> Table {
     Table {
         name,
@@ -78,7 +78,7 @@ fn of_all(name: &'static str, rows: &'static [Row]) -> Table {
     }
 }
 
-/// The lines for one tenant.
+/// Returns a table of rows with only one tenant's lines.
 fn of_tenant(tenant: u8, config: Config, rows: &'static [Row]) -> Table {
     Table {
         name: "of a tenant",

@@ -1,11 +1,11 @@
-//! What worked traces write and count, whatever the pieces are and whatever ends the lines.
+//! The output and the counts of worked traces, for all sizes of pieces and all ends of lines.
 
 use crate::running::{PIECES, replayed};
 use crate::tables::{MACHINE, tables};
 use std::alloc::Global;
 use std::test::Fail;
 
-/// What ends the first line and every second one behind it, and what ends the others.
+/// The end of the first line and of every second one behind it, and the end of the others.
 const ENDS: [[&[u8]; 2]; 3] = [[b"\n", b"\n"], [b"\r\n", b"\r\n"], [b"\n", b"\r\n"]];
 
 #[test]
@@ -29,7 +29,7 @@ fn traces_write_their_rows(rt: HostRuntime) -> Result<(), Fail> {
     Ok(())
 }
 
-/// The trace with these ends of lines, but for lines that end in CR LF as they are.
+/// Returns the trace with these ends of lines. Lines that end in CR LF are left as they are.
 fn ended_by(alloc: Global, trace: &[u8], ends: [&[u8]; 2]) -> Result<Vec<u8>, Fail> {
     let mut ended = Vec::new(alloc);
     for (number, line) in trace.split_inclusive(|byte| *byte == b'\n').enumerate() {
@@ -44,7 +44,7 @@ fn ended_by(alloc: Global, trace: &[u8], ends: [&[u8]; 2]) -> Result<Vec<u8>, Fa
     Ok(ended)
 }
 
-/// What is counted does not depend on the pieces; `only` hides the lines of others.
+/// The counts do not depend on the pieces, and `only` hides the lines of others.
 #[test]
 fn counts_and_empty_slabs(rt: HostRuntime) -> Result<(), Fail> {
     let granted = b"admin grant 0\n0 alloc 0\n0 read 0 4\n".as_slice();
@@ -78,7 +78,7 @@ fn counts_and_empty_slabs(rt: HostRuntime) -> Result<(), Fail> {
     Ok(())
 }
 
-/// A line has at most 255 bytes, not counting how it ends; a longer one is one fault, however long it is.
+/// A line has at most 255 bytes, without its end. A longer line is one fault, however long it is.
 #[test]
 fn longer_lines_are_faults(rt: HostRuntime) -> Result<(), Fail> {
     let ends: [&[u8]; 4] = [b"\n", b"", b"\r\n", b"\r"];

@@ -3,8 +3,8 @@
 use super::Row;
 
 pub static ROWS: [Row; 9] = [
-    // Objects of one slab, then the first of a second, which is coloured; the report counts both slabs as taken
-    // blocks.
+    // Objects of one slab, then the first object of a second slab, which has another colour. The report counts both slabs as
+    // taken blocks.
     Row {
         trace: b"admin grant 0\n0 cache 200 8 a5\n0 take 0\n0 take 0\n0 take 0\n0 take 0\n\
             0 take 0\n0 take 0\n0 take 0\n0 take 0\n0 take 0\n0 take 0\n0 take 0\n0 take 0\n\
@@ -20,13 +20,13 @@ pub static ROWS: [Row; 9] = [
             0> order 1 free 1 taken 0\n0> order 2 free 1 taken 0\n0> order 3 free 0 taken 0\n\
             0> cache 0 full 1 partial 1 empty 0 live 21\n",
     },
-    // The greatest chunk whose slabs keep a record behind their objects, and the least whose slabs keep none.
+    // The greatest chunk whose slabs have a record behind their objects, and the least chunk whose slabs have none.
     Row {
         trace: b"0 cache 504 8 01\n0 cache 505 8 01\n",
         output: b"0> cache 0 chunk 504 order 0 objects 8 colours 5\n\
             0> cache 1 chunk 512 order 0 objects 8 colours 1\n",
     },
-    // A slab of several frames, with its next one coloured; sizes are refused before alignments.
+    // A slab of several frames, and the next one in another colour. Sizes are refused before alignments.
     Row {
         trace: b"admin grant 0\n0 cache 3000 8 01\n0 take 0\n0 take 0\n0 take 0\n0 take 0\n\
             0 take 0\n0 take 0\n0 cache 4097 8 00\n0 cache 1 12 00\n0 cache 0 12 00\n",
@@ -35,7 +35,7 @@ pub static ROWS: [Row; 9] = [
             0> object 6000\n0> object 9000\n0> object 12000\n0> object 16392\n\
             0> refused 6 BadSize\n0> refused 7 BadAlign\n0> refused 6 BadSize\n",
     },
-    // Objects read as the pattern, within one object, and only while they are live.
+    // Objects read as the pattern. A read must be within one object, and the object live.
     Row {
         trace: b"admin grant 0\n0 cache 100 8 5a\n0 take 0\n0 read 0 2\n0 read 99 2\n0 give 0 0\n\
             0 read 0 1\n",
@@ -43,7 +43,8 @@ pub static ROWS: [Row; 9] = [
             0> cache 0 chunk 104 order 0 objects 39 colours 2\n0> object 0\n0> bytes 5a5a\n\
             0> refused 4 OutOfReach\n0> given\n0> refused 4 OutOfReach\n",
     },
-    // A block is freed once, a slab is no page block, and an object is given once, by its first byte, to its cache.
+    // A block can be freed once, a slab is not a page block, and an object can be given back once, by its first byte, to its
+    // cache.
     Row {
         trace: b"admin grant 0\n0 alloc 0\n0 free 0\n0 free 0\n0 cache 64 8 00\n0 take 0\n\
             0 free 0\n0 give 0 1\n0 give 0 0\n0 give 0 0\n0 give 1 0\n",
@@ -52,8 +53,7 @@ pub static ROWS: [Row; 9] = [
             0> object 0\n0> refused 3 NotABlock\n0> refused 11 NotAnObject\n0> given\n\
             0> refused 11 NotAnObject\n0> refused 9 NoCache\n",
     },
-    // A partial slab serves before an empty one; an object given back keeps its bytes, and a cache in use is not
-    // destroyed.
+    // A partial slab is used before an empty one. An object that was given back keeps its bytes. A cache in use is not destroyed.
     Row {
         trace: b"admin grant 0\n0 cache 2048 8 11\n0 take 0\n0 take 0\n0 take 0\n\
             0 write 2048 22\n0 give 0 4096\n0 give 0 2048\n0 take 0\n0 read 2048 2\n0 destroy 0\n\
@@ -63,20 +63,20 @@ pub static ROWS: [Row; 9] = [
             0> object 4096\n0> written 1\n0> given\n0> given\n0> object 2048\n0> bytes 2211\n\
             0> refused 10 CacheInUse\n0> given\n0> given\n0> destroyed 2\n0> refused 9 NoCache\n",
     },
-    // Each cache has a colour of its own.
+    // Each cache has its own count of colours.
     Row {
         trace: b"admin grant 0\n0 cache 200 8 a5\n0 cache 200 8 a5\n0 take 0\n0 take 1\n",
         output: b"admin> granted 0 slot 0 superblock 0\n\
             0> cache 0 chunk 200 order 0 objects 20 colours 9\n\
             0> cache 1 chunk 200 order 0 objects 20 colours 9\n0> object 0\n0> object 4096\n",
     },
-    // A cache without a slab and without a block to make one of is refused, and stands.
+    // A take is refused if the cache has no slab and no block is free for one. The cache stays.
     Row {
         trace: b"0 cache 200 8 a5\n0 take 0\nadmin grant 0\n0 take 0\n",
         output: b"0> cache 0 chunk 200 order 0 objects 20 colours 9\n0> refused 1 NoFrames\n\
             admin> granted 0 slot 0 superblock 0\n0> object 0\n",
     },
-    // Layouts: how size and alignment give chunk, order, objects and colours.
+    // Layouts: the chunk, order, objects and colours for a size and an alignment.
     Row {
         trace: b"0 cache 1 8 00\n0 cache 16 16 00\n0 cache 17 8 00\n0 cache 24 8 00\n\
             0 cache 64 8 00\n0 cache 64 64 00\n0 cache 65 64 00\n0 cache 100 8 00\n\

@@ -1,4 +1,4 @@
-//! What lines say: events, nothing, faults.
+//! The readings of lines: events, nothing, and faults.
 
 use super::Row;
 
@@ -8,8 +8,8 @@ pub static ROWS: [Row; 7] = [
         trace: b"",
         output: b"",
     },
-    // Numbers that name no tenant, words that are none, too few words, and numbers and bytes that do not read; a
-    // comment and a blank line write nothing.
+    // Numbers that name no tenant, unknown words, too few words, and faulty numbers and bytes. A comment and a blank line write
+    // nothing.
     Row {
         trace: b"9 alloc 0\nadmin grant 9\nfrob\n0 frob\n0\n0 alloc\n0 alloc x\n\
             0 alloc 4294967296\n00000000000 alloc 0\n0 write 0 abc\n# note\n\n",
@@ -22,23 +22,23 @@ pub static ROWS: [Row; 7] = [
         trace: b"# note\n \t\n\nfrob\n",
         output: b"!> fault Unknown\n",
     },
-    // A digit in hex is 0 to 9, a to f or A to F.
+    // A hex digit is 0 to 9, a to f or A to F.
     Row {
         trace: b"0 write 0 0g\n",
         output: b"!> fault Hex\n",
     },
-    // A last line without LF is a line; one CR at the end of a line is dropped.
+    // A last line without LF is a line. One CR at the end of a line is dropped.
     Row {
         trace: b"0 alloc 0\r\n0 alloc 0\r",
         output: b"0> refused 1 NoFrames\n0> refused 1 NoFrames\n",
     },
-    // Blanks around words do not matter; a leading zero is a digit.
+    // Blanks around words do not matter, and a leading zero is a digit.
     Row {
         trace: b"\t00  alloc\t 0000000000 \n",
         output: b"0> refused 1 NoFrames\n",
     },
-    // The ends of each range: places, lengths, patterns and numbers; what is tested first; bytes that are no blanks;
-    // a comment begins a line.
+    // The ends of each range: places, lengths, patterns and numbers. The order of tests. Bytes that are not blanks. A comment
+    // must begin its line.
     Row {
         trace: b"admin grant 0\n0 alloc 3\n0 read 32767 2\n0 read 32768 1\n\
             0 write 4294967295 00\n\

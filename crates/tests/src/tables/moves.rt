@@ -1,10 +1,10 @@
-//! Superblocks that are moved, with all that is on them.
+//! Superblocks that are moved, with everything on them.
 
 use super::Row;
 
 pub static ROWS: [Row; 2] = [
-    // A slot moved to another superblock keeps its bytes, and the one that it left is granted as zero. Moves are
-    // refused where no superblock is free, no slot held, no tenant there.
+    // A slot that is moved to another superblock keeps its bytes, and the superblock that it left is granted as zeroes. A move is
+    // refused if no superblock is free, if the slot is not held, or if the tenant does not exist.
     Row {
         trace: b"admin grant 0\n0 alloc 0\n0 write 0 7f\nadmin move 0 0\n0 read 0 1\n\
             admin grant 1\n1 alloc 0\n1 read 0 1\nadmin move 0 0\nadmin move 0 1\n\

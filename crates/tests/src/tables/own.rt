@@ -1,8 +1,8 @@
-//! What one tenant is told, whatever the others do.
+//! The replies to one tenant, whatever the others do.
 
 use super::Row;
 
-/// What a tenant is told that is alone on its machine, and one that isn't.
+/// The replies to a tenant, both alone on its machine and among others.
 const TOLD: &[u8] = b"0> frame 0\n0> written 1\n0> cache 0 chunk 24 order 0 objects 169 colours 2\n\
     0> object 8192\n0> frames 8 live 3 free 5 top 2 split 200\n\
     0> order 0 free 1 taken 1\n0> order 1 free 0 taken 1\n0> order 2 free 1 taken 0\n\
@@ -35,7 +35,7 @@ pub static ROWS: [Row; 5] = [
         trace: b"admin grant 0\n0 alloc 0\n0 read 0 4\n",
         output: b"0> frame 0\n0> bytes 00000000\n",
     },
-    // Nor are those that answer faulty lines.
+    // Replies to faulty lines are not shown either.
     Row {
         trace: b"# note\n\nfrob\n",
         output: b"",

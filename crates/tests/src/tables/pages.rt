@@ -22,7 +22,7 @@ pub static ROWS: [Row; 10] = [
         output: b"admin> granted 0 slot 0 superblock 0\n0> frame 0\n0> frame 2\n0> frame 4\n\
             0> frame 1\n0> refused 1 NoFrames\n0> refused 2 BadOrder\n",
     },
-    // Released blocks join through all orders.
+    // Freed blocks join through all orders.
     Row {
         trace: b"admin grant 0\n0 alloc 0\n0 alloc 1\n0 alloc 2\n0 alloc 0\n0 alloc 0\n\
             0 alloc 4\n0 free 0\n0 free 1\n0 free 2\n0 free 4\n0 report\n",
@@ -32,7 +32,7 @@ pub static ROWS: [Row; 10] = [
             0> order 0 free 0 taken 0\n0> order 1 free 0 taken 0\n0> order 2 free 0 taken 0\n\
             0> order 3 free 1 taken 0\n",
     },
-    // A free block that is too small is passed over; a report counts blocks by order, and the share of free frames
+    // A free block that is too small is skipped. A report has the number of blocks of each order, and the share of free frames
     // outside a greatest block.
     Row {
         trace: b"admin grant 0\n0 alloc 0\n0 alloc 1\n0 alloc 2\n0 alloc 0\n0 alloc 0\n\
@@ -43,14 +43,13 @@ pub static ROWS: [Row; 10] = [
             0> order 1 free 1 taken 2\n0> order 2 free 0 taken 0\n0> order 3 free 0 taken 0\n\
             0> frame 0\n",
     },
-    // A block joins its buddy only where all of that is free.
+    // A block joins its buddy only if the whole buddy is free.
     Row {
         trace: b"admin grant 0\n0 alloc 0\n0 alloc 0\n0 alloc 0\n0 free 0\n0 free 2\n0 alloc 1\n",
         output: b"admin> granted 0 slot 0 superblock 0\n0> frame 0\n0> frame 1\n0> frame 2\n\
             0> freed 0\n0> freed 0\n0> frame 2\n",
     },
-    // The block of least order is split, not the one at the least frame. Only a block that begins at the frame is
-    // freed.
+    // The free block of the least order is split, not the one at the least frame. Only a block that begins at the frame is freed.
     Row {
         trace: b"admin grant 0\n0 alloc 2\n0 alloc 0\n0 free 0\n0 free 1\n0 alloc 0\n0 free 4\n\
             0 free 5\n0 alloc 3\n",
@@ -64,7 +63,7 @@ pub static ROWS: [Row; 10] = [
         output: b"admin> granted 0 slot 0 superblock 0\n0> frame 0\n0> written 2\n\
             0> bytes 0a0b00\n0> freed 0\n0> frame 0\n0> bytes 0a0b\n",
     },
-    // A range lies in one page block; its length is tested before its reach.
+    // A range must lie in one page block. Its length is tested before its reach.
     Row {
         trace: b"admin grant 0\n0 alloc 0\n0 alloc 0\n0 read 4095 2\n0 read 4095 1\n\
             0 read 4294967295 64\n0 read 0 0\n0 read 4294967295 65\n",
@@ -72,7 +71,7 @@ pub static ROWS: [Row; 10] = [
             0> refused 4 OutOfReach\n0> bytes 00\n0> refused 4 OutOfReach\n\
             0> refused 5 BadLength\n0> refused 5 BadLength\n",
     },
-    // A write out of reach stores nothing at all.
+    // A write that is out of reach stores no byte.
     Row {
         trace: b"admin grant 0\n0 alloc 0\n0 alloc 0\n0 write 4095 aabb\n0 read 4095 1\n\
             0 write 4095 aa\n",

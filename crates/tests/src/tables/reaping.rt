@@ -1,9 +1,9 @@
-//! Slabs that are given back, when asked and by need.
+//! Slabs that are freed, by a reap and on demand.
 
 use super::Row;
 
 pub static ROWS: [Row; 7] = [
-    // Frames of a slab given back read as zero, its record too.
+    // The frames of a freed slab read as zero, and so does its record.
     Row {
         trace: b"admin grant 0\n0 cache 100 8 5a\n0 take 0\n0 read 0 2\n0 read 99 2\n0 give 0 0\n\
             0 read 0 1\n0 reap\n0 alloc 0\n0 read 0 2\n0 read 4064 2\n",
@@ -12,7 +12,7 @@ pub static ROWS: [Row; 7] = [
             0> refused 4 OutOfReach\n0> given\n0> refused 4 OutOfReach\n0> reaped 1\n0> frame 0\n\
             0> bytes 0000\n0> bytes 0000\n",
     },
-    // The colour of the next slab goes on where slabs were given back, and begins anew with a new cache.
+    // The colour of the next slab continues after slabs were freed, and starts again with a new cache.
     Row {
         trace: b"admin grant 0\n0 cache 200 8 a5\n0 take 0\n0 give 0 0\n0 reap\n0 take 0\n\
             0 give 0 8\n0 destroy 0\n0 cache 200 8 a5\n0 take 0\n",
@@ -21,15 +21,15 @@ pub static ROWS: [Row; 7] = [
             0> reaped 1\n0> object 8\n0> given\n0> destroyed 1\n\
             0> cache 0 chunk 200 order 0 objects 20 colours 9\n0> object 0\n",
     },
-    // What is reaped is counted in frames.
+    // A reap reports a number of frames.
     Row {
         trace: b"admin grant 0\n0 cache 3000 8 01\n0 take 0\n0 give 0 0\n0 reap\n0 reap\n",
         output: b"admin> granted 0 slot 0 superblock 0\n\
             0> cache 0 chunk 3000 order 2 objects 5 colours 174\n0> object 0\n0> given\n\
             0> reaped 4\n0> reaped 0\n",
     },
-    // A block that is found only where an empty slab was is taken there, and the slab is gone; while an object lives
-    // it is not.
+    // If only an empty slab is in the way of a block, the slab is freed and the block is allocated there. While an object is
+    // live, the slab stays.
     Row {
         trace: b"admin grant 0\n0 cache 64 8 00\n0 take 0\n0 alloc 3\n0 give 0 0\n0 alloc 3\n\
             0 read 4064 2\n0 report\n",
@@ -40,7 +40,7 @@ pub static ROWS: [Row; 7] = [
             0> order 1 free 0 taken 0\n0> order 2 free 0 taken 0\n0> order 3 free 0 taken 1\n\
             0> cache 0 full 0 partial 0 empty 0 live 0\n",
     },
-    // No slab is given back where that would not help.
+    // No slab is freed if that would not help.
     Row {
         trace: b"admin grant 0\n0 alloc 0\n0 cache 64 8 00\n0 take 0\n0 give 0 4096\n0 alloc 3\n\
             0 report\n",
@@ -66,7 +66,7 @@ pub static ROWS: [Row; 7] = [
             0> order 3 free 0 taken 0\n0> cache 0 full 0 partial 0 empty 0 live 0\n\
             0> cache 1 full 0 partial 1 empty 0 live 1\n",
     },
-    // A tenant without frames takes no other's empty slabs.
+    // A tenant without frames does not get another tenant's empty slabs.
     Row {
         trace: b"admin grant 1\n1 cache 64 8 00\n1 take 0\n1 give 0 0\n1 report\n0 alloc 0\n\
             1 report\n",

@@ -3,7 +3,7 @@
 use super::Row;
 
 pub static ROWS: [Row; 10] = [
-    // The least superblock without owner, the least slot that the tenant does not hold.
+    // A grant takes the least superblock without an owner, and the least slot that the tenant does not hold.
     Row {
         trace: b"admin grant 1\nadmin grant 1\nadmin grant 0\n",
         output: b"admin> granted 1 slot 0 superblock 0\nadmin> granted 1 slot 1 superblock 1\n\
@@ -15,14 +15,14 @@ pub static ROWS: [Row; 10] = [
         output: b"admin> granted 1 slot 0 superblock 0\nadmin> granted 0 slot 0 superblock 1\n\
             0> frame 0\n1> frame 0\n1> frame 2\n0> refused 1 NoFrames\n",
     },
-    // Frames are counted over all slots; a range lies in one block.
+    // Frames are numbered over all slots. A range must lie in one block.
     Row {
         trace: b"admin grant 1\nadmin grant 1\n1 alloc 3\n1 alloc 3\n1 read 65535 1\n\
             1 read 32767 2\n",
         output: b"admin> granted 1 slot 0 superblock 0\nadmin> granted 1 slot 1 superblock 1\n\
             1> frame 0\n1> frame 8\n1> bytes 00\n1> refused 4 OutOfReach\n",
     },
-    // The least order goes over all slots; a slot taken back is the least again.
+    // The free block of least order is chosen from all slots. A slot that was taken back is the least free one again.
     Row {
         trace: b"admin grant 0\nadmin grant 0\nadmin takeback 0 0\n0 alloc 0\nadmin grant 0\n\
             0 alloc 0\n0 alloc 3\n",
@@ -38,7 +38,7 @@ pub static ROWS: [Row; 10] = [
             admin> taken superblock 0\nadmin> granted 0 slot 0 superblock 0\n0> frame 0\n\
             0> bytes 00\n",
     },
-    // An empty pool, its table, and a reset of all that a tenant has.
+    // An empty pool, the table of owners, and a reset of everything that a tenant has.
     Row {
         trace: b"admin grant 1\nadmin grant 1\nadmin grant 0\nadmin pool\n1 alloc 3\n1 alloc 3\n\
             0 alloc 0\nadmin reset 1\n",
@@ -54,7 +54,7 @@ pub static ROWS: [Row; 10] = [
             admin> reset 1 superblocks 1\nadmin> pool free 2 of 2\nadmin> superblock 0 free\n\
             admin> superblock 1 free\n",
     },
-    // A slot with a taken frame is not taken back; a reset takes it, and its bytes are gone.
+    // A slot with a taken frame is not taken back. A reset takes it, and its bytes are gone.
     Row {
         trace: b"admin grant 0\n0 alloc 3\n0 write 32767 ff\nadmin takeback 0 0\nadmin reset 0\n\
             0 read 32767 1\nadmin grant 0\n0 alloc 3\n0 read 32767 1\n",
@@ -62,7 +62,7 @@ pub static ROWS: [Row; 10] = [
             admin> refused 15 SlotBusy\nadmin> reset 0 superblocks 1\n0> refused 4 OutOfReach\n\
             admin> granted 0 slot 0 superblock 0\n0> frame 0\n0> bytes 00\n",
     },
-    // Take-backs are refused in the order no tenant, no slot, busy; resets where there is no tenant.
+    // Take-backs are refused in the order: no tenant, no slot, busy. A reset is refused if the tenant does not exist.
     Row {
         trace: b"admin grant 0\n0 alloc 0\nadmin takeback 2 0\nadmin takeback 0 1\n\
             admin takeback 0 0\nadmin takeback 1 0\nadmin reset 2\nadmin takeback 0 4294967295\n\
@@ -72,8 +72,7 @@ pub static ROWS: [Row; 10] = [
             admin> refused 12 NoTenant\nadmin> refused 14 NoSlot\n0> freed 0\n\
             admin> taken superblock 0\n",
     },
-    // A slot whose frames lie in an empty slab is busy until the slab is given back; a slot granted anew reads as
-    // zero.
+    // A slot with frames in an empty slab is busy until the slab is freed. A slot that is granted again reads as zero.
     Row {
         trace: b"admin grant 0\n0 alloc 0\n0 free 0\n0 free 0\n0 cache 64 8 00\n0 take 0\n\
             0 free 0\n0 give 0 1\n0 give 0 0\n0 give 0 0\n0 give 1 0\nadmin takeback 0 0\n\
