@@ -140,7 +140,7 @@ impl ShadowMemory {
         ensures { (c : KnownCache) → c.number ≡ number → c.size ≡ size → slab_around c first ≡ slab.now
             → Becomes self.old (left_slots self.old) (with_object first (Some c)) self.new }
     {
-        // Forgets everything that is not of its own cache. Of its own cache, it forgets only other objects that overlap the new one.
+        // Forgets everything that is not of the object's cache. Of its cache, only other objects that overlap it are forgotten.
         let own = u32::from(number);
         let low = u64::from(first.saturating_sub(size));
         let end_of_own = u64::from(first) + u64::from(size);
