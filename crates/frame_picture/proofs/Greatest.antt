@@ -3,15 +3,15 @@ use Rattle.std.proofs.Common.{◌≡◌, ℕ, ◌+◌, ◌<◌, ◌≤◌, max, 
 use Rattle.std.proofs.lemmas.Bool.{cases_order}
 use Rattle.frame_picture.specs.Bounds.{IsGreatest}
 
--- of no numbers
+-- the greatest of no numbers is `lowest`
 pub greatest_none : (P : ℕ → Type 0) (lowest : ℕ) → ((n : ℕ) → P n → ⊥) → IsGreatest P lowest lowest
 greatest_none P lowest none = record { above = omega arith; all = λ n p. absurd (none n p); some = inl refl }
 
--- of one number
+-- the greatest of one number is this number
 pub greatest_one : (v : ℕ) → IsGreatest (λ n. n ≡ v) 0 v
 greatest_one v = record { above = omega arith; all = λ n e. omega arith; some = inr refl }
 
--- of two sets of numbers
+-- the greatest of two sets of numbers is the greater of their two greatest
 pub greatest_both : (P Q R : ℕ → Type 0) (lowest a b : ℕ) → IsGreatest P lowest a → IsGreatest Q 0 b
     → ((n : ℕ) → P n → R n) → ((n : ℕ) → Q n → R n) → ((n : ℕ) → R n → P n ⊎ Q n) → IsGreatest R lowest (max b a)
 greatest_both P Q R lowest a b first second left right split = record {
@@ -44,7 +44,7 @@ IsValue value count n = (at : ℕ) × (at < count) × (value at ≡ n)
 pub values_none : (value : ℕ → ℕ) (lowest : ℕ) → IsGreatest (IsValue value 0) lowest lowest
 values_none value lowest = greatest_none (IsValue value 0) lowest (λ n is. let less : is.0 < 0 = is.1 in omega arith)
 
--- with the next value
+-- the greatest with the next value
 pub values_more : (value : ℕ → ℕ) (count lowest most v : ℕ) → v ≡ value count → IsGreatest (IsValue value count) lowest most
     → IsGreatest (IsValue value (count + 1)) lowest (max v most)
 values_more value count lowest most v next before =

@@ -23,7 +23,7 @@ row_cells-append order t first end (x ∷ xs) ys =
     ap (λ cells. cells_in order t first end x ++ cells) (row_cells-append order t first end xs ys)
     ∙ sym (append_assoc (cells_in order t first end x) (row_cells order t first end xs) (row_cells order t first end ys))
 
--- with one more sheet
+-- the cells of a row with one more sheet
 pub row_cells_more : (order t first end : ℕ) (sheets : List Sheet) (i : ℕ) (sheet : Sheet) → i < length sheets → sheet ≡ get_or sheets i sheet
     → row_cells order t first end (take (i + 1) sheets) ≡ row_cells order t first end (take i sheets) ++ cells_in order t first end sheet
 row_cells_more order t first end sheets i sheet within is =

@@ -41,7 +41,7 @@ pub slots_none : {X : Type 0} (P : ℕ → X → Type 0) (xs : List X) (lowest :
 slots_none P xs lowest = greatest_none (IsAbove (λ slot. AnyBefore (P slot) xs 0)) lowest
     (λ n is. let less : is.1.0 < 0 = is.1.2 in omega arith)
 
--- with the next element
+-- the slots with the next element
 pub slots_more : {X : Type 0} (P : ℕ → X → Type 0) (xs : List X) (i lowest slots more : ℕ) (x : X) → i < length xs → x ≡ get_or xs i x
     → IsGreatest (IsAbove (λ slot. AnyBefore (P slot) xs i)) lowest slots → IsGreatest (IsAbove (λ slot. P slot x)) 0 more
     → IsGreatest (IsAbove (λ slot. AnyBefore (P slot) xs (i + 1))) lowest (max more slots)

@@ -152,7 +152,7 @@ fn count_kinds(
     (counts, shown)
 }
 
-/// The same for the listed sheets.
+/// Does what [`count_kinds`] does, for the listed sheets.
 fn count_listed(
     sheets: &[Sheet],
     own: &OwnSheets,
