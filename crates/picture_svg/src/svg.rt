@@ -97,7 +97,7 @@ struct Decimal {
 }
 
 impl Decimal {
-    /// Returns `n` divided by `d`, rounded down. Returns 0 if `d` is 0.
+    /// Returns `n` divided by `d`, rounded down to eight digits. Returns 0 if `d` is 0.
     fn ratio(n: u32, d: u64) -> Decimal
         ensures { result.hundred_millionths ≡ n * 10 ^ 8 / d }
     {
