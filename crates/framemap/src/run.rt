@@ -29,7 +29,7 @@ pub struct Drawn {
 }
 
 impl Drawn {
-    /// Returns the end of a run in which no line was run.
+    /// Returns this outcome of a run that draws nothing. Its events are not counted.
     pub fn at_once(outcome: Outcome) -> Drawn
         ensures { result.outcome ≡ outcome }
     {
