@@ -18,7 +18,7 @@ use promise_core::promise::Promise;
 use words_core::Refusal;
 
 impl Tenant {
-    /// Judges and follows an answer that allocates the object of the cache at the place.
+    /// Judges and follows an answer to a take from the cache, which returns the object at the place.
     pub(crate) fn add_object(&mut self, number: u32, place: u32) -> Result<(), Failure>
         ensures { (t : ℕ) (w : Known)
             → IsVerdictFor (On.Tenant t (Command.Take number)) (Say.Object place) w self.old self.new result }
@@ -34,7 +34,7 @@ impl Tenant {
         Ok(())
     }
 
-    /// Returns the cache of this number, if an object of it may be allocated at the place; else the promise that the answer
+    /// Returns the cache of this number, if a take from it may return the object at the place; else the promise that the answer
     /// breaks.
     fn cache_with(&self, number: u32, place: u32) -> Result<&HeldCache, Promise>
         ensures judged { (t : ℕ) (w : Known)
@@ -50,7 +50,7 @@ impl Tenant {
         Ok(cache)
     }
 
-    /// Judges and follows an answer that the object of the cache at the place is freed.
+    /// Judges and follows an answer to a give of the object of the cache at the place.
     pub(crate) fn drop_object(&mut self, number: u32, place: u32) -> Result<(), Failure>
         ensures { (t : ℕ) (w : Known)
             → IsVerdictFor (On.Tenant t (Command.Give number place)) Say.Given w self.old self.new result }

@@ -250,7 +250,7 @@ impl Held {
         self.count_vacant(order, k) > 0
     }
 
-    /// Returns whether an object of the cache can be allocated at the place.
+    /// Returns whether a take from the cache may return the object at the place.
     #[tactic(auto, unfolding(promise_core::specs::Holdings::can_be_taken))]
     pub fn can_be_taken(&self, order: u8, cache: &HeldCache, place: u32) -> bool
         requires { order ≤ MOST_ORDER }
