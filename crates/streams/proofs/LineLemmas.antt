@@ -40,7 +40,7 @@ none_from n (b ∷ bytes) h =
     let facts = none_first (b == 10) n (position_from is_line_feed (n + 1) bytes) h in
     (facts.0, none_from (n + 1) bytes facts.1)
 
--- without LF all is one line
+-- bytes without an LF are one line
 pub none_cut : (bytes : List ℕ) → position is_line_feed bytes ≡ None → IsOneLine bytes
 none_cut bytes none = none_from 0 bytes (sym (position_from-zero is_line_feed bytes) ∙ none)
 
@@ -48,7 +48,7 @@ fails : (test : Bool) → ¬ (test ≡ true) → not test ≡ true
 fails true none = absurd (none refl)
 fails false none = refl
 
--- no byte before this index passes, and the one there does
+-- if no byte before index `n` passes the test and the byte at `n` does, `n` is the first position
 first_at : (p : ℕ → Bool) (bytes : List ℕ) (n : ℕ) → n ≤ length bytes → ((k : ℕ) → k < n → ¬ (p (get_or bytes k 0) ≡ true))
     → (n < length bytes → p (get_or bytes n 0) ≡ true) → position p bytes ≡ (if nat_lt n (length bytes) then Some n else None)
 first_at p bytes n within before at =

@@ -2,17 +2,17 @@
 use Rattle.std.specs.Prelude.{ℕ, nat_le, Bool, false, List, [], Option, Some, None}
 use Rattle.streams.specs.declared.drain.TheConstants.{TEXT_BYTES}
 
--- the bytes that are held, and how many more fit
+-- the bytes held, and how many more bytes fit
 pub record HeldBytes : Type 0 where
   pub bytes : List ℕ
   pub free : ℕ
 
--- the bytes that were taken and are not written yet; one without a buffer holds none
+-- the bytes that were taken and are not written yet; a drain without a buffer holds none
 abbrev pub held_bytes : Option HeldBytes → List ℕ
 held_bytes None = []
 held_bytes (Some held) = held.bytes
 
--- a text more fits
+-- one more text fits, of up to `TEXT_BYTES` bytes
 abbrev pub has_space : Option HeldBytes → Bool
 has_space None = false
 has_space (Some held) = nat_le TEXT_BYTES held.free

@@ -2,12 +2,12 @@
 use Rattle.std.specs.Prelude.{ℕ, List, [], ◌∷◌, Option, Some, None, Result, Ok, Err}
 use Rattle.std.specs.Io.KnownBytes.{prepend_known}
 
--- how many bytes it gave
+-- the number of bytes that a pull gave; 0 if it failed
 abbrev pub moved_count : {E : Type 0} → Result ℕ E → ℕ
 moved_count (Ok n) = n
 moved_count (Err e) = 0
 
--- the bytes that a reader still has, behind one that was read and not given
+-- the bytes still to give: a byte that was read and not given, if any, and then those that the reader still has
 abbrev pub put_back : Option ℕ → Option (List ℕ) → Option (List ℕ)
 put_back None known = known
 put_back (Some b) known = prepend_known (b ∷ []) known

@@ -10,7 +10,7 @@ pub const TEXT_BYTES: usize = 160;
 pub trait Text {
     ghost bytes: { Self → List ℕ };
 
-    /// Writes its bytes to the front of the buffer and returns their number. The bytes behind them may change.
+    /// Writes its bytes to the front of the buffer and returns their number. The bytes after them may change.
     fn write(self, buffer: &mut [u8]) -> usize
         requires space { TEXT_BYTES ≤ length buffer.old }
         ensures text { take result buffer.new ≡ bytes self }
@@ -22,7 +22,7 @@ pub trait Drain {
     // The bytes that it has taken, if they are known.
     ghost contents: { Self → Option (List ℕ) } = { λ _. None };
 
-    // The last of these, which it still holds back.
+    // The last of these bytes, which it has not passed on yet.
     ghost held_back: { Self → List ℕ } = { λ _. [] };
 
     // True if a push has failed.
@@ -58,7 +58,7 @@ pub trait Drain {
         ensures failed { has_failed self.new ≡ has_failed self.old }
         ensures sends { has_failed_to_send self.new ≡ has_failed_to_send self.old };
 
-    /// Passes on the pushed bytes that it still holds back. To be called before what may be a long wait. Reports no failure: if it
+    /// Passes on the pushed bytes that it still holds back. Call this before a wait that may be long. Reports no failure: if it
     /// fails, the next push fails. After a failed push or send it passes nothing on.
     fn send(&mut self)
         ensures bytes { Keeps (contents self.old) (contents self.new) }
