@@ -31,7 +31,7 @@ made_case (Err fault) = 7
 abbrev row_case : {C : Type 0} → List (List ℕ) → CommandRow C → ℕ
 row_case arguments row = if are_as_many row.forms arguments then made_case (made_of row.forms row.makes arguments) else 6
 
--- what is found at the row of a word
+-- `found` of the row of this word, or `none` if there is no such row
 abbrev at_row : {C D : Type 0} → List (CommandRow C) → List ℕ → (CommandRow C → D) → D → D
 at_row [] word found none = none
 at_row (row ∷ rows) word found none = if bytes_eq word row.word then found row else at_row rows word found none
@@ -50,7 +50,7 @@ words_case (first ∷ rest) = if slice_index first 0 == 35 then 2 else actor_cas
 
 -- ---- the first word
 
--- a test is false where what it decides isn't so
+-- a test is false if what it decides does not hold
 refused : {P : Type 0} (b : Bool) → Decides b P → (P → ⊥) → b ≡ false
 refused true decides never = absurd (never (decides.0 refl))
 refused false decides never = refl
@@ -77,7 +77,7 @@ number_is_not_admin : (word : List ℕ) (t : ℕ) → number_of word ≡ Some t 
 number_is_not_admin word t number admin =
     let both : None ≡ Some t = sym (ap number_of admin) ∙ number in cc
 
--- the first word, where it isn't `admin`
+-- the actor of a first word other than `admin`
 actor_of-other : (word : List ℕ) (number : Option ℕ) → (word ≡ codes "admin" → ⊥) → number_of word ≡ number
     → actor_of word ≡ (or_fault number (nobody_fault word) >>= (λ t. Ok (tenant t)))
 actor_of-other word number other is =
@@ -129,7 +129,7 @@ module _ {D : Type 0} (none : D) where
   at_row-tenant found = All-from_recursion (λ (row : CommandRow Command). at_row tenant_rows row.word found none ≡ found row) tenant_rows
       (refl, (refl, (refl, (refl, (refl, (refl, (refl, (refl, (refl, (refl, tt))))))))))
 
-  -- no two rows of a table have one word
+  -- no two rows of a table have the same word
   at_row-found : (actor : Actor) (word : List ℕ) (row : CommandRow (CommandOf actor)) (found : CommandRow (CommandOf actor) → D)
       → AsksFor actor word row → at_row (command_rows actor) word found none ≡ found row
   at_row-found administrator word row found (has, is) =
@@ -281,7 +281,7 @@ only_of_words number words reading (event {first} {word} {arguments} actor names
     let (many, made) = made_of-command row.forms row.makes arguments command make in
     of_row first word arguments actor row true (Ok command) names asks many made
 
--- ---- some case is that of the words
+-- ---- the words are in some case
 
 abbrev SomeCase : List (List ℕ) → Type 0
 SomeCase words = (number : ℕ) × (reading : Result (Option Event) LineFault) × CaseOfWords number words reading

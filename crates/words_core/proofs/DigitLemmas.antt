@@ -11,7 +11,7 @@ use Rattle.std.proofs.lemmas.List.FromFn.{get_or-map-range_with_len}
 use Rattle.words_core.specs.Digits.{two_digits, five_digits}
 use Rattle.words_core.specs.declared.window.TheConstants.{PAIRS}
 
--- what the table has for a number
+-- the two digits in the table for a number
 abbrev pub pair : ℕ → List ℕ
 pair n = get_or PAIRS (2 * n) 0 ∷ get_or PAIRS (2 * n + 1) 0 ∷ []
 
@@ -27,7 +27,7 @@ pair_at n below =
 decimal_two : (n : ℕ) → 10 ≤ n → n < 100 → decimal n ≡ two_digits n
 decimal_two n low high = rw (decimal_step n low (omega arith), decimal_digit (n / 10) (omega arith))
 
--- the last two digits, behind the others
+-- the last two digits come after the others
 decimal_last_two : (n : ℕ) → 100 ≤ n → n < 2 ^ 32 → decimal n ≡ decimal (n / 100) ++ two_digits (n % 100)
 decimal_last_two n low high =
     let a : n / 10 / 10 ≡ n / 100 = omega arith in
@@ -85,7 +85,7 @@ pub digits_counted : (n : ℕ) (log : Option ℕ) → n < 2 ^ 64 → IfNone log 
 digits_counted n None fits none low high = sym (ap length (decimal_digit n (omega arith)))
 digits_counted n (Some k) fits none low high = length_more k n low high fits
 
--- the digits go before their end
+-- digits that were written before an end follow what was there before them
 pub written_before : (start at end : ℕ) (digits old new : List ℕ) → start + length digits ≡ end → at + length digits ≡ end → end ≤ length old
     → take start new ≡ take start old → drop start new ≡ digits ++ drop end old → take end new ≡ take at old ++ digits
 written_before start at end digits old new starts ends within before written =

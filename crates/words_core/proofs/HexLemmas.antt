@@ -1,4 +1,4 @@
--- Bytes in hex, one after the other.
+-- Bytes in hex, one after another.
 use Rattle.std.proofs.Common.{◌≡◌, ℕ, ◌+◌, ◌/◌, ◌%◌, ◌<◌, List, [], ◌∷◌, ◌++◌, length, get_or, take, map, refl, sym, ◌∙◌, ap, arith, append_assoc, append-nil}
 use Rattle.std.specs.List.{range_with_len}
 use Rattle.std.proofs.lemmas.List.{take_more}
@@ -34,7 +34,7 @@ hex_more new old front bytes pair i within new_is old_is pair_is =
     ∙ ap (λ text. front ++ text)
     (sym (encode_append (take i bytes) (get_or bytes i 0 ∷ [])) ∙ ap encode_lower (sym (take_more bytes i 0 within)))
 
--- a part of the rest more
+-- one more part of the rest
 pub hex_part : (new old all rest part behind : List ℕ) → new ≡ old ++ encode_lower part → rest ≡ part ++ behind
     → old ++ encode_lower rest ≡ all → new ++ encode_lower behind ≡ all
 hex_part new old all rest part behind new_is rest_is is =

@@ -1,4 +1,4 @@
--- What a line says: six of its words decide it.
+-- The first six words of a line decide its meaning.
 use Rattle.std.proofs.Common.{◌≡◌, ◌<◌, ◌≤◌, ℕ, List, [], ◌∷◌, take, length, slice_index, ◌==◌, if◌then◌else◌, Some, None, Result, Ok, Err, refl, sym, ◌∙◌, ap, arith}
 use Rattle.std.proofs.lemmas.Bool.Decides.{nat_tests}
 use Rattle.std.specs.Str.Lines.{strip_carriage_return}
@@ -30,7 +30,7 @@ unfolding event_of
 event_of-take first rest = same_after (actor_of first) _ _ (λ actor.
     ap (λ asked. asked >>= (λ command. Ok (event_by actor command))) (asked-take actor rest))
 
--- no command has as many words as six
+-- no command has as many as six words
 pub judged-take : (words : List (List ℕ)) → reading_of_words (take 6 words) ≡ reading_of_words words
 unfolding reading_of_words
 judged-take [] = refl

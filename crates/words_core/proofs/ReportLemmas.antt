@@ -16,7 +16,7 @@ pub length-order_texts : (front : List ℕ) (first : ℕ) (rows : List OrderRow)
 length-order_texts front first [] = refl
 length-order_texts front first (row ∷ rows) = ap suc (length-order_texts front (first + 1) rows)
 
--- in the rows of orders and what follows them
+-- row `k` of the orders' rows, whatever follows them
 row-order_texts : (front : List ℕ) (first k : ℕ) (rows : List OrderRow) (rest : List (List ℕ)) (d : OrderRow) → k < length rows
     → slice_get (order_texts front first rows ++ rest) k ≡ Some (order_text front (first + k) (get_or rows k d))
 row-order_texts front first k [] rest d within = absurd (omega arith)
@@ -31,7 +31,7 @@ after_orders front first j k [] rest is = ap (slice_get rest) (omega (arith, is)
 after_orders front first zero k (row ∷ rows) rest is = absurd (omega (arith, is))
 after_orders front first (suc j) k (row ∷ rows) rest is = after_orders front (first + 1) j k rows rest (omega (arith, is))
 
--- below the frames, the row of an order
+-- the row of an order comes after the frames
 pub order_row_of : (front : List ℕ) (report : Report) (row k : ℕ) (orders : List OrderRow) (d : OrderRow) → orders ≡ report.orders.items
     → row ≡ suc k → k < length orders → slice_get (report_texts front report) row ≡ Some (order_text front k (get_or orders k d))
 order_row_of front report row k orders d orders_are row_is within =
@@ -40,7 +40,7 @@ order_row_of front report row k orders d orders_are row_is within =
     ∙ ap (λ n. Some (order_text front n (get_or report.orders.items k d))) (omega arith)
     ∙ ap (λ rows. Some (order_text front k (get_or rows k d))) (sym orders_are)
 
--- below the orders, the row of a cache
+-- the row of a cache comes after the orders
 pub cache_row_of : (front : List ℕ) (report : Report) (row k : ℕ) (caches : List CacheRow) (d : CacheRow) → caches ≡ report.caches.items
     → row ≡ suc (length report.orders.items + k) → k < length caches
     → slice_get (report_texts front report) row ≡ Some (cache_text front (get_or caches k d))

@@ -20,7 +20,7 @@ row-owner_texts front first (suc k) (owner ∷ owners) d within =
     row-owner_texts front (first + 1) k owners d (omega arith)
     ∙ ap (λ n. Some (owner_text front n (get_or owners k d))) (omega arith)
 
--- below the count, the row of a superblock
+-- the row of a superblock comes after the counts
 pub row-pool_texts : (front : List ℕ) (owners : List (Option Owner)) (row k : ℕ) (d : Option Owner) → row ≡ suc k → k < length owners
     → slice_get (pool_texts front owners) row ≡ Some (owner_text front k (get_or owners k d))
 row-pool_texts front owners row k d row_is within =

@@ -1,4 +1,4 @@
--- The words of a line from its front, and that the two definitions of them agree.
+-- The words of a line from its front, and a proof that the two definitions of them agree.
 use Rattle.std.proofs.Common.{◌≡◌, ◌<◌, ◌≤◌, ℕ, zero, suc, true, false, List, [], ◌∷◌, ◌++◌, length, map, take, drop, filter, slice_index, refl, sym, ◌∙◌, ap, subst, arith, add-zero, length-drop, append-nil, append_assoc, take-append-drop}
 use Rattle.std.specs.List.{slice_split, All}
 use Rattle.std.proofs.lemmas.List.Splits.{slice_split-cons_yes, slice_split_none, slice_split_at}
@@ -32,7 +32,7 @@ words_of-word word (b ∷ bytes) (some, word_bytes) ends =
     ∙ filtered word (slice_split is_blank bytes) some
     ∙ ap (λ words. word ∷ words) (sym (words_of-blank b bytes ends))
 
--- what a line has as its words are its words
+-- the words that the relation gives a line are those of the function
 pub words_of-has : (line : List ℕ) (words : List (List ℕ)) → HasWords line words → words_of line ≡ words
 unfolding words_of
 words_of-has line [] blanks = ap words_of (sym (append-nil line)) ∙ words_of-blanks line [] blanks
@@ -71,7 +71,7 @@ word_before b line letter ends = record {
   ends = ends;
 }
 
--- one more byte that is no blank: it begins a word, or goes on before the first
+-- one more byte that is not a blank: it begins a new word, or extends the first
 with_letter : (b : ℕ) (line : List ℕ) (words : List (List ℕ)) → is_blank b ≡ false → HasWords line words → (more : List (List ℕ)) × HasWords (b ∷ line) more
 with_letter b line [] letter has = ((b ∷ []) ∷ [], (line, word_before b line letter (starts line has), has))
 with_letter b line (word ∷ words) letter (rest, begins, has) = from_gap begins.gap begins.split begins.blanks where
@@ -102,7 +102,7 @@ has_some (b ∷ line) = let (words, has) = has_some line in
       | false ↦ λ letter. with_letter b line words letter has
     ] refl
 
--- every line has its words
+-- the relation holds between every line and its words
 pub has-words_of : (line : List ℕ) → HasWords line (words_of line)
 has-words_of line = let (words, has) = has_some line in subst (HasWords line) (sym (words_of-has line words has)) has
 
@@ -116,14 +116,14 @@ starts_by : (bytes : List ℕ) → (0 < length bytes → IsBlank (slice_index by
 starts_by [] first = tt
 starts_by (b ∷ bytes) first = first (omega arith)
 
--- so many blanks, and what follows them
+-- the words after a number of blanks
 pub words_of-after_blanks : (line : List ℕ) (blanks : ℕ) → blanks ≤ length line
     → ((k : ℕ) → k < blanks → IsBlank (slice_index line k)) → words_of line ≡ words_of (drop blanks line)
 words_of-after_blanks line blanks fits each =
     ap words_of (sym (take-append-drop blanks line))
     ∙ words_of-blanks (take blanks line) (drop blanks line) (all_below IsBlank line blanks fits each)
 
--- so many other bytes, and what follows them
+-- the first word, which has `size` bytes, and the words after it
 pub words_of-first : (bytes : List ℕ) (size : ℕ) → 0 < size → size ≤ length bytes
     → ((k : ℕ) → k < size → IsLetter (slice_index bytes k)) → (size < length bytes → IsBlank (slice_index bytes size))
     → words_of bytes ≡ take size bytes ∷ words_of (drop size bytes)
@@ -142,11 +142,11 @@ positive : (n : ℕ) → (n ≡ 0 → ⊥) → 0 < n
 positive zero not_zero = absurd (not_zero refl)
 positive (suc n) not_zero = omega arith
 
--- a letter is no blank
+-- a letter is not a blank
 letter_or_blank : (b : ℕ) → IsLetter b → IsBlank b → ⊥
 letter_or_blank b letter blank = cc
 
--- the first word of a line, found by counting blanks, and then letters
+-- the first word of a line, found by counting blanks and then letters
 pub first_word : (line bytes word after : List ℕ) (blanks size : ℕ) → blanks ≤ length line
     → ((k : ℕ) → k < blanks → IsBlank (slice_index line k))
     → (blanks < length line → IsLetter (slice_index line blanks))
@@ -168,7 +168,7 @@ first_word line bytes word after blanks size fits each letter is some size_fits 
     ∙ words_of-first bytes size size_some size_fits letters stops
     ∙ (λ i. sym word_is i ∷ words_of (sym after_is i))
 
--- one more word found is one less to come
+-- one more word was found, so one less remains to be found
 pub one_more : {X Y : Type 0} (f : X → Y) (old new : List X) (x : X) (rest more : List Y) (n k : ℕ)
     → new ≡ old ++ x ∷ [] → rest ≡ f x ∷ more → n ≡ suc k → map f new ++ take k more ≡ map f old ++ take n rest
 one_more f old new x rest more n k new_is rest_is n_is =

@@ -1,5 +1,5 @@
--- The eight cases of a line, in the order in which it is judged: the first that applies decides. What a line says in
--- each is told of any words that the line is made of; a law says that each line is in exactly one case.
+-- The eight cases of a line, in the order in which it is judged: the first that applies decides. Each case gives the
+-- meaning of any words that the line is made of. A law says that each line is in exactly one case.
 use Rattle.std.specs.Prelude.{◌≡◌, ◌<◌, ◌≤◌, ◌⊎◌, ℕ, List, [], ◌∷◌, length, slice_index, codes, Option, Some, None, Result, Ok, Err}
 use Rattle.std.specs.List.{Contains}
 use Rattle.std.specs.Str.Lines.{strip_carriage_return}
@@ -14,7 +14,7 @@ use Rattle.words_core.specs.declared.event.LineFault.{LineFault}
 abbrev pub IsComment : List ℕ → Type 0
 IsComment word = slice_index word 0 ≡ 35
 
--- the first word of a line says who speaks: it is `admin`, or the number of a tenant
+-- the first word of a line names its actor: it is `admin`, or the number of a tenant
 abbrev pub Names : List ℕ → Actor → Type 0
 Names word administrator = word ≡ codes "admin"
 Names word (tenant t) = number_of word ≡ Some t
@@ -23,14 +23,14 @@ Names word (tenant t) = number_of word ≡ Some t
 abbrev pub AsksFor : (actor : Actor) → List ℕ → CommandRow (CommandOf actor) → Type 0
 AsksFor actor word row = Contains (command_rows actor) row × (word ≡ row.word)
 
--- the first of the arguments that isn't in its form has this fault
+-- the first argument that does not have its form has this fault
 abbrev pub FirstFault : List Form → List (List ℕ) → LineFault → Type 0
 FirstFault (form ∷ forms) (word ∷ words) fault =
     (read_as form word ≡ Err fault) ⊎ ((value : Given form) × (read_as form word ≡ Ok value) × FirstFault forms words fault)
 FirstFault [] words fault = ⊥
 FirstFault (_ ∷ _) [] fault = ⊥
 
--- each argument is in its form, and together they make this command
+-- each argument has its form, and together they make this command
 abbrev pub AllMake : {C : Type 0} (forms : List Form) → Maker forms C → List (List ℕ) → C → Type 0
 AllMake [] made [] command = made ≡ command
 AllMake (form ∷ forms) makes (word ∷ words) command =
@@ -48,14 +48,14 @@ pub data CaseOfWords : ℕ → List (List ℕ) → Result (Option Event) LineFau
       → CaseOfWords 3 (first ∷ rest) (Err (nobody_fault first))
   -- 4. no second word
   alone : {first : List ℕ} (actor : Actor) → Names first actor → CaseOfWords 4 (first ∷ []) (Err LineFault.Words)
-  -- 5. the second word is no command of that actor
+  -- 5. the second word is not a command of that actor
   no_command : {first word : List ℕ} {arguments : List (List ℕ)} (actor : Actor) → Names first actor
       → ((row : CommandRow (CommandOf actor)) → ¬ AsksFor actor word row) → CaseOfWords 5 (first ∷ word ∷ arguments) (Err LineFault.Unknown)
-  -- 6. not as many arguments as the command has
+  -- 6. a wrong number of arguments for the command
   wrong_count : {first word : List ℕ} {arguments : List (List ℕ)} (actor : Actor) → Names first actor
       → (row : CommandRow (CommandOf actor)) → AsksFor actor word row → ¬ (length arguments ≡ length row.forms)
       → CaseOfWords 6 (first ∷ word ∷ arguments) (Err LineFault.Words)
-  -- 7. from left to right, the first argument that isn't in its form
+  -- 7. from left to right, the first argument that does not have its form
   faulty : {first word : List ℕ} {arguments : List (List ℕ)} {fault : LineFault} (actor : Actor) → Names first actor
       → (row : CommandRow (CommandOf actor)) → AsksFor actor word row → length arguments ≡ length row.forms
       → FirstFault row.forms arguments fault → CaseOfWords 7 (first ∷ word ∷ arguments) (Err fault)
@@ -67,13 +67,13 @@ pub data CaseOfWords : ℕ → List (List ℕ) → Result (Option Event) LineFau
 
 -- The cases of a line: a number, the line without the carriage return at its end, and what it says.
 pub data CaseOfBytes : ℕ → List ℕ → Result (Option Event) LineFault → Type 0 where
-  -- 1. too long, a comment too
+  -- 1. too long, even if it is a comment
   too_long : {bytes : List ℕ} → MOST_LINE_BYTES < length bytes → CaseOfBytes 1 bytes (Err LineFault.Long)
   -- 2 to 8, of words that the line is made of
   of_words : {number : ℕ} {bytes : List ℕ} {reading : Result (Option Event) LineFault} → length bytes ≤ MOST_LINE_BYTES
       → (words : List (List ℕ)) → HasWords bytes words → CaseOfWords number words reading → CaseOfBytes number bytes reading
 
--- the line is in the case of this number, and says this
+-- the line is in the case with this number, and says this
 abbrev pub Case : ℕ → List ℕ → Result (Option Event) LineFault → Type 0
 Case number line reading = CaseOfBytes number (strip_carriage_return line) reading
 

@@ -1,4 +1,4 @@
--- The commands, by tables: who gives them, their words and the forms of their arguments.
+-- The commands, in tables: their actors, their words and the forms of their arguments.
 use Rattle.std.specs.Prelude.{◌*◌, ℕ, ◌&&◌, nat_le, List, [], ◌∷◌, length, slice_index, codes, if◌then◌else◌, Option, Some, None, Result, Ok, Err}
 use Rattle.std.specs.Char.{is_ascii_digit}
 use Rattle.arrayvec.specs.ArrayVec.{ArrayVec}
@@ -11,7 +11,7 @@ use Rattle.words_core.specs.declared.event.Command.{Command}
 use Rattle.words_core.specs.declared.event.Event.{Event}
 use Rattle.words_core.specs.declared.event.LineFault.{LineFault}
 
--- the number that was found, or else this fault
+-- the number if one was found, else this fault
 abbrev pub or_fault : Option ℕ → LineFault → Result ℕ LineFault
 or_fault (Some number) fault = Ok number
 or_fault None fault = Err fault
@@ -20,32 +20,32 @@ or_fault None fault = Err fault
 abbrev pub argument : List ℕ → Result ℕ LineFault
 argument word = or_fault (number_of word) LineFault.Number
 
--- bytes out of hex, which may be faulty
+-- the bytes decoded from hex, or the fault
 abbrev pub bytes_or_fault : Result (List ℕ) FromHexError → Result (ArrayVec ℕ) LineFault
 bytes_or_fault (Ok bytes) = Ok (record { items = bytes })
 bytes_or_fault (Err _) = Err LineFault.Hex
 
--- an argument that has to be bytes in hex, at least one and not more than so many: two digits of either case for each
+-- an argument that has to be bytes in hex, at least one and at most `most`: two digits of either case for each
 abbrev pub bytes_argument : ℕ → List ℕ → Result (ArrayVec ℕ) LineFault
 bytes_argument most word =
     if nat_le 2 (length word) && nat_le (length word) (2 * most) then bytes_or_fault (decode_of word) else Err LineFault.Hex
 
--- the form of an argument: a number, or bytes in hex, at most so many
+-- the form of an argument: a number, or bytes in hex, up to a largest number of them
 pub data Form : Type 0 where
   number : Form
   hex : ℕ → Form
 
--- what an argument of a form gives
+-- the type of an argument of this form
 abbrev pub Given : Form → Type 0
 Given number = ℕ
 Given (hex most) = ArrayVec ℕ
 
--- an argument read in a form
+-- an argument, read as this form
 abbrev pub read_as : (form : Form) → List ℕ → Result (Given form) LineFault
 read_as number word = argument word
 read_as (hex most) word = bytes_argument most word
 
--- what makes a command out of arguments of these forms
+-- a function that makes a command of arguments of these forms
 abbrev pub Maker : List Form → Type 0 → Type 0
 Maker [] C = C
 Maker (form ∷ forms) C = Given form → Maker forms C
@@ -110,17 +110,17 @@ abbrev pub tenant_rows : List (CommandRow Command)
 tenant_rows =
     alloc_row ∷ free_row ∷ read_row ∷ write_row ∷ cache_row ∷ destroy_row ∷ take_row ∷ give_row ∷ reap_row ∷ report_row ∷ []
 
--- who speaks in a line
+-- who gives the command of a line
 pub data Actor : Type 0 where
   administrator : Actor
   tenant : ℕ → Actor
 
--- the commands of each
+-- the type of an actor's commands
 abbrev pub CommandOf : Actor → Type 0
 CommandOf administrator = AdminCommand
 CommandOf (tenant t) = Command
 
--- the table of them
+-- the table of an actor's commands
 abbrev pub command_rows : (actor : Actor) → List (CommandRow (CommandOf actor))
 command_rows administrator = admin_rows
 command_rows (tenant t) = tenant_rows

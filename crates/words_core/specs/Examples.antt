@@ -1,4 +1,4 @@
--- Lines and what they say, replies and their texts: each example holds by computation.
+-- Lines and their meanings, replies and their texts: each example holds by computation.
 use Rattle.std.specs.Prelude.{◌≡◌, ℕ, List, [], ◌∷◌, ◌++◌, codes, map, replicate, Option, Some, None, Result, Ok, Err, refl}
 use Rattle.std.specs.Fmt.{digits}
 use Rattle.hex.proofs.OnLiterals.{hex_on_literals}
@@ -22,7 +22,7 @@ use Rattle.words_core.specs.declared.report.Report.{Report as Figures}
 cuts : map lines_of_trace (codes "a\n\nb" ∷ codes "a\n" ∷ []) ≡ (codes "a" ∷ [] ∷ codes "b" ∷ []) ∷ (codes "a" ∷ []) ∷ []
 cuts = refl
 
--- lines, each with what it says
+-- lines, each with its meaning
 abbrev lines : List (List ℕ × Result (Option Event) LineFault)
 lines =
     (codes "admin grant 1", Ok (Some (Event.Admin (AdminCommand.Grant 1))))
@@ -77,7 +77,7 @@ too_wide : reading_of (codes "0 alloc 0" ++ replicate 247 32) ≡ Err LineFault.
 unfolding reading_of
 too_wide = refl
 
--- no frame is held, and no cache stands
+-- a tenant that holds no frame and has no cache
 abbrev none_free : Figures
 none_free = record {
   frames = 0;

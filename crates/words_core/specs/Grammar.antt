@@ -1,5 +1,5 @@
--- What a line says, as a function: an event, nothing, or a fault. The first rule that applies decides; `Cases` has them
--- one by one.
+-- The meaning of a line, as a function: an event, nothing, or a fault. The first rule that applies decides; `Cases`
+-- lists the rules one by one.
 use Rattle.std.specs.Prelude.{ℕ, Bool, true, false, List, [], ◌∷◌, length, slice_index, codes, nat_lt, ◌==◌, if◌then◌else◌, Option, Some, None, Result, Ok, Err}
 use Rattle.std.specs.Str.{bytes_eq}
 use Rattle.std.specs.Str.Lines.{strip_carriage_return}
@@ -10,20 +10,20 @@ use Rattle.words_core.specs.Words.{words_of}
 use Rattle.words_core.specs.declared.event.Event.{Event}
 use Rattle.words_core.specs.declared.event.LineFault.{LineFault}
 
--- the ? of the logic: the second step, if the first found no fault
+-- `?` in the logic: the second step, if the first found no fault
 infixl 10 ◌>>=◌
 abbrev pub ◌>>=◌ : {A B : Type 0} → Result A LineFault → (A → Result B LineFault) → Result B LineFault
 Ok x >>= f = f x
 Err fault >>= f = Err fault
 
--- as many words as forms
+-- there are as many words as forms
 abbrev pub are_as_many : List Form → List (List ℕ) → Bool
 are_as_many [] [] = true
 are_as_many (form ∷ forms) (word ∷ words) = are_as_many forms words
 are_as_many [] (_ ∷ _) = false
 are_as_many (_ ∷ _) [] = false
 
--- the command that words of these forms make: they are read from left to right
+-- the command that words of these forms make; the words are read from left to right
 abbrev pub made_of : {C : Type 0} (forms : List Form) → Maker forms C → List (List ℕ) → Result C LineFault
 made_of [] makes words = Ok makes
 made_of (form ∷ forms) makes [] = Err LineFault.Words
@@ -31,26 +31,26 @@ made_of (form ∷ forms) makes (word ∷ words) = do
   value ← read_as form word
   made_of forms (makes value) words
 
--- the command of this row with these arguments
+-- the command of this row with these arguments, or the fault
 abbrev pub command_by : {C : Type 0} → CommandRow C → List (List ℕ) → Result C LineFault
 command_by row arguments = if are_as_many row.forms arguments then made_of row.forms row.makes arguments else Err LineFault.Words
 
--- the command of this word
+-- the command that this word names
 abbrev pub command_of : {C : Type 0} → List (CommandRow C) → List ℕ → List (List ℕ) → Result C LineFault
 command_of [] word arguments = Err LineFault.Unknown
 command_of (row ∷ rows) word arguments =
     if bytes_eq word row.word then command_by row arguments else command_of rows word arguments
 
--- what follows the word that says who speaks
+-- the command in the words that follow the first word
 abbrev pub command_in_words : {C : Type 0} → List (CommandRow C) → List (List ℕ) → Result C LineFault
 command_in_words rows [] = Err LineFault.Words
 command_in_words rows (word ∷ arguments) = command_of rows word arguments
 
--- the tenant whom the first word names
+-- the number of the tenant that the first word names
 abbrev pub tenant_of : List ℕ → Result ℕ LineFault
 tenant_of word = or_fault (number_of word) (nobody_fault word)
 
--- whom the first word names
+-- the actor that the first word names
 abbrev pub actor_of : List ℕ → Result Actor LineFault
 actor_of word =
     if bytes_eq word (codes "admin") then Ok administrator
@@ -64,7 +64,7 @@ event_of first rest = do
   command ← command_in_words (command_rows actor) rest
   Ok (event_by actor command)
 
--- what words say; byte 35 is `#`
+-- the meaning of words; byte 35 is `#`
 unfoldable pub reading_of_words : List (List ℕ) → Result (Option Event) LineFault
 reading_of_words [] = Ok None
 reading_of_words (first ∷ rest) =
@@ -73,10 +73,10 @@ reading_of_words (first ∷ rest) =
       event ← event_of first rest
       Ok (Some event))
 
--- what words say that stand in a line of this many bytes
+-- the meaning of the words of a line of `size` bytes
 abbrev pub reading_within : ℕ → List (List ℕ) → Result (Option Event) LineFault
 reading_within size words = if nat_lt MOST_LINE_BYTES size then Err LineFault.Long else reading_of_words words
 
--- What a line says, as a function. One carriage return (byte 13) at its end is no part of it.
+-- The meaning of a line, as a function. One carriage return (byte 13) at its end is ignored.
 unfoldable pub reading_of : List ℕ → Result (Option Event) LineFault
 reading_of line = let bytes = strip_carriage_return line in reading_within (length bytes) (words_of bytes)

@@ -5,11 +5,11 @@ use Rattle.words_core.specs.declared.event.LineFault.{LineFault}
 use Rattle.words_core.specs.Cases.{Case}
 use Rattle.words_core.specs.Grammar.{reading_of}
 
--- each line is in a case, in which it says what it reads as
+-- each line is in a case, and its meaning there is `reading_of` of the line
 abbrev pub EachLineHasACase : Type 0
 EachLineHasACase = (line : List ℕ) → (number : ℕ) × Case number line (reading_of line)
 
--- it is in no other, and says nothing else
+-- no line is in two cases or has two meanings
 abbrev pub NoLineHasTwo : Type 0
 NoLineHasTwo = (line : List ℕ) (number other : ℕ) (reading second : Result (Option Event) LineFault)
     → Case number line reading → Case other line second → (other ≡ number) × (second ≡ reading)

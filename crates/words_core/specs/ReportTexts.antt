@@ -9,7 +9,7 @@ abbrev pub top_text : Option ℕ → List ℕ
 top_text None = codes "none"
 top_text (Some order) = decimal order
 
--- the frames of the slots, those that are taken, those that are free, and how these are split
+-- the frames of the slots, the taken ones, the free ones, and how the free ones are split
 abbrev pub frames_text : List ℕ → Report → List ℕ
 frames_text front report =
     front ++ codes "frames " ++ decimal report.frames ++ codes " live " ++ decimal report.live ++ codes " free "
@@ -21,7 +21,7 @@ abbrev pub order_text : List ℕ → ℕ → OrderRow → List ℕ
 order_text front order row =
     front ++ codes "order " ++ decimal order ++ codes " free " ++ decimal row.free ++ codes " taken " ++ decimal row.taken
 
--- a line for each order, the first of them this one
+-- a line for each order, from `order` on
 abbrev pub order_texts : List ℕ → ℕ → List OrderRow → List (List ℕ)
 order_texts front order [] = []
 order_texts front order (row ∷ rows) = order_text front order row ∷ order_texts front (order + 1) rows

@@ -1,4 +1,4 @@
--- The small forms of commands and answers, as the values that they are.
+-- The values of the small forms of commands and answers.
 use Rattle.std.specs.Prelude.{◌≡◌, ℕ, ◌≤◌, Bool, true, false, if◌then◌else◌, length}
 use Rattle.model_core.specs.declared.limits.TheConstants.{MOST_BYTES, MOST_SUPERBLOCKS}
 use Rattle.model_core.specs.Layouts.{is_pattern}
@@ -39,7 +39,7 @@ body_of_answer (Answer.WasReset tenant superblocks) = Body.WasReset tenant super
 body_of_answer (Answer.Moved tenant slot superblock) = Body.Moved tenant slot superblock
 body_of_answer (Answer.Fault fault) = Body.Fault fault
 
--- it has several lines, and is no answer
+-- the body has several lines, so it is not an `Answer`
 abbrev pub is_table : Body → Bool
 is_table (Body.Owners owners) = true
 is_table (Body.Report report) = true
@@ -59,25 +59,25 @@ is_table (Body.Reaped frames) = false
 is_table (Body.Refused refusal) = false
 is_table (Body.Fault fault) = false
 
--- the reply that an answer is
+-- the reply to this addressee with this answer
 abbrev pub reply_to : Addressee → Answer → Reply
 reply_to addressee answer = record { addressee = addressee; body = body_of_answer answer }
 
--- the reply to a tenant that is answered so
+-- the reply to a tenant with this answer
 abbrev pub reply_of_answer : ℕ → Answer → Reply
 reply_of_answer tenant answer = record { addressee = Addressee.Tenant tenant; body = body_of_answer answer }
 
--- the reply that a table is
+-- a table as a reply
 abbrev pub reply_of_table : Table → Reply
 reply_of_table (Table.Owners owners) = record { addressee = Addressee.Admin; body = Body.Owners (record { items = owners.now }) }
 reply_of_table (Table.Report tenant report) = record { addressee = Addressee.Tenant tenant; body = Body.Report report.now }
 
--- no machine has more superblocks than its table has rows for
+-- the table has no more superblocks than a machine may have
 abbrev pub HasFewRows : Table → Type 0
 HasFewRows (Table.Owners owners) = length owners.now ≤ MOST_SUPERBLOCKS
 HasFewRows (Table.Report tenant report) = Unit {0}
 
--- the bytes that an answer tells are no more than a read may ask for
+-- an answer has at most as many bytes as one read may have
 abbrev pub HasFewBytes : Answer → Type 0
 HasFewBytes (Answer.Bytes bytes) = length bytes.now ≤ MOST_BYTES
 HasFewBytes (Answer.Frame frame) = Unit {0}
@@ -95,7 +95,7 @@ HasFewBytes (Answer.WasReset tenant superblocks) = Unit {0}
 HasFewBytes (Answer.Moved tenant slot superblock) = Unit {0}
 HasFewBytes (Answer.Fault fault) = Unit {0}
 
--- the pattern of a cache that the command asks for has 1 to 16 bytes
+-- if the command is for a new cache, its pattern has 1 to 16 bytes
 abbrev pub AsksPattern : Command → Type 0
 AsksPattern (Command.Cache size align pattern) = is_pattern pattern.items ≡ true
 AsksPattern (Command.Alloc order) = Unit {0}
@@ -108,7 +108,7 @@ AsksPattern (Command.Give cache place) = Unit {0}
 AsksPattern Command.Reap = Unit {0}
 AsksPattern Command.Report = Unit {0}
 
--- the bytes to be written are no more than a line can have, and the pattern of a cache has 1 to 16
+-- a write has at most as many bytes as a line can have, and the pattern of a cache has 1 to 16
 abbrev pub IsAskable : Request → Type 0
 IsAskable (Request.Write place bytes) = length bytes.now ≤ MOST_BYTES
 IsAskable (Request.Cache size align pattern) = is_pattern pattern.now ≡ true
@@ -120,7 +120,7 @@ IsAskable (Request.Take cache) = Unit {0}
 IsAskable (Request.Give cache place) = Unit {0}
 IsAskable Request.Reap = Unit {0}
 
--- the request asks for bytes
+-- the request is a read
 abbrev pub asks_bytes : Request → Bool
 asks_bytes (Request.Read place len) = true
 asks_bytes (Request.Alloc order) = false
@@ -132,7 +132,7 @@ asks_bytes (Request.Take cache) = false
 asks_bytes (Request.Give cache place) = false
 asks_bytes Request.Reap = false
 
--- the answer tells bytes
+-- the answer has bytes that were read
 abbrev pub has_bytes : Answer → Bool
 has_bytes (Answer.Bytes bytes) = true
 has_bytes (Answer.Frame frame) = false
@@ -150,7 +150,7 @@ has_bytes (Answer.WasReset tenant superblocks) = false
 has_bytes (Answer.Moved tenant slot superblock) = false
 has_bytes (Answer.Fault fault) = false
 
--- what is told has many bytes: those of a read, the layout of a cache, or a superblock
+-- the text of the answer may need the large buffer: bytes of a read, the layout of a cache, or a superblock
 abbrev pub is_long : Answer → Bool
 is_long (Answer.Bytes bytes) = true
 is_long (Answer.Cache cache chunk order objects colours) = true
@@ -168,6 +168,6 @@ is_long (Answer.Reaped frames) = false
 is_long (Answer.Refused refusal) = false
 is_long (Answer.Fault fault) = false
 
--- the size of the buffer that the text of an answer is given
+-- the size in bytes of a buffer for the text of the answer
 abbrev pub buffer_of : Answer → ℕ
 buffer_of answer = if is_long answer then MOST_ANSWER_BYTES else SHORT_ANSWER_BYTES

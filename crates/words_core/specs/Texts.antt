@@ -51,31 +51,31 @@ name_of_fault LineFault.Words = codes "Words"
 name_of_fault LineFault.Number = codes "Number"
 name_of_fault LineFault.Hex = codes "Hex"
 
--- what each line of a reply begins with
+-- the beginning of each line of a reply
 abbrev pub addressee_text : Addressee → List ℕ
 addressee_text Addressee.Admin = codes "admin> "
 addressee_text Addressee.Nobody = codes "!> "
 addressee_text (Addressee.Tenant tenant) = decimal tenant ++ codes "> "
 
--- who owns this superblock, and under which slot
+-- the owner of a superblock and its slot, or `free`
 abbrev pub owner_text : List ℕ → ℕ → Option Owner → List ℕ
 owner_text front superblock None = front ++ codes "superblock " ++ decimal superblock ++ codes " free"
 owner_text front superblock (Some owner) =
     front ++ codes "superblock " ++ decimal superblock ++ codes " tenant " ++ decimal owner.tenant ++ codes " slot "
     ++ decimal owner.slot
 
--- a line for each superblock, the first of them with this number
+-- a line for each superblock, from number `superblock` on
 abbrev pub owner_texts : List ℕ → ℕ → List (Option Owner) → List (List ℕ)
 owner_texts front superblock [] = []
 owner_texts front superblock (owner ∷ owners) = owner_text front superblock owner ∷ owner_texts front (superblock + 1) owners
 
--- how many of how many superblocks have no owner, and then a line for each
+-- the number of superblocks without an owner and the number of all, and then a line for each
 abbrev pub pool_texts : List ℕ → List (Option Owner) → List (List ℕ)
 pool_texts front owners =
     (front ++ codes "pool free " ++ decimal (count_by is_none owners) ++ codes " of " ++ decimal (length owners))
     ∷ owner_texts front 0 owners
 
--- the lines that say the body, each begun with `front`
+-- the lines of the body, each after `front`
 abbrev pub body_texts : List ℕ → Body → List (List ℕ)
 body_texts front (Body.Granted tenant slot superblock) =
     (front ++ codes "granted " ++ decimal tenant ++ codes " slot " ++ decimal slot ++ codes " superblock " ++ decimal superblock)

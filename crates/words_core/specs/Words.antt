@@ -1,4 +1,4 @@
--- The words of a line: its runs of bytes that are no blanks.
+-- The words of a line: its runs of bytes that are not blanks.
 use Rattle.std.specs.Prelude.{◌≡◌, ◌<◌, ℕ, Bool, true, false, List, [], ◌∷◌, ◌++◌, length, filter, ◌==◌, ◌||◌}
 use Rattle.std.specs.List.{slice_split, All}
 
@@ -14,7 +14,7 @@ is_not_empty (_ ∷ _) = true
 unfoldable pub words_of : List ℕ → List (List ℕ)
 words_of line = filter is_not_empty (slice_split is_blank line)
 
--- As a relation: runs of blanks stand before, between and behind the words.
+-- As a relation: there are runs of blanks before, between and after the words.
 
 abbrev pub IsBlank : ℕ → Type 0
 IsBlank b = is_blank b ≡ true
@@ -43,7 +43,7 @@ pub record BeginsWithWord (line word rest : List ℕ) : Type 0 where
   pub is_word : IsWord word
   pub ends : StartsBlank rest
 
--- the line is these words, with runs of blanks before, between and behind them
+-- the line is these words, with runs of blanks before, between and after them
 abbrev pub HasWords : List ℕ → List (List ℕ) → Type 0
 HasWords line [] = IsBlanks line
 HasWords line (word ∷ words) = (rest : List ℕ) × BeginsWithWord line word rest × HasWords rest words

@@ -294,7 +294,7 @@ pub(crate) fn put_addressee(addressee: Addressee, out: &mut [u8]) -> usize
     }
 }
 
-/// Writes the answer behind the first `at` bytes and returns its end.
+/// Writes the answer after the first `at` bytes and returns its end.
 #[inline(always)]
 pub(crate) fn put_answer(answer: Answer<'_>, at: usize, out: &mut [u8]) -> usize
     requires few { HasFewBytes answer }

@@ -5,7 +5,7 @@ ghost use Rattle.hex.specs.Hex.{encode_lower};
 
 use crate::window::put_text;
 
-/// Writes the bytes in hex behind the first `at` bytes and returns the end. It does four bytes at a time: their eight digits are
+/// Writes the bytes in hex after the first `at` bytes and returns the end. It does four bytes at a time: their eight digits are
 /// one store.
 #[inline(always)]
 pub fn put_hex(bytes: &[u8], at: usize, out: &mut [u8]) -> usize
@@ -22,7 +22,7 @@ pub fn put_hex(bytes: &[u8], at: usize, out: &mut [u8]) -> usize
     put_hex_singly(rest, end, out)
 }
 
-/// The same, a byte at a time.
+/// The same as [`put_hex`], a byte at a time.
 #[inline(always)]
 fn put_hex_singly(bytes: &[u8], at: usize, out: &mut [u8]) -> usize
     requires { at + 2 * length bytes.now ≤ length out.old }

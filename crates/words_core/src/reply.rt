@@ -150,7 +150,7 @@ impl Refusal {
         *self as u8
     }
 
-    /// The name of the refusal, as it is written behind its number.
+    /// Returns the name of the refusal, as it is written after its number.
     pub fn name(&self) -> &'static str
         ensures value { result.now ≡ name_of_refusal self.now }
         ensures short { length result.now ≤ 11 }

@@ -20,11 +20,11 @@ pub const CACHES: usize = MOST_CACHES as usize;
 /// The figures of a tenant's memory.
 #[derive(Debug, Drop, PartialEq, Eq)]
 pub struct Report {
-    /// How many frames the tenant's slots have.
+    /// The number of frames of the tenant's slots.
     pub frames: u32,
-    /// How many of them lie in taken blocks: page blocks and slabs, empty slabs too.
+    /// The number of these frames in taken blocks: page blocks and slabs, empty slabs too.
     pub live: u32,
-    /// How many of them lie in free blocks.
+    /// The number of these frames in free blocks.
     pub free: u32,
     /// The greatest order of a free block, if there is one.
     pub top: Option<u8>,
@@ -32,11 +32,12 @@ pub struct Report {
     pub split: u32,
     /// The blocks of each order, from order 0 on.
     pub orders: ArrayVec<OrderRow, ORDERS>,
-    /// The slabs and objects of each cache, by rising number.
+    /// The slabs and objects of each cache, in ascending order of cache numbers.
     pub caches: ArrayVec<CacheRow, CACHES>,
 }
 
-/// Writes the line of this row of a report behind the first `at` bytes, and answers where it ends; so do the others.
+/// Writes the line of this row of a report after the first `at` bytes and returns its end. The other functions here do the same.
+/// Rows count from 0.
 pub(crate) fn put_report(report: &Report, row: usize, at: usize, out: &mut [u8]) -> usize
     requires row { row < length (report_texts (take at out.old) report.now) }
     requires front { at ≤ MOST_FRONT_BYTES }

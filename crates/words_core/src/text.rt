@@ -116,7 +116,7 @@ impl Table<'_> {
     }
 }
 
-/// Writes one line of the body behind the first `at` bytes and returns its end. The other functions here do the same.
+/// Writes one line of the body after the first `at` bytes and returns its end. The other functions here do the same.
 #[tactic(auto, using(crate::proofs::TextLemmas::table_rows))]
 fn put_body(body: &Body, row: usize, at: usize, out: &mut [u8]) -> usize
     requires row { row < length (body_texts (take at out.old) body.now) }

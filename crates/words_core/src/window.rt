@@ -1,11 +1,11 @@
-//! Writes text and numbers one behind the other into the front of some bytes.
+//! Writes text and numbers one after another into the front of some bytes.
 
 ghost use Rattle.std.specs.Prelude.{◌≡◌, ◌+◌, ◌<◌, ◌≤◌, [], ◌∷◌, ◌++◌, take, drop, decimal, length, slice_range};
 ghost use Rattle.words_core.specs.Digits.{two_digits, five_digits};
 
 use crate::numbers::{MOST_DIGITS, digits_of};
 
-/// Writes the text behind the first `at` bytes and returns its end. The other functions here do the same.
+/// Writes the text after the first `at` bytes and returns its end. The other functions here do the same.
 #[inline(always)]
 pub fn put_text(text: &[u8], at: usize, out: &mut [u8]) -> usize
     requires { at + length text.now ≤ length out.old }

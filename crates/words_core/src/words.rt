@@ -5,8 +5,7 @@ ghost use Rattle.words_core.specs.Words.{is_blank, words_of};
 
 use arrayvec::ArrayVec;
 
-/// The number of words of a line that are read. No command has that many, so a longer line is
-/// known to have too many.
+/// The number of words of a line that are read. No command has that many, so a line with more words has too many in any case.
 pub const MOST_WORDS: usize = 6;
 
 fn is_blank(byte: u8) -> bool
@@ -43,7 +42,7 @@ fn word_len(bytes: &[u8]) -> usize
     bytes.len()
 }
 
-/// Returns the first word and the bytes behind it, or `None` if there are only blanks.
+/// Returns the first word and the bytes after it, or `None` if there are only blanks.
 fn next_word(bytes: &[u8]) -> Option<(&[u8], &[u8])>
     ensures { MatchOption result (words_of bytes.now ≡ []) (λ found. words_of bytes.now ≡ found.0.now ∷ words_of found.1.now) }
 {
