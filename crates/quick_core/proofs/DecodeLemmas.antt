@@ -1,4 +1,4 @@
--- Pairs of hex digits, one after the other, and the line that they end.
+-- Pairs of hex digits, one after another, and the line that they end.
 use Rattle.std.proofs.Common.{◌≡◌, ℕ, ◌+◌, ◌-◌, ◌*◌, ◌<◌, ◌≤◌, true, nat_le, ◌&&◌, if◌then◌else◌, List, [], ◌∷◌, ◌++◌, codes, length, get_or, take, drop, map, Option, Some, None, Result, Ok, Err, refl, sym, ◌∙◌, ap, arith}
 use Rattle.std.specs.List.{range_with_len, slice_range}
 use Rattle.std.specs.Result.{result_unwrap_or}
@@ -21,7 +21,7 @@ use Rattle.quick_core.proofs.WindowLemmas.{cut, front}
 
 -- ---- the tables
 
--- what a table has for a value, or where there is none
+-- the entry of a table: `f` of the value, or 1024 if the byte is not a digit
 abbrev tabled : (ℕ → ℕ) → Option ℕ → ℕ
 tabled f (Some value) = f value
 tabled f None = 1024
@@ -79,7 +79,7 @@ high_few c byte = omega (arith, high_at c byte, high_small (hex_digit_value c) c
 pub low_few : (c : ℕ) → c < 256 → get_or LOW_VALUES c 0 ≤ 1024
 low_few c byte = omega (arith, low_at c byte, low_small (hex_digit_value c) c refl)
 
--- ---- pairs, one part of a text after the other
+-- ---- pairs, one part of a text after another
 
 pub decodes_none : (text : List ℕ) (from end : ℕ) → end ≤ from → Decodes text from end []
 unfolding decode_pairs
@@ -118,7 +118,7 @@ decode_append i (x ∷ y ∷ text) more bytes others is are =
       step (Ok byte) (Err e) new longer is = absurd cc
       step (Err e) old new longer is = absurd cc
 
--- a part behind what is decoded
+-- one more part after the decoded ones
 pub decodes_more : (text : List ℕ) (from mid stop end : ℕ) (bytes others all : List ℕ) → from ≤ mid → mid ≤ stop → end ≡ stop
     → Decodes text from mid bytes → Decodes text mid stop others → all ≡ bytes ++ others → Decodes text from end all
 decodes_more text from mid stop end bytes others all low high end_is first second all_is i =

@@ -1,4 +1,4 @@
--- A line of words that one blank parts: what it says, and where it ends.
+-- A line of words separated by single blanks: its meaning, and its end.
 use Rattle.std.proofs.Common.{◌≡◌, inl, inr, not, position, length-append, ℕ, ◌+◌, ◌-◌, ◌^◌, ◌<◌, ◌≤◌, Bool, true, false, ◌&&◌, nat_lt, nat_le, ◌==◌, if◌then◌else◌, List, [], ◌∷◌, ◌++◌, codes, length, get_or, take, Option, Some, None, Result, Ok, refl, sym, ◌∙◌, ap, subst, arith, append-nil}
 use Rattle.std.specs.List.{All, Contains, list_all, slice_range}
 use Rattle.std.specs.Char.{is_ascii_digit}
@@ -24,7 +24,7 @@ use Rattle.quick_core.proofs.WindowLemmas.{cut, front, one_more, first_line_feed
 
 -- ---- bytes
 
--- neither a blank nor a line's end
+-- neither a blank nor part of a line's end
 abbrev pub IsPlain : ℕ → Type 0
 IsPlain b = 32 < b
 
@@ -73,7 +73,7 @@ plain_number word n is = (
   digits true false c d all = absurd cc
   digits false b c d all = absurd cc
 
--- ---- words, each behind one blank
+-- ---- words, each after one blank
 
 abbrev pub spaced : List (List ℕ) → List ℕ
 spaced [] = []
@@ -133,7 +133,7 @@ no_carriage_return (b ∷ bytes) all =
     let test : (get_or (b ∷ bytes) (length (b ∷ bytes) - 1) 0 == 13) ≡ false = grind (arith, nat_tests) in
     ap (λ t. if t then take (length (b ∷ bytes) - 1) (b ∷ bytes) else (b ∷ bytes)) test
 
--- a carriage return behind it is not part of it
+-- a carriage return after a line is not part of it
 carriage_return : (line : List ℕ) → strip_carriage_return (line ++ 13 ∷ []) ≡ line
 carriage_return line =
     let size : length (line ++ 13 ∷ []) - 1 ≡ length line = omega (arith, length-append line (13 ∷ [])) in
@@ -146,7 +146,7 @@ carriage_return line =
 not_line_feed : (b : ℕ) → 31 < b → not (b == 10) ≡ true
 not_line_feed b above = grind (arith, nat_tests)
 
--- where the line ends, and its text
+-- the index of the line feed, and the text of the line
 ended_line : (window : List ℕ) (e len : ℕ) → EndsLine window e len → All IsInLine (take e window)
     → (0 < len) × (position (λ b. b == 10) window ≡ Some (len - 1)) × (strip_carriage_return (take (len - 1) window) ≡ take e window)
 ended_line window e len ends all = elim ends.ended [
@@ -185,7 +185,7 @@ ended_line window e len ends all = elim ends.ended [
     | inr last ↦ ap (λ n. not (get_or window n 0 == 10)) (omega arith) ∙ ap (λ b. not (b == 10)) at
   ]
 
--- ---- what such a line says
+-- ---- the meaning of such a line
 
 -- each line is in exactly one case
 abbrev pub SomeCase : Type 0
@@ -195,7 +195,7 @@ abbrev pub OneCase : Type 0
 OneCase = (line : List ℕ) (number other : ℕ) (reading second : Result (Option Event) LineFault)
     → Case number line reading → Case other line second → (other ≡ number) × (second ≡ reading)
 
--- a command's word and its arguments behind the number of a tenant
+-- the event of a tenant's number, a command's word and its arguments
 pub event_said : SomeCase → OneCase → (line first : List ℕ) (arguments : List (List ℕ)) (t : ℕ) (row : CommandRow Command) (command : Command)
     → strip_carriage_return line ≡ first ++ spaced (row.word ∷ arguments)
     → number_of first ≡ Some t → Contains tenant_rows row → IsPlainWord row.word → All IsPlainWord arguments
@@ -237,7 +237,7 @@ blank_first : (window : List ℕ) (i next e : ℕ) → next ≡ i + 1 → i < e 
 blank_first window i next e next_is some fits is =
     front window i e 32 some fits is ∙ ap (λ k. 32 ∷ slice_range window k e) (sym next_is)
 
--- cut at two blanks, the parts behind which begin at i and j
+-- a line cut at two blanks; the parts after them begin at i and j
 two_words : (window : List ℕ) (a i b j e : ℕ) → i ≡ a + 1 → i < b → j ≡ b + 1 → j < e → e ≤ length window
     → get_or window a 0 ≡ 32 → get_or window b 0 ≡ 32
     → take e window ≡ slice_range window 0 a ++ spaced (slice_range window i b ∷ slice_range window j e ∷ [])
@@ -250,7 +250,7 @@ two_words window a i b j e i_is ib j_is je fits blank_a blank_b =
     ∙ ap (λ rest. slice_range window i b ++ rest) (blank_first window b j e j_is (omega arith) fits blank_b
     ∙ ap (λ rest. 32 ∷ rest) (sym (append-nil (slice_range window j e))))))
 
--- cut at three
+-- a line cut at three blanks
 pub three_words : (window : List ℕ) (a i b j d k e : ℕ) → i ≡ a + 1 → i < b → j ≡ b + 1 → j < d → k ≡ d + 1 → k < e → e ≤ length window
     → get_or window a 0 ≡ 32 → get_or window b 0 ≡ 32 → get_or window d 0 ≡ 32
     → take e window ≡ slice_range window 0 a ++ spaced (slice_range window i b ∷ slice_range window j d ∷ slice_range window k e ∷ [])

@@ -1,4 +1,4 @@
--- What it is that a line was read off the front of some bytes.
+-- What it means that a line was read from the front of some bytes.
 use Rattle.std.specs.Prelude.{◌≡◌, ◌⊎◌, ◌+◌, ◌-◌, ◌<◌, ◌≤◌, ◌==◌, ℕ, List, length, take, slice_index, slice_range, Some, Ok}
 use Rattle.std.specs.List.{position}
 use Rattle.words_core.specs.Grammar.{reading_of}
@@ -9,20 +9,20 @@ use Rattle.quick_core.specs.declared.request.TheConstants.{MOST_TENANT_DIGITS}
 use Rattle.quick_core.specs.declared.number.TheConstants.{MOST_READ_DIGITS}
 use Rattle.quick_core.specs.declared.number.Number.{Number}
 
--- the first line feed (byte 10) of the bytes ends a line of so many, and it reads as this command of this tenant
+-- the first line feed (byte 10) ends a line of `len` bytes, line feed included, which reads as this command of this tenant
 pub record ReadsAs (bytes : List ℕ) (tenant : ℕ) (command : Command) (len : ℕ) : Type 0 where
   pub some : 0 < len
   pub within : len ≤ length bytes
   pub ended : position (λ b. b == 10) bytes ≡ Some (len - 1)
   pub reading : reading_of (take (len - 1) bytes) ≡ Ok (Some (Event.Tenant tenant command))
 
--- the end of a line begins at this index, LF or CR LF, and the line has so many bytes with it
+-- the end of a line begins at index `end`, LF or CR LF, and the line has `len` bytes with it
 pub record EndsLine (bytes : List ℕ) (end len : ℕ) : Type 0 where
   pub within : len ≤ length bytes
   pub ended : ((len ≡ end + 1) × (slice_index bytes end ≡ 10))
       ⊎ ((len ≡ end + 2) × (slice_index bytes end ≡ 13) × (slice_index bytes (end + 1) ≡ 10))
 
--- from this index on stands this number of at most 9 digits, and behind it the end of a line of so many bytes
+-- from index `from` on there is this number of at most 9 digits, and after it the end of a line of `len` bytes
 pub record IsLastNumber (bytes : List ℕ) (from value len : ℕ) : Type 0 where
   pub end : ℕ
   pub number : number_of (slice_range bytes from end) ≡ Some value
@@ -30,13 +30,13 @@ pub record IsLastNumber (bytes : List ℕ) (from value len : ℕ) : Type 0 where
   pub short : end ≤ from + MOST_READ_DIGITS
   pub ended : EndsLine bytes end len
 
--- the number of a tenant, and a blank
+-- the bytes begin with the number of a tenant and a blank
 pub record NamesTenant (bytes : List ℕ) (tenant : Number) : Type 0 where
   pub number : number_of (slice_range bytes 0 tenant.end) ≡ Some tenant.value
   pub short : tenant.end ≤ MOST_TENANT_DIGITS
   pub blank : slice_index bytes tenant.end ≡ 32
 
--- then the first four letters of a command
+-- then come the first four letters of a command
 pub record BeginsLine (bytes : List ℕ) (tenant : Number) (four : List ℕ) : Type 0 where
   pub names : NamesTenant bytes tenant
   pub letters : slice_range bytes (tenant.end + 1) (tenant.end + 5) ≡ four

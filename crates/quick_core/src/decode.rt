@@ -5,8 +5,8 @@ ghost use Rattle.quick_core.specs.Pairs.{Decodes};
 
 use model_core::limits::MOST_BYTES;
 
-/// Decodes the pairs of hex digits from index `from` on into the front of `out`, up to the first that is none or does not fit,
-/// and returns their number.
+/// Decodes the pairs of hex digits from index `from` on into the front of `out`, until two bytes are not a pair of digits,
+/// `out` is full, or the bytes end. Returns the number of pairs decoded.
 #[inline(always)]
 pub fn decode_at(bytes: &[u8], from: usize, out: &mut [u8; MOST_BYTES]) -> usize
     requires { from ≤ length bytes.now }
@@ -19,7 +19,7 @@ pub fn decode_at(bytes: &[u8], from: usize, out: &mut [u8; MOST_BYTES]) -> usize
     decode_singly(bytes, from, done, most, out)
 }
 
-/// Decodes at most `most` pairs, four at a time, and returns their number.
+/// Decodes at most `most` pairs, four at a time, and returns the number of pairs decoded.
 #[inline(always)]
 fn decode_fours(bytes: &[u8], from: usize, most: usize, out: &mut [u8; MOST_BYTES]) -> usize
     requires few { most ≤ MOST_BYTES }
@@ -37,7 +37,7 @@ fn decode_fours(bytes: &[u8], from: usize, most: usize, out: &mut [u8; MOST_BYTE
     4 * (most / 4)
 }
 
-/// Writes four bytes behind the first `at`.
+/// Writes four bytes after the first `at`.
 #[inline(always)]
 fn put_four(four: &[u8; 4], at: usize, out: &mut [u8])
     requires { at + 4 ≤ length out.old }
@@ -46,7 +46,7 @@ fn put_four(four: &[u8; 4], at: usize, out: &mut [u8])
     out[at..at + 4].copy_from_slice(four);
 }
 
-/// Decodes the pairs behind the first `done`, one at a time, and returns the number of all.
+/// Decodes the pairs after the first `done`, one at a time, and returns the number of all pairs, including the first `done`.
 #[inline(always)]
 fn decode_singly(
     bytes: &[u8],
@@ -72,7 +72,7 @@ fn decode_singly(
     most
 }
 
-/// Returns the bytes of four pairs of hex digits, or `None` if one of the eight is no digit.
+/// Returns the bytes of four pairs of hex digits, or `None` if one of the eight is not a hex digit.
 #[inline(always)]
 fn four_pairs_at(bytes: &[u8], at: usize) -> Option<[u8; 4]>
     requires { at + 8 ≤ length bytes.now }
@@ -82,14 +82,14 @@ fn four_pairs_at(bytes: &[u8], at: usize) -> Option<[u8; 4]>
     let second = pair_at(bytes, at + 2);
     let third = pair_at(bytes, at + 4);
     let fourth = pair_at(bytes, at + 6);
-    // The sum of four bytes is less.
+    // The sum of four decoded bytes is always less than `NO_DIGIT`.
     if first + second + third + fourth >= NO_DIGIT {
         return None;
     }
     Some([first as u8, second as u8, third as u8, fourth as u8])
 }
 
-/// Returns the byte of a pair of hex digits, or `NO_DIGIT` or more if one of them is none.
+/// Returns the byte of a pair of hex digits, or `NO_DIGIT` or more if one of the two is not a hex digit.
 #[inline(always)]
 fn pair_at(bytes: &[u8], at: usize) -> u16
     requires { at + 2 ≤ length bytes.now }
@@ -100,10 +100,10 @@ fn pair_at(bytes: &[u8], at: usize) -> u16
     HIGH_VALUES[bytes[at] as usize] + LOW_VALUES[bytes[at + 1] as usize]
 }
 
-/// The entry of the tables for a byte that is no digit. It is greater than the sum of any four bytes.
+/// The entry of the tables for a byte that is not a hex digit. It is greater than the sum of any four bytes.
 const NO_DIGIT: u16 = 1024;
 
-/// Sixteen times the value of each byte as a hex digit, or `NO_DIGIT` if it is none.
+/// Sixteen times the value of each byte as a hex digit, or `NO_DIGIT` if it is not a hex digit.
 static HIGH_VALUES: [u16; 256] = [
     1024, 1024, 1024, 1024, 1024, 1024, 1024, 1024, 1024, 1024, 1024, 1024, 1024, 1024, 1024, 1024,
     1024, 1024, 1024, 1024, 1024, 1024, 1024, 1024, 1024, 1024, 1024, 1024, 1024, 1024, 1024, 1024,
@@ -123,7 +123,7 @@ static HIGH_VALUES: [u16; 256] = [
     1024, 1024, 1024, 1024, 1024, 1024, 1024, 1024, 1024, 1024, 1024, 1024, 1024,
 ];
 
-/// The value of each byte as a hex digit, or `NO_DIGIT` if it is none.
+/// The value of each byte as a hex digit, or `NO_DIGIT` if it is not a hex digit.
 static LOW_VALUES: [u16; 256] = [
     1024, 1024, 1024, 1024, 1024, 1024, 1024, 1024, 1024, 1024, 1024, 1024, 1024, 1024, 1024, 1024,
     1024, 1024, 1024, 1024, 1024, 1024, 1024, 1024, 1024, 1024, 1024, 1024, 1024, 1024, 1024, 1024,

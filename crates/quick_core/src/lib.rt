@@ -1,6 +1,6 @@
 //! The quick reader: reads the frequent lines in few instructions.
 //!
-//! It returns a request only if it is sure of it; then the request is the one that the grammar gives the line, as in `words_core`.
+//! It returns a request only if it is sure of it. That request is the one that the grammar in `words_core` gives the line.
 //! All other lines are left to `words_core`, so a reader of the rules can ignore this crate.
 #![tactic(auto)]
 

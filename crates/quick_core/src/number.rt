@@ -10,7 +10,7 @@ use crate::line_end::line_len;
 /// The largest number of digits that is read. The value then fits a `u32`.
 pub const MOST_READ_DIGITS: usize = 9;
 
-/// A number in some bytes, and the index behind its last digit.
+/// A number in some bytes, and the index after its last digit.
 #[derive(Clone, Copy, Debug)]
 pub struct Number {
     pub value: u32,
@@ -68,7 +68,7 @@ pub fn last_number<const RETURNS: bool>(bytes: &[u8], from: usize) -> Option<Las
     })
 }
 
-/// Returns the value of a digit, or more than 9 for a byte that is none.
+/// Returns the value of a digit, or more than 9 for a byte that is not a digit.
 #[inline(always)]
 fn digit_of(byte: u8) -> u32
     ensures digit { result ≤ 9 → is_ascii_digit byte ≡ true }

@@ -23,13 +23,14 @@ pub struct RequestLine<'a> {
     pub len: usize,
 }
 
-/// The number of bytes that have to be there. No line has more with its line end, or before the bytes that it writes.
+/// The number of bytes that have to be given, from the beginning of a line on. A line that is read here fits into them with its
+/// line end; a `write` fits without the bytes that it writes.
 pub const WINDOW: usize = 32;
 
 /// The largest number of digits of a tenant's number that is read here.
 pub const MOST_TENANT_DIGITS: usize = 3;
 
-/// The bytes `allo` as a number, the first byte the lowest. The other constants are alike.
+/// The bytes `allo` as a little-endian number. The other constants are formed likewise.
 const ALLO: u32 = 0x6f6c_6c61;
 
 const FREE: u32 = 0x6565_7266;
@@ -43,8 +44,8 @@ const READ: u32 = 0x6461_6572;
 const WRIT: u32 = 0x7469_7277;
 
 /// Reads the line at the front of these bytes, if it is an `alloc`, `free`, `take`, `give`, `read` or `write` with single blanks
-/// between its words and a line feed at its end. The bytes of a write are then in `buffer`. Returns `None` for any other line, and
-/// if it is not sure.
+/// between its words and a line feed at its end. The bytes of a write are then in `buffer`. Returns `None` for any other line,
+/// for a number of too many digits, and if there are fewer than [`WINDOW`] bytes.
 #[inline(always)]
 pub fn read_request<'a>(bytes: &[u8], buffer: &'a mut [u8; MOST_BYTES]) -> Option<RequestLine<'a>>
     ensures reads { IfSome result (λ line. ReadsAs bytes.now line.tenant (command_of line.request) line.len) }
@@ -72,7 +73,8 @@ pub fn may_begin_request(bytes: &[u8]) -> bool {
     matches!(bytes, [b'0'..=b'9', ..])
 }
 
-/// Reads the number of a tenant, with a blank behind it, at the front of these bytes.
+/// Reads the number of a tenant, followed by a blank, at the front of these bytes. Returns `None` if they begin otherwise, if the
+/// number has more than [`MOST_TENANT_DIGITS`] digits, or if there are fewer than [`WINDOW`] bytes.
 #[inline(always)]
 pub fn read_tenant(bytes: &[u8]) -> Option<Number>
     ensures size { IfSome result (λ tenant. WINDOW ≤ length bytes.now) }
@@ -85,7 +87,7 @@ pub fn read_tenant(bytes: &[u8]) -> Option<Number>
     (bytes[tenant.end] == b' ').then_some(tenant)
 }
 
-/// [`read_ended_request`] for a line whose tenant was read: reads what follows that number.
+/// [`read_ended_request`] for a line whose tenant was read: reads the rest of the line after that number.
 #[inline(always)]
 pub fn read_known_request<'a, const RETURNS: bool>(
     bytes: &[u8],
@@ -109,7 +111,7 @@ pub fn read_known_request<'a, const RETURNS: bool>(
     }
 }
 
-/// Returns four bytes as one number, the first byte the lowest.
+/// Returns the four bytes from index `at` on as one little-endian number.
 #[inline(always)]
 fn four_at(bytes: &[u8], at: usize) -> u32
     requires { at + 4 ≤ length bytes.now }
