@@ -1,4 +1,4 @@
--- The commands that lines read as can be asked for: a cache is made with a pattern.
+-- The commands read from lines are possible requests: a cache is made with a pattern of 1 to 16 bytes.
 use Rattle.std.proofs.Common.{◌≡◌, ℕ, ◌*◌, ◌%◌, ◌≤◌, ◌==◌, ◌&&◌, Bool, true, false, List, [], ◌∷◌, ◌++◌, length, slice_index, Option, Some, None, Result, Ok, Err, nat_le, nat_lt, refl, sym, ap, subst, arith}
 use Rattle.std.specs.Prelude.{if◌then◌else◌, flat_map}
 use Rattle.std.specs.List.{AllByRecursion as Each}
@@ -41,7 +41,7 @@ wrapped a = Ok a
 ok_same : {A : Type 0} (a b : A) → wrapped a ≡ Ok b → a ≡ b
 ok_same a b e = cc
 
--- where two steps give a value, the first does
+-- if two steps give a value, the first one does
 pub record Both {A B : Type 0} (r : Result A LineFault) (f : A → Result B LineFault) (b : B) : Type 0 where
   pub value : A
   pub is : r ≡ Ok value
@@ -83,11 +83,11 @@ read_pattern word pattern e = go (nat_le 2 (length word) && nat_le (length word)
 
 -- Commands
 
--- the value is what some word of this form reads as
+-- some word of this form reads as this value
 abbrev IsRead : (form : Form) → Given form → Type 0
 IsRead form value = (word : List ℕ) × (read_as form word ≡ Ok value)
 
--- whatever values of these forms are read, the command that they make has P
+-- every command made of values read in these forms has P
 abbrev MakesAll : {C : Type 0} → (C → Type 0) → (forms : List Form) → Maker forms C → Type 0
 MakesAll P [] made = P made
 MakesAll P (form ∷ forms) makes = (value : Given form) → IsRead form value → MakesAll P forms (makes value)
@@ -175,7 +175,7 @@ judged_possible (first ∷ rest) event e = go (slice_index first 0 == 35) e
         let parts = both (event_of first rest) (λ event. Ok (Some event)) (Some event) e in
         subst IsPossibleEvent (same_Some parts.value event (ok_same (Some parts.value) (Some event) parts.rest)) (event_possible first rest parts.value parts.is)
 
--- an event that a line reads as can be asked for
+-- an event read from a line is possible
 pub reading_possible : (line : List ℕ) (event : Event) → reading_of line ≡ Ok (Some event) → IsPossibleEvent event
 unfolding reading_of
 reading_possible line event e = go (nat_lt 255 (length (strip_carriage_return line))) e

@@ -1,4 +1,4 @@
--- What worked traces are computed with: to unfold one of these is to unfold all that its line names.
+-- Sets of definitions that worked traces unfold: unfolding a name here unfolds all definitions in its list.
 use Rattle.std.specs.Fmt.{digits}
 use Rattle.hex.proofs.OnLiterals.{hex_on_literals}
 use Rattle.hex.specs.Hex.{encode_with, decode_pairs}
@@ -25,7 +25,7 @@ unfoldable pub computed_caches : Unit {0}
 unfolding layout_of slab_to_use fresh_byte grown_cache grown destroyed next_number create_step cache_step destroy_step take_step
 computed_caches = tt
 
--- what is given back
+-- gives, reaps and take-backs
 unfoldable pub computed_returns : Unit {0}
 unfolding give_step reap_step after_take_back take_back_step is_busy
 computed_returns = tt
@@ -40,7 +40,7 @@ unfoldable pub computed_world : Unit {0}
 unfolding computed_machine opening_history opening_world world_step grant_step tenant_step slot_step reset_step move_step answer
 computed_world = tt
 
--- lines that are read in it
+-- lines that are read and run in the world
 unfoldable pub computed_lines : Unit {0}
 unfolding computed_world reading_of reading_of_words event_of words_of hex_on_literals
 computed_lines = tt

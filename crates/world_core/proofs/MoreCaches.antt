@@ -1,4 +1,4 @@
--- A greater limit on caches changes no run in which none was refused for the limit.
+-- A greater limit on caches changes no run in which no cache was refused because of the limit.
 use Rattle.std.proofs.Common.{◌≡◌, ℕ, ◌<◌, ◌≤◌, Bool, true, false, not, List, [], ◌∷◌, ◌++◌, Some, None, Result, Err, nat_le, refl, ap, ◌∙◌, arith}
 use Rattle.std.specs.Prelude.{if◌then◌else◌, Contains}
 use Rattle.std.proofs.lemmas.Bool.{leb-false, lt-leb}
@@ -16,7 +16,7 @@ use Rattle.world_core.specs.PrivateStep.{Entry, Ask, Grant, TakeBack, Reset, Tol
 use Rattle.world_core.specs.PrivateRun.{private_run}
 use Rattle.world_core.specs.Laws.{MoreCaches}
 
--- what is made where the numbers below the limit are all used, or are not
+-- the step for a new cache; `full` says whether all numbers below the limit are used
 abbrev numbered_step : ℕ → ℕ → List ℕ → Machine → Bool → Step (Result ℕ CacheRefusal)
 numbered_step size align pattern m full =
     cache_answer (if full then record { answer = None; machine = m } else record { answer = Some (next_number m); machine = created (next_number m) size align pattern m })
@@ -49,12 +49,12 @@ module _ (limit more size align : ℕ) (pattern : List ℕ) (m : Machine) (le : 
   same_sized true given = refl
   same_sized false given = same_aligned (not (is_alignment align)) given
 
-  -- a cache that is not refused for the limit is the same under a greater one
+  -- a command for a new cache that is not refused for lack of a number does the same under a greater limit
   same_cache : IsGiven (cache_step limit size align pattern m) → cache_step more size align pattern m ≡ cache_step limit size align pattern m
   unfolding cache_step create_step
   same_cache given = same_sized (not (is_size size)) given
 
--- what a tenant is told of one command
+-- the reply to one command of a tenant, as a run
 abbrev told_once : Step Body → Told
 told_once step = record { replies = step.answer ∷ []; machine = step.machine }
 
@@ -77,7 +77,7 @@ same_step limit more order Grant m le none = refl
 same_step limit more order (TakeBack slot) m le none = refl
 same_step limit more order Reset m le none = refl
 
--- what is told of a step, and then of what follows
+-- the replies of a run, and then those of a later one
 abbrev then_told : Told → Told → Told
 then_told first later = record { replies = first.replies ++ later.replies; machine = later.machine }
 

@@ -1,4 +1,4 @@
--- A private run leaves a machine that a run of the model's operations leaves.
+-- A private run and a run of the model's operations leave the same machine.
 use Rattle.std.proofs.Common.{◌≡◌, ℕ, ◌&&◌, Bool, true, false, not, nat_le, if◌then◌else◌, [], ◌∷◌, refl, ap, ◌∙◌}
 use Rattle.model_core.specs.Machine.{Machine}
 use Rattle.model_core.specs.Operations.{Step, read_step}

@@ -46,7 +46,7 @@ chosen_from order k first m e = go (choose order (holds m) (taken_in m) (beyond 
 alloc_chooses : (order k first : ℕ) (m : Machine) → (alloc_step order k m).answer ≡ Ok first → choice order (by_need order k m) k ≡ Some first
 alloc_chooses order k first m e = alloc_outcome order k m (λ s. s.answer ≡ Ok first → choice order (by_need order k m) k ≡ Some first) (λ _ e. absurd (cc)) (λ g is e. cc) e
 
--- giving back empty slabs changes no slot
+-- freeing empty slabs changes no slot
 need_holds : (order k : ℕ) (m : Machine) → holds (by_need order k m) ≡ holds m
 unfolding reaped
 need_holds order k m = by_need_keeps (λ n. holds n ≡ holds m) order k m refl refl
@@ -71,7 +71,7 @@ order_in_front (x ∷ xs) ys f k e = go (x.first == f) e (order_in_front xs ys f
     go true e more = e
     go false e more = more e
 
--- what is released was taken
+-- a block that is freed was taken
 free_taken : (first k : ℕ) (m : Machine) → (free_step first m).answer ≡ Some k → taken_in m first ≡ Some k
 unfolding free_step taken_blocks
 free_taken first k m e = order_in_front m.blocks (flat_map slab_blocks m.caches) first k (go (order_in m.blocks first) e)
@@ -80,7 +80,7 @@ free_taken first k m e = order_in_front m.blocks (flat_map slab_blocks m.caches)
     go None e = e
     go (Some j) e = e
 
--- what is said of the free blocks by one account of the slots and the taken blocks is said by an equal one
+-- a statement about the free blocks holds for equal slots and taken blocks too
 by_account : {P : Type 0} (order : ℕ) (held held' : ℕ → Bool) (taken taken' : Taken) (b : Block) → held' ≡ held → taken' ≡ taken
     → (IsFree order held taken b ↔ P) → IsFree order held' taken' b ↔ P
 by_account {P} order held held' taken taken' b slots blocks is =

@@ -1,4 +1,4 @@
--- In any run of the world a tenant's replies and machine are the private run of its own list.
+-- In any run of the world a tenant's replies and machine are those of the private run of its own list.
 use Rattle.std.proofs.Common.{◌≡◌, ℕ, ◌<◌, ◌==◌, ◌≢◌, Bool, true, false, not, List, [], ◌∷◌, ◌++◌, Option, Some, None, Result, Ok, Err, is_none, position, slice_get, refl, ap, sym, subst, ◌∙◌, inl, inr, arith, append_assoc}
 use Rattle.std.proofs.lemmas.Bool.{cases_eq, eq-eqb}
 use Rattle.std.specs.Prelude.{if◌then◌else◌}
@@ -20,12 +20,12 @@ use Rattle.world_core.specs.Laws.{IsPrivateRun, OwnRun, SameReplies, SameTexts, 
 use Rattle.world_core.specs.Output.{texts_for}
 use Rattle.world_core.proofs.MachineLists.{slice_get-set_same, slice_get-set_other, slice_get-replicate}
 
--- what a step of the world did is to tenant t the private run of these entries
+-- for tenant t, this step of the world is the private run of these entries
 abbrev pub Leaves : ℕ → ℕ → ℕ → List Entry → Machine → WorldStep → Type 0
 Leaves limit order t entries m s =
     IsPrivateRun limit order entries m (if_for t s.reply.addressee s.reply.body) (slice_get s.world.machines t)
 
--- one step of the world, of an event with the entries that it is to tenant t
+-- one step of the world, for an event and its entries for tenant t
 abbrev pub StepLeaves : ℕ → ℕ → ℕ → Event → Machine → WorldStep → Type 0
 StepLeaves limit order t event m s = Leaves limit order t (own_entries t event s.reply.body) m s
 
@@ -115,7 +115,7 @@ move_keeps limit order t named slot w m (Some n) free here = go (holds n slot)
     go true = moved_keeps limit order t named slot w m free here
     go false = record { replies = refl; machine = here }
 
--- one step of the world, to one tenant
+-- one step of the world, for one tenant
 pub step_leaves : (limit order t : ℕ) (event : Event) (w : World) (m : Machine) → slice_get w.machines t ≡ Some m
     → StepLeaves limit order t event m (world_step limit order event w)
 unfolding world_step slot_step answer

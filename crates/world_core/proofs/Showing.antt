@@ -1,4 +1,4 @@
--- What is shown with `only` a tenant, and of the beginning of a trace.
+-- The output shown with `only` a tenant, and the output of a prefix of a trace.
 use Rattle.std.proofs.Common.{◌≡◌, ℕ, zero, suc, ◌<◌, ◌≤◌, ◌^◌, ◌==◌, Bool, true, false, List, [], ◌∷◌, ◌++◌, length, Option, Some, None, Result, Ok, Err, refl, ap, sym, ◌∙◌, arith, append_assoc}
 use Rattle.std.specs.Prelude.{if◌then◌else◌, Contains}
 use Rattle.std.specs.List.{onto_first}
@@ -63,7 +63,7 @@ own_replies t limit order (line ∷ lines) w =
     ap (λ more. shown_line (Some t) limit order line w ++ more) (own_replies t limit order lines (world_after limit order w (event_in (reading_of line))))
     ∙ own_reading t limit order (reading_of line) (events_of lines) w
 
--- which are the lines of the tenant
+-- these are the lines of the tenant
 own_lines : (limit order t : ℕ) (trace : List ℕ) (w : World) → length w.machines ≤ 2 ^ 64 → t < length w.machines
     → lines_for t (output_of limit order trace w) ≡ texts_for t (replies_to t (history limit order w (events_of (lines_of_trace trace))))
 unfolding output_of
@@ -77,7 +77,7 @@ are_texts : (t : ℕ) (bodies : List Body) → AreTexts (texts_for t bodies)
 are_texts t [] = tt
 are_texts t (body ∷ bodies) = texts-append _ _ (body_text _ body (addressee_is_text (Tenant t))) (are_texts t bodies)
 
--- rows without LF are cut apart again
+-- rows without an LF, joined by LFs, are cut apart again
 cut_texts : (rows : List (List ℕ)) → AreTexts rows → lines_of_trace (with_line_feeds rows) ≡ rows
 cut_texts rows h = ap lines_of_trace (sym (append-nil (with_line_feeds rows))) ∙ cut_rows rows [] h ∙ append-nil rows
 

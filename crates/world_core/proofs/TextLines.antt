@@ -1,4 +1,4 @@
--- The lines of a reply: none holds an LF, so cutting gives them back; and each tells by its beginning to whom it is addressed.
+-- The lines of a reply: none has an LF, so cutting at LFs returns them, and each begins with its addressee.
 use Rattle.model_core.specs.declared.owner.Owner.{Owner}
 use Rattle.std.proofs.Common.{◌≡◌, ℕ, zero, suc, ◌+◌, Option, Some, None, is_none, count_by, length, slice_index, ◌<◌, ◌≤◌, ◌≢◌, ◌==◌, ◌/◌, ◌%◌, ◌&&◌, not, nat_eq, nat_le, Bool, true, false, if◌then◌else◌, List, [], ◌∷◌, ◌++◌, map, codes, decimal, refl, ap, sym, subst, ◌∙◌, arith, append_assoc}
 use Rattle.std.specs.List.{list_all, concat, starts_with, onto_first}
@@ -22,18 +22,18 @@ use Rattle.words_core.specs.declared.report.Report as figures
 use Rattle.words_core.specs.ReportTexts.{top_text, frames_text, order_text, order_texts, cache_text, report_texts}
 use Rattle.words_core.specs.Texts.{addressee_text, body_texts, owner_text, owner_texts, number_of_refusal, name_of_refusal, name_of_fault}
 
--- a byte that is no LF
+-- a byte that is not an LF
 abbrev pub is_text : ℕ → Bool
 is_text b = not (b == 10)
 
 abbrev pub is_digit : ℕ → Bool
 is_digit b = nat_le 48 b && nat_le b 57
 
--- a row without LF
+-- a row without an LF
 pub record IsText (row : List ℕ) : Type 0 where
   pub all : list_all is_text row ≡ true
 
--- all rows are without LF
+-- no row has an LF
 abbrev pub AreTexts : List (List ℕ) → Type 0
 AreTexts [] = Unit {0}
 AreTexts (row ∷ rows) = IsText row × AreTexts rows
@@ -85,7 +85,7 @@ unfolding encode_with
 hex_text [] = refl
 hex_text (b ∷ bytes) = and_from _ _ (nibble_text (b / 16)) (and_from _ _ (nibble_text (b % 16)) (hex_text bytes))
 
--- a text and its LF in front of the rest are cut off as one line
+-- a text with its LF, in front of the rest, is cut off as one line
 cut_one : (text rest : List ℕ) → list_all is_text text ≡ true → lines_of_trace ((text ++ 10 ∷ []) ++ rest) ≡ text ∷ lines_of_trace rest
 cut_one [] rest h = refl
 cut_one (b ∷ text) rest h =
@@ -231,7 +231,7 @@ addressee_is_text Admin = record { all = refl }
 addressee_is_text Nobody = record { all = refl }
 addressee_is_text (Tenant tenant) = with_piece (record { all = decimal_text tenant }) (codes "> ") refl
 
--- whom a row is addressed to
+-- the addressee of a row
 
 differ : (a b : ℕ) → a ≢ b → nat_eq a b ≡ false
 differ a b h = grind (arith, nat_tests)
@@ -240,7 +240,7 @@ pub starts_same : (front rest : List ℕ) → starts_with nat_eq (front ++ rest)
 starts_same [] rest = refl
 starts_same (b ∷ front) rest = and_from _ _ (eq-eqb b b refl) (starts_same front rest)
 
--- a row that begins with a byte that is no digit and no `>` begins with no number and `>`
+-- a row whose first byte is neither a digit nor `>` does not begin with a number and `>`
 pub starts_apart : (b : ℕ) (rest ds tail : List ℕ) → is_digit b ≡ false → (62 == b) ≡ false → list_all is_digit ds ≡ true
     → starts_with nat_eq (b ∷ rest) (ds ++ 62 ∷ tail) ≡ false
 starts_apart b rest [] tail unlike apart h = rw apart refl
@@ -248,7 +248,7 @@ starts_apart b rest (d ∷ ds) tail unlike apart h =
     let other : nat_eq d b ≡ false = differ d b (λ e. cc (unlike, subst (λ x. is_digit x ≡ true) e (and_parts (is_digit d) _ h).0)) in
     rw other refl
 
--- `>` is no digit
+-- `>` is not a digit
 no_mark : (d : ℕ) → is_digit d ≡ true → d ≡ 62 → ⊥
 no_mark d h e = let wrong : false ≡ true = subst (λ x. is_digit x ≡ true) e h in cc
 

@@ -1,4 +1,4 @@
--- For each law an instance of its premises, met by computation: slots of 8 frames.
+-- For each law an instance of its premises, met by computation. Slots have 8 frames.
 use Rattle.std.proofs.Common.{◌≡◌, ℕ, false, sym, List, [], ◌∷◌, ◌++◌, Some, None, refl, arith}
 use Rattle.std.specs.Prelude.{codes, Contains}
 use Rattle.std.specs.List.{AllByRecursion}
@@ -30,7 +30,7 @@ equal_lists : HaveSameOwnList 32 3 2 3 3 4 0 (events_of (lines_of_trace alone)) 
 unfolding computed_lines
 equal_lists = record { tenant = omega arith; tenant' = omega arith; own = refl }
 
--- what it is told is its private run
+-- its replies are those of its private run
 OwnRun-met : OwnRun → replies_to 0 (opening_history 32 3 3 4 (events_of (lines_of_trace among_others))) ≡ Say.Frame 0 ∷ []
 unfolding computed_lines
 OwnRun-met law = (law 32 3 3 4 0 (events_of (lines_of_trace among_others)) (omega arith)).replies
@@ -52,7 +52,7 @@ OwnLines-met : OwnLines → lines_for 0 (output_of 32 3 among_others (opening_wo
 unfolding computed_texts private_lines
 OwnLines-met law = law 32 3 3 4 0 among_others (omega arith) (omega arith)
 
--- a cache, an object of it taken and given back: no cache is refused for want of a number
+-- a cache is made, and an object of it is taken and given back: no cache is refused for lack of a number
 abbrev one_cache : List Entry
 one_cache = Grant ∷ Ask (Command.Cache 64 8 (record { items = 0 ∷ [] })) ∷ Ask (Command.Take 0) ∷ Ask (Command.Give 0 0) ∷ []
 
@@ -79,7 +79,7 @@ OwnLinesShown-met : OwnLinesShown →
 unfolding opening_world
 OwnLinesShown-met law = law 32 3 0 among_others (opening_world 3 4) (omega arith) (omega arith)
 
--- a line that has ended, and one that has not
+-- a line that ends in LF, and one that does not
 EndedAllButTail-met : EndedAllButTail →
     (tail : List ℕ) × (codes "0 alloc 0\n0 fr" ≡ with_line_feeds (codes "0 alloc 0" ∷ []) ++ tail) × (Contains tail line_feed → ⊥)
 EndedAllButTail-met law = law (codes "0 alloc 0\n0 fr")

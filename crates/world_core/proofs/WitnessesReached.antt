@@ -1,4 +1,4 @@
--- For each law of reached machines an instance of its premises, met by computation: slots of 8 frames.
+-- For each law of reached machines an instance of its premises, met by computation. Slots have 8 frames.
 use Rattle.std.proofs.Common.{◌≡◌, ℕ, ◌<◌, ◌≤◌, false, List, [], ◌∷◌, Some, Ok, replicate, refl, ap, arith}
 use Rattle.std.specs.Prelude.{codes, slice_get}
 use Rattle.model_core.specs.Blocks.{Block, block, HasFrame, IsTaken, IsChoice, IsSound}
@@ -68,11 +68,11 @@ answered : (alloc_step 3 0 (reached_machine 32 3 one_block)).answer ≡ Ok 1
 unfolding command_step alloc_step free_step by_need reaped choice taken_blocks empty_machine next_slot after_grant private_step
 answered = refl
 
--- one more block of a frame splits what is chosen, of some order j
+-- one more block of one frame splits the chosen block, of some order j
 ReachedSplits-met : ReachedSplits → let m = by_need 3 0 (reached_machine 32 3 one_block) in (j : ℕ) × IsChoice 3 (holds m) (taken_in m) 0 (block 1 j)
 ReachedSplits-met law = let splits = law 32 3 0 1 one_block (tt, (tt, tt)) answered in (splits.0, splits.1)
 
--- the block released is joined up to some order j
+-- the freed block is joined up to some order j
 ReachedJoins-met : ReachedJoins → (j : ℕ) × JoinsTo 3 (holds (reached_machine 32 3 one_block)) (taken_in (reached_machine 32 3 one_block)) 0 0 j
 unfolding command_step alloc_step free_step by_need reaped choice taken_blocks empty_machine next_slot after_grant private_step
 ReachedJoins-met law = let joins = law 32 3 0 0 one_block (tt, (tt, tt)) refl in (joins.0, joins.1)
@@ -103,7 +103,7 @@ first_is_there : IsObject machine first_object
 unfolding computed_machine
 first_is_there = record { cache_in = (0, omega arith, refl); slab_in = (0, omega arith, refl); index_in = omega arith }
 
--- what object has the byte is the second, so the first has not
+-- an object that has this byte is the second one, so the first does not have it
 ReachedApart-met : ReachedApart → ((a : Object) → IsObject machine a → HasByte a 100 → a ≡ object) × (HasByte first_object 100 → ⊥)
 ReachedApart-met law =
     let only : (a : Object) → IsObject machine a → HasByte a 100 → a ≡ object = λ a there has.
@@ -114,7 +114,7 @@ ReachedRecordsFree-met : ReachedRecordsFree → (0 ≤ 100) × (100 < 4064)
 unfolding layout_of
 ReachedRecordsFree-met law = law 32 3 entries are_requests object it_is_there refl 100 its_byte
 
--- Its slab is empty, so the whole slot is there for a block ..
+-- Its slab is empty, so the whole slot is free for a block ..
 
 is_ample : IsAmple 3 3 machine
 unfolding computed_machine

@@ -11,7 +11,7 @@ use Rattle.world_core.specs.OwnList.{own_list, replies_to}
 use Rattle.words_core.specs.Cutting.{lines_of_trace}
 use Rattle.world_core.specs.Output.{shown_lines, output_of, events_of, lines_for, texts_for, line_feed, with_line_feeds, ended_lines}
 
--- what was told, and the machine that is left, are the private run of these entries
+-- the replies, and the machine at the end, are those of the private run of these entries
 pub record IsPrivateRun (limit order : ℕ) (entries : List Entry) (before : Machine) (told : List Body)
     (after : Option Machine) : Type 0 where
   pub replies : told ≡ (private_run limit order entries before).replies
@@ -21,7 +21,7 @@ pub record IsPrivateRun (limit order : ℕ) (entries : List Entry) (before : Mac
 unfoldable pub opening_history : ℕ → ℕ → ℕ → ℕ → List Event → List Exchange
 opening_history limit order superblocks tenants events = history limit order (opening_world superblocks tenants) events
 
--- in every run of the world a tenant's replies and machine are the private run of its own list
+-- in every run of the world a tenant's replies and machine are those of the private run of its own list
 abbrev pub OwnRun : Type 0
 OwnRun = (limit order superblocks tenants t : ℕ) (events : List Event) → t < tenants →
     IsPrivateRun limit order (own_list t (opening_history limit order superblocks tenants events)) empty_machine
@@ -36,28 +36,28 @@ pub record HaveSameOwnList (limit order superblocks tenants superblocks' tenants
   pub own : own_list t (opening_history limit order superblocks tenants events)
       ≡ own_list t (opening_history limit order superblocks' tenants' events')
 
--- then it is told the same, whatever all others did
+-- then the tenant gets the same replies, whatever all others did
 abbrev pub SameReplies : Type 0
 SameReplies = (limit order superblocks tenants superblocks' tenants' t : ℕ) (events events' : List Event) →
     HaveSameOwnList limit order superblocks tenants superblocks' tenants' t events events' →
     replies_to t (opening_history limit order superblocks tenants events)
     ≡ replies_to t (opening_history limit order superblocks' tenants' events')
 
--- and byte for byte
+-- and these replies have the same text, byte for byte
 abbrev pub SameTexts : Type 0
 SameTexts = (limit order superblocks tenants superblocks' tenants' t : ℕ) (events events' : List Event) →
     HaveSameOwnList limit order superblocks tenants superblocks' tenants' t events events' →
     texts_for t (replies_to t (opening_history limit order superblocks tenants events))
     ≡ texts_for t (replies_to t (opening_history limit order superblocks' tenants' events'))
 
--- A private run in which no cache is refused for lack of a number is, with the same replies and machine, the run under any
--- greater limit on caches.
+-- If no cache is refused for lack of a number, a private run has the same replies and machine under any greater limit on
+-- caches.
 abbrev pub MoreCaches : Type 0
 MoreCaches = (limit more order : ℕ) (entries : List Entry) (m : Machine) → limit ≤ more
     → (Contains (private_run limit order entries m).replies (Body.Refused Refusal.NoCacheSlot) → ⊥)
     → private_run more order entries m ≡ private_run limit order entries m
 
--- as text, what the private machine of tenant t answers to its own list of a trace
+-- the replies of tenant t's private machine to its own list of a trace, as text
 unfoldable pub private_lines : ℕ → ℕ → ℕ → ℕ → ℕ → List ℕ → List (List ℕ)
 private_lines limit order superblocks tenants t trace =
     let own = own_list t (opening_history limit order superblocks tenants (events_of (lines_of_trace trace))) in
@@ -79,31 +79,31 @@ SameLines = (limit order superblocks tenants superblocks' tenants' t : ℕ) (tra
     lines_for t (output_of limit order trace (opening_world superblocks tenants))
     ≡ lines_for t (output_of limit order trace' (opening_world superblocks' tenants'))
 
--- if no tenant is named, all that the lines of a trace write is shown
+-- if no tenant is named, the whole output of a trace is shown
 abbrev pub AllShown : Type 0
 AllShown = (limit order : ℕ) (trace : List ℕ) (w : World) →
     shown_lines None limit order (lines_of_trace trace) w ≡ output_of limit order trace w
 
--- With `only` t that is, byte for byte, the lines of t in the output, whatever the world in which the trace begins.
+-- With `only` t, exactly the lines of t in the output are shown, byte for byte, whatever the world in which the trace begins.
 abbrev pub OwnShown : Type 0
 OwnShown = (limit order t : ℕ) (trace : List ℕ) (w : World) → length w.machines ≤ 2 ^ 64 → t < length w.machines →
     shown_lines (Some t) limit order (lines_of_trace trace) w ≡ with_line_feeds (lines_for t (output_of limit order trace w))
 
--- So cutting it at its LFs gives these lines.
+-- So the shown bytes, cut at their LFs, are these lines.
 abbrev pub OwnLinesShown : Type 0
 OwnLinesShown = (limit order t : ℕ) (trace : List ℕ) (w : World) → length w.machines ≤ 2 ^ 64 → t < length w.machines →
     lines_of_trace (shown_lines (Some t) limit order (lines_of_trace trace) w) ≡ lines_for t (output_of limit order trace w)
 
--- the lines that end in LF are all of a trace but a tail without LF
+-- a trace is its lines that end in LF, and then a tail without LF
 abbrev pub EndedAllButTail : Type 0
 EndedAllButTail = (given : List ℕ) →
     (tail : List ℕ) × (given ≡ with_line_feeds (ended_lines given) ++ tail) × (Contains tail line_feed → ⊥)
 
--- The lines that have ended are the first lines of the whole trace, however it goes on ..
+-- The lines of a prefix that end in LF are the first lines of the whole trace, however it goes on ..
 abbrev pub EndedLinesStay : Type 0
 EndedLinesStay = (given more : List ℕ) → (rest : List (List ℕ)) × (lines_of_trace (given ++ more) ≡ ended_lines given ++ rest)
 
--- .. and what they show is a beginning of what it shows.
+-- .. and what they show is a prefix of what the whole trace shows.
 abbrev pub ShownStays : Type 0
 ShownStays = (only : Option ℕ) (limit order : ℕ) (given more : List ℕ) (w : World) →
     (rest : List ℕ) × (shown_lines only limit order (lines_of_trace (given ++ more)) w

@@ -2,6 +2,6 @@
 use Rattle.std.specs.Prelude.{ℕ}
 use Rattle.model_core.specs.declared.limits.TheConstants.{MOST_CACHES}
 
--- the caches that one tenant may have
+-- the largest number of caches of one tenant
 abbrev pub cache_limit : ℕ
 cache_limit = MOST_CACHES

@@ -23,7 +23,7 @@ abbrev pub events_of : List (List ℕ) → List Event
 events_of [] = []
 events_of (line ∷ lines) = event_in (reading_of line) ++ events_of lines
 
--- The reply is shown: all are, or those to one tenant.
+-- True if a reply to this addressee is shown: all replies are, or with a tenant only those to it.
 abbrev pub is_shown : Option ℕ → Addressee → Bool
 is_shown None addressee = true
 is_shown (Some t) Addressee.Admin = false
@@ -33,8 +33,8 @@ is_shown (Some t) (Addressee.Tenant named) = named == t
 abbrev pub shown_text : Option ℕ → Reply → List ℕ
 shown_text only reply = if is_shown only reply.addressee then text_of reply else []
 
--- What a line shows that reads like this: the reply to its event, or its fault, which is told to nobody. A blank line
--- or a comment shows nothing.
+-- The text shown for a line with this reading: the reply to its event, or its fault, which is addressed to nobody. A blank
+-- line or a comment shows nothing.
 abbrev pub shown_reading : Option ℕ → ℕ → ℕ → Result (Option Event) LineFault → World → List ℕ
 shown_reading only limit order (Ok None) w = []
 shown_reading only limit order (Ok (Some event)) w = shown_text only (world_step limit order event w).reply
@@ -43,14 +43,14 @@ shown_reading only limit order (Err fault) w = shown_text only (record { address
 abbrev pub shown_line : Option ℕ → ℕ → ℕ → List ℕ → World → List ℕ
 shown_line only limit order line w = shown_reading only limit order (reading_of line) w
 
--- what the lines show, each in the world that the events before it left
+-- the text shown for the lines, each run in the world that the events before it left
 abbrev pub shown_lines : Option ℕ → ℕ → ℕ → List (List ℕ) → World → List ℕ
 shown_lines only limit order [] w = []
 shown_lines only limit order (line ∷ lines) w =
     shown_line only limit order line w
     ++ shown_lines only limit order lines (world_after limit order w (event_in (reading_of line)))
 
--- all that a trace writes, from a world
+-- the whole output of a trace, from a world on
 unfoldable pub output_of : ℕ → ℕ → List ℕ → World → List ℕ
 output_of limit order trace w = shown_lines None limit order (lines_of_trace trace) w
 
@@ -58,7 +58,7 @@ output_of limit order trace w = shown_lines None limit order (lines_of_trace tra
 abbrev pub lines_for : ℕ → List ℕ → List (List ℕ)
 lines_for t output = filter (λ line. starts_with nat_eq line (decimal t ++ codes "> ")) (lines_of_trace output)
 
--- the lines, without their LF, that tell tenant t these replies
+-- the lines of these replies to tenant t, without their LF
 abbrev pub texts_for : ℕ → List Body → List (List ℕ)
 texts_for t bodies = flat_map (body_texts (addressee_text (Addressee.Tenant t))) bodies
 
@@ -70,7 +70,7 @@ line_feed = 10
 abbrev pub with_line_feeds : List (List ℕ) → List ℕ
 with_line_feeds lines = concat (map (λ line. line ++ line_feed ∷ []) lines)
 
--- the bytes up to the next LF, put in front of lines that all end in LF: without such a line they are no line
+-- one more byte in front of lines that end in LF: it extends the first of them; if there is none, the byte is in no ended line
 abbrev pub onto_ended : ℕ → List (List ℕ) → List (List ℕ)
 onto_ended b [] = []
 onto_ended b (line ∷ lines) = (b ∷ line) ∷ lines

@@ -1,4 +1,4 @@
--- What of a run concerns one tenant: the entries for its machine, and the replies addressed to it.
+-- The part of a run that concerns one tenant: the entries for its machine, and the replies addressed to it.
 use Rattle.std.specs.Prelude.{ℕ, ◌==◌, List, [], ◌∷◌, ◌++◌, Bool, true, false, if◌then◌else◌}
 use Rattle.words_core.specs.declared.reply.Addressee.{Addressee}
 use Rattle.words_core.specs.declared.event.AdminCommand.{AdminCommand}
@@ -26,16 +26,16 @@ is_refused (Body.Reaped frames) = false
 is_refused (Body.Report report) = false
 is_refused (Body.Fault fault) = false
 
--- the entry, where the number that the event names is the tenant's
+-- the entry, if the event names tenant t
 abbrev pub if_named : ℕ → ℕ → Entry → List Entry
 if_named t named entry = if named == t then entry ∷ [] else []
 
--- the entry, where moreover the administrator was not refused
+-- the entry, if the event names tenant t and the administrator was not refused
 abbrev pub if_granted : ℕ → ℕ → Body → Entry → List Entry
 if_granted t named body entry = if is_refused body then [] else if_named t named entry
 
--- What an event with its reply is to the machine of tenant t. Superblock numbers do not stand in it, so a move, which
--- changes nothing else, is nothing to any machine.
+-- The entries of an event and its reply for the machine of tenant t. An entry has no superblock number, so a move, which
+-- changes nothing else, is no entry for any machine.
 abbrev pub own_entries : ℕ → Event → Body → List Entry
 own_entries t (Event.Tenant named command) body = if_named t named (Ask command)
 own_entries t (Event.Admin (AdminCommand.Grant named)) body = if_granted t named body Grant
@@ -44,7 +44,7 @@ own_entries t (Event.Admin (AdminCommand.Reset named)) body = if_named t named R
 own_entries t (Event.Admin (AdminCommand.Move named slot)) body = []
 own_entries t (Event.Admin AdminCommand.Pool) body = []
 
--- the tenant's own list: its commands, and what was granted to it, taken back and reset
+-- the tenant's own list: its commands, and its grants, take-backs and resets
 abbrev pub own_list : ℕ → List Exchange → List Entry
 own_list t [] = []
 own_list t (e ∷ es) = own_entries t e.event e.reply.body ++ own_list t es

@@ -1,4 +1,4 @@
--- The private machine of one tenant, a step at a time.
+-- The private machine of one tenant, one step at a time.
 use Rattle.std.specs.Prelude.{ℕ, ◌+◌, List, [], ◌∷◌, Option, Some, None, Result, Ok, Err}
 use Rattle.model_core.specs.declared.refusals.AllocRefusal.{AllocRefusal}
 use Rattle.model_core.specs.declared.refusals.ReadRefusal.{ReadRefusal}
@@ -17,7 +17,7 @@ use Rattle.model_core.specs.Reports.{frames_held, frames_taken, frames_free, gre
 use Rattle.words_core.specs.declared.report.Report as figures
 use Rattle.words_core.specs.Refusals.{alloc_refusal, read_refusal, cache_refusal, destroy_refusal, take_refusal, give_refusal}
 
--- what the tenant is told of an operation on its machine
+-- the reply to an operation on the tenant's machine
 
 abbrev pub alloc_body : Result ℕ AllocRefusal → Body
 alloc_body (Ok frame) = Body.Frame frame
@@ -71,11 +71,11 @@ figures_of order m = record {
 unfoldable pub report_step : ℕ → Machine → Step Body
 report_step order m = record { answer = Body.Report (figures_of order m); machine = m }
 
--- the operation, with its answer put as the body of a reply
+-- the operation, with its answer as the body of a reply
 abbrev pub with_body : {A : Type 0} → (A → Body) → Step A → Step Body
 with_body body step = record { answer = body step.answer; machine = step.machine }
 
--- What a tenant's command answers and makes of its machine. `limit` is on the number of its caches, slots have
+-- The reply to a tenant's command, and the machine after it. The tenant may have `limit` caches, and slots have
 -- 2 ^ order frames.
 unfoldable pub command_step : ℕ → ℕ → Command → Machine → Step Body
 command_step limit order (Command.Alloc k) m = with_body alloc_body (alloc_step order k m)
@@ -90,14 +90,14 @@ command_step limit order (Command.Give number place) m = with_body give_body (gi
 command_step limit order Command.Reap m = with_body Body.Reaped (reap_step m)
 command_step limit order Command.Report m = report_step order m
 
--- all that reaches the machine of a tenant: its own command, a superblock granted, a slot taken back, a reset
+-- everything that affects the machine of a tenant: its own command, a grant, a take-back, a reset
 pub data Entry : Type 0 where
   Ask : Command → Entry
   Grant : Entry
   TakeBack : ℕ → Entry
   Reset : Entry
 
--- what the tenant is told (of grants, take-backs and resets only the administrator is), and the machine after
+-- the replies to the tenant, and the machine after them; replies to grants, take-backs and resets go to the administrator
 pub record Told : Type 0 where
   pub replies : List Body
   pub machine : Machine

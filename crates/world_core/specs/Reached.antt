@@ -1,4 +1,4 @@
--- The machines that private runs leave, and what the model's laws say of them.
+-- The machines that private runs leave, and what the model's laws say about them.
 use Rattle.std.specs.Prelude.{◌≡◌, ◌↔◌, ℕ, ◌+◌, ◌*◌, ◌/◌, ◌^◌, ◌<◌, ◌≤◌, true, List, [], ◌∷◌, ◌++◌, Some, Ok, slice_get}
 use Rattle.std.specs.List.{flat_map}
 use Rattle.words_core.specs.declared.reply.Addressee.{Addressee}
@@ -24,7 +24,7 @@ use Rattle.world_core.specs.Output.{events_of}
 use Rattle.world_core.specs.Laws.{opening_history}
 use Rattle.world_core.specs.PrivateRun.{private_run}
 
--- what an entry is to the model: an operation, or nothing if it only reads
+-- the model's operation for an entry, or nothing if the entry is a read or a report
 abbrev pub operations_in : Entry → List Operation
 operations_in (Entry.Ask (Command.Alloc k)) = Operation.Alloc k ∷ []
 operations_in (Entry.Ask (Command.Free first)) = Operation.Free first ∷ []
@@ -40,7 +40,7 @@ operations_in Entry.Grant = Operation.Grant ∷ []
 operations_in (Entry.TakeBack slot) = Operation.TakeBack slot ∷ []
 operations_in Entry.Reset = Operation.Reset ∷ []
 
--- the machine that a private run leaves is one that a run of operations leaves
+-- a run of operations leaves the same machine as a private run
 abbrev pub EntriesAreOperations : Type 0
 EntriesAreOperations = (limit order : ℕ) (entries : List Entry) (m : Machine) →
     (private_run limit order entries m).machine ≡ run limit order (flat_map operations_in entries) m
@@ -49,21 +49,21 @@ EntriesAreOperations = (limit order : ℕ) (entries : List Entry) (m : Machine) 
 abbrev pub reached_machine : ℕ → ℕ → List Entry → Machine
 reached_machine limit order entries = (private_run limit order entries empty_machine).machine
 
--- Each of the entries can be asked for: a cache is made with a pattern of 1 to 16 bytes.
+-- Each entry is a possible request: a cache is made with a pattern of 1 to 16 bytes.
 abbrev pub AreRequests : List Entry → Type 0
 AreRequests entries = ArePossible (flat_map operations_in entries)
 
--- So it is in every tenant's own list of every trace.
+-- This holds of every tenant's own list of every trace.
 abbrev pub OwnListsAreRequests : Type 0
 OwnListsAreRequests = (limit order superblocks tenants t : ℕ) (trace : List ℕ) →
     AreRequests (own_list t (opening_history limit order superblocks tenants (events_of (lines_of_trace trace))))
 
--- The machine that is left is well formed ..
+-- The machine after a private run is well formed ..
 abbrev pub ReachedWellFormed : Type 0
 ReachedWellFormed = (limit order : ℕ) (entries : List Entry) → AreRequests entries
     → IsWellFormed limit order (reached_machine limit order entries)
 
--- .. so its taken blocks, page blocks and the blocks of slabs, are aligned, in held slots and apart
+-- .. so its taken blocks (page blocks and the blocks of slabs) are aligned, in held slots and apart
 abbrev pub ReachedSound : Type 0
 ReachedSound = (limit order : ℕ) (entries : List Entry) → AreRequests entries →
     IsSound order (holds (reached_machine limit order entries)) (taken_in (reached_machine limit order entries))
@@ -72,14 +72,14 @@ ReachedSound = (limit order : ℕ) (entries : List Entry) → AreRequests entrie
 abbrev pub IsFreeIn : ℕ → Machine → Block → Type 0
 IsFreeIn order m b = IsFree order (holds m) (taken_in m) b
 
--- each frame that it holds and that is not taken lies in exactly one free block
+-- each frame that is in a held slot and not taken lies in exactly one free block
 abbrev pub ReachedFreeOnce : Type 0
 ReachedFreeOnce = (limit order x : ℕ) (entries : List Entry) → let m = reached_machine limit order entries in
     holds m (x / 2 ^ order) ≡ true → (IsTaken (taken_in m) x → ⊥) →
     (b : Block) × IsFreeIn order m b × HasFrame b x × ((c : Block) → IsFreeIn order m c → HasFrame c x → c ≡ b)
 
--- An `alloc` that answers a frame splits the free block that is chosen, of some order j, of those that there are once empty
--- slabs are given back on demand.
+-- If an `alloc` returns a frame, it splits the chosen free block, of some order j. The choice is among the free blocks after
+-- empty slabs are freed on demand.
 abbrev pub ReachedSplits : Type 0
 ReachedSplits = (limit order k first : ℕ) (entries : List Entry) → AreRequests entries →
     let m = reached_machine limit order entries in
@@ -88,7 +88,7 @@ ReachedSplits = (limit order k first : ℕ) (entries : List Entry) → AreReques
     (j : ℕ) × IsChoice order (holds n) (taken_in n) k (block first j) × ((b : Block) →
     (IsFreeIn order (alloc_step order k m).machine b ↔ IsFreeOnceSplit (IsFreeIn order n) first j k b))
 
--- A `free` that answers an order joins the block with its buddies as long as they are free, up to some order j.
+-- If a `free` returns an order, it joins the block with its buddies as long as they are free, up to some order j.
 abbrev pub ReachedJoins : Type 0
 ReachedJoins = (limit order first k : ℕ) (entries : List Entry) → AreRequests entries →
     let m = reached_machine limit order entries in
@@ -96,7 +96,7 @@ ReachedJoins = (limit order first k : ℕ) (entries : List Entry) → AreRequest
     (j : ℕ) × JoinsTo order (holds m) (taken_in m) first k j × ((b : Block) →
     (IsFreeIn order (free_step first m).machine b ↔ IsFreeOnceJoined (IsFreeIn order m) first k j b))
 
--- Two objects of its slabs that share a byte are one ..
+-- Two objects of its slabs that share a byte are the same ..
 abbrev pub ReachedApart : Type 0
 ReachedApart = (limit order : ℕ) (entries : List Entry) → AreRequests entries → let m = reached_machine limit order entries in
     (a b : Object) → IsObject m a → IsObject m b → (place : ℕ) → HasByte a place → HasByte b place → a ≡ b
@@ -108,14 +108,14 @@ ReachedRecordsFree = (limit order : ℕ) (entries : List Entry) → AreRequests 
     → (place : ℕ) → HasByte object place
     → (FRAME_BYTES * object.slab.first ≤ place) × (place < FRAME_BYTES * object.slab.first + RECORD_OFFSET)
 
--- An object that was not handed out since its slab was made reads as its cache's pattern ..
+-- An object that was not taken since its slab was made has the bytes of its cache's pattern ..
 abbrev pub ReachedConstructed : Type 0
 ReachedConstructed = (limit order : ℕ) (entries : List Entry) (object : Object) (j : ℕ) → AreRequests entries
     → let m = reached_machine limit order entries in IsObject m object → j < object.cache.size
     → hand_outs limit order (place_of object) (flat_map operations_in entries) empty_machine 0 ≡ 0
     → m.bytes (place_of object + j) ≡ Some (pattern_byte object.cache.pattern j)
 
--- .. and so does one that a `take` answers for the first time since then.
+-- .. and so does an object that a `take` returns for the first time since then.
 abbrev pub ReachedConstructedWhenTaken : Type 0
 ReachedConstructedWhenTaken = (limit order number : ℕ) (entries : List Entry) (object : Object) (j : ℕ) → AreRequests entries
     → let step = command_step limit order (Command.Take number) (reached_machine limit order entries) in
@@ -123,20 +123,20 @@ ReachedConstructedWhenTaken = (limit order number : ℕ) (entries : List Entry) 
     → hand_outs limit order (place_of object) (flat_map operations_in entries ++ Operation.Take number ∷ []) empty_machine 0 ≡ 1
     → step.machine.bytes (place_of object + j) ≡ Some (pattern_byte object.cache.pattern j)
 
--- Where it holds more aligned blocks of an order than it has taken frames outside empty slabs, a block of that order is
--- never refused ..
+-- If the machine holds more aligned blocks of an order than it has taken frames outside empty slabs, a block of that order
+-- is never refused ..
 abbrev pub ReachedBlock : Type 0
 ReachedBlock = (limit order k : ℕ) (entries : List Entry) → AreRequests entries → let m = reached_machine limit order entries in
     IsAmple order k m → (first : ℕ) × ((command_step limit order (Command.Alloc k) m).answer ≡ Body.Frame first)
 
--- .. nor an object of a cache whose slabs have that order.
+-- .. and neither is an object of a cache whose slabs have that order.
 abbrev pub ReachedObject : Type 0
 ReachedObject = (limit order number : ℕ) (entries : List Entry) (c : Cache) → AreRequests entries →
     let m = reached_machine limit order entries in
     cache_of m number ≡ Some c → IsAmple order (layout c).order m
     → (place : ℕ) × ((command_step limit order (Command.Take number) m).answer ≡ Body.Object place)
 
--- So nobody is starved by others: after any trace a tenant whose machine has that room gets a frame, whatever all
+-- So nobody is starved by others: after any trace a tenant whose machine has that much space gets a frame, whatever all
 -- others did.
 abbrev pub NobodyStarves : Type 0
 NobodyStarves = (limit order superblocks tenants t k : ℕ) (trace : List ℕ) (m : Machine) → t < tenants →

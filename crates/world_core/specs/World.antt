@@ -16,7 +16,7 @@ use Rattle.model_core.specs.Operations.{next_slot, after_grant, take_back_step}
 use Rattle.words_core.specs.Refusals.{take_back_refusal}
 use Rattle.world_core.specs.PrivateStep.{command_step}
 
--- by superblock the tenant and the slot that own it, by tenant its machine
+-- for each superblock the tenant and the slot that own it, and for each tenant its machine
 pub record World : Type 0 where
   pub owners : List (Option Owner)
   pub machines : List Machine
@@ -32,11 +32,11 @@ pub record WorldStep : Type 0 where
   pub reply : Reply
   pub world : World
 
--- an answer that changes nothing
+-- a reply that changes nothing
 unfoldable pub answer : Addressee → Body → World → WorldStep
 answer addressee body w = record { reply = record { addressee = addressee; body = body }; world = w }
 
--- the least superblock without owner becomes the least slot that the tenant does not hold
+-- the first superblock without an owner is granted, in the lowest slot that the tenant does not hold
 unfoldable pub grant_step : ℕ → ℕ → World → Option Machine → Option ℕ → WorldStep
 grant_step order t w None _ = answer Addressee.Admin (Body.Refused Refusal.NoTenant) w
 grant_step order t w (Some m) None = answer Addressee.Admin (Body.Refused Refusal.PoolEmpty) w
@@ -48,11 +48,11 @@ grant_step order t w (Some m) (Some superblock) = record {
   };
 }
 
--- no owner, where the owner passes the test
+-- the owner, or none if it passes the test
 abbrev pub given_up : (Option Owner → Bool) → Option Owner → Option Owner
 given_up test owner = if test owner then None else owner
 
--- the superblock under the slot has no owner any more, unless the tenant's machine refused; `after` is what became of it
+-- the superblock of the slot loses its owner, unless the tenant's machine refused; `after` is the machine after that
 abbrev pub take_back_answered : ℕ → ℕ → World → Machine → Result (Unit {0}) TakeBackRefusal → WorldStep
 take_back_answered t slot w after (Ok done) = record {
   reply = record { addressee = Addressee.Admin; body = Body.TakenBack (position_or_len (is_owner t slot) w.owners) };
@@ -68,7 +68,7 @@ slot_step order t slot w None = answer Addressee.Admin (Body.Refused Refusal.NoT
 slot_step order t slot w (Some m) =
     take_back_answered t slot w (take_back_step order slot m).machine (take_back_step order slot m).answer
 
--- the tenant's machine is empty, and none of its superblocks has an owner
+-- the tenant's machine becomes empty, and its superblocks lose their owner
 unfoldable pub reset_step : ℕ → World → Option Machine → WorldStep
 reset_step t w None = answer Addressee.Admin (Body.Refused Refusal.NoTenant) w
 reset_step t w (Some m) = record {
@@ -79,7 +79,7 @@ reset_step t w (Some m) = record {
   };
 }
 
--- the slot stands over the least superblock without owner, and the one that was under it has no owner any more
+-- the slot gets the first superblock without an owner, and its old superblock loses its owner
 abbrev pub moved_to : ℕ → ℕ → World → Option ℕ → WorldStep
 moved_to t slot w None = answer Addressee.Admin (Body.Refused Refusal.PoolEmpty) w
 moved_to t slot w (Some superblock) = record {
@@ -87,7 +87,7 @@ moved_to t slot w (Some superblock) = record {
   world = record w { owners = slice_set (map (given_up (is_owner t slot)) w.owners) superblock (Some (owned_by t slot)) };
 }
 
--- a slot moved; every machine stays as it is
+-- a slot is moved; every machine stays as it is
 unfoldable pub move_step : ℕ → ℕ → World → Option Machine → Option ℕ → WorldStep
 move_step t slot w None free = answer Addressee.Admin (Body.Refused Refusal.NoTenant) w
 move_step t slot w (Some m) free =
@@ -101,7 +101,7 @@ tenant_step limit order t command w (Some m) = record {
   world = record w { machines = slice_set w.machines t (command_step limit order command m).machine };
 }
 
--- what one event answers and makes of the world; limit on a tenant's caches, order of a superblock
+-- the reply to one event, and the world after it; `limit` is on a tenant's caches, `order` is that of a superblock
 unfoldable pub world_step : ℕ → ℕ → Event → World → WorldStep
 world_step limit order (Event.Tenant t command) w = tenant_step limit order t command w (slice_get w.machines t)
 world_step limit order (Event.Admin (AdminCommand.Grant t)) w = grant_step order t w (slice_get w.machines t) (position is_none w.owners)

@@ -15,9 +15,9 @@ pub fn own_lines()
     ensures { OwnLines }
 {}
 
-/// Two runs of worlds of one order in which a tenant's own lists are equal give it the same replies, so
-/// the same texts, and from bytes to bytes the same lines. The numbers of superblocks and tenants may
-/// differ, and all others may do anything.
+/// If a tenant's own lists are equal in two runs of worlds of one order, it gets the same replies in both, so the same texts,
+/// and for two traces the same lines of output. The numbers of superblocks and tenants may differ, and all others may do
+/// anything.
 pub fn non_interference()
     ensures replies { SameReplies }
     ensures texts { SameTexts }
@@ -32,21 +32,21 @@ pub fn own_shown()
     ensures lines { OwnLinesShown }
 {}
 
-/// The ended lines of the beginning of a trace are the first lines of the whole trace, and what they show is a
-/// prefix of what the whole trace shows.
+/// The lines of a prefix of a trace that end in LF are the first lines of the whole trace, and what they show is a prefix of
+/// what the whole trace shows.
 pub fn shown_stays()
     ensures ended { EndedAllButTail }
     ensures lines { EndedLinesStay }
     ensures shown { ShownStays }
 {}
 
-/// The machine after a private run is one that operations of the model lead to. So the laws of reached
-/// machines hold for every tenant's machine.
+/// Some run of the model's operations leads to the machine after a private run. So the laws of reached machines hold for every
+/// tenant's machine.
 pub fn entries_are_operations()
     ensures { EntriesAreOperations }
 {}
 
-/// A private run in which no cache is refused for lack of a number is the same under any greater limit on caches.
+/// If no cache is refused for lack of a number, a private run is the same under any greater limit on caches.
 pub fn more_caches()
     ensures { MoreCaches }
 {}
