@@ -1,4 +1,4 @@
--- What an allowed reply is: each promise is kept, and what is known after it.
+-- An allowed reply keeps each promise; and what is known after it.
 use Rattle.std.proofs.Common.{◌≡◌, Bool, true, false, List, [], ◌∷◌, Option, Some, None, Result, Ok, unwrap_or, slice_get, refl, ap, ◌∙◌, ◌⊎◌, inl, inr}
 use Rattle.std.proofs.lemmas.Bool.{and_parts}
 use Rattle.std.specs.Option.{option_map_or}

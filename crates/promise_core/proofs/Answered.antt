@@ -161,7 +161,7 @@ module _ (w : Known) (s : State) (t : ℕ) (is : slice_get w.states t ≡ Some s
       (ap (λ o. option_map_or (is_one Refusal.NoCache) (first_due ((is_none o, Refusal.NoCache) ∷ [])) false) e)
       refl refl refl refl refl refl refl refl refl refl
 
--- a tenant that does not exist is told so
+-- a command of a tenant that does not exist has an allowed reply: `NoTenant`
 no_tenant_reply : (w : Known) (t : ℕ) (command : Command) → slice_get w.states t ≡ None → (reply : Reply) × (is_ok (allowed (On.Tenant t command) reply w) ≡ true)
 unfolding allowed
 no_tenant_reply w t command e =

@@ -1,4 +1,4 @@
--- A block is refused for want of frames just where none can stand, and an object just where no place is left for it.
+-- `NoFrames` is allowed for a block exactly if none can stand, and for an object exactly if no place is left for it.
 use Rattle.std.proofs.Common.{◌≡◌, ℕ, ◌+◌, ◌-◌, ◌*◌, ◌/◌, ◌%◌, ◌^◌, ◌<◌, ◌≤◌, Bool, true, false, not, ◌&&◌, eqb, ltb, leb, List, [], ◌∷◌, length, Some, Err, slice_get, refl, sym, ap, ◌∙◌, subst, inl, inr, arith}
 use Rattle.std.specs.Prelude.{if◌then◌else◌, flat_map, is_ok, is_none}
 use Rattle.std.specs.List.{list_all, range_with_len}
@@ -95,7 +95,7 @@ ok_all ((promise, b) ∷ ps) after = go b (ok_all ps after)
     go true e = e
     go false e = refl
 
--- a reply to a tenant's command may be told where each promise is kept
+-- a reply to a tenant's command is allowed exactly if it keeps each promise
 pub tells_as : (w : Known) (s : State) (t : ℕ) (command : Command) (body : Body) → slice_get w.states t ≡ Some s
     → may_tell w t command body ≡ list_all (λ p. p.1) (kept (On.Tenant t command) (record { addressee = To.Tenant t; body = body }) w s)
 unfolding allowed
@@ -162,7 +162,7 @@ some_not {X} p (x ∷ xs) e = go (p x) refl e (some_not p xs)
 not_less : (a b n : ℕ) → a ≡ n → a ≡ b → b < n → ⊥
 not_less a b n full same few = omega (arith, full, same, few)
 
--- where all is used up no object can be taken
+-- if the cache is used up, no object can be taken
 nothing_left : (order : ℕ) (h : Holdings) (c : KnownCache) (place : ℕ) → is_used_up order h c ≡ true → can_be_taken order h c place ≡ true → ⊥
 unfolding can_be_taken can_stand
 nothing_left order h c place used can =
@@ -181,7 +181,7 @@ nothing_left order h c place used can =
           both_ways_off (has_vacant_block order h c.order) u.1 (stands_vacant order c.order of_slot h (slab_around c place).first stands)
     ]
 
--- where not, there is a place: in a slab that has a live object, or in a vacant block
+-- if it is not used up, an object can be taken: in a slab that has a live object, or in a vacant block
 something_left : (order : ℕ) (h : Holdings) (c : KnownCache) → IsIn c h.caches → IsGridded order c → is_used_up order h c ≡ false
     → (place : ℕ) × (can_be_taken order h c place ≡ true)
 something_left order h c i g unused = go (has_vacant_block order h c.order) refl (list_all (is_slab_full c) c.live) refl unused

@@ -1,4 +1,4 @@
--- What a tenant is told is its own, by induction over the exchanges.
+-- The bytes that a tenant reads are its own, by induction over the exchanges.
 use Rattle.std.proofs.Common.{◌≡◌, ℕ, zero, suc, ◌+◌, ◌-◌, ◌<◌, Bool, true, false, not, ◌&&◌, ◌||◌, List, [], ◌∷◌, length, Option, Some, None, Result, Ok, Err, slice_get, refl, ap, sym, subst, ◌∙◌, inl, inr, arith}
 use Rattle.std.specs.Prelude.{slice_index, if◌then◌else◌, ◌==◌}
 use Rattle.std.specs.List.{list_any}
@@ -37,7 +37,7 @@ get_index [] i h = absurd (omega arith)
 get_index (x ∷ xs) zero h = refl
 get_index (x ∷ xs) (suc i) h = get_index xs i (omega arith)
 
--- What a state has that another has not
+-- Patterns and bytes carried over from the state before
 
 -- each pattern and the byte at the place are those of the state before
 pub record IsCarried (place : ℕ) (s s' : State) : Type 0 where
@@ -71,12 +71,12 @@ grants_refused : (order t place : ℕ) (event : Event) (r : Refusal) → grants_
 grants_refused order t place (On.Admin (Do.Grant n)) r = refl
 grants_refused order t place event r = refl
 
--- what concerns another tenant grants this one nothing
+-- an event that names another tenant grants this one nothing
 grants_other : (order t place : ℕ) (event : Event) (body : Body) → (named event ≡ Some t → ⊥) → grants_slot order t place event body ≡ false
 grants_other order t place (On.Admin (Do.Grant n)) (Say.Granted told u superblock) other = and_left _ _ (ne_eqb n t (λ e. other (ap Some e)))
 grants_other order t place event body other = refl
 
--- a refusal for want of the tenant grants nothing
+-- the refusal `NoTenant` grants nothing
 grants_none : (order t place : ℕ) (event : Event) (body : Body) → is_no_tenant body ≡ true → grants_slot order t place event body ≡ false
 grants_none order t place event (Say.Refused r) e = grants_refused order t place event r
 grants_none order t place event body e = absurd (cc)
@@ -115,7 +115,7 @@ module _ (order t place : ℕ) (given written : ℕ → Bool) where
       (carried given written (given_after t given event) (written_after order t place written event body) place s mid
       (still_given t given event) (λ b. still_written order t place written event body b none) c x)
 
-  -- where bytes were read
+  -- after a read
   read_step : (begin len : ℕ) (told : List ℕ) (s : State) (holder : Option Holder) (cell : Cell) → IsExplained given written place s
       → option_map_or (λ x. may_all_be s.has s.cells x begin told) holder false ≡ true
       → option_map_or (λ x. with_bytes x begin told s.cells) holder s.cells place ≡ Some cell → own given written cell.byte ≡ true
@@ -144,7 +144,7 @@ module _ (order t place : ℕ) (given written : ℕ → Bool) where
   unfolding opening_state
   opened event body = record { patterns = λ c m. elim m [ ]; cells = λ cell e. absurd (cc) }
 
-  -- what was left is of no slot that is granted only now
+  -- no byte was left in a slot that is granted only now
   grants_no_held : (n u superblock told : ℕ) (s : State) (cell : Cell) → not (has_slot s.has u) ≡ true → AreOfHeld order s.has s.cells
       → s.cells place ≡ Some cell → grants_slot order t place (On.Admin (Do.Grant n)) (Say.Granted told u superblock) ≡ false
   grants_no_held n u superblock told s cell new held is = and_right (n == t) _
@@ -213,7 +213,7 @@ module _ (order t place : ℕ) (given written : ℕ → Bool) where
   stays : (event : Event) (body : Body) (s : State) → grants_slot order t place event body ≡ false → IsExplained given written place s → After event body s
   stays event body s none x = carry event body s s s none refl (record { patterns = same_patterns s; cells = same_cells place s }) x
 
--- at the place of the tenant, each byte that is left is explained
+-- the byte that was left at this place of the tenant is explained
 abbrev Holds : ℕ → ℕ → (ℕ → Bool) → (ℕ → Bool) → Known → Type 0
 Holds t place given written w = (s : State) → slice_get w.states t ≡ Some s → IsExplained given written place s
 

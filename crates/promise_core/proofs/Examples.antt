@@ -36,7 +36,7 @@ begun = ordered (Do.Grant 0) (Say.Granted 0 0 0) ∷ asked 0 (Command.Cache 2000
     ∷ asked 0 (Command.Take 0) (Say.Object 0) ∷ asked 0 (Command.Alloc 1) (Say.Frame 2)
     ∷ asked 0 (Command.Write 8192 (record { items = 1 ∷ 2 ∷ [] })) (Say.Written 2) ∷ []
 
--- a report after the object is given back, its slab still standing
+-- a report after the object was given back, while its slab still exists
 abbrev reported : Exchange
 reported = asked 0 Command.Report (Say.Report (record {
   frames = 8;
@@ -53,7 +53,7 @@ reported = asked 0 Command.Report (Say.Report (record {
 abbrev emptied : List Exchange
 emptied = begun ++ (asked 0 (Command.Free 2) (Say.Freed 1) ∷ asked 0 (Command.Alloc 0) (Say.Frame 1) ∷ asked 0 (Command.Give 0 0) Say.Given ∷ [])
 
--- every command, answered as partmem answers
+-- every command, with partmem's replies
 every_command : verdict_on (begun
     ++ (asked 0 (Command.Read 8192 3) (Say.Bytes (record { items = 1 ∷ 2 ∷ 0 ∷ [] })) ∷ asked 0 (Command.Read 0 2) (Say.Bytes (record { items = 90 ∷ 90 ∷ [] }))
     ∷ asked 0 (Command.Free 2) (Say.Freed 1) ∷ asked 0 (Command.Alloc 0) (Say.Frame 1) ∷ asked 0 (Command.Give 0 0) Say.Given ∷ reported
@@ -66,7 +66,7 @@ every_command : verdict_on (begun
 unfolding opening opening_state known_blocks can_stand vacant_blocks can_be_taken holder_of state_after owners_after due allowed
 every_command = refl
 
--- another policy: the last superblock and a slot of its own choice, blocks from the top, no colours, slabs given back at once
+-- another policy: the last superblock and a slot of its own choice, blocks from the top, no colours, empty slabs freed at once
 another_policy : verdict_on (ordered (Do.Grant 0) (Say.Granted 0 5 2)
     ∷ asked 0 (Command.Cache 2000 8 (record { items = 90 ∷ [] })) (Say.Cache 7 2048 1 4 1) ∷ asked 0 (Command.Take 7) (Say.Object 192512)
     ∷ asked 0 (Command.Alloc 1) (Say.Frame 44) ∷ asked 0 (Command.Take 7) (Say.Object 188416) ∷ asked 0 (Command.Give 7 192512) Say.Given
@@ -90,12 +90,12 @@ no_room : verdict_on (begun ++ (asked 0 (Command.Alloc 2) (Say.Refused Refusal.N
 unfolding opening opening_state known_blocks can_stand vacant_blocks can_be_taken holder_of state_after owners_after due allowed
 no_room = refl
 
--- nothing was ever there
+-- nothing was ever in the slot
 not_busy : verdict_on (ordered (Do.Grant 1) (Say.Granted 1 0 0) ∷ ordered (Do.TakeBack 1 0) (Say.Refused Refusal.SlotBusy) ∷ []) ≡ Some Promise.Busy
 unfolding opening opening_state known_blocks can_stand vacant_blocks can_be_taken holder_of state_after owners_after due allowed
 not_busy = refl
 
--- frame 3 is of the page block
+-- frame 3 is in the page block
 no_block : verdict_on (begun ++ (asked 0 (Command.Alloc 0) (Say.Frame 3) ∷ [])) ≡ Some Promise.Blocks
 unfolding opening opening_state known_blocks can_stand vacant_blocks can_be_taken holder_of state_after owners_after due allowed
 no_block = refl
@@ -110,7 +110,7 @@ no_layout : verdict_on (begun ++ (asked 0 (Command.Cache 2000 8 (record { items 
 unfolding opening opening_state known_blocks can_stand vacant_blocks can_be_taken holder_of state_after owners_after due allowed
 no_layout = refl
 
--- five frames are not taken
+-- only five frames are not taken
 no_gift : verdict_on (begun ++ (asked 0 Command.Reap (Say.Reaped 6) ∷ [])) ≡ Some Promise.Gives
 unfolding opening opening_state known_blocks can_stand vacant_blocks can_be_taken holder_of state_after owners_after due allowed
 no_gift = refl
@@ -130,12 +130,12 @@ no_report : verdict_on (begun ++ (reported ∷ [])) ≡ Some Promise.Report
 unfolding opening opening_state known_blocks can_stand vacant_blocks can_be_taken holder_of state_after owners_after due allowed
 no_report = refl
 
--- one empty slab was told
+-- the report had one empty slab
 not_still : verdict_on (emptied ++ (reported ∷ asked 0 Command.Reap (Say.Reaped 0) ∷ [])) ≡ Some Promise.Still
 unfolding opening opening_state known_blocks can_stand vacant_blocks can_be_taken holder_of state_after owners_after due allowed
 not_still = refl
 
--- without the report nobody can tell
+-- without the report nobody knows whether there was one
 still_unknown : verdict_on (emptied ++ (asked 0 Command.Reap (Say.Reaped 0) ∷ [])) ≡ None
 unfolding opening opening_state known_blocks can_stand vacant_blocks can_be_taken holder_of state_after owners_after due allowed
 still_unknown = refl

@@ -1,4 +1,4 @@
--- One place of one tenant: each byte that is left there is explained, if each was before.
+-- One place of one tenant: a byte that is left there is explained, if all were before.
 use Rattle.std.proofs.Common.{◌≡◌, ℕ, zero, suc, ◌+◌, ◌-◌, ◌%◌, Bool, true, false, not, ◌&&◌, ◌||◌, List, [], ◌∷◌, length, Option, Some, None, slice_get, refl, sym, subst, ◌⊎◌, inl, inr, arith}
 use Rattle.std.specs.Prelude.{slice_index, if◌then◌else◌, ◌==◌}
 use Rattle.std.specs.List.{list_any}
@@ -11,7 +11,7 @@ use Rattle.promise_core.specs.Holdings.{KnownCache, Holdings, known_cache}
 use Rattle.promise_core.specs.Bytes.{Holder, Cell, Cells, is_same, known_fresh_byte, may_be, may_all_be}
 use Rattle.promise_core.specs.State.{State}
 
--- zero, of a pattern that was given, or written
+-- the byte is zero, or in a pattern that was given, or was written
 abbrev pub own : (ℕ → Bool) → (ℕ → Bool) → ℕ → Bool
 own given written byte = byte == 0 || (given byte || written byte)
 
@@ -44,7 +44,7 @@ index_is [] i = inl refl
 index_is (x ∷ xs) zero = inr (or_left _ _ (eq-eqb x x refl))
 index_is (x ∷ xs) (suc i) = elim (index_is xs i) [ inl e ↦ inl e | inr e ↦ inr (or_right (x == slice_index xs i) _ e) ]
 
--- what something fresh has is explained
+-- a fresh byte is explained
 fresh_own : (given written : ℕ → Bool) (place p : ℕ) (s : State) (holder : Holder) → IsExplained given written place s
     → own given written (known_fresh_byte s.has holder p) ≡ true
 fresh_own given written place p s Holder.Page x = refl
@@ -58,7 +58,7 @@ fresh_own given written place p s (Holder.Object number first) x = go (known_cac
       | inr i ↦ own_given given written _ (x.patterns c (find_in (λ y. y.number == number) c s.has.caches e).0 _ i)
     ]
 
--- so is what may be there
+-- so is a byte that may be there
 pub may_own : (given written : ℕ → Bool) (place : ℕ) (s : State) (holder : Holder) (byte : ℕ) → IsExplained given written place s
     → may_be holder (known_fresh_byte s.has holder place) (s.cells place) byte ≡ true → own given written byte ≡ true
 may_own given written place s holder byte x = go (s.cells place) refl
@@ -82,7 +82,7 @@ may_own given written place s holder byte x = go (s.cells place) refl
         by_holder true e = same cell cell.sure is e
         by_holder false e = fresh_one e
 
--- of bytes that may be there each may
+-- if these bytes may be there, each of them may
 pub each_may : (h : Holdings) (cells : Cells) (holder : Holder) (begin : ℕ) (bytes : List ℕ) (j b : ℕ) → may_all_be h cells holder begin bytes ≡ true
     → slice_get bytes j ≡ Some b → may_be holder (known_fresh_byte h holder (begin + j)) (cells (begin + j)) b ≡ true
 each_may h cells holder begin [] j b e at = absurd (cc)

@@ -1,4 +1,5 @@
--- The live objects of each slab lie on a grid with room for all its objects: so it stays, and one more has a place there.
+-- The live objects of each slab lie on a grid that has space for all its objects. Each step keeps this, and a slab that is not
+-- full has a place for one more.
 use Rattle.std.proofs.Common.{◌≡◌, ℕ, zero, suc, ◌+◌, ◌-◌, ◌*◌, ◌/◌, ◌%◌, ◌^◌, ◌<◌, ◌≤◌, Bool, true, false, not, ◌&&◌, ◌||◌, List, [], ◌∷◌, length, refl, sym, ap, ◌∙◌, subst, inl, inr, arith}
 use Rattle.std.specs.Prelude.{if◌then◌else◌, filter, nat_le, nat_lt, ◌==◌}
 use Rattle.std.specs.List.{list_any, list_all}
@@ -33,7 +34,7 @@ pub all_from : {X : Type 0} (p : X → Bool) (xs : List X) → ((x : X) → IsIn
 all_from p [] f = refl
 all_from p (x ∷ xs) f = and_from (p x) (list_all p xs) (f x (inl refl)) (all_from p xs (λ y i. f y (inr i)))
 
--- of a filtered list no more is left than of the whole
+-- one more filter leaves no more elements
 fewer_left : {X : Type 0} (p q : X → Bool) (xs : List X) → length (filter p (filter q xs)) ≤ length (filter p xs)
 fewer_left p q [] = omega arith
 fewer_left {X} p q (x ∷ xs) = go (p x) refl (q x) (fewer_left p q xs)
@@ -45,7 +46,7 @@ fewer_left {X} p q (x ∷ xs) = go (p x) refl (q x) (fewer_left p q xs)
     go false is true e = let one : length (filter p (x ∷ filter q xs)) ≡ length (filter p (filter q xs)) = ap (λ b. length (if b then x ∷ filter p (filter q xs) else filter p (filter q xs))) is in omega (arith, one, e)
     go false is false e = e
 
--- with one put in, at most one more passes; and none more if it does not
+-- as many elements pass if `x` is put in at its place as if it is put in front
 put_passes : (p : ℕ → Bool) (x : ℕ) (xs : List ℕ) → length (filter p (put_rising (λ y. y) x xs)) ≡ length (filter p (x ∷ xs))
 put_passes p x [] = refl
 put_passes p x (y ∷ ys) = go (nat_lt x y) (p x) (p y) refl refl (put_passes p x ys)
@@ -58,7 +59,7 @@ put_passes p x (y ∷ ys) = go (nat_lt x y) (p x) (p y) refl refl (put_passes p 
     go false false true is_a is_b e = rw (is_a, is_b) (ap suc (rw (is_a) at e))
     go false false false is_a is_b e = rw (is_a, is_b) (rw (is_a) at e)
 
--- of more places than are used one is free
+-- if there are more places than used ones, one is free
 pub free_one : (at : ℕ → ℕ) → ((i j : ℕ) → i < j → at i ≡ at j → ⊥) → (n : ℕ) (used : List ℕ) → length used < n
     → (j : ℕ) × (j < n) × (list_any (λ p. p == at j) used ≡ false)
 free_one at differ zero used few = absurd (omega (arith, few))
@@ -100,7 +101,7 @@ frame_aligned = for_alignment (λ a. (f : ℕ) → 4096 * f % a ≡ 0) (λ f. om
 from_rest : (p origin n r : ℕ) → origin ≤ p → r ≡ 0 → n + r ≡ p - origin → p ≡ origin + n
 from_rest p origin n r low none split = omega (arith, low, none, split)
 
--- a new cache: its slabs can begin with an object
+-- a new cache has a grid: its slabs can begin with an object
 pub new_gridded : (order : ℕ) (c : KnownCache) → c.live ≡ [] → IsFitted order c → IsGridded order c
 new_gridded order c empty fit = record { fitted = fit; grids = grids }
   where
@@ -120,7 +121,7 @@ fitted_with : (order : ℕ) (c : KnownCache) (live : List ℕ) → IsFitted orde
 fitted_with order c live f =
     record { of_slot = f.of_slot; sized = f.sized; chunked = f.chunked; some = f.some; room = f.room; steps = f.steps; aligned = f.aligned }
 
--- fewer objects
+-- with fewer live objects
 pub given_gridded : (order : ℕ) (c : KnownCache) (test : ℕ → Bool) → IsGridded order c → IsGridded order (record c { live = filter test c.live })
 given_gridded order c test g = record {
   fitted = fitted_with order c (filter test c.live) g.fitted;
@@ -134,7 +135,7 @@ given_gridded order c test g = record {
   };
 }
 
--- one object more
+-- with one more live object
 module _ (order : ℕ) (h : Holdings) (c : KnownCache) (place : ℕ) (g : IsGridded order c) (can : can_be_taken order h c place ≡ true) where
   abbrev slab : Block
   slab = slab_around c place
@@ -230,12 +231,12 @@ module _ (order : ℕ) (h : Holdings) (c : KnownCache) (place : ℕ) (g : IsGrid
 
 -- A place for one more
 
--- the block around a frame of an aligned one is that one
+-- the block around a frame of an aligned block is that block
 pub around_is : (b : Block) (x : ℕ) → b.first % 2 ^ b.order ≡ 0 → HasFrame b x → around x b.order ≡ b
 around_is b x aligned has = ap (λ f. block f b.order)
     (ap (λ n. n * 2 ^ b.order) (sym (number_is b.order x) ∙ number_of_frame b.first b.order x aligned has) ∙ first_is b.first b.order aligned)
 
--- the test of `can_be_taken`, of this slab
+-- the test of `can_be_taken` for this slab
 abbrev is_takable : ℕ → Holdings → KnownCache → ℕ → Block → Bool
 is_takable order h c place b = (place % c.align == 0 && (nat_lt 0 (length (live_of_slab c b.first)) || can_stand order h b))
     && (nat_lt (length (live_of_slab c b.first)) c.count && (list_all (are_apart c place) (live_of_slab c b.first)

@@ -1,4 +1,4 @@
--- What was left is of held slots.
+-- The bytes that were left are in held slots.
 use Rattle.std.proofs.Common.{◌≡◌, ℕ, ◌+◌, ◌-◌, ◌*◌, ◌/◌, ◌^◌, ◌<◌, ◌≤◌, Bool, true, false, not, ◌&&◌, length, List, [], ◌∷◌, Option, Some, None, refl, ap, sym, subst, ◌∙◌, inl, inr, arith}
 use Rattle.std.specs.Prelude.{◌==◌, if◌then◌else◌, filter, find, nat_lt}
 use Rattle.std.specs.List.{list_any}
@@ -25,7 +25,7 @@ use Rattle.promise_core.specs.Promises.{bytes}
 use Rattle.promise_core.proofs.Steps.{some_state, without_left, same_cells, without_cells, object_cells, range_cells, doubted_cells}
 use Rattle.promise_core.proofs.Laid.{slot_put}
 
--- What has a range of bytes lies in a held slot
+-- The holder of a range of bytes lies in a held slot
 
 in_slot : (order p : ℕ) (h : Holdings) (b : Block) → IsAligned order b → has_slot h (b.first / 2 ^ order) ≡ true
     → 4096 * b.first ≤ p → p < 4096 * (b.first + 2 ^ b.order) → has_slot h (slot_of order p) ≡ true
@@ -93,14 +93,14 @@ range_held order h laid gridded place len holder is j lt = go (not (nat_lt 0 len
 
 -- A step
 
--- what was left is what was left before, and no slot goes
+-- a step that leaves only bytes that were left before, and drops no slot
 stays_held : (order : ℕ) (s mid s' : State) → Some mid ≡ Some s' → ((u : ℕ) → has_slot s.has u ≡ true → has_slot mid.has u ≡ true)
     → ((place : ℕ) (cell : Cell) → mid.cells place ≡ Some cell → (old : Cell) × (s.cells place ≡ Some old) × (old.byte ≡ cell.byte))
     → AreOfHeld order s.has s.cells → AreOfHeld order s'.has s'.cells
 stays_held order s mid s' e slots cells held = subst (λ y. AreOfHeld order y.has y.cells) (some_state e)
     (λ place cell is. let old = cells place cell is in slots (slot_of order place) (held place old.0 old.1))
 
--- bytes are laid where something has all of them
+-- bytes are put only where one holder has all of them
 put_held : (order begin len : ℕ) (new : List ℕ) (s : State) → IsLaid order s.has → AllGridded order s.has → length new ≡ len → AreOfHeld order s.has s.cells
     → AreOfHeld order s.has (with_range begin new s (holder_of s.has begin len)).cells
 put_held order begin len new s laid gridded all held place cell is = elim (range_cells begin place new s (holder_of s.has begin len) cell is) [

@@ -1,4 +1,4 @@
--- What a step leaves of the states before it, and of what was left at a place.
+-- What a step keeps of the states before it, and of the bytes that were left at a place.
 use Rattle.std.proofs.Common.{◌≡◌, ℕ, zero, suc, ◌+◌, ◌-◌, ◌<◌, ◌≤◌, Bool, true, false, not, ◌&&◌, ◌||◌, List, [], ◌∷◌, length, replicate, Option, Some, None, slice_get, slice_set, refl, ap, sym, subst, ◌∙◌, ◌⊎◌, inl, inr}
 use Rattle.std.specs.Prelude.{nat_le, nat_lt, slice_index, if◌then◌else◌, ◌==◌}
 use Rattle.std.specs.Option.{option_map_or}
@@ -42,9 +42,9 @@ states_at t (Some i) states after x e = elim (cases_eq i t) [
   | inr other ↦ inr ((λ n. other (some_number n)), sym (slice_get-set_other states i t after other) ∙ e)
 ]
 
--- What stays of the cells
+-- The cells that stay
 
--- the cell at the place is one that was there, which the test does not pass
+-- the cell at the place was there before, and does not pass the test
 pub record IsLeft (test : ℕ → Holder → Bool) (cells : Cells) (place : ℕ) (cell : Cell) : Type 0 where
   pub old : Cell
   pub was : cells place ≡ Some old
@@ -83,7 +83,7 @@ object_cells first place s None cell e = (cell, e, refl)
 object_cells first place s (Some c) cell e =
     without_cells (λ p holder. in_block p (slab_around c first) && not (is_object (λ n q. n == c.number && (q == first || are_apart c first q)) holder)) place s cell e
 
--- where bytes were laid from `begin` on, the byte at the place is one of them, or the one that was there
+-- after bytes were put from `begin` on, the byte at the place is one of them, or the one that was there
 pub range_cells : (begin place : ℕ) (new : List ℕ) (s : State) (holder : Option Holder) (cell : Cell)
     → option_map_or (λ x. with_bytes x begin new s.cells) holder s.cells place ≡ Some cell
     → ((x : Holder) × (holder ≡ Some x) × (begin ≤ place) × (place < begin + length new) × (cell.byte ≡ slice_index new (place - begin))) ⊎ (s.cells place ≡ Some cell)

@@ -39,7 +39,7 @@ unfolding opening opening_state known_blocks can_stand vacant_blocks can_be_take
 LiveApart-met law x page slab = none_is_some ((law 32 3 3 2 0 begun known the_state refl refl).apart None (Some 0) (block 2 1) (block 0 0) x
     (0, omega arith, refl) (the_cache, 0, (0, omega arith, refl), (0, omega arith, refl), refl, refl) page slab).0
 
--- of the first of the two bytes that were written
+-- at the first of the two bytes that were written
 LeftInHeld-met : LeftInHeld → has_slot the_state.has (slot_of 3 8192) ≡ true
 unfolding opening opening_state known_blocks can_stand vacant_blocks can_be_taken holder_of state_after owners_after due allowed
 LeftInHeld-met law = law 32 3 3 2 0 begun known the_state refl refl 8192 (record { holder = Holder.Page; byte = 1; sure = true }) refl
@@ -54,12 +54,12 @@ Confined-met law = law 32 3 3 2 0 8192 3 1 2 begun (To.Tenant 0) (record { items
 not_own : is_own 3 0 8193 3 begun ≡ false
 not_own = refl
 
--- in the run's state a frame can be answered, and no want of frames
+-- in the run's state some frame may be returned, and `NoFrames` may not
 RefusedForCause-met : RefusedForCause → (f : ℕ) × (may_tell known 0 (Command.Alloc 0) (Say.Frame f) ≡ true)
 unfolding opening opening_state known_blocks can_stand vacant_blocks can_be_taken holder_of state_after owners_after due allowed
 RefusedForCause-met law = (law known the_state 0 0 refl (omega arith)).answered refl
 
--- and the second object of the slab, or one elsewhere
+-- and some object may be returned: the second of the slab, or one elsewhere
 TakeRefusedForCause-met : TakeRefusedForCause → (place : ℕ) × (may_tell known 0 (Command.Take 0) (Say.Object place) ≡ true)
 unfolding opening opening_state known_blocks can_stand vacant_blocks can_be_taken holder_of state_after owners_after due allowed
 TakeRefusedForCause-met law = (law 32 3 3 2 0 0 begun known the_state the_cache refl refl refl).answered refl

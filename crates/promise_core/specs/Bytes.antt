@@ -1,5 +1,6 @@
--- What a tenant knows of its bytes. A byte is a page block's or an object's; what may be read is what was left there, and where
--- that is in doubt (the block was freed since, the object given back) also what something fresh has.
+-- What is known of a tenant's bytes. A byte belongs to a page block or to an object. A read returns the byte that was left there.
+-- If that is in doubt (the block was freed since, or the object given back), it may also return the byte of fresh memory.
+-- If nothing was left there, it returns the byte of fresh memory.
 use Rattle.std.specs.Prelude.{ℕ, ◌+◌, ◌-◌, Bool, true, false, not, List, [], ◌∷◌, find, length, slice_index, Option, Some, None, option_map, nat_le, nat_lt, if◌then◌else◌, ◌&&◌, ◌||◌, ◌==◌}
 use Rattle.std.specs.List.{list_any}
 use Rattle.std.specs.Option.{option_and_then, option_map_or}
@@ -7,12 +8,12 @@ use Rattle.model_core.specs.Layouts.{pattern_byte}
 use Rattle.model_core.specs.Reach.{is_within, within_block}
 use Rattle.promise_core.specs.Holdings.{KnownCache, Holdings, known_cache}
 
--- what has a byte: a page block, or the object of this cache and this first place, live or not
+-- the holder of a byte: a page block, or the object with this cache and first place, live or not
 pub data Holder : Type 0 where
   Page : Holder
   Object : ℕ → ℕ → Holder
 
--- an object whose cache and first place pass the test
+-- the holder is an object whose cache and first place pass the test
 abbrev pub is_object : (ℕ → ℕ → Bool) → Holder → Bool
 is_object test Holder.Page = false
 is_object test (Holder.Object number first) = test number first
@@ -21,35 +22,35 @@ abbrev pub is_same : Holder → Holder → Bool
 is_same Holder.Page holder = not (is_object (λ number first. true) holder)
 is_same (Holder.Object number first) holder = is_object (λ n p. n == number && p == first) holder
 
--- what was left at a place: whose byte, which, and whether it is surely there
+-- what was left at a place: the holder of the byte, the byte, and whether it is surely still there
 pub record Cell : Type 0 where
   pub holder : Holder
   pub byte : ℕ
   pub sure : Bool
 
--- what was left at each place; None where everything is fresh
+-- what was left at each place; None if nothing was, so that the byte there is fresh
 abbrev pub Cells : Type 0
 Cells = ℕ → Option Cell
 
--- the byte that something fresh has at a place
+-- the byte that a fresh holder has at a place
 abbrev pub known_fresh_byte : Holdings → Holder → ℕ → ℕ
 known_fresh_byte h Holder.Page place = 0
 known_fresh_byte h (Holder.Object number first) place =
     option_map_or (λ c. pattern_byte c.pattern (place - first)) (known_cache h number) 0
 
--- the byte may be the holder's, where a fresh one has the byte `fresh`
+-- the holder may have this byte at a place with this cell; a fresh holder has the byte `fresh` there
 abbrev pub may_be : Holder → ℕ → Option Cell → ℕ → Bool
 may_be holder fresh None byte = byte == fresh
 may_be holder fresh (Some cell) byte =
     if is_same cell.holder holder then byte == cell.byte || (not cell.sure && byte == fresh) else byte == fresh
 
--- so may these be, from a place on
+-- the holder may have these bytes, from a place on
 abbrev pub may_all_be : Holdings → Cells → Holder → ℕ → List ℕ → Bool
 may_all_be h cells holder place [] = true
 may_all_be h cells holder place (byte ∷ bytes) =
     may_be holder (known_fresh_byte h holder place) (cells place) byte && may_all_be h cells holder (place + 1) bytes
 
--- these bytes are read or written from `begin` on
+-- the cells after these bytes are read or written from `begin` on
 abbrev pub with_bytes : Holder → ℕ → List ℕ → Cells → Cells
 with_bytes holder begin bytes cells place =
     if nat_le begin place && nat_lt place (begin + length bytes) then
@@ -61,7 +62,7 @@ abbrev pub doubted : (ℕ → Holder → Bool) → Cells → Cells
 doubted test cells place =
     option_map (λ (cell : Cell). record cell { sure = cell.sure && not (test place cell.holder) }) (cells place)
 
--- they are gone
+-- the cells whose place and holder pass the test are forgotten
 abbrev pub without : (ℕ → Holder → Bool) → Cells → Cells
 without test cells place = option_and_then (λ (cell : Cell). if test place cell.holder then None else Some cell) (cells place)
 
@@ -71,7 +72,7 @@ object_with place len [] = None
 object_with place len (c ∷ cs) =
     option_map_or (λ first. Some (Holder.Object c.number first)) (find (λ first. is_within place len first c.size) c.live) (object_with place len cs)
 
--- what has the whole range, of at least one byte: a live page block, or a live object
+-- the holder of the whole range, which has at least one byte: a live page block, or a live object
 unfoldable pub holder_of : Holdings → ℕ → ℕ → Option Holder
 holder_of h place len = if not (nat_lt 0 len) then None
     else (if list_any (within_block place len) h.pages then Some Holder.Page else object_with place len h.caches)

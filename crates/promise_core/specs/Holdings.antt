@@ -1,4 +1,4 @@
--- What a tenant has, as replies told it. Which block a request gets, and when empty slabs are given back, is the allocator's.
+-- What a tenant has, according to the replies. The allocator decides which block a request gets, and when empty slabs are freed.
 use Rattle.std.specs.Prelude.{ℕ, ◌+◌, ◌-◌, ◌*◌, ◌/◌, ◌%◌, ◌^◌, Bool, not, List, ◌++◌, map, filter, find, flat_map, length, Option, nat_le, nat_lt, if◌then◌else◌, ◌&&◌, ◌||◌, ◌==◌}
 use Rattle.std.specs.List.{list_any, list_all, range_with_len}
 use Rattle.model_core.specs.declared.limits.TheConstants.{FRAME_BYTES}
@@ -6,8 +6,8 @@ use Rattle.model_core.specs.Blocks.{Block, block, around, slot_block}
 use Rattle.model_core.specs.Choice.{is_any_below}
 use Rattle.model_core.specs.Operations.{overlaps}
 
--- a cache, as it was asked for and as its reply told it: a slab has 2 ^ order frames and `count` objects, from the first byte of
--- one to that of the next are `chunk` bytes; `live` are the first places of its live objects, rising
+-- a cache, as its command and the reply describe it: a slab has 2 ^ order frames and `count` objects, whose first bytes are
+-- `chunk` bytes apart; `live` has the first places of its live objects, in ascending order
 pub record KnownCache : Type 0 where
   pub number : ℕ
   pub size : ℕ
@@ -18,7 +18,7 @@ pub record KnownCache : Type 0 where
   pub count : ℕ
   pub live : List ℕ
 
--- the held slots, rising, the live page blocks, by rising first frame, and the caches, by rising number
+-- the held slots, the live page blocks by first frame, and the caches by number, all in ascending order
 pub record Holdings : Type 0 where
   pub slots : List ℕ
   pub pages : List Block
@@ -36,11 +36,11 @@ with_live_places number change h = record h {
   caches = map {B = KnownCache} (λ (c : KnownCache). if c.number == number then record c { live = change c.live } else c) h.caches;
 }
 
--- the slab that an object at this place is in
+-- the slab of an object at this place
 abbrev pub slab_around : KnownCache → ℕ → Block
 slab_around c place = around (place / FRAME_BYTES) c.order
 
--- the page blocks, and the slabs of live objects
+-- the taken blocks that are known: page blocks, and the slabs of live objects
 unfoldable pub known_blocks : Holdings → List Block
 known_blocks h = h.pages ++ flat_map (λ c. map (slab_around c) c.live) h.caches
 
@@ -56,7 +56,7 @@ can_stand order h b = (nat_le b.order order && b.first % 2 ^ b.order == 0) && (h
 abbrev pub blocks_of_slot : ℕ → ℕ → ℕ → List Block
 blocks_of_slot order k u = map (λ i. block (i * 2 ^ k) k) (range_with_len (u * 2 ^ (order - k)) (2 ^ (order - k)))
 
--- those in held slots with no taken frame
+-- the aligned blocks of order k that are in held slots and have no taken frame
 unfoldable pub vacant_blocks : ℕ → Holdings → ℕ → List Block
 vacant_blocks order h k = filter (is_vacant h) (flat_map (blocks_of_slot order k) h.slots)
 
@@ -67,7 +67,7 @@ has_vacant_block order h k = nat_lt 0 (length (vacant_blocks order h k))
 abbrev pub is_slot_busy : ℕ → Holdings → ℕ → Bool
 is_slot_busy order h u = not (is_vacant h (slot_block order u))
 
--- the live objects in the slab that has this place
+-- the live objects in the slab around this place
 abbrev pub live_beside : KnownCache → ℕ → List ℕ
 live_beside c place = filter (λ p. (slab_around c p).first == (slab_around c place).first) c.live
 
@@ -79,13 +79,13 @@ is_slab_full c place = length (live_beside c place) == c.count
 abbrev pub are_apart : KnownCache → ℕ → ℕ → Bool
 are_apart c p q = nat_le (p + c.size) q || nat_le (q + c.size) p
 
--- the objects of the slab b fit into it if the first of them is at `origin`, and each of these places is that of one
+-- if the first object of slab b is at `origin`, all its objects fit into it, and each of these places is that of an object
 abbrev pub is_grid : KnownCache → Block → ℕ → List ℕ → Bool
 is_grid c b origin places =
     (nat_le (FRAME_BYTES * b.first) origin && nat_le (origin + (c.count - 1) * c.chunk + c.size) (FRAME_BYTES * (b.first + 2 ^ b.order)))
     && list_all (λ p. nat_le origin p && ((p - origin) % c.chunk == 0 && nat_lt ((p - origin) / c.chunk) c.count)) places
 
--- an object of the cache can be handed out at this place
+-- a take may return an object of the cache at this place
 unfoldable pub can_be_taken : ℕ → Holdings → KnownCache → ℕ → Bool
 can_be_taken order h c place = let beside = live_beside c place in
     (place % c.align == 0 && (nat_lt 0 (length beside) || can_stand order h (slab_around c place)))

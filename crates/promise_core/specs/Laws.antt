@@ -1,4 +1,4 @@
--- What follows from the promises alone, for every program that keeps them.
+-- The laws that follow from the promises alone, for every program that keeps them.
 use Rattle.std.specs.Prelude.{◌≡◌, ◌≤◌, is_ok, ℕ, ◌+◌, ◌-◌, ◌/◌, ◌^◌, Bool, true, false, not, List, [], ◌∷◌, length, Contains, Option, Some, None, Ok, slice_get, slice_index, nat_le, nat_lt, ◌&&◌, ◌||◌, ◌==◌}
 use Rattle.std.specs.List.{list_any}
 use Rattle.arrayvec.specs.ArrayVec.{ArrayVec}
@@ -17,7 +17,7 @@ use Rattle.promise_core.specs.Lying.{AreOfHeld}
 use Rattle.promise_core.specs.State.{State, Known, opening}
 use Rattle.promise_core.specs.Promises.{allowed, all_allowed}
 
--- the tenant asks for a cache whose pattern has the byte
+-- the event is the tenant's command for a cache whose pattern has the byte
 abbrev pub gives_pattern : ℕ → ℕ → Event → Bool
 gives_pattern t byte (Event.Tenant named (Command.Cache size align pattern)) = named == t && list_any (λ b. b == byte) pattern.items
 gives_pattern t byte (Event.Tenant named (Command.Alloc k)) = false
@@ -31,7 +31,7 @@ gives_pattern t byte (Event.Tenant named Command.Reap) = false
 gives_pattern t byte (Event.Tenant named Command.Report) = false
 gives_pattern t byte (Event.Admin command) = false
 
--- the tenant writes_byte the byte at the place
+-- the tenant writes the byte at the place
 abbrev pub writes_byte : ℕ → ℕ → ℕ → Event → Body → Bool
 writes_byte t place byte (Event.Tenant named (Command.Write begin new)) (Body.Written n) =
     named == t && ((nat_le begin place && nat_lt place (begin + length new.items))
@@ -58,7 +58,7 @@ grants_slot order t place (Event.Admin (AdminCommand.Reset named)) body = false
 grants_slot order t place (Event.Admin (AdminCommand.Move named u)) body = false
 grants_slot order t place (Event.Admin AdminCommand.Pool) body = false
 
--- the byte is of a pattern that the tenant gave, in these exchanges or before
+-- the byte is in a pattern that the tenant gave, in these exchanges or before
 abbrev pub was_given : ℕ → ℕ → Bool → List Exchange → Bool
 was_given t byte before [] = before
 was_given t byte before (e ∷ es) = was_given t byte (before || gives_pattern t byte e.event) es
@@ -69,34 +69,35 @@ was_written order t place byte before [] = before
 was_written order t place byte before (e ∷ es) = was_written order t place byte
     (writes_byte t place byte e.event e.reply.body || (before && not (grants_slot order t place e.event e.reply.body))) es
 
--- the byte is zero, or one of a pattern that the tenant gave, or one that it wrote at the place since its slot was granted
+-- the byte is zero, or is in a pattern that the tenant gave, or was written by it at the place since the slot was granted
 abbrev pub is_own : ℕ → ℕ → ℕ → ℕ → List Exchange → Bool
 is_own order t place byte es = byte == 0 || (was_given t byte false es || was_written order t place byte false es)
 
--- Whatever was asked and answered before, if each reply was allowed, an allowed reply to a read tells the tenant its own bytes.
+-- After allowed replies, each byte in an allowed reply to a read is the tenant's own.
 abbrev pub Confined : Type 0
 Confined = (limit order superblocks tenants t begin len j byte : ℕ) (es : List Exchange) (addressee : Addressee) (told : ArrayVec ℕ) (w v : Known)
     → all_allowed es (Ok (opening limit order superblocks tenants)) ≡ Ok w
     → allowed (Event.Tenant t (Command.Read begin len)) (record { addressee = addressee; body = Body.Bytes told }) w ≡ Ok v
     → slice_get told.items j ≡ Some byte → is_own order t (begin + j) byte es ≡ true
 
--- what has frames: page blocks, by None, and the slabs of live objects, by the number of their cache
+-- the block is a page block (None), or the slab of a live object of the cache with this number
 abbrev pub Uses : Holdings → Option ℕ → Block → Type 0
 Uses h None b = Contains h.pages b
 Uses h (Some number) b = (c : KnownCache) × (place : ℕ) × Contains h.caches c × Contains c.live place × (c.number ≡ number) × (b ≡ slab_around c place)
 
--- these are aligned and in held slots, and two of them that share a frame are one; slots have 2 ^ order frames
+-- used blocks are aligned and in held slots, and two that share a frame are the same block of the same user; slots have
+-- 2 ^ order frames
 pub record LiesApart (order : ℕ) (h : Holdings) : Type 0 where
   pub placed : (by : Option ℕ) (b : Block) → Uses h by b → IsAligned order b × (has_slot h (b.first / 2 ^ order) ≡ true)
   pub apart : (by other : Option ℕ) (a b : Block) (x : ℕ) → Uses h by a → Uses h other b → HasFrame a x → HasFrame b x
       → (by ≡ other) × (a ≡ b)
 
--- what is live is so for every tenant, whatever was asked and answered, if each reply was allowed
+-- after allowed replies, this holds of every tenant's used blocks
 abbrev pub LiveApart : Type 0
 LiveApart = (limit order superblocks tenants t : ℕ) (es : List Exchange) (w : Known) (s : State)
     → all_allowed es (Ok (opening limit order superblocks tenants)) ≡ Ok w → slice_get w.states t ≡ Some s → LiesApart order s.has
 
--- What was left is of held slots for every tenant, whatever was asked and answered, if each reply was allowed.
+-- After allowed replies, the bytes that were left are in held slots, for every tenant.
 abbrev pub LeftInHeld : Type 0
 LeftInHeld = (limit order superblocks tenants t : ℕ) (es : List Exchange) (w : Known) (s : State)
     → all_allowed es (Ok (opening limit order superblocks tenants)) ≡ Ok w → slice_get w.states t ≡ Some s
@@ -106,17 +107,17 @@ LeftInHeld = (limit order superblocks tenants t : ℕ) (es : List Exchange) (w :
 abbrev pub may_tell : Known → ℕ → Command → Body → Bool
 may_tell w t command body = is_ok (allowed (Event.Tenant t command) (record { addressee = Addressee.Tenant t; body = body }) w)
 
--- a number can be answered to the tenant's command, unless it can be refused for want of frames, and never both
+-- for the tenant's command either an answer with some number is allowed, or the refusal `NoFrames` is, and never both
 pub record IsRefusedForCause (w : Known) (t : ℕ) (command : Command) (answer : ℕ → Body) : Type 0 where
   pub answered : may_tell w t command (Body.Refused Refusal.NoFrames) ≡ false → (n : ℕ) × (may_tell w t command (answer n) ≡ true)
   pub refused : (n : ℕ) → may_tell w t command (Body.Refused Refusal.NoFrames) ≡ true → may_tell w t command (answer n) ≡ false
 
--- so it is for a block of every order up to that of a slot, in whatever state
+-- this holds for a page block of every order up to that of a slot, in every state
 abbrev pub RefusedForCause : Type 0
 RefusedForCause = (w : Known) (s : State) (t k : ℕ) → slice_get w.states t ≡ Some s → k ≤ w.order
     → IsRefusedForCause w t (Command.Alloc k) Body.Frame
 
--- and for an object of a cache that is there, whatever was asked and answered before, if each reply was allowed
+-- this holds for an object of an existing cache, after any allowed replies
 abbrev pub TakeRefusedForCause : Type 0
 TakeRefusedForCause = (limit order superblocks tenants t number : ℕ) (es : List Exchange) (w : Known) (s : State) (c : KnownCache)
     → all_allowed es (Ok (opening limit order superblocks tenants)) ≡ Ok w → slice_get w.states t ≡ Some s
@@ -135,7 +136,7 @@ uses_memory (Command.Destroy number) = false
 uses_memory Command.Reap = false
 uses_memory Command.Report = false
 
--- to each of these there is an allowed reply, whatever was asked and answered before, if each reply was allowed
+-- each of these commands has an allowed reply, after any allowed replies
 abbrev pub UseAnswerable : Type 0
 UseAnswerable = (limit order superblocks tenants t : ℕ) (command : Command) (es : List Exchange) (w : Known)
     → all_allowed es (Ok (opening limit order superblocks tenants)) ≡ Ok w → uses_memory command ≡ true

@@ -1,5 +1,5 @@
--- What lies where among what a tenant has: live blocks and slabs share no frame, live objects lie on a grid of their slab, and
--- what was left is in held slots. Every run of allowed replies keeps this.
+-- Where a tenant's blocks, objects and bytes lie: page blocks and slabs share no frame, live objects lie on a grid of their slab,
+-- and the bytes that were left are in held slots. Every run of allowed replies keeps this.
 use Rattle.std.specs.Prelude.{◌≡◌, ℕ, ◌+◌, ◌-◌, ◌*◌, ◌/◌, ◌%◌, ◌^◌, ◌<◌, ◌≤◌, true, List, length, filter, Option, Some, None, ◌==◌}
 use Rattle.model_core.specs.Blocks.{Block, HasFrame, IsAligned}
 use Rattle.model_core.specs.Layouts.{is_alignment}
@@ -16,7 +16,7 @@ Used h (Some n) b = (c : KnownCache) × (p : ℕ) × IsIn c h.caches × IsIn p c
 abbrev pub HaveOwnNumbers : Holdings → Type 0
 HaveOwnNumbers h = (c d : KnownCache) → IsIn c h.caches → IsIn d h.caches → c.number ≡ d.number → c ≡ d
 
--- used blocks are aligned, lie in held slots, and share no frame unless they are one block of one user
+-- used blocks are aligned and in held slots, and two that share a frame are the same block of the same user
 pub record IsLaid (order : ℕ) (h : Holdings) : Type 0 where
   pub placed : (by : Option ℕ) (b : Block) → Used h by b → IsAligned order b × (has_slot h (b.first / 2 ^ order) ≡ true)
   pub apart : (by other : Option ℕ) (a b : Block) (x : ℕ) → Used h by a → Used h other b → HasFrame a x → HasFrame b x → (by ≡ other) × (a ≡ b)
@@ -39,7 +39,7 @@ live_of_slab c f = filter (λ p. (slab_around c p).first == f) c.live
 abbrev pub OnGrid : KnownCache → ℕ → ℕ → Type 0
 OnGrid c origin p = (j : ℕ) × (j < c.count) × (p ≡ origin + j * c.chunk)
 
--- the live objects of the slab at frame f lie one chunk apart, counted from an aligned origin, inside the slab
+-- the live objects of the slab at frame f lie inside the slab, at multiples of a chunk from an aligned origin
 pub record HasGrid (c : KnownCache) (f : ℕ) : Type 0 where
   pub origin : ℕ
   pub aligned : origin % c.align ≡ 0
@@ -55,6 +55,6 @@ pub record IsGridded (order : ℕ) (c : KnownCache) : Type 0 where
 abbrev pub AllGridded : ℕ → Holdings → Type 0
 AllGridded order h = (c : KnownCache) → IsIn c h.caches → IsGridded order c
 
--- what was left is of held slots; slots have 2 ^ order frames
+-- the bytes that were left are in held slots; slots have 2 ^ order frames
 abbrev pub AreOfHeld : ℕ → Holdings → Cells → Type 0
 AreOfHeld order h cells = (place : ℕ) (cell : Cell) → cells place ≡ Some cell → has_slot h (slot_of order place) ≡ true

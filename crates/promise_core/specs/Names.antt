@@ -1,4 +1,4 @@
--- How the promises are written.
+-- The names of the promises, as they are written.
 use Rattle.std.specs.Prelude.{ℕ, List, codes}
 use Rattle.promise_core.specs.declared.promise.Promise.{Promise}
 

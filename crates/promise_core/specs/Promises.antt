@@ -1,4 +1,4 @@
--- The promises: a test of an event, its reply, what is known before and the state of the tenant that the event names.
+-- The promises. Each is a test of an event, its reply, what is known before, and the state of the tenant that the event names.
 use Rattle.std.specs.Prelude.{ℕ, ◌+◌, ◌-◌, ◌*◌, ◌%◌, ◌^◌, Bool, true, false, not, List, [], ◌∷◌, map, filter, drop, length, Option, Some, None, Result, Ok, Err, is_some, is_none, slice_get, slice_index, slice_set, unwrap_or, count_by, sum_by, nat_le, nat_lt, if◌then◌else◌, ◌&&◌, ◌||◌, ◌==◌}
 use Rattle.std.specs.List.{list_any, list_all, zip, range_with_len}
 use Rattle.std.specs.Option.{option_map_or, option_eq}
@@ -25,7 +25,7 @@ use Rattle.promise_core.specs.Holdings.{KnownCache, Holdings, has_slot, known_ca
 use Rattle.promise_core.specs.Bytes.{may_all_be, holder_of}
 use Rattle.promise_core.specs.State.{State, Known, opening_state, is_in_use, state_after, owners_after}
 
--- whom a reply to the event is for, which names a tenant that exists or not
+-- a reply to the event has this addressee; the `Bool` is true if the tenant that the event names exists
 abbrev pub is_for : Event → Bool → Addressee → Bool
 is_for (Event.Tenant t command) true (Addressee.Tenant named) = named == t
 is_for (Event.Tenant t command) false Addressee.Nobody = true
@@ -37,7 +37,7 @@ is_for (Event.Tenant t command) false (Addressee.Tenant named) = false
 is_for (Event.Admin command) exists Addressee.Nobody = false
 is_for (Event.Admin command) exists (Addressee.Tenant named) = false
 
--- the reply is for whom it has to be, and one to such an event
+-- the reply has the right addressee, and is a refusal or an answer to this event
 abbrev pub form : Event → Reply → Known → State → Bool
 form event reply w s = is_for event true reply.addressee && is_some (state_after w.order event reply.body s)
 
@@ -46,7 +46,7 @@ abbrev pub first_due : List (Bool × Refusal) → Option Refusal
 first_due [] = None
 first_due ((stands, refusal) ∷ tests) = if stands then Some refusal else first_due tests
 
--- the refusal that has to come
+-- the refusal that has to come, if there is one
 unfoldable pub due : Event → Known → State → Option Refusal
 due (Event.Tenant t (Command.Alloc k)) w s = first_due ((nat_lt w.order k, Refusal.BadOrder) ∷ [])
 due (Event.Tenant t (Command.Free f)) w s = first_due ((is_none (order_in s.has.pages f), Refusal.NotABlock) ∷ [])
@@ -74,7 +74,7 @@ due (Event.Admin AdminCommand.Pool) w s = None
 abbrev pub is_one : Refusal → Refusal → Bool
 is_one a b = number_of_refusal a == number_of_refusal b
 
--- the refusal that is due comes; where none is, that there are no frames, or that a slot is busy, may be said, or an answer comes
+-- if a refusal is due, the reply is that refusal; if none is due, it is an answer, `NoFrames` or `SlotBusy`
 abbrev pub refusals : Event → Body → Known → State → Bool
 refusals event (Body.Refused refusal) w s =
     option_map_or (is_one refusal) (due event w s) (is_one refusal Refusal.NoFrames || is_one refusal Refusal.SlotBusy)
@@ -95,14 +95,15 @@ refusals event (Body.Reaped frames) w s = is_none (due event w s)
 refusals event (Body.Report r) w s = is_none (due event w s)
 refusals event (Body.Fault fault) w s = is_none (due event w s)
 
--- all objects in the cache's slabs are live, and there is no room for another slab
+-- all objects in the slabs with live objects are live, and no block can stand for another slab
 abbrev pub is_used_up : ℕ → Holdings → KnownCache → Bool
 is_used_up order h c = list_all (is_slab_full c) c.live && not (has_vacant_block order h c.order)
 
--- Each of the promises that follow speaks of some commands. The others are named too, so that a new command has to be put into
--- each. Which body is an answer to which command `state_after` says alone, and `form` tests.
+-- Each promise below is about some commands. The others are listed too, so that a new command has to be added to each promise.
+-- Only `state_after` says which body is an answer to which command; `form` tests it.
 
--- there are no frames where there is no room
+-- `NoFrames` comes to an alloc only if no block of that order can stand, to a take only if the cache is used up, and to no other
+-- command
 abbrev pub room : Event → Body → Known → State → Bool
 room (Event.Tenant t (Command.Alloc k)) (Body.Refused Refusal.NoFrames) w s = not (has_vacant_block w.order s.has k)
 room (Event.Tenant t (Command.Take number)) (Body.Refused Refusal.NoFrames) w s =
@@ -151,7 +152,7 @@ room event (Body.Reaped frames) w s = true
 room event (Body.Report r) w s = true
 room event (Body.Fault fault) w s = true
 
--- a slot is busy if a frame of it is taken, or if a slab without live objects may be in it
+-- `SlotBusy` comes only to a take-back, and only if a frame of the slot is taken or some cache may have a slab without live objects
 abbrev pub busy : Event → Body → Known → State → Bool
 busy (Event.Admin (AdminCommand.TakeBack t u)) (Body.Refused Refusal.SlotBusy) w s =
     is_slot_busy w.order s.has u || list_any (λ c. s.may_have_empty c.number) s.has.caches
@@ -237,7 +238,7 @@ objects (Event.Admin (AdminCommand.Reset t)) body w s = true
 objects (Event.Admin (AdminCommand.Move t u)) body w s = true
 objects (Event.Admin AdminCommand.Pool) body w s = true
 
--- a new cache has a number of its own, and its objects fit into a slab at each of its colours
+-- a new cache has a number that no other has, and its objects fit into a slab at each of its colours
 abbrev pub new_layout : Event → Body → Known → State → Bool
 new_layout (Event.Tenant t (Command.Cache size align pattern)) (Body.Cache number chunk q n colours) w s =
     (nat_lt number w.limit && is_none (known_cache s.has number)) && ((nat_le size chunk && (chunk % align == 0 && nat_le q w.order))
@@ -258,7 +259,8 @@ new_layout (Event.Admin (AdminCommand.Reset t)) body w s = true
 new_layout (Event.Admin (AdminCommand.Move t u)) body w s = true
 new_layout (Event.Admin AdminCommand.Pool) body w s = true
 
--- no more frames than are not taken, out of slabs of these caches that may stand
+-- this number of frames can be freed: none, or at most as many as are not taken, and a multiple of the frames of a slab of one of
+-- these caches that may have an empty one
 abbrev pub can_come_back : ℕ → List KnownCache → ℕ → State → Bool
 can_come_back order caches frames s = frames == 0 || (nat_le frames (length (vacant_blocks order s.has 0))
     && list_any (λ c. s.may_have_empty c.number && frames % 2 ^ c.order == 0) caches)
@@ -287,7 +289,7 @@ gives (Event.Admin AdminCommand.Pool) body w s = true
 abbrev pub has_owner : (Option Owner → Bool) → ℕ → Known → Bool
 has_owner test superblock w = option_map_or test (slice_get w.owners superblock) false
 
--- what comes is nobody's before, what goes is the tenant's, and the pool is told as it is
+-- a superblock that the tenant gets had no owner, one that it loses was its own, and the table of owners is right
 abbrev pub owners : Event → Body → Known → State → Bool
 owners (Event.Admin (AdminCommand.Grant t)) (Body.Granted named u superblock) w s = (named == t && has_owner is_none superblock w)
     && (not (has_slot s.has u) && nat_le ((u + 1) * 2 ^ w.order * FRAME_BYTES) (2 ^ 32))
@@ -313,7 +315,7 @@ owners (Event.Admin (AdminCommand.Reset t)) body w s = true
 owners (Event.Admin (AdminCommand.Move t u)) body w s = true
 owners (Event.Admin AdminCommand.Pool) body w s = true
 
--- each byte that is read may be there, and all are read, or written
+-- each byte that is read may be there, and as many bytes are read, or reported as written, as the command has
 abbrev pub bytes : Event → Body → Known → State → Bool
 bytes (Event.Tenant t (Command.Read place len)) (Body.Bytes told) w s = length told.items == len
     && option_map_or (λ holder. may_all_be s.has s.cells holder place told.items) (holder_of s.has place len) false
@@ -334,12 +336,12 @@ bytes (Event.Admin (AdminCommand.Reset t)) body w s = true
 bytes (Event.Admin (AdminCommand.Move t u)) body w s = true
 bytes (Event.Admin AdminCommand.Pool) body w s = true
 
--- how many frames these numbers of blocks have, the first of them of order 0
+-- the number of frames in these numbers of blocks, which are by order, from order 0 on
 abbrev pub frames_of_counts : List ℕ → ℕ
 frames_of_counts [] = 0
 frames_of_counts (n ∷ ns) = n + 2 * frames_of_counts ns
 
--- how many slabs have a live object and pass the test, which is of the first one
+-- the number of slabs with live objects whose first live object passes the test
 abbrev pub count_slabs : (ℕ → Bool) → KnownCache → ℕ
 count_slabs test c = length (filter (λ p. slice_index (live_beside c p) 0 == p && test p) c.live)
 
@@ -347,12 +349,13 @@ abbrev pub is_row : (ℕ → Bool) → KnownCache × CacheRow → Bool
 is_row may_have_empty (c, row) = ((row.cache == c.number && row.live == length c.live) && (row.empty == 0 || may_have_empty c.number))
     && (row.full == count_slabs (is_slab_full c) c && row.partial == count_slabs (λ p. not (is_slab_full c p)) c)
 
--- how many blocks of order k are taken
+-- the number of taken blocks of order k: page blocks, and slabs by the rows of a report
 abbrev pub known_count : Holdings → List CacheRow → ℕ → ℕ
 known_count h rows k = length (filter (λ b. b.order == k) h.pages)
     + sum_by (λ p. if p.0.order == k then p.1.full + p.1.partial + p.1.empty else 0) (zip h.caches rows)
 
--- there are a row of each order and of each cache; the figures are those of the state, and the free blocks such as there can be
+-- there is a row for each order and each cache; the figures are those of the state, and there are no more free blocks than can
+-- stand
 abbrev pub report : Event → Body → Known → State → Bool
 report (Event.Tenant t Command.Report) (Body.Report r) w s =
     let orders = range_with_len 0 (w.order + 1) in
@@ -381,12 +384,12 @@ report (Event.Admin (AdminCommand.Reset t)) body w s = true
 report (Event.Admin (AdminCommand.Move t u)) body w s = true
 report (Event.Admin AdminCommand.Pool) body w s = true
 
--- the number of frames in empty slabs of the caches that pass, by a report
+-- the number of frames in empty slabs of the caches whose number passes the test, by a report
 abbrev pub empty_frames : (ℕ → Bool) → Holdings → Report → ℕ
 empty_frames test h r = sum_by (λ p. if test p.0.number then p.1.empty * 2 ^ p.0.order else 0) (zip h.caches r.caches.items)
 
--- as long as a report has to stand, what comes back is what it told, and a new one tells the same
--- (of free blocks and empty slabs; the rest is the state's)
+-- while the last report is valid, a destroy or a reap frees the frames of its empty slabs, and a new report has the same free
+-- blocks and empty slabs (its other figures follow from the state)
 abbrev pub still : Event → Body → Known → State → Bool
 still (Event.Tenant t (Command.Destroy number)) (Body.Destroyed frames) w s =
     option_map_or (λ r. frames == empty_frames (λ n. n == number) s.has r) s.told true
@@ -413,7 +416,7 @@ still (Event.Admin AdminCommand.Pool) body w s = true
 
 -- The step
 
--- the tenant that an event names, be there such a tenant or not
+-- the tenant that an event names, whether it exists or not
 abbrev pub named : Event → Option ℕ
 named (Event.Tenant t command) = Some t
 named (Event.Admin (AdminCommand.Grant t)) = Some t
@@ -461,7 +464,7 @@ is_no_tenant (Body.Reaped frames) = false
 is_no_tenant (Body.Report r) = false
 is_no_tenant (Body.Fault fault) = false
 
--- a tenant that does not exist is said not to
+-- the verdict on a reply; if the named tenant does not exist, the reply has to be `NoTenant`
 abbrev pub judged : Event → Reply → Known → Option State → Result Known Promise
 judged event reply w None =
     verdict ((Promise.Form, is_for event false reply.addressee) ∷ (Promise.Refusals, is_no_tenant reply.body) ∷ []) w

@@ -1,4 +1,4 @@
--- What is known after the events and replies so far, and what one more makes of it.
+-- What is known after the events and replies so far, and how one more exchange changes it.
 use Rattle.std.specs.Prelude.{ℕ, Bool, false, not, List, [], map, filter, length, Option, Some, None, slice_set, replicate, nat_lt, ◌&&◌, ◌||◌, ◌==◌}
 use Rattle.std.specs.List.{list_any}
 use Rattle.std.specs.Option.{option_map_or}
@@ -15,7 +15,8 @@ use Rattle.model_core.specs.Owners.{owned_by, is_of, is_owner}
 use Rattle.promise_core.specs.Holdings.{KnownCache, Holdings, known_cache, with_live_places, slab_around, are_apart}
 use Rattle.promise_core.specs.Bytes.{Holder, is_object, is_same, Cells, with_bytes, doubted, without, holder_of}
 
--- Of a tenant: the caches that pass `may_have_empty` may have a slab without live objects; `told` is the last report, while it holds.
+-- What is known of a tenant. A cache whose number passes `may_have_empty` may have a slab without live objects; `told` is the
+-- last report, while it is valid.
 pub record State : Type 0 where
   pub has : Holdings
   pub cells : Cells
@@ -26,7 +27,8 @@ unfoldable pub opening_state : State
 opening_state =
     record { has = record { slots = []; pages = []; caches = [] }; cells = λ place. None; may_have_empty = λ n. false; told = None }
 
--- by superblock the tenant and the slot that own it, by tenant its state; limit on its caches, slots have 2 ^ order frames
+-- for each superblock the tenant and the slot that own it, and for each tenant its state; a tenant may have `limit` caches, and
+-- slots have 2 ^ order frames
 pub record Known : Type 0 where
   pub limit : ℕ
   pub order : ℕ
@@ -37,23 +39,25 @@ unfoldable pub opening : ℕ → ℕ → ℕ → ℕ → Known
 opening limit order superblocks tenants =
     record { limit = limit; order = order; owners = replicate superblocks None; states = replicate tenants opening_state }
 
--- a cache has a live object
+-- the cache exists and has a live object
 abbrev pub is_in_use : Option KnownCache → Bool
 is_in_use cache = option_map_or (λ c. nat_lt 0 (length c.live)) cache false
 
 abbrev pub with_range : ℕ → List ℕ → State → Option Holder → State
 with_range place bytes s holder = record s { cells = option_map_or (λ x. with_bytes x place bytes s.cells) holder s.cells }
 
--- an object taken at `first` has its slab to itself and to others of its cache: what else was left there is gone
+-- an object is taken at `first`: of what was left in its slab, only bytes of that object, and of objects of its cache that share
+-- no byte with it, are still known
 abbrev pub with_object : ℕ → Option KnownCache → Cells → Cells
 with_object first cache cells = option_map_or (λ c. without (λ place holder. in_block place (slab_around c first)
     && not (is_object (λ n p. n == c.number && (p == first || are_apart c first p)) holder)) cells) cache cells
 
--- the object is in no slab that has a live one
+-- the object is in no slab that has a live object of its cache
 abbrev pub is_in_no_slab : Holdings → ℕ → ℕ → Bool
 is_in_no_slab h n p = not (list_any (λ c. c.number == n && list_any (λ q. in_block p (slab_around c q)) c.live) h.caches)
 
--- the state after a reply to an event, as before after a refusal, None where it is no answer; slots have 2 ^ order frames
+-- the state after a reply to an event: unchanged after a refusal, None if the body is no answer to the event; slots have
+-- 2 ^ order frames
 unfoldable pub state_after : ℕ → Event → Body → State → Option State
 state_after order event (Body.Refused refusal) s = Some s
 state_after order (Event.Tenant t (Command.Alloc k)) (Body.Frame f) s = let b = block f k in
@@ -118,7 +122,7 @@ state_after order event (Body.Reaped frames) s = None
 state_after order event (Body.Report r) s = None
 state_after order event (Body.Fault fault) s = None
 
--- the owners after it
+-- the owners after a reply to an event
 unfoldable pub owners_after : Event → Body → List (Option Owner) → List (Option Owner)
 owners_after (Event.Admin (AdminCommand.Grant t)) (Body.Granted named u superblock) owners = slice_set owners superblock (Some (owned_by t u))
 owners_after (Event.Admin (AdminCommand.TakeBack t u)) (Body.TakenBack superblock) owners = map (given_up (is_owner t u)) owners

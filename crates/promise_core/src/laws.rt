@@ -9,7 +9,7 @@ pub fn live_apart()
     ensures { LiveApart }
 {}
 
-/// After allowed replies, a byte is known only of places in slots that the tenant holds. So a checker can forget a slot when it
+/// After allowed replies, bytes are known only at places in slots that the tenant holds. So a checker can forget a slot when it
 /// is taken back.
 pub fn left_in_held()
     ensures { LeftInHeld }

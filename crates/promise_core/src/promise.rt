@@ -8,9 +8,10 @@ use std::fmt;
 /// A promise that every reply has to keep. If a reply breaks several, the first of them is reported.
 #[derive(Clone, Copy, Debug, PartialEq, Eq)]
 pub enum Promise {
-    /// The reply has the right addressee and is one to that event.
+    /// The reply has the right addressee and is a refusal or an answer to that event.
     Form,
-    /// If the condition of a refusal holds, the first such refusal comes. Otherwise only `NoFrames` or `SlotBusy` may.
+    /// If the condition of a refusal holds, the first such refusal is the reply. Otherwise only `NoFrames` and `SlotBusy` may
+    /// refuse.
     Refusals,
     /// No page block or object is refused for lack of frames while one can be allocated.
     Room,
@@ -26,9 +27,9 @@ pub enum Promise {
     Gives,
     /// A superblock has one owner, and each change of owners is reported.
     Owners,
-    /// A byte that is read was left there, or belongs to something fresh.
+    /// A byte that is read is the one that was left there, or a fresh one if nothing was left or that is in doubt.
     Bytes,
-    /// A report has the figures of what the tenant has.
+    /// A report has the figures of the tenant's slots, page blocks and objects.
     Report,
     /// The figures of a report stay valid until the tenant changes something, or the administrator does for it.
     Still,
