@@ -1,4 +1,4 @@
--- A page block taken: every promise is kept.
+-- An `alloc` keeps the promises.
 use Rattle.std.proofs.Common.{◌≡◌, ℕ, ◌+◌, ◌<◌, Bool, true, false, not, ◌&&◌, ltb, Option, Some, None, refl, sym, ap, ◌∙◌, subst}
 use Rattle.std.specs.Prelude.{if◌then◌else◌}
 use Rattle.std.proofs.lemmas.Bool.{ltb-false, and_from}
@@ -38,7 +38,7 @@ use Rattle.promise_kept.proofs.Reaped.{untold, by_need_meets, object_in_slab}
 abbrev left_there : Block → ℕ → Holder → Bool
 left_there b place holder = in_block place b && not (is_same Holder.Page holder)
 
--- what is known after a page block is taken
+-- what is known after a page block is allocated
 abbrev after_alloc : Block → State → State
 after_alloc b s = record s {
   has = record s.has { pages = put_rising (λ x. x.first) b s.has.pages };

@@ -1,4 +1,4 @@
--- How many numbers below a bound pass a test: by halves of blocks, by blocks without a common frame, by lists that have them.
+-- Counts of the numbers below a bound that pass a test: by halves of blocks, by blocks that share no frame, and by lists.
 use Rattle.std.proofs.Common.{◌≡◌, ℕ, zero, suc, ◌+◌, ◌-◌, ◌*◌, ◌/◌, ◌%◌, ◌^◌, ◌<◌, ◌≤◌, Bool, true, false, not, ◌&&◌, ◌||◌, eqb, ltb, leb, List, [], ◌∷◌, length, refl, sym, ap, ◌∙◌, ⊎_elim, arith}
 use Rattle.std.specs.Prelude.{filter}
 use Rattle.std.specs.List.{list_any, AllByRecursion as Each}
@@ -32,11 +32,11 @@ two_bits true false = refl
 two_bits false true = refl
 two_bits false false = refl
 
--- the block is clear, and that of the next order around it is not
+-- the block is clear, and the block of the next order around it is not
 abbrev pub is_clear_alone : (ℕ → Bool) → ℕ → ℕ → Bool
 is_clear_alone ok k q = is_clear ok k q && not (is_clear ok (suc k) (q / 2))
 
--- clear blocks are those that are so alone, and the halves of those of the next order
+-- clear blocks are those that are clear alone, and the halves of the clear blocks of the next order
 pub clear_halves : (ok : ℕ → Bool) (k n : ℕ) → count_below (is_clear ok k) (n * 2) ≡ count_below (is_clear_alone ok k) (n * 2) + 2 * count_below (is_clear ok (suc k)) n
 clear_halves ok k zero = refl
 clear_halves ok k (suc n) =
@@ -63,7 +63,7 @@ first_only p a (suc j) none =
     let all : count_below p (a + 1 + suc j) ≡ count_below p (a + 1 + j) + bit (p (a + 1 + j)) = ap (count_below p) e in
     omega (arith, last, rest, all)
 
--- where only multiples pass
+-- if only multiples of `s` pass
 pub strided : (p : ℕ → Bool) (s n : ℕ) → 0 < s → ((f : ℕ) → p f ≡ true → f % s ≡ 0) → count_below p (n * s) ≡ count_below (λ q. p (q * s)) n
 strided p s zero pos only = let e : zero * s ≡ 0 = omega arith in ap (count_below p) e
 strided p s (suc n) pos only =
@@ -90,7 +90,7 @@ count_or p q (suc n) apart = let rest : count_below (λ x. p x || q x) n ≡ cou
     go true b off = let none : bit b ≡ 0 = ap bit (off refl) in omega (arith, none)
     go false b off = omega arith
 
--- those that pass one test, by another that passes fewer
+-- the numbers that pass a test are those that pass a stricter one, and the rest
 pub count_less : (p q : ℕ → Bool) (n : ℕ) → ((x : ℕ) → q x ≡ true → p x ≡ true) → count_below p n ≡ count_below q n + count_below (λ x. p x && not (q x)) n
 count_less p q zero fewer = refl
 count_less p q (suc n) fewer = let rest : count_below p n ≡ count_below q n + count_below (λ x. p x && not (q x)) n = count_less p q n fewer in
@@ -114,7 +114,7 @@ frame_in b x e = let p : (leb b.first x ≡ true) × (ltb x (b.first + 2 ^ b.ord
 pub in_frame : (b : Block) (x : ℕ) → HasFrame b x → in_frames b x ≡ true
 in_frame b x (low, high) = and_from (leb b.first x) (ltb x (b.first + 2 ^ b.order)) (le-leb b.first x low) (lt-ltb x (b.first + 2 ^ b.order) high)
 
--- the frame is one of a block's of these
+-- the frame is in one of these blocks
 abbrev pub in_any : List Block → ℕ → Bool
 in_any bs x = list_any (λ b. in_frames b x) bs
 
@@ -129,7 +129,7 @@ count_one b (suc n) = let rest : count_below (in_frames b) n ≡ (n - b.first) -
     (cases_lt n (b.first + 2 ^ b.order)))
     (cases_lt n b.first)
 
--- blocks below the bound that have no frame in common have as many frames as are counted
+-- blocks below the bound that share no frame have as many frames as are counted
 pub count_blocks : (bs : List Block) (n : ℕ) → AreApart bs → Each (λ b. b.first + 2 ^ b.order ≤ n) bs → count_below (in_any bs) n ≡ frames_of bs
 count_blocks [] n apart below = none n
   where
@@ -147,7 +147,7 @@ count_blocks (b ∷ bs) n (first, apart) (here, below) =
 
 -- Lists
 
--- a list that has all that pass is no shorter
+-- a list that contains all numbers that pass has at least as many elements as there are such numbers
 pub count_listed : (p : ℕ → Bool) (n : ℕ) (ys : List ℕ) → ((x : ℕ) → x < n → p x ≡ true → IsIn x ys) → count_below p n ≤ length ys
 count_listed p zero ys all = omega arith
 count_listed p (suc n) ys all = go (p n) refl

@@ -29,7 +29,7 @@ alone c s = record c { slabs = s ∷ [] }
 abbrev pub places_in : Cache → Slab → List ℕ
 places_in c s = map (λ o. o.place) (live_objects (alone c s))
 
--- How many there are
+-- Their number
 
 abbrev places_from : Cache → Slab → ℕ → List Bool → List ℕ
 places_from c s n flags = map (λ o. o.place) (live_from c s n flags ++ [])
@@ -63,7 +63,7 @@ less_count c s e = not_all_live (alone c s) s 0 s.live e
 pub some_count : (c : Cache) (s : Slab) → list_any (λ live. live) s.live ≡ true → 0 < length (places_in c s)
 some_count c s e = any_live (alone c s) s 0 s.live e
 
--- Which they are
+-- The objects
 
 pub record IsBeside (c : Cache) (s : Slab) (u : ℕ) : Type 0 where
   pub index : ℕ
@@ -83,7 +83,7 @@ beside_at c s u i = let l : IsLivePlace (alone c s) u = live_place (alone c s) u
       at = l.at ∙ ap (λ t. object_place (layout c) t.first t.colour l.index) (sym e);
     }
 
--- the slab told by this place is the one told by the other
+-- the slabs seen around two places are the same
 abbrev is_here : Cache → ℕ → ℕ → Bool
 is_here c place p = eqb (slab_around (cache_as_known c) p).first (slab_around (cache_as_known c) place).first
 
@@ -91,7 +91,7 @@ module _ {limit : ℕ} (order : ℕ) (c : Cache) (m : Machine) (w : IsWellFormed
   pub is_slab : (s : Slab) → IsIn s c.slabs → IsSlab c s
   is_slab s in_s = each_in (IsSlab c) s c.slabs (slabs_of c (each_in IsCache c m.caches w.caches in_c)) in_s
 
-  -- the slab that is told by the place of an object, live or not, is its slab
+  -- the slab seen around the place of an object, live or not, is its slab
   pub slab_here : (s : Slab) (i : ℕ) → IsIn s c.slabs → i < (layout c).count → slab_around (cache_as_known c) (object_place (layout c) s.first s.colour i) ≡ slab_block c s
   slab_here s i in_s lt =
       let p : ℕ = object_place (layout c) s.first s.colour i in
@@ -106,7 +106,7 @@ module _ {limit : ℕ} (order : ℕ) (c : Cache) (m : Machine) (w : IsWellFormed
   slab_of_live u l = ap (λ p. slab_around (cache_as_known c) p) l.at
       ∙ slab_here l.slab l.index l.slab_in (subst (λ n. l.index < n) (is_slab l.slab l.slab_in).count l.index_in)
 
-  -- those beside an object, live or not, are those of its slab
+  -- the live objects beside an object, live or not, are those of its slab
   pub beside_is : (s : Slab) (i : ℕ) → IsIn s c.slabs → i < (layout c).count → live_beside (cache_as_known c) (object_place (layout c) s.first s.colour i) ≡ places_in c s
   beside_is s i in_s lt = same_members 0 (live_beside (cache_as_known c) place) (places_in c s)
       (subst (RisesFrom 0) (map-id (filter (is_here c place) live)) (filter_rises (λ p. p) (is_here c place) 0 live (subst (RisesFrom 0) (sym (map-id live)) (live_rises order c m w in_c))))

@@ -1,4 +1,4 @@
--- A cache made: every promise is kept.
+-- A command for a new cache keeps the promises.
 use Rattle.std.proofs.Common.{◌≡◌, ◌≢◌, ℕ, suc, ◌+◌, ◌-◌, ◌*◌, ◌%◌, ◌^◌, ◌<◌, ◌≤◌, Bool, true, false, not, ◌&&◌, eqb, ltb, leb, List, [], ◌∷◌, map, length, Option, Some, None, refl, sym, ap, ◌∙◌, subst, inl, inr, arith}
 use Rattle.std.specs.Prelude.{if◌then◌else◌, Result, is_none, find}
 use Rattle.std.specs.List.{list_any, AllByRecursion as Each}
@@ -31,7 +31,7 @@ use Rattle.world_core.specs.PrivateStep.{cache_body, command_step}
 use Rattle.promise_core.specs.Promises.{due}
 use Rattle.promise_kept.proofs.Cells.{all_kept, formed, refused}
 
--- The least number that no cache has
+-- The smallest number that no cache has
 
 missing_most : (n : ℕ) (xs : List ℕ) → least_missing n xs ≤ n + length xs
 missing_most n [] = omega arith
@@ -41,12 +41,12 @@ missing_most n (x ∷ xs) = go (eqb x n) (missing_most (n + 1) xs)
     go true le = omega arith
     go false le = omega arith
 
--- numbers that rise below a limit are no more than there are
+-- ascending numbers from `n` up to below a limit are at most `limit - n`
 few_below : (n limit : ℕ) (xs : List ℕ) → n ≤ limit → RisesFrom n xs → Each (λ x. x < limit) xs → n + length xs ≤ limit
 few_below n limit [] le r each = omega arith
 few_below n limit (x ∷ xs) le (l, r) (b, each) = let rest = few_below (x + 1) limit xs (omega arith) r each in omega (arith, rest, l)
 
--- the new cache, as it is told
+-- the caches with the new one, as seen
 new_told : (c : Cache) (cs : List Cache) → map cache_as_known (put_rising (λ x. x.number) c cs) ≡ put_rising (λ (x : KnownCache). x.number) (cache_as_known c) (map cache_as_known cs)
 new_told c [] = refl
 new_told c (d ∷ cs) = go (ltb c.number d.number) (new_told c cs)
@@ -65,7 +65,7 @@ missing_all n limit (x ∷ xs) (l, r) (b, each) le =
     ap (λ t. if t then least_missing (n + 1) xs else n) (eq-eqb x n same)
     ∙ (missing_all (n + 1) limit xs (subst (λ k. RisesFrom (k + 1) xs) same r) each (omega (arith, le)) ∙ omega arith)
 
--- all numbers below the limit are used where there are as many caches
+-- all numbers below the limit are used exactly if there are that many caches
 full_seen : (limit order : ℕ) (m : Machine) (s : State) → IsWellFormed limit order m → Meets order s m → leb limit (length s.has.caches) ≡ leb limit (next_number m)
 unfolding next_number holdings_of
 full_seen limit order m s w h = ap (λ (x : Holdings). leb limit (length x.caches)) h.has ∙ (ap (leb limit) (length-map m.caches cache_as_known) ∙ go (leb limit (least_missing 0 numbers)) refl)

@@ -1,4 +1,4 @@
--- What may be at a place: cells in doubt, cells dropped, and what does not live.
+-- The bytes that may be at a place: cells in doubt, cells dropped, and holders that are not live.
 use Rattle.std.proofs.Common.{◌≡◌, ℕ, Bool, true, false, not, ◌||◌, ◌&&◌, eqb, Option, Some, None, refl, sym, ap, ◌∙◌, List}
 use Rattle.std.specs.Prelude.{if◌then◌else◌, is_some, drop}
 use Rattle.std.specs.List.{list_all}
@@ -18,7 +18,7 @@ use Rattle.promise_core.specs.State.{State, Known, state_after}
 use Rattle.promise_core.specs.Promises.{form, refusals, room, busy, blocks, objects, new_layout, gives, owners, bytes, report, still, kept}
 use Rattle.promise_kept.specs.Meets.{is_object_live, Meets, IsKeptBy}
 
--- each promise is kept
+-- the list of all promises is kept, if each of them is
 pub all_kept : (event : Event) (reply : Reply) (w : Known) (s : State) → form event reply w s ≡ true → refusals event reply.body w s ≡ true → room event reply.body w s ≡ true
     → busy event reply.body w s ≡ true → blocks event reply.body w s ≡ true → objects event reply.body w s ≡ true → new_layout event reply.body w s ≡ true
     → gives event reply.body w s ≡ true → owners event reply.body w s ≡ true → bytes event reply.body w s ≡ true → report event reply.body w s ≡ true
@@ -29,7 +29,7 @@ all_kept event reply w s a b c d e f g h i j k l =
 pub formed : (t : ℕ) (o : Option State) → is_some o ≡ true → (eqb t t && is_some o) ≡ true
 formed t o e = and_from (eqb t t) (is_some o) (eq-eqb t t refl) e
 
--- a refusal that is due, and of which no other promise speaks, changes nothing
+-- a refusal that is due, and that no other promise is about, changes nothing
 pub refused : (limit order : ℕ) (command : Command) (refusal : Refusal) (s : State) (m : Machine) → Meets order s m
     → ((t : ℕ) (owners : List (Option Owner)) (states : List State) → let w : Known = record { limit = limit; order = order; owners = owners; states = states } in
     (refusals (On.Tenant t command) (Say.Refused refusal) w s ≡ true)
@@ -59,11 +59,11 @@ is_same_refl (Holder.Object n p) = and_from (eqb n n) (eqb p p) (eq-eqb n n refl
 
 -- Cells
 
--- every sure cell is of something that lives
+-- the holder of every sure cell is live
 abbrev pub IsLiving : Holdings → Cells → Type 0
 IsLiving h cells = (place : ℕ) (cell : Cell) → cells place ≡ Some cell → cell.sure ≡ true → is_object_live h cell.holder place ≡ true
 
--- of what does not live the fresh byte may be
+-- a holder that is not live may have the fresh byte
 pub fresh_may : (h : Holdings) (cells : Cells) → IsLiving h cells → (holder : Holder) (place fresh : ℕ) → is_object_live h holder place ≡ false
     → may_be holder fresh (cells place) fresh ≡ true
 fresh_may h cells lives holder place fresh dead = go (cells place) refl
@@ -81,7 +81,7 @@ fresh_may h cells lives holder place fresh dead = go (cells place) refl
     go None e = eq-eqb fresh fresh refl
     go (Some cell) e = cell_may cell e (is_same cell.holder holder) refl
 
--- what may be may be when it is in doubt
+-- a byte that may be there may still be there when it is in doubt
 pub doubt_may : (test : ℕ → Holder → Bool) (cells : Cells) (holder : Holder) (place fresh byte : ℕ) → may_be holder fresh (cells place) byte ≡ true
     → may_be holder fresh (doubted test cells place) byte ≡ true
 doubt_may test cells holder place fresh byte = go (cells place)
@@ -126,7 +126,7 @@ without_some test cells place cell e = go (cells place) refl e
     go None is none = absurd (cc)
     go (Some was) is some = one was (test place was.holder) refl is some
 
--- what may be may be where the cells of others are dropped
+-- a byte that may be there may still be there after the cells of other holders are dropped
 pub without_may : (test : ℕ → Holder → Bool) (cells : Cells) (holder : Holder) (place fresh byte : ℕ) → test place holder ≡ false
     → may_be holder fresh (cells place) byte ≡ true → may_be holder fresh (without test cells place) byte ≡ true
 without_may test cells holder place fresh byte spared = go (cells place)

@@ -1,4 +1,5 @@
--- The figures of a report: free blocks have each frame that is held and not taken once, and lie where nothing is seen as taken.
+-- The figures of a report: each frame that is held and not taken is in one free block, and free blocks lie where nothing is seen
+-- as taken.
 use Rattle.std.proofs.Common.{◌≡◌, ℕ, zero, suc, ◌+◌, ◌-◌, ◌*◌, ◌/◌, ◌%◌, ◌^◌, ◌<◌, ◌≤◌, Bool, true, false, not, ◌&&◌, ◌||◌, eqb, leb, List, [], ◌∷◌, map, length, refl, sym, ap, ◌∙◌, subst, inl, inr, arith}
 use Rattle.std.specs.Prelude.{flat_map}
 use Rattle.std.specs.List.{list_any, range_with_len}
@@ -87,7 +88,7 @@ module _ (top : ℕ) (held : ℕ → Bool) (taken : Taken) (slots : ℕ) where
 
 -- Frames held, taken and available
 
--- the blocks of slots that rise lie apart
+-- the blocks of slots in ascending order lie apart
 slots_apart : (order n : ℕ) (us : List ℕ) → RisesFrom n us → AreApart (map (slot_block order) us)
 slots_apart order n [] r = tt
 slots_apart order n (u ∷ us) (l, r) = (
@@ -157,7 +158,7 @@ module _ {limit : ℕ} (order : ℕ) (m : Machine) (w : IsWellFormed limit order
       let p : IsPlaced order m b.0 = placed_in b.0 b.1 in
       sym (held_is x) ∙ (ap (holds m) (frame_slot order x b.0 p.0 (frame_in b.0 x b.2)) ∙ p.1)
 
-  -- the last frame of a taken block is below the bound
+  -- a taken block ends at or below the bound
   used_below : (b : Block) → IsIn b (model.taken_blocks m) → b.first + 2 ^ b.order ≤ bound
   used_below b i = let p : IsPlaced order m b = placed_in b i in
       let last : ℕ = b.first + (2 ^ b.order - 1) in

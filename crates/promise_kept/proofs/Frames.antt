@@ -1,4 +1,4 @@
--- How many frames come back, of which slabs, and what a report told of them.
+-- The number of frames that are freed, the slabs that they come from, and what a report said of them.
 use Rattle.std.proofs.Common.{◌≡◌, ℕ, ◌+◌, ◌-◌, ◌*◌, ◌%◌, ◌^◌, ◌≤◌, Bool, true, false, List, [], ◌∷◌, ◌++◌, map, length, refl, sym, ap, ◌∙◌, subst, ◌⊎◌, inl, inr, ⊎_elim, arith}
 use Rattle.std.specs.Prelude.{if◌then◌else◌, filter, flat_map, sum_by}
 use Rattle.std.specs.List.{zip, AllByRecursion as Each}
@@ -17,9 +17,9 @@ use Rattle.model_core.proofs.Lists.{each_append, each_weaker, each_map, each_tru
 use Rattle.promise_core.specs.Holdings.{KnownCache}
 use Rattle.promise_kept.specs.Meets.{cache_as_known}
 
--- The least order
+-- The lowest order
 
--- a cache with an empty slab, of the least order of those
+-- a cache with an empty slab, whose order is the lowest of those caches
 pub record IsLeast (cs : List Cache) : Type 0 where
   pub cache : Cache
   pub slab : Slab
@@ -72,7 +72,7 @@ least_order (c ∷ cs) = go (filter is_empty c.slabs) refl (least_order cs)
     })
     go (s ∷ ss) e (inr l) = inr (lower l s (filter_in is_empty s c.slabs (subst (IsIn s) (sym e) (inl refl))).0)
 
--- blocks of at least an order have a multiple of its frames
+-- blocks of order `q` or above have a multiple of 2 ^ q frames
 multiple : (q : ℕ) (bs : List Block) → Each (λ b. q ≤ b.order) bs → (n : ℕ) × (frames_of bs ≡ n * 2 ^ q)
 multiple q [] h = (0, omega arith)
 multiple q (b ∷ bs) (le, h) =
@@ -87,7 +87,7 @@ multiple q (b ∷ bs) (le, h) =
 pub frames_divide : (q : ℕ) (bs : List Block) → Each (λ b. q ≤ b.order) bs → frames_of bs % 2 ^ q ≡ 0
 frames_divide q bs h = let n : (n : ℕ) × (frames_of bs ≡ n * 2 ^ q) = multiple q bs h in ap (λ k. k % 2 ^ q) n.1 ∙ mul-mod_left n.0 (2 ^ q)
 
--- What a report told
+-- What a report said
 
 pub frames_append : (xs ys : List Block) → frames_of (xs ++ ys) ≡ frames_of xs + frames_of ys
 frames_append [] ys = omega arith
@@ -98,7 +98,7 @@ frames_map c [] = omega arith
 frames_map c (s ∷ ss) = let rest : frames_of (map (slab_block c) ss) ≡ length ss * 2 ^ (layout c).order = frames_map c ss in
     let more : (length ss + 1) * 2 ^ (layout c).order ≡ length ss * 2 ^ (layout c).order + 2 ^ (layout c).order = omega arith in omega (arith, rest, more)
 
--- the blocks of the empty slabs of the caches whose numbers pass
+-- the blocks of the cache's empty slabs, if its number passes the test
 abbrev pub empty_of : (ℕ → Bool) → Cache → List Block
 empty_of test c = if test c.number then empty_blocks c else []
 

@@ -1,4 +1,4 @@
--- A page block released: every promise is kept.
+-- A `free` keeps the promises.
 use Rattle.std.proofs.Common.{◌≡◌, ℕ, ◌+◌, Bool, true, false, not, ◌&&◌, eqb, map, Option, Some, None, refl, sym, ap, ◌∙◌, subst}
 use Rattle.std.specs.Prelude.{filter}
 use Rattle.std.specs.List.{list_any}
@@ -34,7 +34,7 @@ freed_there b place holder = in_block place b && is_same Holder.Page holder
 abbrev without_pages : ℕ → Holdings → Holdings
 without_pages first h = record h { pages = filter (λ x. not (eqb x.first first)) h.pages }
 
--- what is known after a page block is released
+-- what is known after a page block is freed
 abbrev after_free : ℕ → ℕ → State → State
 after_free first k s = record s { has = without_pages first s.has; cells = doubted (freed_there (block first k)) s.cells; told = None }
 

@@ -1,4 +1,4 @@
--- A new slab is not seen: what is known of a machine is so once a cache has grown.
+-- A new slab is not seen: what is known of a machine stays true after a cache has grown.
 use Rattle.std.proofs.Common.{◌≡◌, ℕ, zero, suc, ◌+◌, ◌<◌, Bool, true, false, ◌||◌, eqb, ltb, List, [], ◌∷◌, ◌++◌, map, replicate, Some, refl, sym, ap, ◌∙◌, subst, ◌⊎◌, inl, inr, arith}
 use Rattle.std.specs.Prelude.{if◌then◌else◌, flat_map, Contains}
 use Rattle.std.specs.List.{list_any, AllByRecursion as Each}
@@ -85,7 +85,7 @@ module _ {limit : ℕ} (order first : ℕ) (c : Cache) (m : Machine) (st : State
       in_slab_laid n p ∙ (ap (λ ls. list_any (in_laid p) ls) g.is ∙ (any_put (in_laid p) g.xs g.ys (laid c new)
       ∙ (ap (λ ls. in_block p (slab_block c new) || list_any (in_laid p) ls) (sym g.was) ∙ ap (λ b. in_block p (slab_block c new) || b) (sym (in_slab_laid m p)))))
 
-  -- objects that stood there before
+  -- objects that existed before
   old_byte : (x : Cache) (t : Slab) (k j byte : ℕ) → IsIn x m.caches → IsIn t x.slabs → k < (layout x).count → j < x.size → n.bytes (object_place (layout x) t.first t.colour k + j) ≡ Some byte
       → may_be (Holder.Object x.number (object_place (layout x) t.first t.colour k)) (pattern_byte x.pattern j) (st.cells (object_place (layout x) t.first t.colour k + j)) byte ≡ true
   old_byte x t k j byte in_x in_t lt below is =

@@ -1,4 +1,4 @@
--- An object of a slab that isn't live can be handed out.
+-- A take may return an object of a slab that is not live.
 use Rattle.std.proofs.Common.{◌≡◌, ℕ, zero, suc, ◌+◌, ◌-◌, ◌*◌, ◌/◌, ◌%◌, ◌^◌, ◌<◌, ◌≤◌, Bool, true, false, ◌||◌, ◌&&◌, eqb, ltb, leb, List, [], ◌∷◌, map, length, get_or, refl, sym, ap, ◌∙◌, subst, ◌⊎◌, inl, inr, arith}
 use Rattle.std.specs.Prelude.{flat_map}
 use Rattle.std.specs.List.{list_any, list_all, AllByRecursion as Each}
@@ -26,18 +26,18 @@ use Rattle.promise_kept.proofs.Stand.{overlap_shares}
 use Rattle.promise_kept.proofs.Live.{IsLivePlace, live_place}
 use Rattle.promise_kept.proofs.Beside.{places_in, less_count, some_count, IsBeside, beside_at, is_slab, slab_here, slab_of_live, beside_is}
 
--- a flag that is set is one of these
+-- if one flag is set, some flag is
 flag_any : (flags : List Bool) (i : ℕ) → get_or flags i false ≡ true → list_any (λ live. live) flags ≡ true
 flag_any [] i e = absurd (false≢true e)
 flag_any (flag ∷ flags) zero e = or_left flag (list_any (λ live. live) flags) e
 flag_any (flag ∷ flags) (suc i) e = or_right flag (list_any (λ live. live) flags) (flag_any flags i e)
 
--- a frame begins at a multiple of each alignment
+-- a frame begins at a multiple of every alignment
 frame_aligned : (align : ℕ) → is_alignment align ≡ true → (f n : ℕ) → n % align ≡ 0 → (4096 * f + n) % align ≡ 0
 frame_aligned = for_alignment (λ a. (f n : ℕ) → n % a ≡ 0 → (4096 * f + n) % a ≡ 0)
     (λ f n e. omega (arith, e)) (λ f n e. omega (arith, e)) (λ f n e. omega (arith, e)) (λ f n e. omega (arith, e)) (λ f n e. omega (arith, e)) (λ f n e. omega (arith, e))
 
--- the test of `can_be_taken`, of these live objects beside it and this slab
+-- the test of `can_be_taken` for these live objects beside the place, and this slab
 abbrev is_takable : ℕ → Holdings → KnownCache → ℕ → List ℕ → Block → Bool
 is_takable order h c place beside b = (eqb (place % c.align) 0 && (ltb 0 (length beside) || can_stand order h b))
     && (ltb (length beside) c.count && (list_all (are_apart c place) beside
@@ -68,7 +68,7 @@ module _ {limit : ℕ} (order : ℕ) (c : Cache) (s : Slab) (m : Machine) (w : I
           let row : j * (layout c).chunk + (layout c).chunk ≤ i * (layout c).chunk = row_fits j (layout c).chunk i (layout c).chunk (omega (arith, le, differ)) (omega arith) in
           or_right (leb (p + c.size) q) (leb (q + c.size) p) (le-leb (q + c.size) p (omega (arith, row, is_layout.chunked)))
 
-  -- Where none of the slab's objects is live it can stand
+  -- If none of the slab's objects is live, the slab can stand
 
   other_apart : list_any (λ live. live) s.live ≡ false → (b : Block) → IsIn b (known_blocks (holdings_of m)) → IsApart (slab_block c s) b
   unfolding known_blocks holdings_of

@@ -16,14 +16,14 @@ use Rattle.promise_kept.specs.Meets.{cache_as_known, holdings_of, is_object_live
 use Rattle.promise_kept.proofs.Live.{IsLivePlace, live_place, place_listed}
 use Rattle.promise_kept.proofs.Flag.{replaced_other, replaced_one}
 
--- the state with what is seen of the machine in place of what it has
+-- the state whose holdings are replaced by those seen of the machine
 abbrev pub seen : Machine → State → State
 seen m s = record s { has = holdings_of m }
 
 pub seen_is : (m : Machine) (s : State) → s.has ≡ holdings_of m → seen m s ≡ s
 seen_is m s e = sym (ap (λ (h : Holdings). record s { has = h }) e)
 
--- a cache is seen by its number
+-- a cache is found by its number among the caches that are seen
 pub cache_seen : (number : ℕ) (cs : List Cache) → find (λ c. eqb c.number number) (map cache_as_known cs) ≡ option_map cache_as_known (find (λ c. eqb c.number number) cs)
 cache_seen number [] = refl
 cache_seen number (c ∷ cs) = go (eqb c.number number) (cache_seen number cs)
@@ -70,7 +70,7 @@ unfolding holdings_of
 told_live m number first place l = any_in (is_told number first) (cache_as_known l.cache) (map cache_as_known m.caches) (in_map cache_as_known l.cache m.caches l.cache_in)
     (and_from (eqb l.cache.number number) (list_any (λ p. eqb p first) (map (λ o. o.place) (live_objects l.cache))) (eq-eqb l.cache.number number l.number_is) (any_place first l.cache l.place))
 
--- such an object is live too where another cache of its number stands in place of its own
+-- an object that is live stays live if its cache is replaced by another with its number, in which the object is live
 pub live_replaced : (c d : Cache) (m : Machine) → RisesFrom 0 (map (λ x. x.number) m.caches) → IsIn c m.caches → c.number ≡ d.number → (number first : ℕ) → IsLiveIn number first m.caches
     → (number ≡ c.number → IsLivePlace c first → IsLivePlace d first) → IsLiveIn number first (with_cache d m).caches
 live_replaced c d m rises in_c same number first k still = go (cases_eq k.cache.number c.number)

@@ -1,4 +1,4 @@
--- Live objects by their first places: they rise, and each is that of a live flag.
+-- Live objects by their first places, which ascend; each is the place of an object whose live flag is set.
 use Rattle.std.proofs.Common.{◌≡◌, ℕ, zero, suc, ◌+◌, ◌*◌, ◌^◌, ◌<◌, ◌≤◌, Bool, true, false, List, [], ◌∷◌, ◌++◌, map, length, get_or, sym, ap, ◌∙◌, subst, ◌⊎◌, inl, inr, arith}
 use Rattle.std.specs.Prelude.{flat_map}
 use Rattle.std.specs.List.{AllByRecursion as Each}
@@ -100,7 +100,7 @@ slabs_rise c (s ∷ ss) n low (k, h) (l, r) (a, rest) (b, bs) =
     (live_low c s 0 end s.live (λ i lt. let p = place_below c s i k.fit (omega (arith, lt, k.count)) in omega (arith, p.1, k.fit.chunked)))
     (omega (arith, b)) (slabs_rise c ss (s.first + 1) end h r rest after))
 
--- the first places of the live objects of a cache rise
+-- the first places of the live objects of a cache ascend
 pub live_rises : {limit : ℕ} (order : ℕ) (c : Cache) (m : Machine) → IsWellFormed limit order m → IsIn c m.caches → RisesFrom 0 (map (λ o. o.place) (live_objects c))
 live_rises order c m w i =
     let h : IsCache c = each_in IsCache c m.caches w.caches i in

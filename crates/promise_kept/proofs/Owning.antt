@@ -1,4 +1,4 @@
--- Who owns which superblock: the pool, superblocks given up and granted, and how many a tenant has.
+-- The owners of superblocks: the pool, superblocks given up and granted, and the number of superblocks of a tenant.
 use Rattle.std.proofs.Common.{◌≡◌, ◌≢◌, ℕ, zero, suc, ◌+◌, ◌<◌, ◌≤◌, Bool, true, false, ◌&&◌, ◌||◌, cond, eqb, List, [], ◌∷◌, map, length, Option, Some, None, is_none, position, slice_get, refl, sym, ap, ◌∙◌, subst, ⊎_elim, arith}
 use Rattle.std.specs.Prelude.{if◌then◌else◌, is_some, find, slice_set}
 use Rattle.std.specs.List.{list_any, list_all, position_or_len, position_from, zip}
@@ -47,7 +47,7 @@ not_all_owned (Some x ∷ xs) (suc j) e = not_all_owned xs j e
 
 -- Superblocks given up and granted
 
--- of others'
+-- if only superblocks of others are given up, one's own stay
 pub given_others : (test mine : Option Owner → Bool) (xs : Owners) → ((o : Option Owner) → mine o ≡ true → test o ≡ false) → mine None ≡ false
     → list_any mine (map (given_up test) xs) ≡ list_any mine xs
 given_others test mine [] apart none = refl
@@ -58,7 +58,7 @@ given_others test mine (x ∷ xs) apart none = ap (λ b. b || list_any mine (map
     go true true is own = absurd (false≢true (sym (apart x own) ∙ is))
     go true false is own = none ∙ sym own
 
--- of one's own
+-- if all of one's own superblocks are given up, none is left
 pub given_own : (test mine : Option Owner → Bool) (xs : Owners) → ((o : Option Owner) → mine o ≡ true → test o ≡ true) → mine None ≡ false
     → list_any mine (map (given_up test) xs) ≡ false
 given_own test mine [] all none = refl
@@ -75,7 +75,7 @@ granted_any mine [] j x e none = absurd (cc)
 granted_any mine (y ∷ xs) zero x e none = let same : y ≡ None = cc in ap (λ b. mine x || b) (sym (ap (λ b. b || list_any mine xs) (ap mine same ∙ none)))
 granted_any mine (y ∷ xs) (suc j) x e none = ap (λ b. mine y || b) (granted_any mine xs j x e none) ∙ or_turned (mine y) (mine x) (list_any mine xs)
 
--- where nobody was, nobody is once others gave up
+-- a superblock without an owner has none after others gave theirs up
 pub given_free : (test : Option Owner → Bool) (xs : Owners) (j : ℕ) → slice_get xs j ≡ Some None → slice_get (map (given_up test) xs) j ≡ Some None
 given_free test [] j e = absurd (cc)
 given_free test (x ∷ xs) zero e = let same : x ≡ None = cc in ap (λ y. Some y) (go (test x) same)
@@ -85,7 +85,7 @@ given_free test (x ∷ xs) zero e = let same : x ≡ None = cc in ap (λ y. Some
     go false same = same
 given_free test (x ∷ xs) (suc j) e = given_free test xs j e
 
--- the first superblock that passes does
+-- the first superblock found by a test passes it
 pub first_passes : (test : Option Owner → Bool) (xs : Owners) → list_any test xs ≡ true → option_map_or test (slice_get xs (position_or_len test xs)) false ≡ true
 first_passes test xs e = ap (λ o. option_map_or test o false) (sym (find_at test xs)) ∙ found xs e
   where
@@ -108,9 +108,9 @@ pub owner_of : (t u v : ℕ) (o : Option Owner) → is_owner t u o ≡ true → 
 owner_of t u v None e = absurd (false≢true e)
 owner_of t u v (Some o) e = let a : (eqb o.tenant t ≡ true) × (eqb o.slot u ≡ true) = and_parts (eqb o.tenant t) (eqb o.slot u) e in ap (λ n. eqb n v) (eqb-true o.tenant t a.0)
 
--- How many there are
+-- Their number
 
--- a superblock without owner counts
+-- the number of superblocks without an owner
 abbrev pub nobodys : Owners → ℕ
 nobodys [] = 0
 nobodys (None ∷ xs) = 1 + nobodys xs
@@ -162,11 +162,11 @@ owned_most t n (Some x ∷ xs) =
     count_either (λ v. eqb x.tenant t && eqb x.slot v) (λ v. list_any (is_owner t v) xs) n in
     omega (arith, rest, both, count_slot (eqb x.tenant t) x.slot n)
 
--- where a superblock has no owner, a tenant that has all slots below n has not as many as there are superblocks
+-- if some superblock has no owner, and a tenant has all slots below `n`, there are more than `n` superblocks
 pub slots_fewer : (t n : ℕ) (xs : Owners) (j : ℕ) → slice_get xs j ≡ Some None → ((v : ℕ) → v < n → list_any (is_owner t v) xs ≡ true) → n < length xs
 slots_fewer t n xs j e all = omega (arith, some_free xs j e, owned_most t n xs, count_all (λ v. list_any (is_owner t v) xs) n all)
 
--- a rising list has all numbers below its least missing one
+-- an ascending list has all numbers below its smallest missing one
 pub below_missing : (n v : ℕ) (xs : List ℕ) → n ≤ v → v < least_missing n xs → list_any (λ x. eqb x v) xs ≡ true
 below_missing n v [] low lt = absurd (omega (arith, low, lt))
 below_missing n v (x ∷ xs) low lt = go (eqb x n) refl lt (below_missing (n + 1) v xs)

@@ -1,4 +1,4 @@
--- What holds a range in reach, and what is known after its bytes are told or written.
+-- The holder of a range in reach, and what is known after its bytes are read or written.
 use Rattle.std.proofs.Common.{◌≡◌, ℕ, zero, suc, ◌+◌, ◌-◌, ◌*◌, ◌^◌, ◌<◌, ◌≤◌, Bool, true, false, not, ◌||◌, ◌&&◌, eqb, ltb, leb, List, [], ◌∷◌, ◌++◌, map, length, Option, Some, None, refl, sym, ap, ◌∙◌, subst, arith}
 use Rattle.std.specs.Prelude.{if◌then◌else◌, slice_index}
 use Rattle.std.specs.List.{list_any}
@@ -61,7 +61,7 @@ holder_is order m place len holder w e = go (ltb 0 len) (list_any (within_block 
     go true true is e = let b = some_any (within_block place len) m.blocks is in let same : Holder.Page ≡ holder = cc in page (sym same) b.0 b.1 b.2
     go true false is e = of_object e
 
--- the holder of a range lives at each of its places
+-- the holder of a range is live at each of its places
 pub holder_lives : (m : Machine) (place len : ℕ) (holder : Holder) → IsHolder m place len holder → (p : ℕ) → place ≤ p → p < place + len → is_object_live (holdings_of m) holder p ≡ true
 unfolding holdings_of
 holder_lives m place len holder (page is b i e) p low high =
@@ -70,7 +70,7 @@ holder_lives m place len holder (page is b i e) p low high =
 holder_lives m place len holder (object o i is e l) p low high =
     ap (λ x. is_object_live (holdings_of m) x p) is ∙ (ap (λ x. is_object_live (holdings_of m) x place) (sym is) ∙ l)
 
--- the bytes do not matter to a report
+-- a report does not depend on the bytes
 order_rows_same : (order n : ℕ) (m : Machine) (bytes : ℕ → Option ℕ) → order_rows order (record m { bytes = bytes }) n ≡ order_rows order m n
 unfolding model.taken_blocks
 order_rows_same order zero m bytes = refl

@@ -1,4 +1,4 @@
--- Bytes read: every promise is kept.
+-- A `read` keeps the promises.
 use Rattle.std.proofs.Common.{◌≡◌, ℕ, zero, suc, ◌+◌, ◌-◌, ◌*◌, ◌^◌, ◌<◌, ◌≤◌, Bool, true, false, not, ◌&&◌, eqb, leb, List, [], ◌∷◌, length, get_or, Option, Some, None, refl, sym, ap, ◌∙◌, subst, arith}
 use Rattle.std.specs.Prelude.{if◌then◌else◌, Result, is_some, filter_map, Ok}
 use Rattle.std.specs.List.{range_with_len, cons_option}
@@ -33,7 +33,7 @@ use Rattle.promise_kept.proofs.Range.{IsHolder, holder_is, range_meets}
 use Rattle.promise_kept.proofs.Write.{reach_seen}
 use Rattle.promise_kept.proofs.Known.{cache_known}
 
--- the bytes of a range all of whose places have one
+-- the bytes of a range, if each of its places has one
 read_all : (bytes : ℕ → Option ℕ) (place len : ℕ) → ((p : ℕ) → place ≤ p → p < place + len → is_some (bytes p) ≡ true)
     → (length (filter_map bytes (range_with_len place len)) ≡ len) × ((p : ℕ) → place ≤ p → p < place + len → bytes p ≡ Some (get_or (filter_map bytes (range_with_len place len)) (p - place) 0))
 read_all bytes place zero all = (refl, λ p low high. absurd (omega arith))
@@ -62,7 +62,7 @@ all_may h cells holder place (byte ∷ bytes) all =
     (all_may h cells holder (place + 1) bytes (λ p low high. let next : p - place ≡ suc (p - (place + 1)) = omega (arith, low) in
     ap (λ k. may_be holder (known_fresh_byte h holder p) (cells p) (get_or (byte ∷ bytes) k 0)) (sym next) ∙ all p (omega (arith, low)) (omega (arith, high))))
 
--- what the holder of a range has at a place of it may be there
+-- the machine's byte at a place of a range is one that the holder may have there
 byte_may : {limit : ℕ} (order : ℕ) (s : State) (m : Machine) (place len : ℕ) (holder : Holder) → IsWellFormed limit order m → Meets order s m → IsHolder m place len holder
     → (p byte : ℕ) → place ≤ p → p < place + len → m.bytes p ≡ Some byte → may_be holder (known_fresh_byte s.has holder p) (s.cells p) byte ≡ true
 byte_may {limit} order s m place len holder w h (IsHolder.page is b i t) p byte low high there =

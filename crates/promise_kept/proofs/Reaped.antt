@@ -1,4 +1,4 @@
--- What is known of a machine is so once all its empty slabs are given back, but for what a report told.
+-- What is known of a machine, except for its last report, stays true after all its empty slabs are freed.
 use Rattle.std.proofs.Common.{◌≡◌, ℕ, ◌+◌, ◌<◌, Bool, true, false, not, ◌||◌, map, Some, None, refl, sym, ap, ◌∙◌, subst}
 use Rattle.std.specs.Prelude.{if◌then◌else◌, filter, flat_map, Contains}
 use Rattle.std.specs.List.{list_any}
@@ -23,7 +23,7 @@ use Rattle.promise_kept.specs.Meets.{holdings_of, is_object_live, Meets}
 use Rattle.promise_kept.proofs.Seen.{holdings_reaped}
 use Rattle.promise_kept.proofs.Cells.{fresh_may}
 
--- no report has to stand
+-- the state without its last report
 abbrev pub untold : State → State
 untold s = record s { told = None }
 
@@ -60,7 +60,7 @@ module _ {limit : ℕ} (order : ℕ) (s : State) (m : Machine) (w : IsWellFormed
   gone : ℕ → Bool
   gone place = list_any (in_block place) (flat_map empty_blocks m.caches)
 
-  -- a place is in a slab where it is in one that stays, or in one that is given back
+  -- a place is in a slab exactly if it is in one that stays, or in one that is freed
   in_slab_split : (place : ℕ) → in_slab m place ≡ (gone place || in_slab (reaped m) place)
   unfolding gone reaped
   in_slab_split place = in_slab_laid m place ∙ (any_split (in_laid place) is_empty_laid (all_laid m.caches)

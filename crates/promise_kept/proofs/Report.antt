@@ -1,4 +1,4 @@
--- A report: what it tells is so, and as long as it has to stand a new one tells the same.
+-- A report: its figures are true, and while it is valid a new one has the same.
 use Rattle.std.proofs.Common.{◌≡◌, ℕ, zero, suc, ◌+◌, ◌-◌, ◌*◌, ◌^◌, ◌<◌, ◌≤◌, Bool, true, false, ◌&&◌, eqb, List, [], ◌∷◌, ◌++◌, map, length, Option, Some, None, refl, sym, ap, ◌∙◌, subst, inl, inr, ⊎_elim, arith}
 use Rattle.std.specs.Prelude.{if◌then◌else◌, filter, drop, slice_index}
 use Rattle.std.specs.List.{list_all, zip, range_with_len}
@@ -197,7 +197,7 @@ module _ (limit order : ℕ) (m : Machine) (s : State) (w : IsWellFormed limit o
       (subst (λ xs. frames_of_counts xs ≤ length (vacant_blocks order (holdings_of m) k)) (sym (free_drop k (omega (arith, high)))) (free_fits order m w k (omega (arith, high))))))
       refl))))))))))
 
-  -- a report that has to stand is told again
+  -- while the last report is valid, a new one has the same free blocks and empty slabs
   stays : (t : ℕ) (owners : List (Option Owner)) (states : List State)
       → still (On.Tenant t Command.Report) (Say.Report (figures_of order m)) (record { limit = limit; order = order; owners = owners; states = states }) (seen m s) ≡ true
   unfolding figures_of

@@ -1,4 +1,4 @@
--- What the promises see of a machine: empty slabs are not seen, and reach is the same.
+-- What the promises see of a machine: empty slabs are not seen, and the same ranges are in reach.
 use Rattle.std.proofs.Common.{◌≡◌, ℕ, ◌+◌, Bool, true, false, not, ◌||◌, ◌&&◌, cond, ltb, List, [], ◌∷◌, ◌++◌, map, Option, Some, None, refl, sym, ap, ◌∙◌}
 use Rattle.std.specs.Prelude.{if◌then◌else◌, filter, find, flat_map, is_some}
 use Rattle.std.specs.List.{list_any}

@@ -1,4 +1,4 @@
--- What is known of a machine is so when a slot is granted, and when one is taken back.
+-- What is known of a machine is true after a slot is granted, and after one is taken back.
 use Rattle.std.proofs.Common.{◌≡◌, ◌≢◌, ℕ, ◌+◌, ◌<◌, Bool, true, false, not, ◌||◌, cond, eqb, List, [], ◌∷◌, map, Option, Some, None, refl, sym, ap, ◌∙◌, subst, ⊎_elim, arith}
 use Rattle.std.specs.Prelude.{if◌then◌else◌, filter, flat_map}
 use Rattle.std.specs.List.{list_any}
@@ -26,7 +26,7 @@ use Rattle.promise_kept.proofs.Stand.{taken_seen}
 use Rattle.promise_kept.proofs.Cells.{fresh_may, without_some, without_may}
 use Rattle.promise_kept.proofs.Reaped.{object_in_slab}
 
--- what lives does not hang on the slots
+-- whether a holder is live does not depend on the slots
 lives_still : (us : List ℕ) (h : Holdings) (holder : Holder) (place : ℕ) → is_object_live h holder place ≡ true → is_object_live (record h { slots = us }) holder place ≡ true
 lives_still us h Holder.Page place e = e
 lives_still us h (Holder.Object n first) place e = e
@@ -109,13 +109,13 @@ module _ {limit : ℕ} (order : ℕ) (m : Machine) (s : State) (w : IsWellFormed
       there o byte true e = absurd (cc)
       there o byte false e = (refl, e)
 
-  -- what is seen as busy is so
+  -- a slot that is seen as busy is busy
   pub busy_seen : (u : ℕ) → operations.is_busy order m u ≡ false → is_slot_busy order (holdings_of m) u ≡ false
   unfolding operations.is_busy
   busy_seen u e = ap (λ b. not (not b)) (any_none (operations.overlaps (slot_block order u)) (known_blocks (holdings_of m)) (each_from (λ t. operations.overlaps (slot_block order u) t ≡ false) (known_blocks (holdings_of m))
       (λ t i. each_in (λ t. operations.overlaps (slot_block order u) t ≡ false) t (model.taken_blocks m) (none_any (operations.overlaps (slot_block order u)) (model.taken_blocks m) e) (taken_seen order m t w i))))
 
-  -- a slot is busy only where it is seen so, or a slab may stand
+  -- a busy slot is seen as busy, or some cache may have an empty slab
   pub busy_may : (u : ℕ) → operations.is_busy order m u ≡ true → (is_slot_busy order (holdings_of m) u || list_any (λ c. s.may_have_empty c.number) (holdings_of m).caches) ≡ true
   unfolding operations.is_busy model.taken_blocks holdings_of known_blocks
   busy_may u e =

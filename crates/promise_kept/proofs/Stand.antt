@@ -1,4 +1,4 @@
--- The taken blocks that are seen of a machine, and what can stand beside them.
+-- The taken blocks that are seen of a machine, and the blocks that can stand beside them.
 use Rattle.std.proofs.Common.{◌≡◌, ℕ, ◌+◌, ◌-◌, ◌*◌, ◌/◌, ◌%◌, ◌^◌, ◌<◌, ◌≤◌, Bool, true, false, not, eqb, ltb, List, [], ◌∷◌, ◌++◌, map, length, Option, Some, None, refl, sym, ap, ◌∙◌, subst, inl, inr, ⊎_elim, arith}
 use Rattle.std.specs.Prelude.{filter, flat_map, is_some, option_map}
 use Rattle.std.specs.List.{list_any, range_with_len, AllByRecursion as Each}
@@ -43,7 +43,7 @@ overlap_shares a b e apart =
 
 -- Slabs of live objects
 
--- the slab that is told by the place of a live object is its slab
+-- the slab seen around the place of a live object is its slab
 pub slab_seen : {limit : ℕ} (order : ℕ) (m : Machine) (c : Cache) (o : LiveObject) → IsWellFormed limit order m → IsIn c m.caches → IsIn o (live_objects c)
     → slab_around (cache_as_known c) o.place ≡ slab_block c o.slab
 slab_seen order m c o w in_c in_o =
@@ -76,7 +76,7 @@ in_use_listed order m b c w in_c i =
     let is : slab_block c o.0.slab ≡ b = sym (slab_seen order m c o.0 w in_c o.1) ∙ (ap (λ x. slab_around (cache_as_known c) x) o.2 ∙ p.2) in
     subst (λ x. IsIn x (slab_blocks c)) is (in_map (slab_block c) o.0.slab c.slabs (live_is c o.0 o.1).slab_in)
 
--- what is seen as taken is taken ..
+-- a block that is seen as taken is taken ..
 pub taken_seen : {limit : ℕ} (order : ℕ) (m : Machine) (b : Block) → IsWellFormed limit order m → IsIn b (known_blocks (holdings_of m)) → IsIn b (model.taken_blocks m)
 unfolding model.taken_blocks
 taken_seen order m b w i = elim (in_append b m.blocks (flat_map slabs_in_use m.caches) (subst (λ bs. IsIn b bs) (seen_parts m) i)) [
@@ -102,7 +102,7 @@ in_use order m b c w in_c i =
     subst (λ x. IsIn x (map (slab_around (cache_as_known c)) (map (λ o. o.place) (live_objects c)))) is
     (in_map (slab_around (cache_as_known c)) o.0.place (map (λ o. o.place) (live_objects c)) (in_map (λ o. o.place) o.0 (live_objects c) in_o))
 
--- .. and what is taken once all empty slabs are given back is seen so
+-- .. and a block that is taken after all empty slabs are freed is seen as taken
 pub taken_is_seen : {limit : ℕ} (order : ℕ) (m : Machine) (b : Block) → IsWellFormed limit order m → IsIn b (model.taken_blocks (reaped m)) → IsIn b (known_blocks (holdings_of m))
 unfolding model.taken_blocks reaped
 taken_is_seen order m b w i = subst (λ bs. IsIn b bs) (sym (seen_parts m)) (elim (in_append b m.blocks (flat_map slab_blocks (map without_empty m.caches)) i) [
@@ -113,9 +113,9 @@ taken_is_seen order m b w i = subst (λ bs. IsIn b bs) (sym (seen_parts m)) (eli
       in_right b m.blocks (flat_map slabs_in_use m.caches) (in_flat_map slabs_in_use b c.0 m.caches c.1 (in_use order m b c.0 w c.1 (subst (λ x. IsIn b (slab_blocks x)) (sym c.2) d.2)))
 ])
 
--- What is chosen
+-- The chosen block
 
--- what a machine chooses can stand ..
+-- the block that a machine chooses can stand ..
 pub chosen_stands : {limit : ℕ} (order k first : ℕ) (m : Machine) → IsWellFormed limit order m → choice order m k ≡ Some first → can_stand order (holdings_of m) (block first k) ≡ true
 unfolding can_stand holdings_of
 chosen_stands order k first m w is =
@@ -125,13 +125,13 @@ chosen_stands order k first m w is =
     (and_from _ _ placed.1 (not_from_false _ (any_none (overlaps (block first k)) (known_blocks (holdings_of m)) (each_from (λ b. overlaps (block first k) b ≡ false) (known_blocks (holdings_of m)) (λ b i.
     false_from_ne_true (overlaps (block first k) b) (λ e. overlap_shares (block first k) b e (each_in (IsApart (block first k)) b (model.taken_blocks m) apart (taken_seen order m b w i))))))))
 
--- .. also where empty slabs are given back by need
+-- .. also if empty slabs are freed on demand
 pub by_need_stands : {limit : ℕ} (order k first : ℕ) (m : Machine) → IsWellFormed limit order m → choice_by_need order k m ≡ Some first → can_stand order (holdings_of m) (block first k) ≡ true
 by_need_stands order k first m w is = subst (λ h. can_stand order h (block first k) ≡ true)
     (by_need_keeps (λ n. holdings_of n ≡ holdings_of m) order k m refl (holdings_reaped m))
     (chosen_stands order k first (by_need order k m) (by_need_kept order k m w) is)
 
--- Room
+-- Free space
 
 module _ (order k : ℕ) (of_slot : k ≤ order) where
   abbrev share : ℕ
@@ -144,7 +144,7 @@ module _ (order k : ℕ) (of_slot : k ≤ order) where
       ∙ (sym (div-div-eq-div-mul (i * 2 ^ k) (2 ^ k) share)
       ∙ (ap (λ n. n / share) (mul-div_cancel i (pow_pos k)) ∙ div-eq_of_lt-le share low (omega arith)))
 
-  -- what is seen as vacant is so once all empty slabs are given back
+  -- a block that is seen as vacant is vacant after all empty slabs are freed
   vacant_is : {limit : ℕ} (m : Machine) (u i : ℕ) → IsWellFormed limit order m → IsIn u m.slots → u * share ≤ i → i < u * share + share
       → is_vacant (holdings_of m) (block (i * 2 ^ k) k) ≡ true → IsVacant order (holds m) (taken_in (reaped m)) (i * 2 ^ k) k
   vacant_is m u i w in_u low high e = record {
@@ -172,7 +172,7 @@ unserved order k m w of_slot none = ap (λ bs. ltb 0 (length bs)) (none_in _ (λ
     some_first (choose order (holds m) (taken_in (reaped m)) (beyond m.slots) k)
     (some_choice order (holds m) (taken_in (reaped m)) (beyond m.slots) (held_below m.slots) (q.0 * 2 ^ k) k v) none))
 
--- where a request gets nothing there is no room
+-- if a request gets no block, no block is vacant
 pub room_served : {limit : ℕ} (order k : ℕ) (m : Machine) → IsWellFormed limit order m → k ≤ order → choice_by_need order k m ≡ None → has_vacant_block order (holdings_of m) k ≡ false
 room_served order k m w of_slot none = unserved order k m w of_slot (go (choice order (reaped m) k) refl)
   where

@@ -1,4 +1,4 @@
--- An object that is not live is handed out: every promise is kept.
+-- A `take` of an object that is not live keeps the promises.
 use Rattle.std.proofs.Common.{◌≡◌, ℕ, ◌+◌, ◌/◌, ◌<◌, Bool, true, false, not, ◌&&◌, ◌||◌, eqb, [], ◌∷◌, get_or, Some, None, refl, sym, ap, ◌∙◌, subst, ◌⊎◌, inl, inr}
 use Rattle.std.specs.Prelude.{is_none, Contains}
 use Rattle.std.specs.List.{list_all}
@@ -35,11 +35,11 @@ use Rattle.promise_kept.proofs.TakePlaces.{place_put}
 use Rattle.promise_kept.proofs.Beside.{is_slab, slab_here}
 use Rattle.promise_kept.proofs.Handed.{two_apart, can_take}
 
--- a slab of the cache with this number may stand empty, and no report has to stand
+-- the state in which the cache with this number may have an empty slab, and the last report is forgotten
 abbrev pub hidden : ℕ → State → State
 hidden number s = record s { may_have_empty = λ n. eqb n number || s.may_have_empty n; told = None }
 
--- the cells of the slab's bytes that are no object's of the cache, beside the one taken
+-- the cells in the slab around `first` that are of neither the taken object nor an object of the cache apart from it
 abbrev left_beside : KnownCache → ℕ → ℕ → Holder → Bool
 left_beside c first place holder = in_block place (slab_around c first) && not (is_object (λ n p. eqb n c.number && (eqb p first || are_apart c first p)) holder)
 
@@ -68,7 +68,7 @@ module _ {limit : ℕ} (order : ℕ) (c : Cache) (s : Slab) (i : ℕ) (m : Machi
   still_live p (Holder.Object number first) e = told_live n number first p (live_replaced c d m w.caches_rise in_c refl number first (live_told m number first p e)
       (λ _ was. live_other limit order c s i true m w in_c in_s lt first was (λ f. not_live (subst (IsLivePlace c) f was))))
 
-  -- the cells of what is in other slabs, or an object of this one, are left
+  -- the cells in other slabs, and of objects of this one, are left
   page_left : (p : ℕ) → in_slab m p ≡ false → left_beside (cache_as_known c) place p Holder.Page ≡ false
   page_left p out = ap (λ b. b && true) (ap (in_block p) (slab_here order c m w in_c s i in_s lt)
       ∙ each_in (λ k. in_laid p k ≡ false) (laid c s) (all_laid m.caches) (none_of (in_laid p) (all_laid m.caches) (sym (in_slab_laid m p) ∙ out)) (in_all_laid c s m.caches in_c in_s))

@@ -1,4 +1,4 @@
--- An object that is taken: its first place is put into its cache's.
+-- An object that is taken: its first place is put among those of its cache.
 use Rattle.std.proofs.Common.{◌≡◌, ◌≢◌, ℕ, ◌<◌, true, List, map, refl, sym, subst, ◌⊎◌, inl, inr, arith}
 use Rattle.std.proofs.lemmas.List.{map-id}
 use Rattle.model_core.specs.Layouts.{object_place}
@@ -12,7 +12,7 @@ use Rattle.model_core.proofs.Rising.{same_members}
 use Rattle.promise_kept.proofs.Live.{live_rises, IsLivePlace, live_place, place_listed}
 use Rattle.promise_kept.proofs.Flag.{replaced_one, live_after, live_other, live_this}
 
--- the object, which isn't live, is taken
+-- the object, which is not live, is taken
 pub place_put : {limit : ℕ} (order : ℕ) (c : Cache) (s : Slab) (i : ℕ) (m : Machine) → IsWellFormed limit order m → IsIn c m.caches → IsIn s c.slabs → i < (layout c).count
     → (IsLivePlace c (object_place (layout c) s.first s.colour i) → ⊥)
     → put_rising (λ p. p) (object_place (layout c) s.first s.colour i) (map (λ o. o.place) (live_objects c)) ≡ map (λ o. o.place) (live_objects (with_slab (with_live i true s) c))

@@ -1,4 +1,4 @@
--- An instance of the premises of each law: a short run of events, and the machine that it leaves a tenant.
+-- An instance of the premises of each law: a short run of events, and the machine of a tenant after it.
 use Rattle.std.proofs.Common.{◌≡◌, List, [], ◌∷◌, Some, Ok, slice_get, refl, arith, map, length}
 use Rattle.std.specs.Prelude.{codes}
 use Rattle.std.specs.List.{AllByRecursion}
@@ -78,7 +78,7 @@ StrangerChangesNothing-met : StrangerChangesNothing →
 unfolding opening_world
 StrangerChangesNothing-met law = law 32 3 2 (On.Tenant 2 Command.Reap) (opening 32 3 4 2) (opening_world 4 2) (opening_meets 32 3 4 2 (omega arith)) refl (omega arith)
 
--- The machine that the run leaves tenant 0, and what is known of it
+-- The machine of tenant 0 after the run, and what is known of it
 
 abbrev left : Machine
 left = (private_run 32 3 (own_list 0 (opening_history 32 3 4 2 events)) empty_machine).machine

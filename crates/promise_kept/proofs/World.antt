@@ -1,4 +1,4 @@
--- The world keeps the promises, an event at a time.
+-- The world keeps the promises, event by event.
 use Rattle.std.proofs.Common.{◌≡◌, ◌≢◌, ℕ, zero, suc, ◌+◌, ◌*◌, ◌^◌, ◌<◌, ◌≤◌, Bool, true, false, not, ◌&&◌, ◌||◌, eqb, List, [], ◌∷◌, map, length, Option, Some, None, Ok, is_none, position, slice_get, refl, sym, ap, ◌∙◌, subst, ⊎_elim, arith}
 use Rattle.std.specs.Prelude.{slice_set, count_by, is_some, unwrap_or}
 use Rattle.std.specs.List.{list_any, list_all, position_or_len}
@@ -107,7 +107,7 @@ module _ (limit order : ℕ) (w : World) (states : List State) where
     pub state_of : (t : ℕ) (m : Machine) → slice_get w.machines t ≡ Some m → (s : State) × (slice_get states t ≡ Some s)
     state_of t m is = beside states w.machines t m h.tenants is
 
-    -- one tenant's machine changes, and who owns its slots
+    -- one tenant's machine changes, and so do the owners of its slots
     step_meets : (t : ℕ) (next : State) (m after : Machine) (owners : List (Option Owner)) → slice_get w.machines t ≡ Some m → Meets order next after
         → IsWellFormed limit order after → length owners ≡ length w.owners → ((u : ℕ) → holds after u ≡ list_any (is_owner t u) owners)
         → ((v u : ℕ) → v ≢ t → list_any (is_owner v u) owners ≡ list_any (is_owner v u) w.owners)
@@ -157,7 +157,7 @@ module _ (limit order : ℕ) (w : World) (states : List State) where
       others = λ v other. refl;
     }
 
-    -- a tenant that there is not
+    -- a tenant that does not exist
     pub stranger : (event : Event) (reply : Reply) (t : ℕ) → named event ≡ Some t → slice_get w.machines t ≡ None
         → is_for event false reply.addressee ≡ true → is_no_tenant reply.body ≡ true → IsKeptIn limit order event now (record { reply = reply; world = w })
     stranger event reply t name is for says = record {
@@ -250,7 +250,7 @@ module _ (limit order : ℕ) (w : World) (states : List State) where
           either true = refl
           either false = refl
 
-      -- whose slots are given up
+      -- the slots that the tenant and the others still own
       fewer_mine : (u v : ℕ) → holds (after_take_back order u m) v ≡ list_any (is_owner t v) (map (given_up (is_owner t u)) w.owners)
       fewer_mine u v = ⊎_elim
           (λ (same : v ≡ u). taken_unheld order u m v same ∙ sym (given_own (is_owner t u) (is_owner t v) w.owners (λ o e. ap (λ x. is_owner t x o) (sym same) ∙ e) refl))

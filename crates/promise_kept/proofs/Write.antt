@@ -1,4 +1,4 @@
--- Bytes written: every promise is kept.
+-- A `write` keeps the promises.
 use Rattle.std.proofs.Common.{◌≡◌, ℕ, ◌+◌, ◌-◌, Bool, true, false, ltb, leb, length, Option, Some, None, refl, sym, ap, ◌∙◌, subst, arith}
 use Rattle.std.specs.Prelude.{if◌then◌else◌, is_some, slice_get}
 use Rattle.std.proofs.lemmas.Bool.{and_from, le-leb, lt-ltb, eq-eqb}
@@ -23,7 +23,7 @@ use Rattle.promise_kept.proofs.Seen.{reach_same}
 use Rattle.promise_kept.proofs.Cells.{all_kept, formed, refused}
 use Rattle.promise_kept.proofs.Range.{range_meets}
 
--- what holds a range is seen where the range is in reach
+-- a range has a holder that is seen exactly if it is in reach
 pub reach_seen : (order : ℕ) (m : Machine) (s : State) (place len : ℕ) → Meets order s m → is_some (holder_of s.has place len) ≡ in_reach m place len
 reach_seen order m s place len h = ap (λ x. is_some (holder_of x place len)) h.has ∙ reach_same m place len
 

@@ -1,4 +1,4 @@
--- What the world of the definitions writes keeps the promises.
+-- The output of the world of the definitions keeps the promises.
 use Rattle.std.proofs.Common.{◌≡◌, ℕ, ◌*◌, ◌^◌, ◌≤◌, List, [], ◌∷◌, ◌++◌, Option, Some, None, Result, Ok, Err, refl, ap, ◌∙◌, arith}
 use Rattle.std.specs.Prelude.{map}
 use Rattle.std.proofs.Math.Nat.{mul-le-mul}
@@ -18,7 +18,7 @@ history_events : (limit order : ℕ) (events : List Event) (w : World) → map (
 history_events limit order [] w = refl
 history_events limit order (event ∷ events) w = ap (λ es. event ∷ es) (history_events limit order events (world_step limit order event w).world)
 
--- what one line shows, and what the others tell
+-- the text of one line, and then of the others
 one_told : (only : Option ℕ) (limit order : ℕ) (reading : Result (Option Event) LineFault) (readings : List (Result (Option Event) LineFault)) (events : List Event) (w : World)
     → shown_reading only limit order reading w ++ text_of_replies only readings (history limit order (world_after limit order w (event_in reading)) events)
     ≡ text_of_replies only (reading ∷ readings) (history limit order w (event_in reading ++ events))
@@ -33,7 +33,7 @@ lines_told only limit order (line ∷ lines) w =
     ap (λ more. shown_reading only limit order (reading_of line) w ++ more) (lines_told only limit order lines (world_after limit order w (event_in (reading_of line))))
     ∙ one_told only limit order (reading_of line) (map reading_of lines) (events_of lines) w
 
--- from the opening world on, whatever the lines
+-- the output of any lines from the opening world on is an allowed text
 pub shown_is_allowed : (only : Option ℕ) (limit order superblocks tenants : ℕ) (lines : List (List ℕ)) → 3 ≤ order → superblocks * 2 ^ order * 4096 ≤ 2 ^ 32
     → IsAllowedText only limit order superblocks tenants lines (shown_lines only limit order lines (opening_world superblocks tenants))
 unfolding opening_history
@@ -46,7 +46,7 @@ shown_is_allowed only limit order superblocks tenants lines le ram =
       are_allowed = run.are_allowed;
     }
 
--- the limits of a machine keep RAM small
+-- a machine within the limits has at most 2 ^ 32 places of RAM
 pub ram_is_small : (order superblocks : ℕ) → order ≤ MOST_ORDER → superblocks ≤ MOST_SUPERBLOCKS → superblocks * 2 ^ order * 4096 ≤ 2 ^ 32
 ram_is_small order superblocks low few =
     let frames : superblocks * 2 ^ order ≤ 256 * 256 = mul-le-mul few (pow_mono low) in omega (arith, frames)

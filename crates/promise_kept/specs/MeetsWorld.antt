@@ -1,4 +1,4 @@
--- What is known of the world of the definitions, and what it is that its reply to an event is allowed.
+-- What is known of the world of the definitions, and what it means that its reply to an event is allowed.
 use Rattle.std.specs.Prelude.{◌≡◌, ◌≢◌, ℕ, ◌*◌, ◌^◌, ◌≤◌, length, Some, Ok, slice_get}
 use Rattle.std.specs.List.{list_any}
 use Rattle.model_core.specs.Machine.{Machine, holds}
@@ -10,29 +10,29 @@ use Rattle.promise_core.specs.State.{State, Known}
 use Rattle.promise_core.specs.Promises.{named, allowed}
 use Rattle.promise_kept.specs.Meets.{Meets}
 
--- What is known of a world is so; `limit` is on a tenant's caches, slots have 2 ^ order frames.
+-- What is known of a world is true; `limit` is on a tenant's caches, and slots have 2 ^ order frames.
 pub record MeetsWorld (limit order : ℕ) (k : Known) (w : World) : Type 0 where
-  -- all but the tenants' states is the world's
+  -- all that is known, except for the tenants' states, is the world's own
   pub known : k ≡ record { limit = limit; order = order; owners = w.owners; states = k.states }
   pub tenants : length k.states ≡ length w.machines
-  -- what is known of a tenant is so of its machine
+  -- what is known of a tenant is true of its machine
   pub meets : (t : ℕ) (s : State) (m : Machine) → slice_get k.states t ≡ Some s → slice_get w.machines t ≡ Some m
       → Meets order s m
   pub formed : (t : ℕ) (m : Machine) → slice_get w.machines t ≡ Some m → IsWellFormed limit order m
-  -- a tenant holds the slots under which it owns a superblock
+  -- a tenant holds exactly the slots in which it owns a superblock
   pub held : (t u : ℕ) (m : Machine) → slice_get w.machines t ≡ Some m → holds m u ≡ list_any (is_owner t u) w.owners
   -- no place of RAM is 2 ^ 32 or more
   pub ram : length w.owners * 2 ^ order * 4096 ≤ 2 ^ 32
 
--- The reply of this step is allowed, what is known after it is so of the world after, and of tenants that the event does not name
--- the same is known as before.
+-- The reply of this step is allowed, what is known after it is true of the world after it, and nothing changes in what is known
+-- of tenants that the event does not name.
 pub record IsKeptIn (limit order : ℕ) (event : Event) (k : Known) (step : WorldStep) : Type 0 where
   pub after : Known
   pub is_allowed : allowed event step.reply k ≡ Ok after
   pub meets : MeetsWorld limit order after step.world
   pub others : (t : ℕ) → named event ≢ Some t → slice_get after.states t ≡ slice_get k.states t
 
--- so it is in every world of which what is known is so
+-- this holds in every world, if what is known of it is true
 abbrev pub IsEventKept : ℕ → ℕ → Event → Type 0
 IsEventKept limit order event = (k : Known) (w : World) → MeetsWorld limit order k w
     → IsKeptIn limit order event k (world_step limit order event w)

@@ -1,5 +1,5 @@
--- That the world of the definitions keeps the promises, an event at a time, and over all events. Each is the contract of a
--- function of the module `world_laws`.
+-- The world of the definitions keeps the promises, event by event, and over all events. Each law is the contract of a function
+-- of the module `world_laws`.
 use Rattle.std.specs.Prelude.{◌≡◌, ℕ, ◌*◌, ◌^◌, ◌≤◌, List, length, Some, Ok, ⊤}
 use Rattle.std.specs.List.{AllByRecursion}
 use Rattle.model_core.specs.Runs.{ArePossible}
@@ -15,36 +15,36 @@ use Rattle.promise_core.specs.State.{Known, opening}
 use Rattle.promise_core.specs.Promises.{named, allowed, all_allowed}
 use Rattle.promise_kept.specs.MeetsWorld.{MeetsWorld, IsEventKept}
 
--- a superblock granted, or refused where none is free
+-- a superblock is granted, or the grant is refused if none is free
 abbrev pub GrantIsKept : Type 0
 GrantIsKept = (limit order t : ℕ) → IsEventKept limit order (Event.Admin (AdminCommand.Grant t))
 
--- a slot taken back, where it is held and not busy
+-- a slot is taken back, or the take-back is refused if the slot is not held or busy
 abbrev pub TakeBackIsKept : Type 0
 TakeBackIsKept = (limit order t slot : ℕ) → IsEventKept limit order (Event.Admin (AdminCommand.TakeBack t slot))
 
--- all slots of a tenant given up
+-- all slots of a tenant are given up
 abbrev pub ResetIsKept : Type 0
 ResetIsKept = (limit order t : ℕ) → IsEventKept limit order (Event.Admin (AdminCommand.Reset t))
 
--- a slot moved to another superblock
+-- a slot is moved to another superblock
 abbrev pub MoveIsKept : Type 0
 MoveIsKept = (limit order t slot : ℕ) → IsEventKept limit order (Event.Admin (AdminCommand.Move t slot))
 
--- the table of owners
+-- the table of owners is listed
 abbrev pub PoolIsKept : Type 0
 PoolIsKept = (limit order : ℕ) → IsEventKept limit order (Event.Admin AdminCommand.Pool)
 
--- the event can be asked for: a cache is made with a pattern of 1 to 16 bytes
+-- the event is possible: a cache is made with a pattern of 1 to 16 bytes
 abbrev pub CanBeRequested : Event → Type 0
 CanBeRequested (Event.Tenant t command) = ArePossible (operations_in (Entry.Ask command))
 CanBeRequested (Event.Admin command) = ⊤
 
--- Any event, so a tenant's command too; slots have at least 8 frames, as many as the largest slab.
+-- Any event, including a tenant's command; slots have at least 8 frames, as many as the largest slab.
 abbrev pub EventIsKept : Type 0
 EventIsKept = (limit order : ℕ) (event : Event) → 3 ≤ order → CanBeRequested event → IsEventKept limit order event
 
--- What names a tenant that there is not is said so, and changes neither the world nor what is known.
+-- The reply to an event that names a tenant that does not exist is allowed, and changes neither the world nor what is known.
 abbrev pub StrangerChangesNothing : Type 0
 StrangerChangesNothing = (limit order t : ℕ) (event : Event) (k : Known) (w : World) → MeetsWorld limit order k w
     → named event ≡ Some t → length w.machines ≤ t
@@ -57,13 +57,13 @@ pub record IsKeptRun (limit order superblocks tenants : ℕ) (events : List Even
       (Ok (opening limit order superblocks tenants)) ≡ Ok after
   pub meets : MeetsWorld limit order after (world_after limit order (opening_world superblocks tenants) events)
 
--- From the opening world on every reply is allowed, to all that can be asked, where RAM has at most 2 ^ 32 places ..
+-- From the opening world on every reply to a possible event is allowed, if RAM has at most 2 ^ 32 places ..
 abbrev pub KeepsPromises : Type 0
 KeepsPromises = (limit order superblocks tenants : ℕ) (events : List Event)
     → 3 ≤ order → superblocks * 2 ^ order * 4096 ≤ 2 ^ 32 → AllByRecursion CanBeRequested events
     → IsKeptRun limit order superblocks tenants events
 
--- .. and whatever the trace.
+-- .. and so is every reply to the events of any trace.
 abbrev pub TraceKeepsPromises : Type 0
 TraceKeepsPromises = (limit order superblocks tenants : ℕ) (trace : List ℕ)
     → 3 ≤ order → superblocks * 2 ^ order * 4096 ≤ 2 ^ 32

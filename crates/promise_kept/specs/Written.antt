@@ -1,4 +1,4 @@
--- What it is that a written text keeps the promises.
+-- What it means that a written text keeps the promises.
 use Rattle.std.specs.Prelude.{◌≡◌, ℕ, List, [], ◌∷◌, ◌++◌, map, Option, Some, None, Result, Ok, Err}
 use Rattle.words_core.specs.declared.reply.Addressee.{Addressee}
 use Rattle.words_core.specs.declared.reply.Body.{Body}
@@ -10,8 +10,9 @@ use Rattle.words_core.specs.Grammar.{reading_of}
 use Rattle.promise_core.specs.State.{Known, opening}
 use Rattle.promise_core.specs.Promises.{all_allowed}
 
--- What lines tell that read like this, where the exchanges are their events with the replies: a line with an event its reply, a
--- faulty one its fault, to nobody, a blank one or a comment nothing. With `only` a tenant its replies alone are shown.
+-- The text for lines with these readings, if the exchanges are their events with the replies. A line with an event shows its
+-- reply, a faulty line its fault, addressed to nobody, and a blank line or a comment nothing. With `only`, just that tenant's
+-- replies are shown.
 abbrev pub text_of_replies : Option ℕ → List (Result (Option Event) LineFault) → List Exchange → List ℕ
 text_of_replies only [] exchanges = []
 text_of_replies only (Ok None ∷ readings) exchanges = text_of_replies only readings exchanges
@@ -20,8 +21,8 @@ text_of_replies only (Err fault ∷ readings) exchanges =
 text_of_replies only (Ok (Some event) ∷ readings) [] = []
 text_of_replies only (Ok (Some event) ∷ readings) (e ∷ es) = shown_text only e.reply ++ text_of_replies only readings es
 
--- The text is what the lines tell by replies to their events, and each of these replies is allowed from the opening on, also
--- where it is not shown; `limit` is on a tenant's caches, slots have 2 ^ order frames.
+-- The text is that of replies to the lines' events, and each of these replies is allowed from the opening on, even if it is not
+-- shown; `limit` is on a tenant's caches, and slots have 2 ^ order frames.
 pub record IsAllowedText (only : Option ℕ) (limit order superblocks tenants : ℕ) (lines : List (List ℕ)) (text : List ℕ) : Type 0 where
   pub exchanges : List Exchange
   pub asked : map (λ e. e.event) exchanges ≡ events_of lines

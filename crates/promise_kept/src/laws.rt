@@ -3,32 +3,32 @@
 
 ghost use Rattle.promise_kept.specs.Laws.{AllocIsKept, FreeIsKept, WriteIsKept, ReadIsKept, CacheIsKept, ReportIsKept};
 
-/// A page block is allocated; empty slabs are freed on demand.
+/// The reply to `alloc` keeps the promises. Empty slabs are freed on demand.
 pub fn alloc_is_kept()
     ensures { AllocIsKept }
 {}
 
-/// A page block is freed.
+/// The reply to `free` keeps the promises.
 pub fn free_is_kept()
     ensures { FreeIsKept }
 {}
 
-/// Bytes are written.
+/// The reply to `write` keeps the promises.
 pub fn write_is_kept()
     ensures { WriteIsKept }
 {}
 
-/// Bytes are read.
+/// The reply to `read` keeps the promises.
 pub fn read_is_kept()
     ensures { ReadIsKept }
 {}
 
-/// A cache is made. Slots have at least 8 frames, the size of the largest slab.
+/// The reply to `cache` keeps the promises, if slots have at least 8 frames, the size of the largest slab.
 pub fn cache_is_kept()
     ensures { CacheIsKept }
 {}
 
-/// A report of frames, free blocks and caches.
+/// The reply to `report` keeps the promises.
 pub fn report_is_kept()
     ensures { ReportIsKept }
 {}

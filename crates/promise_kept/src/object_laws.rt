@@ -3,22 +3,23 @@
 
 ghost use Rattle.promise_kept.specs.Laws.{TakeIsKept, GiveIsKept, DestroyIsKept, ReapIsKept};
 
-/// An object is taken; empty slabs are freed on demand. Slots have at least 8 frames, the size of the largest slab.
+/// The reply to `take` keeps the promises, if slots have at least 8 frames, the size of the largest slab. Empty slabs are freed
+/// on demand.
 pub fn take_is_kept()
     ensures { TakeIsKept }
 {}
 
-/// An object is given back.
+/// The reply to `give` keeps the promises.
 pub fn give_is_kept()
     ensures { GiveIsKept }
 {}
 
-/// A cache is destroyed and its slabs are freed.
+/// The reply to `destroy` keeps the promises.
 pub fn destroy_is_kept()
     ensures { DestroyIsKept }
 {}
 
-/// All empty slabs of all caches are freed.
+/// The reply to `reap` keeps the promises.
 pub fn reap_is_kept()
     ensures { ReapIsKept }
 {}

@@ -13,37 +13,37 @@ ghost use Rattle.promise_kept.specs.WorldLaws.{
   TraceKeepsPromises,
 };
 
-/// A superblock is granted.
+/// The reply to `admin grant` keeps the promises.
 pub fn grant_is_kept()
     ensures { GrantIsKept }
 {}
 
-/// A slot is taken back.
+/// The reply to `admin takeback` keeps the promises.
 pub fn take_back_is_kept()
     ensures { TakeBackIsKept }
 {}
 
-/// A tenant is reset.
+/// The reply to `admin reset` keeps the promises.
 pub fn reset_is_kept()
     ensures { ResetIsKept }
 {}
 
-/// A slot is moved to another superblock.
+/// The reply to `admin move` keeps the promises.
 pub fn move_is_kept()
     ensures { MoveIsKept }
 {}
 
-/// The table of owners is listed.
+/// The reply to `admin pool` keeps the promises.
 pub fn pool_is_kept()
     ensures { PoolIsKept }
 {}
 
-/// Any event. Slots have at least 8 frames, and a new cache has a pattern of 1 to 16 bytes.
+/// The reply to any event keeps the promises, if slots have at least 8 frames and a new cache has a pattern of 1 to 16 bytes.
 pub fn event_is_kept()
     ensures { EventIsKept }
 {}
 
-/// An event that names a tenant that does not exist.
+/// The reply to an event that names a tenant that does not exist is allowed, and changes neither the world nor what is known.
 pub fn stranger_changes_nothing()
     ensures { StrangerChangesNothing }
 {}
