@@ -1,4 +1,4 @@
--- Lines that are done one after the other.
+-- Lines that are processed one after another.
 use Rattle.std.proofs.Common.{◌≡◌, ℕ, ◌<◌, Bool, true, false, inl, inr, List, [], ◌∷◌, ◌++◌, Result, Ok, Err, Option, length, refl, ap, sym, subst, ◌∙◌, append_assoc, arith}
 use Rattle.std.proofs.lemmas.List.{append-nil, nil_from_length}
 use Rattle.std.specs.Io.KnownBytes.{Appends, Keeps}
@@ -27,7 +27,7 @@ cut_twice bytes rest left xs ys cut more =
     cut ∙ ap (λ zs. with_line_feeds xs ++ zs) more ∙ sym (append_assoc (with_line_feeds xs) (with_line_feeds ys) left)
     ∙ ap (λ zs. zs ++ left) (sym (with_line_feeds-append xs ys))
 
--- a line that began with what is held ends in the rest
+-- a line that begins with the bytes held ends in the rest
 cut_held : (held rest part after : List ℕ) → rest ≡ (part ++ 10 ∷ []) ++ after → held ++ rest ≡ ((held ++ part) ++ 10 ∷ []) ++ after
 cut_held held rest part after cut =
     ap (λ xs. held ++ xs) cut ∙ sym (append_assoc held (part ++ 10 ∷ []) after)
@@ -46,7 +46,7 @@ module _ {S : Type 0} (does : S → List ℕ → List ℕ → List ℕ → S →
   run_one s s' line old new done =
       (s', done.taken, [], sym (append-nil done.taken), subst (λ (rest : List ℕ). does s line done.taken rest s') done.whole done.did, (refl, refl))
 
-  -- what each line keeps, all of them keep
+  -- a property that each line keeps holds after all of them
   pub run_keeps : (P : List (List ℕ) → List ℕ → S → Type 0)
       → ((xs : List (List ℕ)) (line taken here : List ℕ) (s s' : S) → P xs taken s → does s line here [] s' → P (xs ++ line ∷ []) (taken ++ here) s')
       → (xs lines : List (List ℕ)) (taken more : List ℕ) (s s' : S) → P xs taken s → HaveRun does s lines more s' → P (xs ++ lines) (taken ++ more) s'
@@ -58,12 +58,12 @@ module _ {S : Type 0} (does : S → List ℕ → List ℕ → List ℕ → S →
       (subst (λ (ts : List ℕ). P ((xs ++ line ∷ []) ++ lines) ts s') (append_assoc taken h.1 h.2 ∙ ap (λ ts. taken ++ ts) (sym h.3))
       (run_keeps P step (xs ++ line ∷ []) lines (taken ++ h.1) h.2 h.0 s' (step xs line taken h.1 s h.0 here h.4) h.5))
 
-  -- no line has been done
+  -- no line was processed
   pub gone_nothing : (s : S) (bytes : List ℕ) (known : Option (List ℕ)) → HasGone does s bytes bytes known known s
   gone_nothing s bytes known =
       record { done = []; taken = []; split = refl; ended = tt; ran = (refl, refl); appended = appends_nothing known }
 
-  -- lines, and then more of them
+  -- lines were processed, and then more of them
   pub gone_on : (s mid s' : S) (bytes rest left : List ℕ) (old now new : Option (List ℕ)) → HasGone does s bytes rest old now mid
       → HasGone does mid rest left now new s' → HasGone does s bytes left old new s'
   gone_on s mid s' bytes rest left old now new first then = record {
@@ -75,7 +75,7 @@ module _ {S : Type 0} (does : S → List ℕ → List ℕ → List ℕ → S →
     appended = appends_more old now new first.taken then.taken first.appended then.appended;
   }
 
-  -- .. until the drain failed in one
+  -- .. until the drain failed in a line
   pub stopped_on : (s mid s' : S) (bytes rest : List ℕ) (old now new : Option (List ℕ)) → HasGone does s bytes rest old now mid
       → HasStopped does mid rest now new s' → HasStopped does s bytes old new s'
   stopped_on s mid s' bytes rest old now new first last = record {
@@ -97,7 +97,7 @@ module _ {S : Type 0} (does : S → List ℕ → List ℕ → List ℕ → S →
   result_on (Ok x) now_of s mid s' bytes rest old now new gone h = gone_on s mid s' bytes rest (now_of x) old now new gone h
   result_on (Err e) now_of s mid s' bytes rest old now new gone h = stopped_on s mid s' bytes rest old now new gone h
 
-  -- the line that ends with `part` is done ..
+  -- the line that ends with `part` was processed ..
   pub gone_end : (s mid s' : S) (bytes held rest part after : List ℕ) (old now new : Option (List ℕ)) → HasGone does s bytes (held ++ rest) old now mid
       → IsOneLine held → IsOneLine part → rest ≡ (part ++ 10 ∷ []) ++ after → HasDone does mid (held ++ part) now new (Ok tt) s'
       → HasGone does s bytes after old new s'
@@ -126,7 +126,7 @@ module _ {S : Type 0} (does : S → List ℕ → List ℕ → List ℕ → S →
     done = done;
   }
 
-  -- more bytes come behind, and the drain may have sent
+  -- more bytes follow, and the drain may have sent
   pub gone_given : (s s' : S) (bytes rest more : List ℕ) (old now new : Option (List ℕ)) → HasGone does s bytes rest old now s' → Keeps now new
       → HasGone does s (bytes ++ more) (rest ++ more) old new s'
   gone_given s s' bytes rest more old now new gone kept = record {
@@ -149,7 +149,7 @@ module _ {S : Type 0} (does : S → List ℕ → List ℕ → List ℕ → S →
     appended = appends_kept old now new gone.taken gone.appended kept;
   }
 
-  -- all lines that ended are done
+  -- all lines that ended were processed
   pub ended_are_done : (s s' : S) (given tail : List ℕ) (old new : Option (List ℕ)) → (gone : HasGone does s given tail old new s') → IsOneLine tail
       → HaveRun does s (ended_lines given) gone.taken s'
   ended_are_done s s' given tail old new gone one =
@@ -157,7 +157,7 @@ module _ {S : Type 0} (does : S → List ℕ → List ℕ → List ℕ → S →
       (sym (ap ended_lines gone.split ∙ lines_ended gone.done tail gone.ended
       ∙ ap (λ more. gone.done ++ more) (one_line_unended tail one) ∙ append-nil gone.done)) gone.ran
 
-  -- .. and what is held is what follows them
+  -- .. and the bytes held are those after them
   pub ended_split : (s s' : S) (given tail : List ℕ) (old new : Option (List ℕ)) → (gone : HasGone does s given tail old new s') → IsOneLine tail
       → given ≡ with_line_feeds (ended_lines given) ++ tail
   ended_split s s' given tail old new gone one =
@@ -165,7 +165,7 @@ module _ {S : Type 0} (does : S → List ℕ → List ℕ → List ℕ → S →
       (sym (ap ended_lines gone.split ∙ lines_ended gone.done tail gone.ended
       ∙ ap (λ more. gone.done ++ more) (one_line_unended tail one) ∙ append-nil gone.done))
 
-  -- with nothing held these are all lines
+  -- if no bytes are held, these are all lines
   pub all_are_done : (s s' : S) (given tail : List ℕ) (old new : Option (List ℕ)) → (gone : HasGone does s given tail old new s') → length tail ≡ 0
       → HaveRun does s (lines_of_trace given) gone.taken s'
   all_are_done s s' given tail old new gone none =
@@ -179,7 +179,7 @@ module _ {S : Type 0} (does : S → List ℕ → List ℕ → List ℕ → S →
       ap lines_of_trace gone.split ∙ lines_cut gone.done tail gone.ended
       ∙ ap (λ more. gone.done ++ more) (one_line_cut tail one some)
 
-  -- what is held is the last line, and is done ..
+  -- the bytes held are the last line, which was processed ..
   pub last_is_done : (s mid s' : S) (given tail : List ℕ) (old now new : Option (List ℕ)) → HasGone does s given tail old now mid → IsOneLine tail
       → 0 < length tail → HasDone does mid tail now new (Ok tt) s'
       → (taken : List ℕ) × Appends old new taken × HaveRun does s (lines_of_trace given) taken s'
@@ -230,7 +230,7 @@ pub has_left : {S : Type 0} (leaves : S → List ℕ → S → Type 0) (s : S) (
 has_left leaves s [] s' some left = absurd (omega (arith, some))
 has_left leaves s (b ∷ tail) s' some left = left
 
--- the answer 0 is the end
+-- a pull of 0 bytes is the end
 pub ended_at : (ended : Bool) (count : ℕ) → ended ≡ nat_eq count 0 → count ≡ 0 → ended ≡ true
 ended_at ended count is none = is ∙ ap (λ n. nat_eq n 0) none
 
@@ -255,7 +255,7 @@ pub is_err_of : (r : Result (Unit {0}) Stopped) → is_err r ≡ true → (e : S
 is_err_of (Ok x) failed = cc
 is_err_of (Err e) failed = (e, refl)
 
--- what is left to do of the line is done
+-- the rest of a line's effect is added
 pub done_then : {S : Type 0} (first does : S → List ℕ → List ℕ → List ℕ → S → Type 0) (s mid s' : S) (line : List ℕ) (old new : Option (List ℕ))
     (result : Result (Unit {0}) Stopped) → HasDone first s line old new result mid
     → ((taken rest : List ℕ) → first s line taken rest mid → does s line taken rest s') → HasDone does s line old new result s'

@@ -1,4 +1,4 @@
--- Lines that end, and what is left behind the last of them.
+-- Lines that end, and the bytes after the last of them.
 use Rattle.std.proofs.Common.{◌≡◌, ℕ, ◌<◌, List, [], ◌∷◌, ◌++◌, length, refl, ap, ◌∙◌, arith, append_assoc}
 use Rattle.std.specs.List.{onto_first}
 use Rattle.words_core.specs.Cutting.{lines_of_trace}
@@ -30,12 +30,12 @@ last_line : (b : ℕ) (line : List ℕ) → IsOneLine (b ∷ line) → lines_of_
 last_line b [] h = rw h.0 refl
 last_line b (c ∷ line) h = rw h.0 (ap (onto_first b) (last_line c line h.1))
 
--- without LF they are a line
+-- bytes without an LF are one line
 pub one_line_cut : (line : List ℕ) → IsOneLine line → 0 < length line → lines_of_trace line ≡ line ∷ []
 one_line_cut [] h some = absurd (omega arith)
 one_line_cut (b ∷ line) h some = last_line b line h
 
--- but none that ended
+-- but not a line that ended
 pub one_line_unended : (line : List ℕ) → IsOneLine line → ended_lines line ≡ []
 one_line_unended [] h = refl
 one_line_unended (b ∷ line) h = rw h.0 (ap (onto_ended b) (one_line_unended line h.1))

@@ -1,4 +1,4 @@
--- The first 256 bytes of a line tell all that is asked of it.
+-- The first 256 bytes of a line, and whether it has more, are enough to read it.
 use Rattle.std.proofs.Common.{◌≡◌, ℕ, ◌+◌, ◌-◌, ◌<◌, ◌≤◌, inl, inr, Bool, true, false, List, ◌++◌, Some, Result, Ok, Err, OnOk, length, take, refl, sym, ap, ◌∙◌, arith}
 use Rattle.std.specs.Prelude.{nat_lt, nat_eq, slice_index, if◌then◌else◌}
 use Rattle.std.specs.Result.{is_ok}
@@ -29,7 +29,7 @@ take-more line bytes free is = elim (cases_lt 256 (length line)) [
       ap (λ n. take n (line ++ bytes)) e ∙ take-append-add line bytes free ∙ ap (λ xs. xs ++ take free bytes) (sym short)
 ]
 
--- 256 bytes behind which more bytes fit hold the longer line
+-- if the next bytes fit, the first 256 bytes of the longer line are the old ones and then these
 pub holds_fitting : (line bytes : List ℕ) → length bytes ≤ 256 - length (take 256 line)
     → (take 256 line ++ bytes ≡ take 256 (line ++ bytes)) × (nat_lt 256 (length line) ≡ nat_lt 256 (length (line ++ bytes)))
 holds_fitting line bytes fits =
@@ -43,7 +43,7 @@ holds_fitting line bytes fits =
       ],
     )
 
--- and else their beginning, with the mark
+-- otherwise they are the old ones and a front of these, and the line has more than 256 bytes
 pub holds_overflowing : (line bytes : List ℕ) → 256 - length (take 256 line) < length bytes
     → (take 256 line ++ take (256 - length (take 256 line)) bytes ≡ take 256 (line ++ bytes)) × (true ≡ nat_lt 256 (length (line ++ bytes)))
 holds_overflowing line bytes over =
@@ -65,7 +65,7 @@ stripped : (test : Bool) (line : List ℕ) → 256 < length line → 255 < lengt
 stripped true line h = omega (arith, length-take (length line - 1) line)
 stripped false line h = omega arith
 
--- a line of more than 256 bytes is too long, whatever its end is
+-- a line of more than 256 bytes is too long, however it ends
 pub overlong : (line : List ℕ) → 256 < length line → reading_of line ≡ Err Long
 overlong line h = reading_of-long line (stripped (nat_eq (slice_index line (length line - 1)) 13) line h)
 
@@ -79,7 +79,7 @@ event_short line event read = elim (cases_lt 256 (length line)) [
     no_fault : Err Long ≡ Ok (Some event) → ⊥
     no_fault h = cc
 
--- what is held is a front of the line
+-- the bytes held are a front of the line
 pub held_front : (line front : List ℕ) (pending : Pending) → HoldsLine line pending → front ≡ pending.held.items → IsFrontOf line front
 held_front line front pending holds is = record {
   same = ap (λ xs. take 256 xs) (is ∙ holds.front) ∙ take-take 256 256 line (omega arith);

@@ -1,4 +1,4 @@
--- What was taken keeps the promises.
+-- The bytes taken keep the promises.
 use Rattle.std.proofs.Common.{◌≡◌, ℕ, ◌*◌, ◌^◌, ◌≤◌, Bool, List, [], ◌∷◌, ◌++◌, length, Option, None, Err, ap, sym, subst, ◌∙◌}
 use Rattle.std.proofs.lemmas.List.{length-replicate}
 use Rattle.model_core.specs.declared.limits.TheConstants.{MOST_SUPERBLOCKS}
@@ -41,12 +41,12 @@ answered_in_part only before after lines line taken tally cut = λ superblocks t
           (shown_allowed only before (lines ++ line ∷ []) superblocks tenants shows least),
     )
 
--- where all was answered
+-- if all lines were answered in full
 pub all_promised : (only : Option ℕ) (before after : KernelContent) (lines : List (List ℕ)) (taken : List ℕ) (tally : Tally) → HasRun only before after lines taken tally
     → Counts tally lines taken × IsAllowedOutput only before lines taken
 all_promised only before after lines taken tally ran = (ran.counted, answered_in_full only before lines taken ran.shown)
 
--- where the drain failed
+-- if the drain failed
 pub part_promised : (ended : Bool) (only : Option ℕ) (before after : KernelContent) (given taken : List ℕ) (tally : Tally)
     → Replays ended only before after given taken (Err (Failed.Drain tally)) → TakesAllowed ended only before given taken (Err (Failed.Drain tally))
 part_promised ended only before after given taken tally (done, line, come, cut) =

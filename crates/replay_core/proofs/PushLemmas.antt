@@ -1,4 +1,4 @@
--- Bytes offered one part after the other.
+-- Bytes offered one part after another.
 use Rattle.std.proofs.Common.{◌≡◌, ℕ, zero, suc, ◌+◌, ◌<◌, ◌≤◌, Bool, true, false, List, [], ◌∷◌, ◌++◌, Option, Some, Result, Ok, Err, length, take, drop, refl, sym, ap, subst, ◌∙◌, arith, add-one, append_assoc, length-append, take-append-drop}
 use Rattle.std.proofs.lemmas.List.{append-nil, length-take-le}
 use Rattle.std.specs.List.{concat, slice_get}
@@ -13,7 +13,7 @@ use Rattle.world_core.specs.Output.{is_shown, shown_text}
 use Rattle.replay_core.specs.Pushes.{HasPushed, IsWholeAtOk}
 use Rattle.streams.proofs.MoveLemmas.{appends_nothing, appends_more, appends_kept}
 
--- of the text all was taken and counted but the rest, which is to be offered
+-- all of the text was taken and counted, except for the rest, which is still to be offered
 pub record HasPushedBut (old new : Option (List ℕ)) (text rest : List ℕ) (written written' : ℕ) : Type 0 where
   pub taken : List ℕ
   pub split : text ≡ taken ++ rest
@@ -61,7 +61,7 @@ pushed_all old new failing text rest written written' had none fine = record {
   failed = fine;
 }
 
--- a test for emptiness failed
+-- if the test for emptiness fails, there is a byte
 pub some_left : (bytes : List ℕ) (test : Bool) → test ≡ nat_eq (length bytes) 0 → test ≡ false → 0 < length bytes
 some_left bytes test is full = grind (arith, nat_tests)
 
@@ -100,7 +100,7 @@ pushed_into old now new failing text rest line after written written' written'' 
   failed = more.failed ∙ sym failed;
 }
 
--- of a text the drain failed within the first part ..
+-- the drain failed within the first part of a text ..
 pub pushed_begun : (old new : Option (List ℕ)) (failing : Bool) (line after : List ℕ) (written written' : ℕ) (stopped : Stopped)
     (result : Result (Unit {0}) Stopped) → is_err result ≡ true → HasPushed old new failing line written written' (Err stopped)
     → HasPushed old new failing (line ++ after) written written' result
@@ -108,7 +108,7 @@ pushed_begun old new failing line after written written' stopped result failed p
     pushed_into old old new failing (line ++ after) (line ++ after) line after written written written' stopped result failed
     (nothing_pushed old (line ++ after) written) refl part
 
--- .. or took it, and of the second what could be taken
+-- .. or took it, and then the second part as far as it could
 pub pushed_both : (old now new : Option (List ℕ)) (failing failing' : Bool) (line after : List ℕ) (written written' written'' : ℕ)
     (result : Result (Unit {0}) Stopped) → HasPushed old now failing line written written' (Ok tt) → HasPushed now new failing' after written' written'' result
     → HasPushed old new failing' (line ++ after) written written'' result
@@ -123,7 +123,7 @@ pushed_both old now new failing failing' line after written written' written'' r
       failed = second.failed;
     }
 
--- no more is counted than the text has
+-- at most as many bytes are counted as the text has
 pub pushed_few : (old new : Option (List ℕ)) (failing : Bool) (text : List ℕ) (written written' : ℕ) (result : Result (Unit {0}) Stopped)
     → HasPushed old new failing text written written' result → written' ≤ written + length text
 pushed_few old new failing text written written' result pushed =
@@ -134,11 +134,11 @@ row_here [] i line h = cc
 row_here (row ∷ rows) zero line h = let same : row ≡ line = cc in ap (λ xs. xs ++ concat rows) same
 row_here (row ∷ rows) (suc i) line h = row_here rows i line h
 
--- the rows from here on begin with this one
+-- the text of the rows from `i` on begins with row `i`
 pub row_next : (rows : List (List ℕ)) (i : ℕ) (line : List ℕ) → slice_get rows i ≡ Some line → concat (drop i rows) ≡ line ++ concat (drop (i + 1) rows)
 row_next rows i line h = rw add-one (row_here rows i line h)
 
--- a reply that is to be shown is shown whole
+-- a reply that is shown is shown whole
 pub shown_whole : (only : Option ℕ) (reply : Reply) (test : Bool) → test ≡ is_shown only reply.addressee → test ≡ true → shown_text only reply ≡ text_of reply
 shown_whole only reply test is shown =
     subst (λ (b : Bool). (if b then text_of reply else []) ≡ text_of reply) (sym shown ∙ is) refl

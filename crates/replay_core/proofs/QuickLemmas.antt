@@ -16,14 +16,14 @@ use Rattle.replay_core.proofs.DoingLemmas.{gone_end, stopped_end}
 use Rattle.streams.proofs.LineLemmas.{found_cut}
 use Rattle.replay_core.proofs.RunLemmas.{done_of_event}
 
--- a line that was read by itself, at the front of the rest
+-- a line that was read alone is at the front of the rest
 pub reads_alone : (rest : List ℕ) (end tenant : ℕ) (command : Command) → end < length rest → position (λ b. b == 10) rest ≡ Some end
     → reading_of (take end rest) ≡ Ok (Some (Tenant tenant command)) → ReadsAs rest tenant command (end + 1)
 reads_alone rest end tenant command within found reading =
     let same : end + 1 - 1 ≡ end = omega arith in
     record { some = omega arith; within = omega arith; ended = found ∙ ap Some (sym same); reading = ap (λ n. reading_of (take n rest)) same ∙ reading }
 
--- the line at the front, and what follows its LF
+-- the line at the front, and the bytes after its LF
 pub front_cut : (rest : List ℕ) (tenant : ℕ) (command : Command) (len : ℕ) → ReadsAs rest tenant command len
     → IsOneLine (take (len - 1) rest) × (rest ≡ (take (len - 1) rest ++ 10 ∷ []) ++ drop len rest)
 front_cut rest tenant command len read =
@@ -32,7 +32,7 @@ front_cut rest tenant command len read =
     (found.0, found.1 ∙ ap (λ n. (take (len - 1) rest ++ 10 ∷ []) ++ drop n rest) (omega arith))
 
 module _ {N : Type 0} (noting : Noting N) where
-  -- a line at the front of the rest has been run and answered ..
+  -- a line at the front of the rest was run and answered ..
   pub line_done : (s mid s' : Run N × KernelContent) (bytes rest : List ℕ) (old now new : Option (List ℕ)) (tenant : ℕ) (command : Command) (len : ℕ)
       → ReadsAs rest tenant command len → HasGone (answers noting) s bytes rest old now mid
       → HasDone (AnswersRead noting []) mid (Ok (Some (Tenant tenant command))) now new (Ok tt) s'
@@ -52,6 +52,6 @@ module _ {N : Type 0} (noting : Noting N) where
       stopped_end (answers noting) s mid s' bytes [] rest (take (len - 1) rest) (drop len rest) old now new stopped gone tt cut.0 cut.1
       (done_of_event noting mid s' (take (len - 1) rest) _ now new (Err stopped) read.reading done)
 
--- what is left behind the line, and the line
+-- the bytes after the line, and the line itself, are the rest
 pub left_over : (rest : List ℕ) (len : ℕ) → len ≤ length rest → length (drop len rest) + len ≡ length rest
 left_over rest len within = omega (arith, length-drop len rest)

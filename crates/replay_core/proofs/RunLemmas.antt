@@ -1,4 +1,4 @@
--- One more line of a replay is run.
+-- A replay runs one more line.
 use Rattle.std.proofs.Common.{◌≡◌, ℕ, suc, ◌+◌, Bool, List, [], ◌∷◌, ◌++◌, Result, Ok, Err, Option, Some, None, length, take, refl, ap, sym, subst, ◌∙◌, arith, append_assoc, length-append}
 use Rattle.std.proofs.lemmas.List.{append-nil}
 use Rattle.words_core.specs.declared.event.Event.{Event}
@@ -81,7 +81,7 @@ stands_more before now next xs line stands same shows = record {
       (shows _ (stands.shows w before_shows)));
 }
 
--- what the line shows in the world that the lines before it left
+-- the text that a line shows in the world that the lines before it left
 shown_here : (only : Option ℕ) (before now : KernelContent) (xs : List (List ℕ)) (line text : List ℕ) → StandsAfter before now xs
     → ((w : World) → Shows now w → shown_line only cache_limit now.order line w ≡ text)
     → (w : World) → Shows before w → shown_line only cache_limit before.order line (world_after cache_limit before.order w (events_of xs)) ≡ text
@@ -89,7 +89,7 @@ shown_here only before now xs line text stands shown w before_shows =
     ap (λ order. shown_line only cache_limit order line (world_after cache_limit before.order w (events_of xs))) (sym stands.sizes.order)
     ∙ shown (world_after cache_limit before.order w (events_of xs)) (stands.shows w before_shows)
 
--- no byte is no fault
+-- an empty line is not a fault
 pub reading_of_nothing : reading_of [] ≡ Ok None
 unfolding reading_of reading_of_words words_of
 reading_of_nothing = refl
@@ -110,30 +110,30 @@ module _ {N : Type 0} (noting : Noting N) where
       ∙ ap (λ v. noted_reading noting only limit order (number + suc (length xs)) (take 256 line) (reading_of line) v sofar)
       (sym (world_both limit order (event_in (reading_of x)) (events_of xs) w))
 
-  -- from the notes that a run began with to those that it gave back
+  -- from the notes at the beginning of a run to those at its end
   pub noted_from : (only : Option ℕ) (before : KernelContent) (lines : List (List ℕ)) (first first' last last' : N) → first ≡ first' → last' ≡ last
       → AreNoted noting only before lines first last → AreNoted noting only before lines first' last'
   noted_from only before lines first first' last last' begun ended noted = λ w shows.
       ended ∙ noted w shows ∙ ap (noted_lines noting only cache_limit before.order 1 lines w) begun
 
-  -- what is shown is what the run shows
+  -- a run with the same `only` shows the same text
   shown_to : (only : Option ℕ) (now : KernelContent) (reading : Result (Option Event) LineFault) (w : World) (run : Run N) (text : List ℕ) → run.replies.only ≡ only
       → shown_reading run.replies.only cache_limit now.order reading w ≡ text → shown_reading only cache_limit now.order reading w ≡ text
   shown_to only now reading w run text same shown = ap (λ o. shown_reading o cache_limit now.order reading w) (sym same) ∙ shown
 
-  -- These lines have been run and noted, and what they show was taken.
+  -- These lines were run and noted, and the drain took the text that they show.
   abbrev pub AreRun : Option ℕ → KernelContent → N → List (List ℕ) → List ℕ → Run N × KernelContent → Type 0
   AreRun only before notes lines taken s =
       (s.0.replies.only ≡ only) × HasRun only before s.1 lines taken (tally_of_run s.0) × AreNoted noting only before lines notes s.0.notes
 
-  -- what a line shows, as the replay would show it from its beginning on
+  -- the text of a line, as shown by a replay from its first line on
   shown_now : (only : Option ℕ) (before : KernelContent) (notes : N) (xs : List (List ℕ)) (line sofar taken rest : List ℕ) (s s' : Run N × KernelContent)
       → AreRun only before notes xs sofar s → answers noting s line taken rest s'
       → (w : World) → Shows before w → shown_line only cache_limit before.order line (world_after cache_limit before.order w (events_of xs)) ≡ taken ++ rest
   shown_now only before notes xs line sofar taken rest s s' ran answered =
       shown_here only before s.1 xs line (taken ++ rest) ran.1.stands (λ v shows. shown_to only s.1 (reading_of line) v s.0 _ ran.0 (answered.shown v shows))
 
-  -- and what is noted of it
+  -- and the notes after it
   noted_now : (only : Option ℕ) (before : KernelContent) (notes : N) (xs : List (List ℕ)) (line sofar taken rest : List ℕ) (s s' : Run N × KernelContent)
       → AreRun only before notes xs sofar s → answers noting s line taken rest s' → AreNoted noting only before (xs ++ line ∷ []) notes s'.0.notes
   noted_now only before notes xs line sofar taken rest s s' ran answered = λ w shows.
@@ -145,7 +145,7 @@ module _ {N : Type 0} (noting : Noting N) where
       ∙ ap (noted_reading noting only cache_limit before.order (1 + length xs) (take 256 line) (reading_of line) v) (ran.2 w shows)
       ∙ sym (noted_more only cache_limit before.order 1 xs line w notes)
 
-  -- one line more, answered in full ..
+  -- one more line was answered in full ..
   one_run : (only : Option ℕ) (before : KernelContent) (notes : N) (xs : List (List ℕ)) (line taken here : List ℕ) (s s' : Run N × KernelContent)
       → AreRun only before notes xs taken s → answers noting s line here [] s' → AreRun only before notes (xs ++ line ∷ []) (taken ++ here) s'
   one_run only before notes xs line taken here s s' ran answered = (
@@ -161,7 +161,7 @@ module _ {N : Type 0} (noting : Noting N) where
     noted_now only before notes xs line taken here [] s s' ran answered,
   )
 
-  -- .. and all of them
+  -- .. and so were all of them
   pub are_run : (only : Option ℕ) (run : Run N) (before : KernelContent) (lines : List (List ℕ)) (taken : List ℕ) (s : Run N × KernelContent) → run.replies.only ≡ only
       → tally_of_run run ≡ record { lines = 0; events = 0; faults = 0; written = 0 } → HaveRun (answers noting) (run, before) lines taken s
       → AreRun only before run.notes lines taken s
@@ -181,7 +181,7 @@ module _ {N : Type 0} (noting : Noting N) where
         λ w shows. refl,
       ) ran
 
-  -- the drain failed within the answer to one
+  -- the drain failed within the answer to a line
   pub run_cut : (only : Option ℕ) (run : Run N) (before : KernelContent) (done : List (List ℕ)) (line taken : List ℕ) (s : Run N × KernelContent) → run.replies.only ≡ only
       → tally_of_run run ≡ record { lines = 0; events = 0; faults = 0; written = 0 } → IsCutOff (answers noting) (run, before) done line taken s
       → IsCutShort only before s.1 done line taken (tally_of_run s.0) × AreNoted noting only before (done ++ line ∷ []) run.notes s.0.notes
@@ -205,7 +205,7 @@ module _ {N : Type 0} (noting : Noting N) where
         noted_now only before run.notes done line cut.earlier cut.here cut.rest cut.mid s ran did,
       )
 
-  -- a line is done if its reading is
+  -- a line is processed if its reading is
   done_of_reading : (s s' : Run N × KernelContent) (line : List ℕ) (reading : Result (Option Event) LineFault) (old new : Option (List ℕ)) (result : Result (Unit {0}) Stopped)
       → reading_of line ≡ reading → HasDone (AnswersRead noting (take 256 line)) s reading old new result s' → HasDone (answers noting) s line old new result s'
   done_of_reading s s' line reading old new result is done = record {
@@ -216,7 +216,7 @@ module _ {N : Type 0} (noting : Noting N) where
     whole = done.whole;
   }
 
-  -- of an event no front is noted
+  -- no front is noted for a line with an event
   pub done_of_event : (s s' : Run N × KernelContent) (line : List ℕ) (event : Event) (old new : Option (List ℕ)) (result : Result (Unit {0}) Stopped)
       → reading_of line ≡ Ok (Some event) → HasDone (AnswersRead noting []) s (Ok (Some event)) old new result s' → HasDone (answers noting) s line old new result s'
   done_of_event s s' line event old new result is done =
@@ -261,7 +261,7 @@ module _ {N : Type 0} (noting : Noting N) where
         whole = refl;
       })
 
-  -- a line that was read so showed this text, of which was taken what could be
+  -- a line with this reading showed this text, and the drain took as much of it as it could
   text_done : (s s' : Run N × KernelContent) (line text : List ℕ) (reading : Result (Option Event) LineFault) (old new : Option (List ℕ)) (failing : Bool) (result : Result (Unit {0}) Stopped)
       → reading_of line ≡ reading → SameSizes s.1 s'.1 → ((w : World) → Shows s.1 w → Shows s'.1 (world_after cache_limit s.1.order w (event_in reading)))
       → ((w : World) → Shows s.1 w → shown_reading s.0.replies.only cache_limit s.1.order reading w ≡ text)
@@ -288,7 +288,7 @@ module _ {N : Type 0} (noting : Noting N) where
         whole = shown.pushed.whole;
       })
 
-  -- an event was answered so
+  -- an event was answered with this reply
   pub event_done : (before after : KernelContent) (run run' : Run N) (event : Event) (reply : Reply) (line : List ℕ) (old new : Option (List ℕ)) (failing : Bool) (result : Result (Unit {0}) Stopped)
       → reading_of line ≡ Ok (Some event) → Steps before event after reply
       → HasShown old new failing (shown_text run.replies.only reply) run.replies run'.replies result
@@ -300,12 +300,12 @@ module _ {N : Type 0} (noting : Noting N) where
       (λ w shows. ap (λ r. shown_text run.replies.only r) (sym (steps.answer w shows))) shown lines events (omega (arith, faults))
       (λ w shows. noted ∙ ap (λ r. noted_reply noting run.replies.only r run.notes) (steps.answer w shows))
 
-  -- no refusal is in the reply to a fault
+  -- the reply to a fault has no refusal to note
   noted_nobody : (only : Option ℕ) (fault : LineFault) (n : N) → noted_reply noting only (record { addressee = To.Nobody; body = Say.Fault fault }) n ≡ n
   noted_nobody None fault n = refl
   noted_nobody (Some t) fault n = refl
 
-  -- a fault is answered to nobody
+  -- the reply to a fault is addressed to nobody
   pub fault_done : (k : KernelContent) (run run' : Run N) (notes : N) (fault : LineFault) (line front : List ℕ) (old new : Option (List ℕ)) (failing : Bool) (result : Result (Unit {0}) Stopped)
       → reading_of line ≡ Err fault → take 256 front ≡ take 256 line
       → HasShown old new failing (shown_text run.replies.only (record { addressee = To.Nobody; body = Say.Fault fault })) run.replies run'.replies result
@@ -334,7 +334,7 @@ module _ {N : Type 0} (noting : Noting N) where
       ap (λ r. r.notes) left ∙ ap (λ r. noted_fault noting (run.lines + 1) [] r run.notes) (sym reading_of_nothing)
   left_noted run run' (b ∷ tail) left = ap (λ r. r.notes) left
 
-  -- the feed failed behind the lines that ended
+  -- the feed failed after the lines that ended
   pub run_ended : (only : Option ℕ) (run : Run N) (before : KernelContent) (given taken : List ℕ) (s : Run N × KernelContent) → run.replies.only ≡ only
       → tally_of_run run ≡ record { lines = 0; events = 0; faults = 0; written = 0 } → HasRunEnded (answers noting) (IsUnended noting) (run, before) given taken s
       → HasRun only before s.1 (ended_lines given) taken (tally_of_run s.0) × (mid : N) × (tail : List ℕ)

@@ -1,5 +1,5 @@
--- Lines that are done one after the other. `does` is what one line does: it leads from a state to the next one. Of what comes of
--- the line the first bytes are taken, and the others are left to a drain that failed.
+-- Lines that are processed one after another. `does` is the effect of one line: it leads from a state to the next one. The drain
+-- takes the first bytes of the line's output; the others are left if it fails.
 use Rattle.std.specs.Prelude.{◌≡◌, ℕ, ◌<◌, List, [], ◌∷◌, ◌++◌, length, Option, Result, Err}
 use Rattle.std.specs.Io.KnownBytes.{Appends}
 use Rattle.world_core.specs.Output.{with_line_feeds}
@@ -8,13 +8,13 @@ use Rattle.streams.specs.Lines.{IsOneLine}
 use Rattle.replay_core.specs.Standing.{AreLines}
 use Rattle.replay_core.specs.Pushes.{IsWholeAtOk}
 
--- each of the lines was done in full
+-- each of the lines was processed in full
 abbrev pub HaveRun : {S : Type 0} → (S → List ℕ → List ℕ → List ℕ → S → Type 0) → S → List (List ℕ) → List ℕ → S → Type 0
 HaveRun does s [] taken s' = (taken ≡ []) × (s' ≡ s)
 HaveRun {S} does s (line ∷ lines) taken s' =
     (mid : S) × (here : List ℕ) × (later : List ℕ) × (taken ≡ here ++ later) × does s line here [] mid × HaveRun does mid lines later s'
 
--- the lines were done in full, and one more in part
+-- the lines were processed in full, and one more in part
 pub record IsCutOff {S : Type 0} (does : S → List ℕ → List ℕ → List ℕ → S → Type 0) (s : S) (done : List (List ℕ)) (line taken : List ℕ)
     (s' : S) : Type 0 where
   pub mid : S
@@ -26,7 +26,7 @@ pub record IsCutOff {S : Type 0} (does : S → List ℕ → List ℕ → List �
   pub ran : HaveRun does s done earlier mid
   pub did : does mid line here rest s'
 
--- one line was done, or what was read in it; in full at Ok
+-- one line, or its reading, was processed; in full if the result is Ok
 pub record HasDone {S L : Type 0} (does : S → L → List ℕ → List ℕ → S → Type 0) (s : S) (line : L) (old new : Option (List ℕ))
     (result : Result (Unit {0}) Stopped) (s' : S) : Type 0 where
   pub taken : List ℕ
@@ -35,7 +35,7 @@ pub record HasDone {S L : Type 0} (does : S → L → List ℕ → List ℕ → 
   pub appended : Appends old new taken
   pub whole : IsWholeAtOk result rest
 
--- of these bytes the lines before the rest were done
+-- the lines of these bytes before the rest were processed
 pub record HasGone {S : Type 0} (does : S → List ℕ → List ℕ → List ℕ → S → Type 0) (s : S) (bytes rest : List ℕ) (old new : Option (List ℕ))
     (s' : S) : Type 0 where
   pub done : List (List ℕ)
@@ -45,7 +45,7 @@ pub record HasGone {S : Type 0} (does : S → List ℕ → List ℕ → List ℕ
   pub ran : HaveRun does s done taken s'
   pub appended : Appends old new taken
 
--- lines of these bytes were done, and in the next one the drain failed
+-- some lines of these bytes were processed, and the drain failed in the next one
 pub record HasStopped {S : Type 0} (does : S → List ℕ → List ℕ → List ℕ → S → Type 0) (s : S) (bytes : List ℕ) (old new : Option (List ℕ))
     (s' : S) : Type 0 where
   pub mid : S

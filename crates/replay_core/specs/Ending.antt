@@ -6,12 +6,12 @@ use Rattle.replay_core.specs.declared.engine.EndFailed.{EndFailed}
 use Rattle.replay_core.specs.Runs.{HasCome}
 use Rattle.replay_core.specs.Doing.{HaveRun, IsCutOff}
 
--- what the unfinished line does, if there is one
+-- the effect of the unfinished line, if there is one
 abbrev pub HasLeft : {S : Type 0} → (S → List ℕ → S → Type 0) → S → List ℕ → S → Type 0
 HasLeft leaves s [] s' = s' ≡ s
 HasLeft leaves s (b ∷ tail) s' = leaves s (b ∷ tail) s'
 
--- the lines that ended were done, and the unfinished one was not
+-- the lines that ended were processed, and the unfinished one was not
 pub record HasRunEnded {S K : Type 0} (does : S × K → List ℕ → List ℕ → List ℕ → S × K → Type 0) (leaves : S → List ℕ → S → Type 0)
     (s : S × K) (given taken : List ℕ) (s' : S × K) : Type 0 where
   pub mid : S
@@ -20,24 +20,25 @@ pub record HasRunEnded {S K : Type 0} (does : S × K → List ℕ → List ℕ �
   pub split : given ≡ with_line_feeds (ended_lines given) ++ tail
   pub left : HasLeft leaves mid tail s'.0
 
--- the lines before one were done, and that one was cut short
+-- the lines before one were processed, and the output of that one was cut short
 abbrev pub HasRunInto : {S : Type 0} → (S → List ℕ → List ℕ → List ℕ → S → Type 0) → Bool → S → List ℕ → List ℕ → S → Type 0
 HasRunInto does ended s given taken s' =
     (done : List (List ℕ)) × (line : List ℕ) × HasCome ended given (done ++ line ∷ []) × IsCutOff does s done line taken s'
 
--- At Ok all lines were done. If the feed failed, those that ended in LF; if the drain did, those before one that was cut short.
+-- If the result is Ok, all lines were processed. If the feed failed, those that ended in LF were; if the drain failed, those
+-- before a line whose output was cut short.
 abbrev pub RunsAs : {S K : Type 0} → (S × K → List ℕ → List ℕ → List ℕ → S × K → Type 0) → (S → List ℕ → S → Type 0) → Bool → S × K
     → List ℕ → List ℕ → Result (Unit {0}) EndFailed → S × K → Type 0
 RunsAs does leaves ended s given taken (Ok done) s' = HaveRun does s (lines_of_trace given) taken s'
 RunsAs does leaves ended s given taken (Err EndFailed.Feed) s' = HasRunEnded does leaves s given taken s'
 RunsAs does leaves ended s given taken (Err EndFailed.Drain) s' = HasRunInto does ended s given taken s'
 
--- the answer is Ok only where the feed has ended
+-- the result is Ok only if the feed has ended
 abbrev pub IsRunToEnd : Result (Unit {0}) EndFailed → Bool → Type 0
 IsRunToEnd (Ok done) ended = ended ≡ true
 IsRunToEnd (Err error) ended = Unit {0}
 
--- the end that failed is named, and none where neither did
+-- the result names the end that failed, or is Ok if neither did
 abbrev pub NamesEndFailed : Result (Unit {0}) EndFailed → Bool → Bool → Type 0
 NamesEndFailed (Ok done) feed drain = (feed ≡ false) × (drain ≡ false)
 NamesEndFailed (Err EndFailed.Feed) feed drain = (feed ≡ true) × (drain ≡ false)

@@ -1,4 +1,4 @@
--- What is noted beside the replies of a replay: the refusals that are shown, and the faulty lines.
+-- The notes that a replay takes beside its replies: the refusals that are shown, and the faulty lines.
 use Rattle.std.specs.Prelude.{◌≡◌, ℕ, suc, List, [], ◌∷◌, take, Option, Some, None, Result, Ok, Err, if◌then◌else◌}
 use Rattle.words_core.specs.declared.reply.Body.{Body}
 use Rattle.words_core.specs.declared.event.Event.{Event}
@@ -9,7 +9,7 @@ use Rattle.world_core.specs.World.{World, world_step, world_after}
 use Rattle.world_core.specs.Output.{event_in, is_shown}
 use Rattle.words_core.specs.Grammar.{reading_of}
 
--- what a refusal adds to notes, and what a faulty line adds: its number, its fault and its first 256 bytes
+-- the notes after one more refusal, and after one more faulty line: its number, its fault and its first 256 bytes
 pub record Noting (N : Type 0) : Type 0 where
   pub refused : N → Refusal → N
   pub faulty : N → ℕ → LineFault → List ℕ → N
@@ -33,22 +33,22 @@ noted_body noting (Body.Reaped frames) n = n
 noted_body noting (Body.Report report) n = n
 noted_body noting (Body.Fault fault) n = n
 
--- what a reply adds: a refusal that is shown
+-- the notes after a reply: a refusal is noted if it is shown
 abbrev pub noted_reply : {N : Type 0} → Noting N → Option ℕ → Reply → N → N
 noted_reply noting only reply n = if is_shown only reply.addressee then noted_body noting reply.body n else n
 
--- what a faulty line adds, of this number and with this front
+-- the notes after a line with this number and front, which is noted if it is faulty
 abbrev pub noted_fault : {N : Type 0} → Noting N → ℕ → List ℕ → Result (Option Event) LineFault → N → N
 noted_fault noting number front (Ok event) n = n
 noted_fault noting number front (Err fault) n = noting.faulty n number fault front
 
--- what a line adds that reads like this: its fault, or the reply to its event
+-- the notes after a line with this reading: its fault is noted, or the reply to its event
 abbrev pub noted_reading : {N : Type 0} → Noting N → Option ℕ → ℕ → ℕ → ℕ → List ℕ → Result (Option Event) LineFault → World → N → N
 noted_reading noting only limit order number front (Ok (Some event)) w n = noted_reply noting only (world_step limit order event w).reply n
 noted_reading noting only limit order number front (Ok None) w n = noted_fault noting number front (Ok None) n
 noted_reading noting only limit order number front (Err fault) w n = noted_fault noting number front (Err fault) n
 
--- what the lines add, each in the world that the events before it left; the first has this number
+-- the notes after these lines, each run in the world that the events before it left; the first has this number
 abbrev pub noted_lines : {N : Type 0} → Noting N → Option ℕ → ℕ → ℕ → ℕ → List (List ℕ) → World → N → N
 noted_lines noting only limit order number [] w n = n
 noted_lines noting only limit order number (line ∷ lines) w n =

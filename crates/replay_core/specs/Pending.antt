@@ -1,13 +1,13 @@
--- The beginning of a line whose end has not come.
+-- The beginning of a line whose end has not arrived.
 use Rattle.std.specs.Prelude.{◌≡◌, ℕ, ◌≤◌, nat_lt, List, length, take}
 use Rattle.replay_core.specs.declared.pending.Pending.{Pending}
 
--- 256 bytes of the line are enough to tell that it is too long
+-- the first 256 bytes of the line are held, and whether it has more; so it is known whether the line is too long
 pub record HoldsLine (line : List ℕ) (pending : Pending) : Type 0 where
   pub front : pending.held.items ≡ take 256 line
   pub longer : pending.longer ≡ nat_lt 256 (length line)
 
--- all of the line, or the front of one that is too long
+-- the whole line, or the front of a line that is too long
 pub record IsFrontOf (line front : List ℕ) : Type 0 where
   pub same : take 256 front ≡ take 256 line
   pub whole : length line ≤ 256 → front ≡ line

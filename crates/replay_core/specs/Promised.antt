@@ -1,5 +1,5 @@
--- That what a replay takes keeps the promises, which leave open what the machine of the definitions decides: which block, which
--- object, which frames are given back.
+-- What the drain takes in a replay keeps the promises. They leave open what the machine of the definitions decides: which block
+-- and which object a request gets, and which frames are freed.
 use Rattle.std.specs.Prelude.{ℕ, ◌≤◌, Bool, List, ◌++◌, Option, Result, Ok, Err}
 use Rattle.words_core.specs.Cutting.{lines_of_trace}
 use Rattle.kernel_core.specs.Content.{KernelContent}
@@ -17,13 +17,13 @@ abbrev pub IsAllowedOutput : Option ℕ → KernelContent → List (List ℕ) �
 IsAllowedOutput only before lines text = (superblocks tenants : ℕ) → Shows before (opening_world superblocks tenants) → 3 ≤ before.order
     → IsAllowedText only cache_limit before.order superblocks tenants lines text
 
--- .. or a beginning of it.
+-- .. or a prefix of it.
 abbrev pub BeginsAllowed : Option ℕ → KernelContent → List (List ℕ) → List ℕ → Type 0
 BeginsAllowed only before lines part = (superblocks tenants : ℕ) → Shows before (opening_world superblocks tenants) → 3 ≤ before.order
     → (rest : List ℕ) × IsAllowedText only cache_limit before.order superblocks tenants lines (part ++ rest)
 
--- Of what was given these lines were run and counted, and what was taken is the text of allowed replies; a beginning of it where
--- the drain failed.
+-- The lines that were run are counted, and what was taken is the text of allowed replies to them, or a prefix of it if the drain
+-- failed.
 abbrev pub TakesAllowed : Bool → Option ℕ → KernelContent → List ℕ → List ℕ → Result Tally ReplayError → Type 0
 TakesAllowed ended only before given taken (Ok tally) =
     Counts tally (lines_of_trace given) taken × IsAllowedOutput only before (lines_of_trace given) taken

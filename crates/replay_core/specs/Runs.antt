@@ -1,4 +1,4 @@
--- What was run, shown and counted while bytes were given and taken.
+-- The lines that were run, and what was shown and counted, while bytes were given and taken.
 use Rattle.std.specs.Prelude.{◌≡◌, ◌⊎◌, ℕ, suc, ◌+◌, ◌<◌, Bool, List, [], ◌∷◌, ◌++◌, length, take, Option, Some, None, Result, Ok, Err}
 use Rattle.words_core.specs.declared.event.Event.{Event}
 use Rattle.words_core.specs.declared.event.LineFault.{LineFault}
@@ -18,56 +18,57 @@ abbrev pub fault_in : Result (Option Event) LineFault → ℕ
 fault_in (Ok event) = 0
 fault_in (Err fault) = 1
 
--- how many of the lines are faulty
+-- the number of faulty lines
 abbrev pub faults_of : List (List ℕ) → ℕ
 faults_of [] = 0
 faults_of (line ∷ lines) = fault_in (reading_of line) + faults_of lines
 
--- the counts of these lines, when this was taken of what they show
+-- the counts of these lines, if the drain took these bytes
 pub record Counts (tally : Tally) (done : List (List ℕ)) (taken : List ℕ) : Type 0 where
   pub lines : tally.lines ≡ length done
   pub events : tally.events ≡ length (events_of done)
   pub faults : tally.faults ≡ faults_of done
   pub written : tally.written ≡ length taken
 
--- the kernel stands after these lines
+-- the kernel is in the state after these lines
 pub record StandsAfter (before after : KernelContent) (lines : List (List ℕ)) : Type 0 where
   pub sizes : SameSizes before after
   pub shows : (w : World) → Shows before w → Shows after (world_after cache_limit before.order w (events_of lines))
 
--- these lines have been run and answered in full
+-- these lines were run and answered in full
 pub record HasRun (only : Option ℕ) (before after : KernelContent) (lines : List (List ℕ)) (taken : List ℕ) (tally : Tally) : Type 0 where
   pub stands : StandsAfter before after lines
   pub shown : (w : World) → Shows before w → taken ≡ shown_lines only cache_limit before.order lines w
   pub counted : Counts tally lines taken
 
--- of the text of these lines and of one more this was taken: of what the last one adds a beginning, and not the whole
+-- of the text of these lines and one more, the drain took all of the lines' text, and a prefix of what the last one adds, not the
+-- whole of it
 abbrev pub IsCutIn : (text : List (List ℕ) → List ℕ) → (lines : List (List ℕ)) → (line taken : List ℕ) → Type 0
 IsCutIn text lines line taken = (part rest : List ℕ) × (0 < length rest) × (taken ≡ text lines ++ part) × (text (lines ++ line ∷ []) ≡ taken ++ rest)
 
--- these lines have been run; of what the last one shows a beginning was taken, and not the whole
+-- these lines and one more were run; the text of the last one was taken only in part
 pub record IsCutShort (only : Option ℕ) (before after : KernelContent) (lines : List (List ℕ)) (line taken : List ℕ) (tally : Tally) : Type 0 where
   pub stands : StandsAfter before after (lines ++ line ∷ [])
   pub shown : (w : World) → Shows before w → IsCutIn (λ xs. shown_lines only cache_limit before.order xs w) lines line taken
   pub counted : Counts tally (lines ++ line ∷ []) taken
 
--- These are the first lines of what was given: each has ended in LF, or the feed has ended and they are all its lines.
+-- These are the first lines of the given bytes: each has ended in LF, or the feed has ended and they are all its lines.
 abbrev pub HasCome : Bool → List ℕ → List (List ℕ) → Type 0
 HasCome ended given lines = ((rest : List (List ℕ)) × (ended_lines given ≡ lines ++ rest)) ⊎ ((ended ≡ Bool.true) × (lines_of_trace given ≡ lines))
 
--- how what was given, what was taken, the kernel and the answer hang together
+-- the relation between the bytes given, the bytes taken, the kernel before and after, and the result
 abbrev pub Replays : Bool → Option ℕ → KernelContent → KernelContent → List ℕ → List ℕ → Result Tally ReplayError → Type 0
 Replays ended only before after given taken (Ok tally) = HasRun only before after (lines_of_trace given) taken tally
 Replays ended only before after given taken (Err (ReplayError.Feed tally)) = HasRun only before after (ended_lines given) taken tally
 Replays ended only before after given taken (Err (ReplayError.Drain tally)) =
     (done : List (List ℕ)) × (line : List ℕ) × HasCome ended given (done ++ line ∷ []) × IsCutShort only before after done line taken tally
 
--- the answer is Ok only where the feed has ended
+-- the result is Ok only if the feed has ended
 abbrev pub IsDone : Result Tally ReplayError → Bool → Type 0
 IsDone (Ok tally) ended = ended ≡ Bool.true
 IsDone (Err error) ended = Unit {0}
 
--- the end that failed is named, and none where neither did
+-- the result names the end that failed, or is Ok if neither did
 abbrev pub NamesFailed : Result Tally ReplayError → Bool → Bool → Type 0
 NamesFailed (Ok tally) feed drain = (feed ≡ Bool.false) × (drain ≡ Bool.false)
 NamesFailed (Err (ReplayError.Feed tally)) feed drain = (feed ≡ Bool.true) × (drain ≡ Bool.false)
@@ -81,13 +82,13 @@ HasOwnLines None before given taken = (superblocks tenants t : ℕ) → Shows be
 HasOwnLines (Some t) before given taken = (superblocks tenants : ℕ) → Shows before (opening_world superblocks tenants) → t < tenants →
     taken ≡ with_line_feeds (private_lines cache_limit before.order superblocks tenants t given)
 
--- what was noted of these lines, whichever world the kernel showed
+-- the notes after these lines, for any world that the kernel showed
 abbrev pub AreNoted : {N : Type 0} → Noting N → Option ℕ → KernelContent → List (List ℕ) → N → N → Type 0
 AreNoted noting only before lines notes notes' =
     (w : World) → Shows before w → notes' ≡ noted_lines noting only cache_limit before.order 1 lines w notes
 
--- What was noted of all lines that were run; if the feed failed, of the unfinished one too, and if the drain did, of the one
--- whose reply was cut short.
+-- The notes after all lines that were run. If the feed failed, the unfinished line is noted too if it is faulty. If the drain
+-- failed, the line whose reply was cut short is among the lines.
 abbrev pub Noted : {N : Type 0} → Noting N → Bool → Option ℕ → KernelContent → List ℕ → Result Tally ReplayError → N → N → Type 0
 Noted noting ended only before given (Ok tally) notes notes' = AreNoted noting only before (lines_of_trace given) notes notes'
 Noted {N} noting ended only before given (Err (ReplayError.Feed tally)) notes notes' = (mid : N) × (tail : List ℕ)

@@ -1,4 +1,4 @@
--- What one line does in a replay.
+-- The effect of one line in a replay.
 use Rattle.std.specs.Prelude.{◌≡◌, ℕ, ◌+◌, ◌^◌, ◌<◌, Bool, false, List, [], ◌∷◌, ◌++◌, length, take, Option, Some, None, Result, Ok, Err}
 use Rattle.words_core.specs.declared.event.Event.{Event}
 use Rattle.words_core.specs.declared.event.LineFault.{LineFault}
@@ -15,7 +15,7 @@ use Rattle.replay_core.specs.declared.run.Run.{Run}
 use Rattle.replay_core.specs.Runs.{fault_in}
 use Rattle.replay_core.specs.Noting.{Noting, noted_fault, noted_reading}
 
--- a line that was read so is no event, or one that a kernel can be asked to run
+-- a line with this reading has no event, or one that a kernel can run
 abbrev pub IsRunnable : Result (Option Event) LineFault → Type 0
 IsRunnable (Ok (Some event)) = HasPattern event
 IsRunnable (Ok None) = Unit {0}
@@ -25,17 +25,17 @@ abbrev pub AreLines : List (List ℕ) → Type 0
 AreLines [] = Unit {0}
 AreLines (line ∷ lines) = IsOneLine line × AreLines lines
 
--- what a run has counted
+-- the counts of a run
 abbrev pub tally_of_run : {N : Type 0} → Run N → Tally
 tally_of_run run = record { lines = run.lines; events = run.events; faults = run.faults; written = run.replies.written }
 
--- the drain has not failed, and so many lines more can be counted
+-- the drain has not failed, and this many more lines can be counted
 pub record IsReady {N : Type 0} (failed : Bool) (run : Run N) (lines : ℕ) : Type 0 where
   pub fine : failed ≡ false
   pub more : run.lines + lines < 2 ^ 64
 
--- a line with this reading has been run and counted, and this is what it shows: what was taken, and what was not
--- (of the line, the front is noted if it is faulty)
+-- a line with this reading was run and counted; the text that it shows is `taken` and then `rest`, which the drain did not take;
+-- if the line is faulty, its front is noted
 pub record AnswersRead {N : Type 0} (noting : Noting N) (front : List ℕ) (s : Run N × KernelContent) (reading : Result (Option Event) LineFault)
     (taken rest : List ℕ) (s' : Run N × KernelContent) : Type 0 where
   pub sizes : SameSizes s.1 s'.1
@@ -49,10 +49,10 @@ pub record AnswersRead {N : Type 0} (noting : Noting N) (front : List ℕ) (s : 
   pub noted : (w : World) → Shows s.1 w
       → s'.0.notes ≡ noted_reading noting s.0.replies.only cache_limit s.1.order (s.0.lines + 1) front reading w s.0.notes
 
--- the same of the line
+-- the same for a line, by its reading
 abbrev pub answers : {N : Type 0} → Noting N → Run N × KernelContent → List ℕ → List ℕ → List ℕ → Run N × KernelContent → Type 0
 answers noting s line taken rest s' = AnswersRead noting (take 256 line) s (reading_of line) taken rest s'
 
--- the beginning of a line whose end could not be read has been noted, if it is faulty
+-- the beginning of a line whose end could not be read was noted, if it is faulty
 abbrev pub IsUnended : {N : Type 0} → Noting N → Run N → List ℕ → Run N → Type 0
 IsUnended noting run line run' = run' ≡ record run { notes = noted_fault noting (run.lines + 1) (take 256 line) (reading_of line) run.notes }

@@ -33,9 +33,9 @@ const WRITE: usize = 5;
 const RARE: usize = 6;
 
 impl<N: Notes> Run<N> {
-    /// Runs the quick requests at the front of a piece, as long as they are of existing, shown tenants and the drain has space
-    /// for an answer. Returns the rest of the piece. The lines end in LF, or in CR LF if `RETURNS`. Kept out of line, which
-    /// gives its loop all registers.
+    /// Runs the quick requests of existing, shown tenants at the front of a piece, while the drain has space for an answer.
+    /// Returns the rest of the piece. The lines end in LF, or in CR LF if `RETURNS`. Kept out of line, which gives its loop all
+    /// registers.
     #[inline(never)]
     pub fn run_in_place<'a, const RETURNS: bool, D: Drain>(
         &mut self,
@@ -62,8 +62,8 @@ impl<N: Notes> Run<N> {
         rest
     }
 
-    /// Runs and answers the line at the front of these bytes and returns its length. Returns `None` and does nothing if it is
-    /// no quick request of an existing, shown tenant.
+    /// Runs and answers the line at the front of these bytes and returns its length with the line end. Returns `None` and does
+    /// nothing if the line is not a quick request of an existing, shown tenant.
     #[inline(always)]
     fn answer_line<const RETURNS: bool, D: Drain>(
         &mut self,

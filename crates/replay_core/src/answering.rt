@@ -72,7 +72,7 @@ fn run_event<S: Sink, D: Drain>(
     }
 }
 
-/// Runs the request that the event of a line is.
+/// Runs the request of a line's event.
 fn ask<S: Sink, D: Drain>(
     event: &Event,
     tenant: u32,

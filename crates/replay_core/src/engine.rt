@@ -36,7 +36,7 @@ pub fn do_lines<S: Sink, F: Feed, D: Drain>(
     feed: &mut F,
     drain: &mut D,
 ) -> Result<(), EndFailed>
-    // Each line has a byte.
+    // Each line has at least one byte.
     requires more { F.room_left feed.old ≤ S.lines_left sink.old }
     requires feed_fine { F.has_failed feed.old ≡ false }
     requires drain_fine { D.has_failed drain.old ≡ false }
@@ -77,7 +77,7 @@ pub fn do_lines<S: Sink, F: Feed, D: Drain>(
     Ok(())
 }
 
-/// Shows the sink the line whose end could not be read, if there is one.
+/// Passes the line whose end could not be read to the sink, if there is one.
 #[cold]
 fn see_unended<S: Sink>(pending: &Pending, sink: &mut S)
     requires more { (tail : List ℕ) × HoldsLine tail pending.now × (length tail ≤ S.lines_left sink.old) }
@@ -88,7 +88,7 @@ fn see_unended<S: Sink>(pending: &Pending, sink: &mut S)
     }
 }
 
-/// Processes the lines that end in a piece. The bytes behind the last of them become pending.
+/// Processes the lines that end in a piece. The bytes after the last of them become pending.
 fn do_piece<S: Sink, D: Drain>(
     piece: &[u8],
     pending: &mut Pending,
@@ -144,7 +144,7 @@ fn begin_piece<'a, S: Sink, D: Drain>(
 
 /// Processes the quick lines at the front of a piece and returns the rest of it. No beginning of a line may be pending.
 ///
-/// It expects CR LF only after a line that ended so, as `returned` says.
+/// It reads lines that end in LF, and then, if the line before ended in CR LF (`returned`), lines that end in CR LF.
 #[inline(always)]
 fn do_quick_lines<'a, S: Sink, D: Drain>(
     piece: &'a [u8],

@@ -86,7 +86,7 @@ impl Pending {
     }
 }
 
-/// Returns the first line that ends in these bytes and the bytes behind its LF, or `None` if no line ends in them.
+/// Returns the first line that ends in these bytes and the bytes after its LF, or `None` if no line ends in them.
 #[inline(always)]
 pub(crate) fn split_line(bytes: &[u8]) -> Option<(&[u8], &[u8])>
     ensures { MatchOption result (IsOneLine bytes.now)

@@ -1,4 +1,4 @@
-//! Runs quick lines one after the other, those that are answered in the drain's buffer and those that are not.
+//! Runs quick lines one after another, those that are answered in the drain's buffer and those that are not.
 
 ghost use Rattle.std.specs.Prelude.{◌≡◌, ◌+◌, ◌^◌, ◌<◌, ◌≤◌, [], Some, Ok, length, is_err, IfOk, IfSome, MatchResult};
 ghost use Rattle.quick_core.specs.Lines.{ReadsAs};
@@ -54,8 +54,8 @@ impl<N: Notes> Run<N> {
         Ok(rest)
     }
 
-    /// Reads the line at the front of what [`Run::run_in_place`] left as a quick line. A line that was tried in vain is not
-    /// read again.
+    /// Reads the first line that [`Run::run_in_place`] left as a quick line. A line that could not be read as one is not read
+    /// again.
     #[inline(always)]
     fn read_left<'a, const RETURNS: bool, D: Drain>(
         &self,
@@ -136,8 +136,8 @@ impl<N: Notes> Run<N> {
     }
 }
 
-/// Reads a single line, without its line feed, as a quick request. Returns `None` if it has `WINDOW` bytes or more, if it is
-/// none, and if that is not sure.
+/// Reads a single line, without its line feed, as a quick request. Returns `None` if it has `WINDOW` bytes or more, or if it is
+/// not known for sure to be a quick request.
 fn read_alone<'a>(line: &[u8], buffer: &'a mut [u8; MOST_BYTES]) -> Option<RequestLine<'a>>
     ensures reads { IfSome result (λ read. reading_of line.now ≡ Ok (Some (Tenant read.tenant (command_of read.request)))) }
     ensures askable { IfSome result (λ read. IsAskable read.request) }

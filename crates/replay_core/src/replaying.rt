@@ -77,7 +77,8 @@ pub fn replay_noted<F: Feed, D: Drain, N: Notes>(
 {
     laws::own_lines();
     laws::own_shown();
-    // The texts of tenants' numbers, and the counts: each line has at least one byte.
+    // Bounds for the proof: of the tenants, whose numbers then differ as text, and of the lines, since each has at least one
+    // byte.
     let _tenants = kernel.tenants();
     let _room = feed.room();
     let mut run = Run::new(only, mem::take(notes));

@@ -139,7 +139,7 @@ impl Text for AnswerText<'_> {
     }
 }
 
-/// Pushes all of the bytes, the rest again after a push that took less, and counts those that were taken.
+/// Pushes all of the bytes, and counts those that the drain took. If a push takes only some, the rest is pushed again.
 pub fn push_all<D: Drain>(bytes: &[u8], drain: &mut D, written: &mut u128) -> Result<(), Stopped>
     requires { CanWrite (D.has_failed drain.old) written.old (length bytes.now) }
     ensures { HasPushed (D.contents drain.old) (D.contents drain.new) (D.has_failed drain.new)

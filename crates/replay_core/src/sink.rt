@@ -15,8 +15,8 @@ use words_core::{Addressee, Answer, Event, LineFault};
 
 /// A receiver of the lines of a trace, each with its answer, in order.
 pub trait Sink {
-    // The effect of a line: a step from one state, with the kernel's, to the next. The drain took the first bytes of its
-    // output, and not the others.
+    // The effect of a line: a step from one state of the sink and the kernel to the next. The arguments between the states are
+    // the line, the bytes of its output that the drain took, and the bytes that it did not take.
     ghost does: { Self × KernelContent → List ℕ → List ℕ → List ℕ → Self × KernelContent → Type 0 };
 
     // The same without the effect of `ran`.
