@@ -1,4 +1,4 @@
--- What the notes of a run are: the first ten faulty lines, and how often each refusal was shown.
+-- The notes of a run: the first ten faulty lines, and the number of times that each refusal was shown.
 use Rattle.std.specs.Prelude.{ℕ, zero, suc, ◌+◌, ◌-◌, ◌^◌, nat_lt, List, [], ◌∷◌, ◌++◌, length, take, min, replicate, slice_index, slice_index_or, slice_set, if◌then◌else◌}
 use Rattle.words_core.specs.declared.event.LineFault.{LineFault}
 use Rattle.words_core.specs.declared.reply.Refusal.{Refusal}
@@ -9,7 +9,7 @@ use Rattle.run_notes.specs.declared.notes.RunNotes.{RunNotes}
 abbrev pub no_notes : RunNotes
 no_notes = record { first = record { items = [] }; times = replicate 15 0 }
 
--- 32 bytes of a faulty line are kept
+-- the first 32 bytes of a faulty line are kept
 abbrev pub faulty_line : ℕ → LineFault → List ℕ → FaultyLine
 faulty_line number fault line = record { number = number; fault = fault; begin = record { items = take 32 line } }
 
@@ -18,7 +18,7 @@ with_fault notes number fault line = if nat_lt (length notes.first.items) 10
     then record notes { first = record { items = notes.first.items ++ faulty_line number fault line ∷ [] } }
     else notes
 
--- how often the refusal of a number was shown: they are numbered from 1 on
+-- the number of times that the refusal with a number was shown; refusals are numbered from 1 on
 abbrev pub times_of : RunNotes → ℕ → ℕ
 times_of notes zero = 0
 times_of notes (suc place) = slice_index_or notes.times place 0

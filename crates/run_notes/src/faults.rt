@@ -10,7 +10,7 @@ use words_core::LineFault;
 /// The number of faulty lines that are noted.
 pub(crate) const MOST_FAULTS: usize = 10;
 
-/// The number of bytes of each that are noted.
+/// The number of bytes of each faulty line that are noted.
 const MOST_SHOWN: usize = 32;
 
 /// A faulty line: its number, from 1, its fault, and its first 32 bytes.
@@ -42,7 +42,7 @@ impl FaultyLine {
         }
     }
 
-    /// What would have been right.
+    /// Returns the text that explains the fault.
     fn expected(&self) -> &'static str {
         match self.fault {
             LineFault::Long => "a line has at most 255 bytes",

@@ -34,14 +34,14 @@ impl RunNotes {
         }
     }
 
-    /// Returns the first faulty lines, at most ten, in their order.
+    /// Returns the first faulty lines, at most ten, in the order of the trace.
     pub fn first(&self) -> &[FaultyLine]
         ensures { result.now ≡ self.now.first.items }
     {
         self.first.as_slice()
     }
 
-    /// Returns the refusal with this number and the count of its answers, or `None` if there was none.
+    /// Returns the refusal with this number, from 1, and how many answers it was. Returns `None` if no answer was this refusal.
     pub fn told(&self, number: u8) -> Option<Refused>
         ensures { MatchOption result (times_of self.now number ≡ 0)
             (λ refused. (number_of_refusal refused.refusal ≡ number) × (refused.times ≡ times_of self.now number)) }

@@ -6,7 +6,7 @@ use words_core::Refusal;
 /// The greatest number of a refusal.
 pub const MOST_NUMBER: u8 = 15;
 
-/// A refusal, and the count of its answers.
+/// A refusal, and the number of answers that were this refusal.
 #[derive(Clone, Copy, Debug)]
 pub struct Refused {
     pub(crate) refusal: Refusal,
