@@ -1,4 +1,4 @@
--- A tenant's own list, run alone on a machine of as many superblocks, is the same own list there.
+-- If a tenant's own list is run alone on a machine with as many superblocks, its own list there is the same.
 use Rattle.std.proofs.Common.{◌≡◌, ℕ, ◌+◌, ◌*◌, ◌^◌, ◌<◌, ◌≤◌, Bool, true, false, cond, ◌==◌, ◌&&◌, List, [], ◌∷◌, ◌++◌, length, map, filter, Option, Some, None, Result, Ok, Err, is_none, position, slice_get, refl, ap, sym, subst, ◌∙◌, arith}
 use Rattle.std.specs.Prelude.{if◌then◌else◌, slice_set}
 use Rattle.std.specs.List.{list_all, onto_first}
@@ -36,12 +36,12 @@ use Rattle.own_trace.specs.Kept.{RunLine, run_lines, has_entry, is_own_line, own
 use Rattle.own_trace.specs.Laws.{OwnListAlone, LinesAlone}
 use Rattle.own_trace.proofs.Superblocks.{Owners, is_own_or_free, one, times, no_times, alone_has_room, granted_times, granted_all, given_times, given_all, new_all, new_times}
 
--- all superblocks are the tenant's or free, each under a slot of its own
+-- every superblock is free or the tenant's, and no two are in the same slot
 pub record IsAlone (t : ℕ) (owners : Owners) : Type 0 where
   pub only : list_all (is_own_or_free t) owners ≡ true
   pub once : (u : ℕ) → times (is_owner t u) owners ≤ 1
 
--- the tenant has the same machine in a world of all and in one of its own, of as many superblocks
+-- the tenant has the same machine in the world of all tenants and in one of its own, with as many superblocks
 pub record Beside (limit order t : ℕ) (whole alone : World) : Type 0 where
   pub machine : Machine
   pub here : slice_get whole.machines t ≡ Some machine
@@ -53,7 +53,7 @@ pub record Beside (limit order t : ℕ) (whole alone : World) : Type 0 where
   pub size : length alone.owners ≡ length whole.owners
   pub by_itself : IsAlone t alone.owners
 
--- No step changes how many superblocks there are
+-- No step changes the number of superblocks
 
 if_size : (b : Bool) (x y : WorldStep) (n : ℕ) → length x.world.owners ≡ n → length y.world.owners ≡ n → length (if b then x else y).world.owners ≡ n
 if_size true x y n p q = p
@@ -106,7 +106,7 @@ step_size limit order (On.Admin (Do.Reset t)) w = reset_size t w (slice_get w.ma
 step_size limit order (On.Admin (Do.Move t slot)) w = move_size t slot w (slice_get w.machines t) (position is_none w.owners)
 step_size limit order (On.Admin Do.Pool) w = refl
 
--- One event that is in the own list: it is the same entry in both worlds, and leaves the tenant alone in the one
+-- One event in the own list: it is the same entry in both worlds, and in the tenant's own world the tenant is still alone
 
 abbrev entries_at : ℕ → ℕ → ℕ → Event → World → List Entry
 entries_at limit order t event w = own_entries t event (world_step limit order event w).reply.body
@@ -192,7 +192,7 @@ grant_refused order t w m is =
     subst (λ o. is_refused (grant_step order t w o (position is_none w.owners)).reply.body ≡ is_none (position is_none w.owners)) (sym is)
     (granted_refused order t w m (position is_none w.owners))
 
--- a slot that is not held is under no superblock
+-- no superblock is in a slot that is not held
 granted_alone : (limit order t : ℕ) (k : Known) (w : World) (m : Machine) (free : Option ℕ) → MeetsWorld limit order k w → slice_get w.machines t ≡ Some m → position is_none w.owners ≡ free
     → IsAlone t w.owners → IsAlone t (grant_step order t w (Some m) free).world.owners
 unfolding grant_step answer
@@ -225,7 +225,7 @@ own_grant limit order t w v b room =
           (granted_alone limit order t b.known_alone v b.machine (position is_none v.owners) b.meets_alone b.there refl b.by_itself);
     }
 
--- The event is one of the own list
+-- The event is in the own list
 
 if_has : (b : Bool) (entry : Entry) → has_entry (if b then entry ∷ [] else []) ≡ true → b ≡ true
 if_has true entry has = refl
@@ -272,7 +272,7 @@ both_after limit order t event w v le can b step =
       by_itself = step.by_itself;
     }
 
--- .. and after one that is none of the own list, and that the tenant alone does not see
+-- .. and after an event that is not in the own list, and that the tenant's own world does not see
 other_after : (limit order t : ℕ) (event : Event) (w v : World) → 3 ≤ order → CanBeRequested event → (b : Beside limit order t w v) → entries_at limit order t event w ≡ []
     → Beside limit order t (world_step limit order event w).world v
 other_after limit order t event w v le can b none =
@@ -300,7 +300,7 @@ some_entry (entry ∷ entries) some = refl
 abbrev lines_in : List RunLine → List (List ℕ)
 lines_in runs = map (λ run. run.line) runs
 
--- one event, and what is kept of the lines behind it
+-- one event, and the lines kept after it
 one_event : (limit order t : ℕ) (line : List ℕ) (event : Event) (w v : World) (later : List RunLine) (more : List Event) → 3 ≤ order → reading_of line ≡ Ok (Some event)
     → Beside limit order t w v
     → ((next : World) → Beside limit order t (world_step limit order event w).world next
@@ -357,7 +357,7 @@ opening_beside limit order superblocks tenants t ram here = record {
   };
 }
 
--- The text of the lines is cut into them again
+-- The text of the lines is cut into the same lines again
 
 onto_one : (b : ℕ) (lines : List (List ℕ)) → b == 10 ≡ false → AreLines lines → AreLines (onto_first b lines)
 onto_one b [] other h = ((other, tt), tt)

@@ -30,7 +30,7 @@ map_both : (xs ys : List RunLine) → map (λ run. run.line) (xs ++ ys) ≡ map 
 map_both [] ys = refl
 map_both (x ∷ xs) ys = ap (λ more. x.line ∷ more) (map_both xs ys)
 
--- what is kept of lines, and then of more
+-- the text kept of some lines, and then of more
 pub own_both : (t limit order : ℕ) (xs ys : List (List ℕ)) (w : World)
     → own_text t limit order (xs ++ ys) w ≡ own_text t limit order xs w ++ own_text t limit order ys (world_after limit order w (events_of xs))
 own_both t limit order xs ys w =
@@ -40,12 +40,12 @@ own_both t limit order xs ys w =
     ∙ ap with_line_feeds (map_both (filter (is_own_line t) (run_lines limit order xs w)) (filter (is_own_line t) (run_lines limit order ys later)))
     ∙ with_line_feeds-append (own_lines t limit order xs w) (own_lines t limit order ys later)
 
--- of one line that is none of the tenant's nothing ..
+-- nothing is kept of a line that is not the tenant's ..
 pub none_kept : (t limit order : ℕ) (line : List ℕ) (w : World) → has_entry (own_list t (history limit order w (event_in (reading_of line)))) ≡ false
     → own_text t limit order (line ∷ []) w ≡ []
 none_kept t limit order line w is = rw is refl
 
--- .. and else the line
+-- .. otherwise the line is kept
 pub line_kept : (t limit order : ℕ) (line : List ℕ) (w : World) → has_entry (own_list t (history limit order w (event_in (reading_of line)))) ≡ true
     → own_text t limit order (line ∷ []) w ≡ line ++ 10 ∷ []
 line_kept t limit order line w is = rw is (append-nil (line ++ 10 ∷ []))

@@ -23,13 +23,13 @@ use Rattle.own_trace.specs.Kept.{has_entry, own_text}
 use Rattle.own_trace.specs.Keeping.{HasKept, IsKeptShort, KeepsLine, keeps}
 use Rattle.own_trace.proofs.Kept.{own_both, none_kept, line_kept}
 
--- the line was run, and found to be the tenant's own or not
+-- the line was run, and `own` says whether it is the tenant's own
 abbrev pub IsLineRun : ℕ → List ℕ → KernelContent → KernelContent → Bool → Type 0
 IsLineRun t line before after own = SameSizes before after
     × ((w : World) → Shows before w → Shows after (world_after cache_limit before.order w (event_in (reading_of line))))
     × ((w : World) → Shows before w → own ≡ has_entry (own_list t (history cache_limit before.order w (event_in (reading_of line)))))
 
--- the same of a line that was read
+-- the same for a line, by its reading
 pub line_run : (t : ℕ) (line : List ℕ) (before after : KernelContent) (own : Bool) (reading : Result (Option Event) LineFault) → reading_of line ≡ reading → SameSizes before after
     → ((w : World) → Shows before w → Shows after (world_after cache_limit before.order w (event_in reading)))
     → ((w : World) → Shows before w → own ≡ has_entry (own_list t (history cache_limit before.order w (event_in reading))))
@@ -47,7 +47,7 @@ event_run t line before after event reply own read steps is =
     line_run t line before after own (Ok (Some event)) read steps.sizes steps.shows
     (λ w shows. is ∙ ap (λ (r : Reply). has_entry (own_entries t event r.body)) (steps.answer w shows) ∙ ap has_entry (sym (append-nil _)))
 
--- a line without an event is not
+-- a line without an event is not the tenant's own
 pub nothing_run : (t : ℕ) (line : List ℕ) (k : KernelContent) (reading : Result (Option Event) LineFault) → reading_of line ≡ reading → event_in reading ≡ []
     → IsLineRun t line k k false
 nothing_run t line k reading read none =
@@ -55,7 +55,7 @@ nothing_run t line k reading read none =
     (λ w shows. subst (λ (es : List Event). Shows k (world_after cache_limit k.order w es)) (sym none) shows)
     (λ w shows. subst (λ (es : List Event). false ≡ has_entry (own_list t (history cache_limit k.order w es))) (sym none) refl)
 
--- a line that is none of the tenant's
+-- a line that is not the tenant's own was not pushed
 pub not_kept : (own : OwnLines) (line : List ℕ) (before after : KernelContent) (known : Option (List ℕ)) (is_own : Bool)
     → IsLineRun own.tenant line before after is_own → is_own ≡ false → HasDone keeps (own, before) line known known (Ok tt) (own, after)
 not_kept own line before after known is_own run is = record {
@@ -66,7 +66,7 @@ not_kept own line before after known is_own run is = record {
   whole = refl;
 }
 
--- a line of the tenant's was pushed
+-- a line of the tenant's own was pushed
 pub kept : (own : OwnLines) (line : List ℕ) (before after : KernelContent) (old new : Option (List ℕ)) (failing is_own : Bool) (written written' : ℕ) (result : Result (Unit {0}) Stopped)
     → IsLineRun own.tenant line before after is_own → is_own ≡ true → HasPushed old new failing (line ++ 10 ∷ []) written written' result
     → HasDone keeps (own, before) line old new result (own, after)
@@ -85,7 +85,7 @@ kept own line before after old new failing is_own written written' result run is
   whole = pushed.whole;
 }
 
--- what is kept of lines and of one more
+-- the text kept of some lines, and of one more
 own_more : (t : ℕ) (before now next : KernelContent) (xs : List (List ℕ)) (line taken text : List ℕ)
     → HasKept t before now xs taken → KeepsLine t line now next text
     → (w : World) → Shows before w → own_text t cache_limit before.order (xs ++ line ∷ []) w ≡ taken ++ text
@@ -96,7 +96,7 @@ own_more t before now next xs line taken text sofar kept w shows =
     ∙ ap (λ order. taken ++ own_text t cache_limit order (line ∷ []) later) (sym sofar.stands.sizes.order)
     ∙ ap (λ more. taken ++ more) (kept.kept later (sofar.stands.shows w shows))
 
--- After these lines the kernel has run them, and what was taken is what is the tenant's of them.
+-- The kernel has run these lines, and the bytes taken are those of the tenant's own lines among them.
 abbrev pub AreKept : ℕ → KernelContent → List (List ℕ) → List ℕ → OwnLines × KernelContent → Type 0
 AreKept t before lines taken s = (s.0.tenant ≡ t) × HasKept t before s.1 lines taken
 

@@ -1,4 +1,4 @@
--- Superblocks that are one tenant's alone, each under a slot of its own: there are no more of them than the tenant's slots.
+-- The superblocks of one tenant, no two of them in the same slot: there are at most as many as the tenant has slots.
 use Rattle.std.proofs.Common.{◌≡◌, ◌≢◌, ℕ, zero, suc, ◌+◌, ◌≤◌, Bool, true, false, ◌||◌, ◌==◌, List, [], ◌∷◌, map, length, Option, Some, None, is_none, position, slice_get, replicate, refl, sym, ap, ◌∙◌, arith}
 use Rattle.std.specs.Prelude.{if◌then◌else◌, is_some, slice_set}
 use Rattle.std.specs.List.{list_any, list_all}
@@ -12,7 +12,7 @@ use Rattle.promise_kept.proofs.Owning.{pool_empty, pool_first, one_owner, nobody
 abbrev pub Owners : Type 0
 Owners = List (Option Owner)
 
--- nobody else's
+-- the superblock is free or the tenant's
 abbrev pub is_own_or_free : ℕ → Option Owner → Bool
 is_own_or_free t None = true
 is_own_or_free t (Some owner) = owner.tenant == t
@@ -25,7 +25,7 @@ abbrev pub times : (Option Owner → Bool) → Owners → ℕ
 times test [] = 0
 times test (x ∷ xs) = one (test x) + times test xs
 
--- without the first that passes
+-- the list without the first element that passes the test
 abbrev without : (Option Owner → Bool) → Owners → Owners
 without test [] = []
 without test (x ∷ xs) = if test x then xs else x ∷ without test xs
@@ -35,7 +35,7 @@ free_few [] = omega arith
 free_few (None ∷ xs) = omega (arith, free_few xs)
 free_few (Some x ∷ xs) = omega (arith, free_few xs)
 
--- it is one less
+-- the list without it is shorter by one
 less_one : (test : Option Owner → Bool) (xs : Owners) → list_any test xs ≡ true → length xs ≡ suc (length (without test xs))
 less_one test [] any = absurd (false≢true any)
 less_one test (x ∷ xs) any = go (test x) any (less_one test xs)
@@ -54,7 +54,7 @@ same_free test (Some x ∷ xs) none = go (test (Some x)) (same_free test xs none
     go true later = refl
     go false later = later
 
--- others are still there
+-- other elements are still there
 others_stay : (test other : Option Owner → Bool) (xs : Owners) → ((o : Option Owner) → test o ≡ true → other o ≡ false)
     → list_any other (without test xs) ≡ list_any other xs
 others_stay test other [] apart = refl
@@ -81,7 +81,7 @@ no_times test (x ∷ xs) none = go (test x) none (no_times test xs)
     go true none later = absurd (false≢true (sym none))
     go false none later = omega (arith, later none)
 
--- each is there under its slot
+-- if `ys` has each slot of `xs`, it has at least as many elements as `xs`, not counting its free ones
 pigeons : (t : ℕ) (xs ys : Owners) → list_all (is_of t) xs ≡ true → ((u : ℕ) → times (is_owner t u) xs ≤ 1)
     → ((u : ℕ) → list_any (is_owner t u) xs ≡ true → list_any (is_owner t u) ys ≡ true) → length xs + nobodys ys ≤ length ys
 pigeons t [] ys all once there = omega (arith, free_few ys)
@@ -114,7 +114,7 @@ both t (Some x ∷ xs) taken own =
     let parts = and_parts (x.tenant == t) (list_all (is_own_or_free t) xs) own in
     and_from (x.tenant == t) (list_all (is_of t) xs) parts.0 (both t xs taken parts.1)
 
--- Where a machine of as many superblocks, under slots of this tenant too, has a free one, so has the tenant alone.
+-- If a machine with as many superblocks, some of them in the same slots of this tenant, has a free one, so has the tenant alone.
 pub alone_has_room : (t : ℕ) (whole alone : Owners) (found : Option ℕ) → list_all (is_own_or_free t) alone ≡ true → ((u : ℕ) → times (is_owner t u) alone ≤ 1)
     → ((u : ℕ) → list_any (is_owner t u) alone ≡ list_any (is_owner t u) whole) → length alone ≡ length whole → position is_none alone ≡ found
     → is_none (position is_none whole) ≡ false → is_none found ≡ false

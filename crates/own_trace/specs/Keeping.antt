@@ -1,4 +1,4 @@
--- What is taken of what was given.
+-- The bytes taken, by the bytes given.
 use Rattle.std.specs.Prelude.{◌≡◌, ℕ, Bool, true, false, List, [], ◌∷◌, ◌++◌, Result, Ok, Err}
 use Rattle.words_core.specs.Cutting.{lines_of_trace}
 use Rattle.words_core.specs.Grammar.{reading_of}
@@ -12,35 +12,35 @@ use Rattle.own_trace.specs.declared.keeping.KeepError.{KeepError}
 use Rattle.own_trace.specs.declared.keeping.OwnLines.{OwnLines}
 use Rattle.own_trace.specs.Kept.{own_text}
 
--- These lines have been run, and the text of those that are the tenant's own list was taken ..
+-- These lines were run, and the text of those in the tenant's own list was taken ..
 pub record HasKept (t : ℕ) (before after : KernelContent) (lines : List (List ℕ)) (taken : List ℕ) : Type 0 where
   pub stands : StandsAfter before after lines
   pub kept : (w : World) → Shows before w → taken ≡ own_text t cache_limit before.order lines w
 
--- .. or not the whole of it: the last line is the tenant's own, and was cut.
+-- .. or only a part of that text: the last line is the tenant's own, and was cut.
 pub record IsKeptShort (t : ℕ) (before after : KernelContent) (lines : List (List ℕ)) (line taken : List ℕ) : Type 0 where
   pub stands : StandsAfter before after (lines ++ line ∷ [])
   pub kept : (w : World) → Shows before w → IsCutIn (λ xs. own_text t cache_limit before.order xs w) lines line taken
 
--- what was given, what was taken, the kernel and the answer
+-- the relation between the bytes given, the bytes taken, the kernel before and after, and the result
 abbrev pub KeepsOwn : Bool → ℕ → KernelContent → KernelContent → List ℕ → List ℕ → Result (Unit {0}) KeepError → Type 0
 KeepsOwn ended t before after given taken (Ok done) = HasKept t before after (lines_of_trace given) taken
 KeepsOwn ended t before after given taken (Err KeepError.Feed) = HasKept t before after (ended_lines given) taken
 KeepsOwn ended t before after given taken (Err KeepError.Drain) =
     (lines : List (List ℕ)) × (line : List ℕ) × HasCome ended given (lines ++ line ∷ []) × IsKeptShort t before after lines line taken
 
--- the end that failed is named, and none where neither did
+-- the result names the end that failed, or is Ok if neither did
 abbrev pub NamesEnd : Result (Unit {0}) KeepError → Bool → Bool → Type 0
 NamesEnd (Ok done) feed drain = (feed ≡ false) × (drain ≡ false)
 NamesEnd (Err KeepError.Feed) feed drain = (feed ≡ true) × (drain ≡ false)
 NamesEnd (Err KeepError.Drain) feed drain = (feed ≡ false) × (drain ≡ true)
 
--- a line was run, and this is what of it is the tenant's own list
+-- a line was run, and this is its text in the tenant's own list: the line, or nothing
 pub record KeepsLine (t : ℕ) (line : List ℕ) (before after : KernelContent) (text : List ℕ) : Type 0 where
   pub sizes : SameSizes before after
   pub shows : (w : World) → Shows before w → Shows after (world_after cache_limit before.order w (event_in (reading_of line)))
   pub kept : (w : World) → Shows before w → own_text t cache_limit before.order (line ∷ []) w ≡ text
 
--- what a line does: of that text this was taken, and this was not
+-- the effect of a line: of its text in the own list, `taken` was taken and `rest` was not
 abbrev pub keeps : OwnLines × KernelContent → List ℕ → List ℕ → List ℕ → OwnLines × KernelContent → Type 0
 keeps s line taken rest s' = (s'.0.tenant ≡ s.0.tenant) × KeepsLine s.0.tenant line s.1 s'.1 (taken ++ rest)

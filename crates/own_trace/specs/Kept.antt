@@ -1,4 +1,4 @@
--- The lines of a trace that are a tenant's own list.
+-- The lines of a trace that make a tenant's own list.
 use Rattle.std.specs.Prelude.{ℕ, Bool, true, false, List, [], ◌∷◌, map, filter}
 use Rattle.words_core.specs.Cutting.{lines_of_trace}
 use Rattle.words_core.specs.Grammar.{reading_of}
@@ -7,12 +7,12 @@ use Rattle.world_core.specs.World.{World, Exchange, opening_world, history, worl
 use Rattle.world_core.specs.OwnList.{own_list}
 use Rattle.world_core.specs.Output.{event_in, with_line_feeds}
 
--- a line, with the event that it was and its reply; with none where it is blank, a comment or faulty
+-- a line with its event and the reply; with no exchange if the line is blank, a comment or faulty
 pub record RunLine : Type 0 where
   pub line : List ℕ
   pub exchanges : List Exchange
 
--- the lines, run one after the other
+-- the lines, run one after another
 abbrev pub run_lines : ℕ → ℕ → List (List ℕ) → World → List RunLine
 run_lines limit order [] w = []
 run_lines limit order (line ∷ lines) w =
@@ -23,11 +23,11 @@ abbrev pub has_entry : List Entry → Bool
 has_entry [] = false
 has_entry (entry ∷ entries) = true
 
--- what the line was is in the own list of tenant t
+-- the line has an entry in the own list of tenant t
 abbrev pub is_own_line : ℕ → RunLine → Bool
 is_own_line t run = has_entry (own_list t run.exchanges)
 
--- the lines that are the own list of tenant t, as they stand
+-- the lines that make the own list of tenant t, unchanged
 abbrev pub own_lines : ℕ → ℕ → ℕ → List (List ℕ) → World → List (List ℕ)
 own_lines t limit order lines w = map (λ run. run.line) (filter (is_own_line t) (run_lines limit order lines w))
 
@@ -35,6 +35,6 @@ own_lines t limit order lines w = map (λ run. run.line) (filter (is_own_line t)
 abbrev pub own_text : ℕ → ℕ → ℕ → List (List ℕ) → World → List ℕ
 own_text t limit order lines w = with_line_feeds (own_lines t limit order lines w)
 
--- of a whole trace, on a new machine
+-- the own list of a whole trace, on a new machine, as bytes
 abbrev pub own_trace : ℕ → ℕ → ℕ → ℕ → ℕ → List ℕ → List ℕ
 own_trace limit order superblocks tenants t trace = own_text t limit order (lines_of_trace trace) (opening_world superblocks tenants)

@@ -1,4 +1,4 @@
--- What the own lines of a trace are, over the definitions alone.
+-- The laws of a tenant's own lines, over the definitions alone.
 use Rattle.std.specs.Prelude.{◌≡◌, ℕ, ◌*◌, ◌^◌, ◌<◌, ◌≤◌, List, filter}
 use Rattle.std.specs.List.{flat_map}
 use Rattle.words_core.specs.Cutting.{lines_of_trace}
@@ -8,14 +8,14 @@ use Rattle.world_core.specs.Output.{events_of, lines_for, output_of}
 use Rattle.world_core.specs.Laws.{opening_history}
 use Rattle.own_trace.specs.Kept.{run_lines, is_own_line, own_trace}
 
--- The entries of the lines that are kept are the tenant's own list of the trace, in their order.
+-- The entries of the kept lines, in order, are the tenant's own list of the trace.
 abbrev pub KeptAreOwnList : Type 0
 KeptAreOwnList = (limit order superblocks tenants t : ℕ) (trace : List ℕ) →
     flat_map (λ run. own_list t run.exchanges) (filter (is_own_line t) (run_lines limit order (lines_of_trace trace) (opening_world superblocks tenants)))
     ≡ own_list t (opening_history limit order superblocks tenants (events_of (lines_of_trace trace)))
 
--- Run alone, on a new machine of the same sizes, they are that own list again; slots have at least 8 frames, and no place of RAM is
--- 2 ^ 32 or more ..
+-- If the kept lines are run alone, on a new machine of the same sizes, their own list is the same; slots have at least 8
+-- frames, and no place of RAM is 2 ^ 32 or more ..
 abbrev pub OwnListAlone : Type 0
 OwnListAlone = (limit order superblocks tenants t : ℕ) (trace : List ℕ) → 3 ≤ order → superblocks * 2 ^ order * 4096 ≤ 2 ^ 32 → t < tenants →
     own_list t (opening_history limit order superblocks tenants (events_of (lines_of_trace (own_trace limit order superblocks tenants t trace))))

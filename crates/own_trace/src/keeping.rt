@@ -68,7 +68,7 @@ pub fn keep<F: Feed, D: Drain>(
     }
 }
 
-/// Keeps the lines that are the own list of a tenant.
+/// A sink that pushes the lines of one tenant's own list.
 #[derive(Debug, Drop)]
 pub struct OwnLines {
     pub tenant: u8,

@@ -80,7 +80,7 @@ fn keep_request<const RETURNS: bool, D: Drain>(
     push_line(line, drain)
 }
 
-/// Runs a request, and returns whether it is in the tenant's own list. It is if the tenant made it, with any answer.
+/// Runs a request. Returns true if it is in the tenant's own list, that is, if the tenant made it, whatever the answer.
 fn run_request<const RETURNS: bool>(
     asked: u32,
     request: Request<'_>,
