@@ -1,4 +1,4 @@
--- From what clap found in the words to the machine.
+-- From clap's matches to the machine.
 use Rattle.std.proofs.Common.{◌≡◌, ◌∙◌, ℕ, ◌<◌, List, Option, Some, None, subst, refl, ap, sym, arith, codes}
 use Rattle.clap.specs.Words.{Row, Text, one_of, one_text, rows_of}
 use Rattle.clap.specs.declared.parser.matches.Found.{Found}
@@ -8,7 +8,7 @@ use Rattle.command_line.specs.Machine.{AsksMachine, AsksNoSizes, AsksNoTenant, A
 use Rattle.command_line.specs.declared.machine.Machine.{Machine}
 use Rattle.command_line.specs.declared.outcome.Outcome.{Outcome}
 
--- a text writes one number
+-- a text has only one number
 pub one_number : (text : Option Text) (found : Option ℕ) (n : ℕ) → MayWrite text found → Writes text n → found ≡ Some n
 one_number None found n may writes = absurd writes
 one_number (Some text) (Some m) n may writes = ap (λ k. Some k) (may.1 ∙ sym writes.1)
@@ -25,11 +25,11 @@ same_written None (Some m) None may other = absurd may
 same_written (Some text) None None may other = refl
 same_written (Some text) (Some m) None may other = absurd (other may.0)
 
--- what is read as a type, of the found arguments and of their rows
+-- the text of an argument, in the matches and in their rows
 pub one_text-of_rows : (f : Found) (rows : List Row) → rows_of f ≡ rows → (name : Text) → one_text f name ≡ one_of name rows
 one_text-of_rows f rows same name = one_text-rows f name ∙ ap (one_of name) same
 
--- the same is asked for under any names that read the same
+-- the sizes depend only on the texts that are read
 pub asks_sizes : (read other : Text → Option Text) (config : Config) → ((name : Text) → read name ≡ other name) → AsksSizes read config → AsksSizes other config
 asks_sizes read other config same asks = record {
   order = subst (λ text. Writes text config.order) (same (codes "order")) asks.order;
@@ -43,7 +43,7 @@ asks_machine read other m same asks = record {
   only = subst (λ text. MayWrite text m.only) (same (codes "only")) asks.only;
 }
 
--- the same is not
+-- so does their absence
 pub asks_no_sizes : (read other : Text → Option Text) → ((name : Text) → read name ≡ other name) → AsksNoSizes read → AsksNoSizes other
 asks_no_sizes read other same none sizes asks = none sizes (asks_sizes other read sizes (λ name. sym (same name)) asks)
 
@@ -68,7 +68,7 @@ no_machine read other (Outcome.Version text) same none = absurd none
 no_machine read other Outcome.Unreadable same none = absurd none
 no_machine read other Outcome.Unwritable same none = absurd none
 
--- a machine that is asked for names a tenant
+-- if a machine is requested, `--only` does not name a missing tenant
 tenant_given : (read : Text → Option Text) (m : Machine) → AsksMachine read m → ¬ AsksNoTenant read
 tenant_given read m asks none =
     let only : m.only ≡ Some none.tenant = one_number (read (codes "only")) m.only none.tenant asks.only none.only in
@@ -77,7 +77,7 @@ tenant_given read m asks none =
     let below : none.tenant < m.config.tenants = m.below none.tenant only in
     omega (arith, none.above)
 
--- a machine that is asked for is found
+-- a machine that is requested is found
 pub machine_given : (read : Text → Option Text) (m : Machine) (outcome : Outcome) → AsksMachine read m → ¬ IsNoMachine read outcome
 machine_given read m (Outcome.BadLine text) asks none = none.0 m.config asks.sizes m.bootable
 machine_given read m Outcome.NoMemory asks none = none m.config asks.sizes m.bootable

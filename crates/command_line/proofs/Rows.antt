@@ -20,7 +20,7 @@ pub order_is_out_of_its_range : parse_faults (codes "--order" ∷ codes "2" ∷ 
 unfolding clap_on_literals parse_faults
 order_is_out_of_its_range = refl
 
--- that `--only` names no tenant is no fault to clap
+-- to clap it is no fault that `--only` names no tenant
 pub nothing_is_wrong : parse_faults (codes "--order" ∷ codes "3" ∷ codes "--superblocks" ∷ codes "2" ∷ codes "--tenants" ∷ codes "2"
     ∷ codes "--only" ∷ codes "2" ∷ codes "trace" ∷ []) ≡ []
 unfolding clap_on_literals parse_faults

@@ -1,4 +1,4 @@
--- From what clap found in the words to the settings.
+-- From clap's matches to the settings.
 use Rattle.std.proofs.Common.{◌≡◌, ◌∙◌, ◌<◌, ⊎_elim, ℕ, Bool, List, [], Option, Some, inl, inr, subst, ap, refl, sym, true, arith, codes}
 use Rattle.std.specs.Option.{ForSome}
 use Rattle.clap.specs.Words.{App, Row, Text, fault_of, first_of, first_value, is_simple, is_simple_and_free, matches_of, one_of}
@@ -15,7 +15,7 @@ use Rattle.command_line.specs.declared.machine.Machine.{Machine}
 use Rattle.command_line.specs.declared.outcome.Outcome.{Outcome}
 use Rattle.command_line.specs.declared.settings.Settings.{Settings}
 
--- clap's model gives the matches of such a command line
+-- clap's model covers this command
 pub line_is_simple : is_simple command_line ≡ true
 unfolding clap_on_literals
 line_is_simple = refl
@@ -24,7 +24,7 @@ pub line_is_simple_and_free : is_simple_and_free command_line ≡ true
 unfolding clap_on_literals
 line_is_simple_and_free = refl
 
--- what is known of a parse by such a command
+-- what is known of a parse by this command
 pub line_rows : {P : Type 0} (a : App) (f : Found) (words : List Text) → a ≡ command_line
     → (is_simple a ≡ true → (rows_of f ≡ matches_of a words) × P) → rows_of f ≡ matches_of command_line words
 line_rows a f words same found = rows_as command_line a f words line_is_simple same found
@@ -39,7 +39,7 @@ pub line_refused : (a : App) (words : List Text) (outcome : Outcome) → a ≡ c
 unfolding parse_faults
 line_refused a words outcome same refused = refused_as command_line a words outcome line_is_simple_and_free same refused
 
--- such a command line is this command
+-- if this command takes the words, so does an equal one
 pub taken_by : (a : App) (words : List Text) → a ≡ command_line → IsInOrder words → takes a words ≡ true
 unfolding IsInOrder
 taken_by a words same taken = subst (λ b. takes b words ≡ true) (sym same) taken
@@ -55,12 +55,12 @@ asks_rows f rows s same asks = record {
   file = asks.file ∙ first_value-rows f (codes "FILE") ∙ ap (first_of (codes "FILE")) same;
 }
 
--- there is no machine, in the rows too
+-- if the matches give no machine, the rows give no settings
 pub no_machine_rows : (f : Found) (rows : List Row) (outcome : Outcome) → rows_of f ≡ rows → IsNoMachine (one_text f) outcome
     → IsNoSettings (λ name. one_of name rows) outcome
 no_machine_rows f rows outcome same none = inl (no_machine (one_text f) (λ name. one_of name rows) outcome (one_text-of_rows f rows same) none)
 
--- the same of a tenant's own list
+-- the same for a tenant's own list
 pub no_own_rows : (f : Found) (rows : List Row) (m : Machine) (flag : Bool) (outcome : Outcome) → rows_of f ≡ rows → AsksMachine (one_text f) m
     → IsFlag (one_text f (codes "tally")) flag → IsNoOwn (one_text f) m flag outcome → IsNoSettings (λ name. one_of name rows) outcome
 no_own_rows f rows m flag outcome same machine tally (tenant, own, why) = inr (
@@ -71,7 +71,7 @@ no_own_rows f rows m flag outcome same machine tally (tenant, own, why) = inr (
   (tenant, subst (λ text. Writes text tenant) (one_text-of_rows f rows same (codes "own")) own, why),
 )
 
--- a list that can be had is found
+-- an own list that is valid is found
 pub own_given : (read : Text → Option Text) (m : Machine) (flag : Bool) (outcome : Outcome) (own : Option ℕ) → MayWrite (read (codes "own")) own
     → ForSome own (λ t. t < m.config.tenants) → IsAlone own m.only flag → ¬ IsNoOwn read m flag outcome
 own_given read m flag outcome own may below alone (tenant, writes, why) =
@@ -80,13 +80,13 @@ own_given read m flag outcome own may below alone (tenant, writes, why) =
     let within : tenant < m.config.tenants = below tenant is in
     ⊎_elim (λ beside. beside.0 apart) (λ beyond. let above = beyond.1 in omega arith) why
 
--- the machine that the rows ask for is asked for by what was found
+-- the matches request the same machine as the rows
 pub machine_asked : (f : Found) (rows : List Row) (s : Settings) → rows_of f ≡ rows → Asks (λ name. one_of name rows) (λ name. first_of name rows) s
     → AsksMachine (one_text f) (machine_of s)
 machine_asked f rows s same asks =
     asks_machine (λ name. one_of name rows) (one_text f) (machine_of s) (λ name. sym (one_text-of_rows f rows same name)) asks.machine
 
--- settings that can be had give no cause to refuse their own list
+-- valid settings are no cause to refuse their own list
 pub own_fits : (f : Found) (rows : List Row) (m : Machine) (s : Settings) (flag : Bool) → rows_of f ≡ rows
     → AsksMachine (one_text f) m → IsFlag (one_text f (codes "tally")) flag → Asks (λ name. one_of name rows) (λ name. first_of name rows) s
     → ((given : Bool) → IsFlag (one_of (codes "tally") rows) given → IsAlone s.own s.only given)

@@ -1,11 +1,11 @@
--- The arguments that programs have in common, in clap's words: which word stands under which name.
+-- The arguments that the programs share, in the terms of clap's model.
 use Rattle.std.specs.Prelude.{◌-◌, ◌^◌, ℕ, true, false, Some, pos, codes}
 use Rattle.clap.specs.Words.{App, Rule, Text, new_app, new_rule, with_rule}
 use Rattle.clap.specs.declared.builder.action.ArgAction.TheVariants.{Set}
 use Rattle.clap.specs.declared.builder.value_parser.ValueParser.TheVariants.{Signed}
 use Rattle.model_core.specs.declared.limits.TheConstants.{LEAST_ORDER, MOST_ORDER, MOST_SUPERBLOCKS, MOST_TENANTS}
 
--- `--name NUMBER`, a number from `least` to `most`, which has to be given
+-- `--name NUMBER`, a required argument, a number from `least` to `most`
 abbrev pub number_rule : Text → ℕ → ℕ → Rule
 number_rule name least most = record (new_rule name) {
   long = Some name;
@@ -15,21 +15,21 @@ number_rule name least most = record (new_rule name) {
   parser = Some (Signed (pos least) (pos most));
 }
 
--- an argument by its place
+-- an argument without a name, given by its position
 abbrev pub positional_rule : Text → Rule
 positional_rule name = record (new_rule name) { action = Some Set }
 
--- a command with a version, of words without the program's name
+-- a command that has a version and whose words do not include the program's name
 abbrev pub bare_command : Text → App
 bare_command name = record (new_app name) { top = record (new_app name).top { no_binary_name = true; has_version = true } }
 
--- the command of a program of this name, which asks for the sizes of a machine
+-- the command of a program with this name, whose arguments are the sizes of a machine
 abbrev pub sizes_command : Text → App
 sizes_command name = with_rule (with_rule (with_rule (bare_command name)
     (number_rule (codes "order") LEAST_ORDER MOST_ORDER))
     (number_rule (codes "superblocks") 1 MOST_SUPERBLOCKS))
     (number_rule (codes "tenants") 1 MOST_TENANTS)
 
--- the same with the tenant who is looked at
+-- the same with `--only`
 abbrev pub machine_command : Text → App
 machine_command name = with_rule (sizes_command name) (record (number_rule (codes "only") 0 (2 ^ 32 - 1)) { required = false })

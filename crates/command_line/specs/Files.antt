@@ -9,10 +9,10 @@ use Rattle.command_line.specs.declared.files.WatchedReader.{WatchedReader}
 abbrev pub last_error : {R : Type 0} → WatchedReader R → Option Error
 last_error reader = reader.error
 
--- the byte is printable ASCII, and no single quote (39), double quote (34) or backslash (92)
+-- the byte is printable ASCII, but not a single quote (39), a double quote (34) or a backslash (92)
 abbrev pub is_plain_byte : ℕ → Bool
 is_plain_byte byte = nat_le 32 byte && nat_le byte 126 && not (byte == 39 || byte == 34 || byte == 92)
 
--- a path of such bytes is printed as it is; how any other is quoted is not said
+-- a path of such bytes is printed unchanged; None means that the path is quoted, in a form that is not defined here
 abbrev pub plain_path : Text → Option Text
 plain_path path = if list_all is_plain_byte path then Some path else None

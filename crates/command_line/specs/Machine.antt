@@ -1,4 +1,4 @@
--- What the machine that a command line asks for is read from.
+-- How the machine of a command line is read from its words.
 use Rattle.std.specs.Prelude.{◌≡◌, ℕ, ◌^◌, ◌<◌, ◌≤◌, true, Option, Some, None, codes}
 use Rattle.std.specs.String.{string_bytes}
 use Rattle.std.specs.Str.Parse.{IsNumeral, digits_value, without_leading_plus}
@@ -8,28 +8,28 @@ use Rattle.model_core.specs.declared.config.Config.{Config}
 use Rattle.command_line.specs.declared.machine.Machine.{Machine}
 use Rattle.command_line.specs.declared.outcome.Outcome.{Outcome}
 
--- the text is a number of 32 bits, in decimal digits
+-- the text is a number below 2 ^ 32 in decimal digits, after a `+` if there is one
 abbrev pub IsNumber : Text → Type 0
 IsNumber text = IsNumeral 10 (without_leading_plus text) × (digits_value 10 (without_leading_plus text) < 2 ^ 32)
 
--- this is the number of the text
+-- there is a text, and this is its number
 abbrev pub Writes : Option Text → ℕ → Type 0
 Writes None n = ⊥
 Writes (Some text) n = IsNumber text × (n ≡ digits_value 10 (without_leading_plus text))
 
--- the same where no number need stand there
+-- the same if there may be no number
 abbrev pub MayWrite : Option Text → Option ℕ → Type 0
 MayWrite text (Some n) = Writes text n
 MayWrite None None = Unit {0}
 MayWrite (Some text) None = ¬ IsNumber text
 
--- the sizes are what stands under the arguments' names
+-- the sizes are the numbers given under the arguments' names
 pub record AsksSizes (read : Text → Option Text) (config : Config) : Type 0 where
   pub order : Writes (read (codes "order")) config.order
   pub superblocks : Writes (read (codes "superblocks")) config.superblocks
   pub tenants : Writes (read (codes "tenants")) config.tenants
 
--- the machine is
+-- the machine's sizes and its `only` are those given under the arguments' names
 pub record AsksMachine (read : Text → Option Text) (machine : Machine) : Type 0 where
   pub sizes : AsksSizes read machine.config
   pub only : MayWrite (read (codes "only")) machine.only
@@ -38,11 +38,11 @@ pub record AsksMachine (read : Text → Option Text) (machine : Machine) : Type 
 abbrev pub AsksNoSizes : (Text → Option Text) → Type 0
 AsksNoSizes read = (sizes : Config) → AsksSizes read sizes → ¬ (is_bootable sizes ≡ true)
 
--- what is said then
+-- the message in that case
 abbrev pub bad_size_text : Text
 bad_size_text = codes "error: a size of the machine is missing or out of its range\n"
 
--- the sizes are in order, and `--only` is a number that is not below the tenants
+-- the sizes are valid, and `--only` is a number that is not below the number of tenants
 pub record AsksNoTenant (read : Text → Option Text) : Type 0 where
   pub sizes : Config
   pub tenant : ℕ
@@ -51,7 +51,7 @@ pub record AsksNoTenant (read : Text → Option Text) : Type 0 where
   pub only : Writes (read (codes "only")) tenant
   pub above : sizes.tenants ≤ tenant
 
--- why no machine is found: `NoMemory` comes only if a size is faulty and there is no memory for saying so
+-- why no machine is found; the outcome is `NoMemory` only if a size is faulty and there is no memory for the message
 abbrev pub IsNoMachine : (Text → Option Text) → Outcome → Type 0
 IsNoMachine read (Outcome.BadLine text) = AsksNoSizes read × (string_bytes text ≡ bad_size_text)
 IsNoMachine read Outcome.NoMemory = AsksNoSizes read

@@ -1,4 +1,4 @@
--- How a program ends, and what it says about that.
+-- How a program ends, and what it prints about that.
 use Rattle.std.specs.Prelude.{◌≡◌, ◌≢◌, ◌⊎◌, ℕ, ◌++◌, [], Bool, true, false, codes}
 use Rattle.std.specs.Prelude.{Option, Some, None, MatchOption, Result, Ok, Err, MatchResult}
 use Rattle.std.specs.Io.KnownBytes.{Appends, Keeps}
@@ -28,8 +28,8 @@ message program text = program ++ (codes ": " ++ text)
 abbrev pub line_of : Line → Text
 line_of line = message line.program.now line.text.now
 
--- the line on standard error, if the outcome has a fixed one; `unread` and `unwritten` are the program's words for its input and
--- its output
+-- the line on standard error, if the outcome has a fixed one; `unread` and `unwritten` are the program's texts for input that
+-- could not be read and for output that could not be written
 abbrev pub outcome_text : (program unread unwritten : Text) → Outcome → Option Text
 outcome_text program unread unwritten Outcome.Unreadable = Some (message program unread)
 outcome_text program unread unwritten Outcome.Unwritable = Some (message program unwritten)
@@ -70,11 +70,11 @@ IsReportedAs kind Outcome.Unreadable = ⊥
 IsReportedAs kind Outcome.Unwritable = ⊥
 IsReportedAs kind Outcome.BadOnly = ⊥
 
--- one of these kinds is a fault of the words, and no question for help or for the version
+-- one of these kinds is a fault of the words, not a request for help or for the version
 abbrev pub HasFault : Kinds → Type 0
 HasFault kinds = (kind : ErrorKind) × IsAmong kind kinds × (kind ≢ ErrorKind.DisplayHelp) × (kind ≢ ErrorKind.DisplayVersion)
 
--- how a refusal by the parser ends that has one of these kinds: with `NoMemory` whichever they are
+-- how a refusal by the parser for one of these kinds may end; `NoMemory` is possible for every kind
 abbrev pub IsRefusedBy : Kinds → Outcome → Type 0
 IsRefusedBy kinds (Outcome.Help text) = IsAmong ErrorKind.DisplayHelp kinds
 IsRefusedBy kinds (Outcome.Version text) = IsAmong ErrorKind.DisplayVersion kinds
@@ -85,11 +85,11 @@ IsRefusedBy kinds Outcome.Unreadable = ⊥
 IsRefusedBy kinds Outcome.Unwritable = ⊥
 IsRefusedBy kinds Outcome.BadOnly = ⊥
 
--- words that the parser refuses by these kinds are parsed only if there is none
+-- if the words are parsed, there is no kind of error; if they are refused, the outcome is possible for these kinds
 abbrev pub IsParsedBy : {T : Type 0} → Kinds → Result T Outcome → Type 0
 IsParsedBy kinds parsed = MatchResult parsed (λ _. kinds ≡ []) (IsRefusedBy kinds)
 
--- the command line is faulty and this is said of it, or there was no memory for saying so
+-- the command line is faulty and this is the message, or there was no memory for the message
 abbrev pub IsBadLine : Text → Outcome → Type 0
 IsBadLine said (Outcome.BadLine text) = string_bytes text ≡ said
 IsBadLine said Outcome.NoMemory = Unit {0}
@@ -100,11 +100,11 @@ IsBadLine said Outcome.Unreadable = ⊥
 IsBadLine said Outcome.Unwritable = ⊥
 IsBadLine said Outcome.BadOnly = ⊥
 
--- what is said of a word that is not UTF-8
+-- the message for a word that is not UTF-8
 abbrev pub not_utf8_text : Text
 not_utf8_text = codes "error: invalid UTF-8 was detected in one or more arguments\n"
 
--- a command line may be refused so
+-- a command line may be refused with this outcome
 abbrev pub IsRefusal : Outcome → Type 0
 IsRefusal (Outcome.Help text) = Unit {0}
 IsRefusal (Outcome.Version text) = Unit {0}
@@ -115,7 +115,7 @@ IsRefusal Outcome.Done = ⊥
 IsRefusal Outcome.Unreadable = ⊥
 IsRefusal Outcome.Unwritable = ⊥
 
--- the text for standard output that was asked for in place of a run
+-- the text for standard output that was requested instead of a run
 abbrev pub requested_text : Outcome → Option Text
 requested_text (Outcome.Help text) = Some (string_bytes text)
 requested_text (Outcome.Version text) = Some (string_bytes text)
@@ -126,8 +126,8 @@ requested_text (Outcome.BadLine text) = None
 requested_text Outcome.BadOnly = None
 requested_text Outcome.NoMemory = None
 
--- How a program ends whose command line was refused, and what its output has before and after. A text that was asked for is
--- written whole, and the program ends so; or it could not be written. If none was asked for, nothing is written.
+-- How a program ends whose command line was refused, and its output before and after. A text that was requested is written whole,
+-- and the outcome stays the same; or it is `Unwritable`. If no text was requested, nothing is written.
 abbrev pub IsHandedOut : (refused ended : Outcome) → (before after : Option Text) → Type 0
 IsHandedOut refused ended before after = MatchOption (requested_text refused)
     ((ended ≡ refused) × Keeps before after)

@@ -1,4 +1,4 @@
--- What a command line of `partmem` asks for: which word is under which name, in clap's words.
+-- The settings that a command line of `partmem` requests, in the terms of clap's model.
 use Rattle.std.specs.Prelude.{◌≡◌, ◌⊎◌, ℕ, ◌-◌, ◌^◌, ◌<◌, ◌≤◌, Bool, true, false, List, []}
 use Rattle.std.specs.Prelude.{Option, Some, None, option_map, codes}
 use Rattle.std.specs.Option.{ForSome}
@@ -22,12 +22,12 @@ pub record IsFlag (text : Option Text) (flag : Bool) : Type 0 where
   pub denied : text ≡ Some (codes "false") → flag ≡ false
   pub none : text ≡ None → flag ≡ false
 
--- a tenant's own list is asked for by itself
+-- a tenant's own list is requested without `--only` and `--tally`
 abbrev pub IsAlone : Option ℕ → Option ℕ → Bool → Type 0
 IsAlone None only tally = Unit {0}
 IsAlone (Some t) only tally = (only ≡ None) × (tally ≡ false)
 
--- the settings are what is under the arguments' names: `read` of those that are read as a type, `whole` of FILE
+-- the settings are those given under the arguments' names: `read` gives the texts of options, and `whole` the text of FILE
 pub record Asks (read whole : Text → Option Text) (settings : Settings) : Type 0 where
   pub machine : AsksMachine read (machine_of settings)
   pub own : MayWrite (read (codes "own")) settings.own
@@ -45,7 +45,7 @@ own_rule = record (number_rule (codes "own") 0 (2 ^ 32 - 1)) { required = false 
 abbrev pub command_line : App
 command_line = with_rule (with_rule (with_rule (machine_command (codes "partmem")) own_rule) tally_rule) (positional_rule (codes "FILE"))
 
--- the settings are what clap finds in these words
+-- the settings are those that clap's model finds in these words
 abbrev pub IsRequestedBy : List Text → Settings → Type 0
 IsRequestedBy words settings = Asks (λ name. one_of name (matches_of command_line words)) (λ name. first_of name (matches_of command_line words)) settings
 
@@ -53,35 +53,35 @@ IsRequestedBy words settings = Asks (λ name. one_of name (matches_of command_li
 unfoldable pub IsInOrder : List Text → Type 0
 IsInOrder words = takes command_line words ≡ true
 
--- these words ask for the settings, and nothing is wrong with them
+-- these words request the settings, and `--own` is not given beside `--only` or `--tally`
 pub record CanBeHad (words : List Text) (settings : Settings) : Type 0 where
   pub asked : IsRequestedBy words settings
   pub own_alone : (flag : Bool) → IsFlag (one_of (codes "tally") (matches_of command_line words)) flag → IsAlone settings.own settings.only flag
 
--- what is said if a tenant's own list is asked for beside replies to one tenant or a tally, and if it is no tenant
+-- the messages if `--own` is given beside `--only` or `--tally`, and if it is not a tenant of the machine
 abbrev pub own_beside_text : Text
 own_beside_text = codes "error: --own goes with neither --only nor --tally\n"
 
 abbrev pub own_no_tenant_text : Text
 own_no_tenant_text = codes "partmem: --own names no tenant\n"
 
--- why a tenant's own list cannot be had of this machine, with a tally or without one: what is asked for beside it is reported first
+-- why a tenant's own list is refused, with this machine and with a tally or without one; `--only` and `--tally` are tested first
 abbrev pub IsNoOwn : (Text → Option Text) → Machine → Bool → Outcome → Type 0
 IsNoOwn read machine tally outcome = (tenant : ℕ) × Writes (read (codes "own")) tenant
     × (((¬ IsAlone (Some tenant) machine.only tally) × IsBadLine own_beside_text outcome)
     ⊎ (IsAlone (Some tenant) machine.only tally × (machine.config.tenants ≤ tenant) × IsBadLine own_no_tenant_text outcome))
 
--- why what is under the arguments' names is no settings: it is no machine, or no list of the machine
+-- why the arguments give no settings: they give no machine, or `--own` is refused
 abbrev pub IsNoSettings : (Text → Option Text) → Outcome → Type 0
 IsNoSettings read outcome = IsNoMachine read outcome
     ⊎ ((machine : Machine) × (tally : Bool) × AsksMachine read machine × IsFlag (read (codes "tally")) tally
     × IsNoOwn read machine tally outcome)
 
--- the kinds of error by which clap's model refuses these words: none if it takes them
+-- the kinds of error for which clap's model refuses these words; empty if it takes them
 unfoldable pub parse_faults : List Text → Kinds
 parse_faults words = fault_of command_line words
 
--- why these words are refused: clap's model refuses them, or it takes them and they ask for no settings
+-- why these words are refused: clap's model refuses them, or it takes them and they give no settings
 abbrev pub IsRefusedFor : List Text → Outcome → Type 0
 IsRefusedFor words outcome = IsRefusedBy (parse_faults words) outcome
     ⊎ ((parse_faults words ≡ []) × IsNoSettings (λ name. one_of name (matches_of command_line words)) outcome)

@@ -1,4 +1,4 @@
-//! The arguments that programs have in common.
+//! The arguments that the programs share.
 
 ghost use Rattle.std.specs.Prelude.{◌≡◌, ◌≢◌, ◌≤◌, ◌<◌, ℕ, true, false, None, Ok, IfOk, IfErr, map, option_map};
 ghost use Rattle.std.specs.String.{string_bytes};
@@ -21,9 +21,9 @@ const VERSION: &str = "2.0.0";
 pub struct Program<'a> {
     /// The name of the program.
     pub name: &'a str,
-    /// What it does.
+    /// What the program does.
     pub about: &'a str,
-    /// What help has below the arguments.
+    /// What `--help` prints below the arguments.
     pub after_help: &'a str,
     /// What it prints if its input could not be read.
     pub unread: &'a str,
@@ -31,8 +31,8 @@ pub struct Program<'a> {
     pub unwritten: &'a str,
 }
 
-/// Returns the command of a program that needs a machine: the sizes with their ranges, and `--only` with its help. The program
-/// adds its own arguments.
+/// Returns the command of a program that needs a machine: the sizes with their ranges, and `--only`. The program adds its own
+/// arguments.
 pub fn command<'a>(
     alloc: Global,
     program: Program<'a>,
@@ -94,20 +94,20 @@ pub fn positional<'a>(alloc: Global, name: &'a str, help: &'a str) -> Arg<'a>
     Arg::new(alloc, name).help(help).action(ArgAction::Set)
 }
 
-/// Returns what the command finds in these words, without the program's name.
+/// Parses these words, which do not include the program's name, and returns the matches.
 ///
-/// Refused with `Help`, `Version`, `BadLine` or `NoMemory`: with `NoMemory` alone if clap's model takes the words.
+/// Fails with `Help`, `Version`, `BadLine` or `NoMemory`. If clap's model takes the words, only with `NoMemory`.
 pub fn parse<'a>(
     alloc: Global,
     command: Command<'a>,
     words: &'a [&'a str],
 ) -> Result<ArgMatches<'a>, Outcome>
-    // Which word is under which name is as clap's model says.
+    // The matches are those of clap's model.
     ensures found { IfOk result (HasMatchesOf (app_of command.entry) (map (λ word. word.now) words.entry.now)) }
     ensures refused { IfErr result (λ outcome. IsRefusal outcome × (outcome ≢ Outcome.BadOnly)) }
     ensures takes { IfErr result (λ outcome. takes (app_of command.entry) (map (λ word. word.now) words.entry.now) ≡ true
         → outcome ≡ Outcome.NoMemory) }
-    // Help comes only if it is asked for, the version too, and a faulty line only if there is a fault.
+    // `Help` and `Version` are returned only if the words request them, and `BadLine` only if there is a fault.
     ensures kinds { is_simple_and_free (app_of command.entry) ≡ true
         → IsParsedBy (fault_of (app_of command.entry) (map (λ word. word.now) words.entry.now)) result }
 {
@@ -117,14 +117,14 @@ pub fn parse<'a>(
     }
 }
 
-/// Returns the number that is written under this name.
+/// Returns the number given under this name, or `None` if no number below 2^32 is.
 pub(crate) fn number_written(matches: &ArgMatches<'_>, name: &str) -> Option<u32>
     ensures { MayWrite (one_text (found_of matches.now) name.now) result }
 {
     matches.get_one::<u32>(name)
 }
 
-/// Returns the number that is written under this name, or 0, which no range has.
+/// Returns the number given under this name, or 0, which is outside every range, if none is.
 pub(crate) fn number_of(matches: &ArgMatches<'_>, name: &str) -> u32
     ensures value { 0 < result → Writes (one_text (found_of matches.now) name.now) result }
     ensures written { (n : ℕ) → Writes (one_text (found_of matches.now) name.now) n → result ≡ n }
@@ -132,9 +132,9 @@ pub(crate) fn number_of(matches: &ArgMatches<'_>, name: &str) -> u32
     number_written(matches, name).unwrap_or(0)
 }
 
-/// Returns the path under this name, as it was written, or `None` if there is none.
+/// Returns the path given under this name, unchanged, or `None` if there is none.
 ///
-/// Refused with `NoMemory` if there is no memory for the path.
+/// Fails with `NoMemory` if there is no memory for the path.
 pub fn path_of(
     alloc: Global,
     matches: &ArgMatches<'_>,

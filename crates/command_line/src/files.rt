@@ -15,7 +15,7 @@ use std::rt::Files;
 
 /// Opens the file of this path, or standard input if there is none.
 ///
-/// Standard input is always there. Refused with the system's error if a file cannot be opened.
+/// Standard input can always be opened. Fails with the system's error if a file cannot be opened.
 pub fn open<R: Files + Input>(rt: &R, path: Option<&str>) -> io::Result<Either<R::Reader, R::File>>
     ensures input { IsNone path.entry → IsOkAnd result (λ opened. is_left opened ≡ true) }
     ensures file { IsSome path.entry → IfOk result (λ opened. is_left opened ≡ false) }
@@ -67,7 +67,7 @@ impl fmt::Display for PathShown<'_> {
     }
 }
 
-/// A reader that gives what another reader gives, and keeps the error of its last read that failed.
+/// A reader that gives the bytes of another reader, and keeps the error of its last read that failed.
 #[derive(Debug, Drop)]
 pub struct WatchedReader<R: Read> {
     reader: R,

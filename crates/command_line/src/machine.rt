@@ -1,4 +1,4 @@
-//! The machine that a command line asks for.
+//! The machine that a command line requests.
 
 ghost use Rattle.std.specs.Prelude.{◌≡◌, ◌<◌, true, IfErr, IfOk};
 ghost use Rattle.std.specs.Option.{ForSome};
@@ -12,12 +12,12 @@ use clap::ArgMatches;
 use model_core::config::Config;
 use std::alloc::Global;
 
-/// A machine, and the tenant that is written or drawn.
+/// A machine, and the tenant whose part is written or drawn.
 #[derive(Debug, Drop)]
 pub struct Machine {
     /// The sizes, each in its range.
     pub config: Config,
-    /// The one tenant whose part is written, a number below the tenants. All of them if there is none.
+    /// The only tenant whose part is written or drawn, a number below the number of tenants. `None` means all tenants.
     pub only: Option<u8>,
     ghost bootable: { is_bootable config ≡ true },
     ghost below: { ForSome only (λ tenant. tenant < config.tenants) },
@@ -26,10 +26,10 @@ pub struct Machine {
 impl Machine {
     ghost use Rattle.command_line.specs.Machine.{AsksMachine, IsNoMachine};
 
-    /// Returns the machine that the command line asks for.
+    /// Returns the machine that the command line requests.
     ///
-    /// Refused with `BadLine` if a size is missing or out of its range, or with `NoMemory` if there is no memory for saying so;
-    /// and with `BadOnly` if the sizes are in order and `--only` is not below the tenants.
+    /// Fails with `BadLine` if a size is missing or out of its range, or with `NoMemory` if there is no memory for that message.
+    /// Fails with `BadOnly` if the sizes are valid and `--only` is not below the number of tenants.
     pub fn found(alloc: Global, matches: &ArgMatches<'_>) -> Result<Machine, Outcome>
         ensures asked { IfOk result (AsksMachine (one_text (found_of matches.now))) }
         ensures refused { IfErr result (IsNoMachine (one_text (found_of matches.now))) }

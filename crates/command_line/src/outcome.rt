@@ -1,4 +1,4 @@
-//! How a program ends, and what it says about that.
+//! How a program ends, and what it prints about that.
 
 ghost use Rattle.std.specs.Prelude.{◌≡◌, Some, option_map};
 ghost use Rattle.std.specs.declared.io.ErrorKind.TheVariants as SystemKind;
@@ -19,8 +19,8 @@ use streams::{ReplayError, Tally};
 /// | Outcome | Status | Standard error, after the program's name |
 /// |---|---|---|
 /// | `Done`, `Help`, `Version` | 0 | nothing |
-/// | `Unreadable` | 1 | as `trace could not be read` |
-/// | `Unwritable` | 1 | as `replies could not be written` |
+/// | `Unreadable` | 1 | for example `trace could not be read` |
+/// | `Unwritable` | 1 | for example `replies could not be written` |
 /// | `BadLine` | 2 | what is wrong with the command line, without the name |
 /// | `BadOnly` | 2 | `--only names no tenant` |
 /// | `NoMemory` | 3 | `not enough memory` |
@@ -32,13 +32,13 @@ pub enum Outcome {
     Help(String),
     /// `--version` was given: its text.
     Version(String),
-    /// The trace could not be opened, or not be read to its end.
+    /// The trace could not be opened, or could not be read to its end.
     Unreadable,
     /// The output, the help or the version could not be written or flushed.
     Unwritable,
-    /// The command line is faulty or no UTF-8, or a number is out of its range: what is wrong with it.
+    /// The command line is faulty or not UTF-8, or a number is out of its range: what is wrong with it.
     BadLine(String),
-    /// `--only` is not below the number of tenants; the command line is otherwise in order.
+    /// `--only` is not below the number of tenants; the command line is otherwise valid.
     BadOnly,
     /// There was not enough memory.
     NoMemory,
@@ -57,7 +57,7 @@ impl Outcome {
         }
     }
 
-    /// Returns the line on standard error, if the outcome has a fixed one.
+    /// Returns the line for standard error, or `None` if the outcome has no fixed line.
     pub fn text<'a>(&self, program: Program<'a>) -> Option<Line<'a>>
         ensures { option_map (λ line. line_of line) result
             ≡ outcome_text program.entry.name.now program.entry.unread.now program.entry.unwritten.now self.now }
@@ -77,8 +77,8 @@ impl Outcome {
         })
     }
 
-    /// Returns the outcome of a run whose output was then flushed. `unsent` says that a send had failed before, `flushed` that
-    /// the flush was good. The first failure decides.
+    /// Returns the outcome of a run after its output was flushed. `unsent` is true if a send had failed before, and `flushed`
+    /// is true if the flush succeeded. The first failure decides.
     pub fn after_flush(self, unsent: bool, flushed: bool) -> Outcome
         ensures { result ≡ after_flush self unsent flushed }
     {
@@ -90,7 +90,7 @@ impl Outcome {
     }
 }
 
-/// Returns the outcome of a run whose replay returned this.
+/// Returns the outcome of a run whose replay had this result.
 pub fn outcome_of(replayed: &Result<Tally, ReplayError>) -> Outcome
     ensures { result ≡ outcome_of replayed.now }
 {
@@ -109,7 +109,7 @@ impl From<AllocError> for Outcome {
     }
 }
 
-/// A faulty command line, with what is wrong with it.
+/// Returns `BadLine` with this text, or `NoMemory` if there is no memory for it.
 pub(crate) fn bad_line(alloc: Global, text: &str) -> Outcome
     ensures { IsBadLine text.now result }
 {
@@ -119,7 +119,7 @@ pub(crate) fn bad_line(alloc: Global, text: &str) -> Outcome
     }
 }
 
-/// The outcome when the words of the command line could not be taken: there was no memory, or a word is no UTF-8.
+/// Returns the outcome if the words of the command line could not be read: there was no memory, or a word is not UTF-8.
 pub(crate) fn not_words(alloc: Global, kind: io::ErrorKind) -> Outcome
     ensures text { IsBadLine not_utf8_text result }
     ensures memory { kind ≡ SystemKind.OutOfMemory → result ≡ Outcome.NoMemory }
@@ -133,7 +133,7 @@ pub(crate) fn not_words(alloc: Global, kind: io::ErrorKind) -> Outcome
     )
 }
 
-/// The outcome when the parser has refused the words.
+/// Returns the outcome if the parser refused the words.
 pub(crate) fn not_parsed(alloc: Global, error: &Error) -> Outcome
     ensures { IsReportedAs (kind_of error.now) result }
 {

@@ -1,4 +1,4 @@
-//! The process around a run: its words, and what it says at its end.
+//! The process around a run: the words of its command line, and what it prints at its end.
 
 ghost use Rattle.std.specs.Prelude.{◌≡◌, IfErr, IfOk, OnOk, map};
 ghost use Rattle.std.specs.Io.KnownBytes.{Appends};
@@ -16,7 +16,7 @@ use std::rt::Env;
 
 /// Returns the words of the process's command line, without the program's name.
 ///
-/// Refused with `BadLine` if a word is no UTF-8, or with `NoMemory`.
+/// Fails with `BadLine` if a word is not UTF-8, or with `NoMemory`.
 pub fn words_given(rt: &(impl Env + AllocGlobal)) -> Result<Vec<String>, Outcome>
     ensures { IfErr result (IsBadLine not_utf8_text) }
 {
@@ -27,7 +27,7 @@ pub fn words_given(rt: &(impl Env + AllocGlobal)) -> Result<Vec<String>, Outcome
     }
 }
 
-/// Returns the texts of these words, empty ones too.
+/// Returns the texts of these words, including empty ones.
 pub fn texts_of<'a>(alloc: Global, words: &'a [String]) -> Result<Vec<&'a str>, AllocError>
     ensures { IfOk result (λ texts. map (λ text. text.now) texts.items ≡ map (λ word. string_bytes word) words.entry.now) }
 {
@@ -38,9 +38,9 @@ pub fn texts_of<'a>(alloc: Global, words: &'a [String]) -> Result<Vec<&'a str>, 
     Ok(texts)
 }
 
-/// Writes the text of help or of the version, if that was asked for, and flushes. Returns how the program ends.
+/// Writes the text of help or of the version, if that was requested, and flushes. Returns the outcome of the program.
 ///
-/// If the text could not be written or flushed, this is `Unwritable`, and a part of it may have been written.
+/// If the text could not be written or flushed, the outcome is `Unwritable`, and a part of the text may have been written.
 pub fn hand_out<W: Write>(out: &mut W, refused: Outcome) -> Outcome
     ensures { IsHandedOut refused result (W.contents out.old) (W.contents out.new) }
 {

@@ -9,21 +9,21 @@ use std::rt::{Clock, Files};
 use std::time::Instant;
 use std::{fmt, fs};
 
-/// The most bytes in which no progress is shown, 64 MiB. A load of this size takes about a second.
+/// The largest input for which no progress is shown, 64 MiB. A load of this size takes about a second.
 const SMALL_BYTES: u64 = 64 << 20;
 
-/// The seconds between two lines, and before the first one. So a run of less than a second shows nothing, and a longer one spends
-/// nearly no time on them.
+/// The number of seconds between two lines, and before the first one. So a run of less than a second shows nothing, and a longer
+/// run spends nearly no time on the lines.
 const SECONDS_BETWEEN: u64 = 1;
 
 /// How far a run is in a file.
 #[derive(Clone, Copy, Debug)]
 struct Position {
-    /// The line feeds that were read.
+    /// The number of line feeds that were read.
     lines: u64,
-    /// The bytes that were read.
+    /// The number of bytes that were read.
     bytes: u64,
-    /// The bytes of the file.
+    /// The number of bytes of the file.
     size: u64,
     ghost some: { 0 < size },
 }
@@ -65,15 +65,16 @@ pub struct Progress<'a, P: Eprint + Clock> {
     to: &'a P,
     name: &'a str,
     position: Position,
-    /// When the last line was shown, or the run began.
+    /// The time when the last line was shown, or when the run began.
     last: Instant,
-    /// A line is on the terminal.
+    /// True if a line is on the terminal.
     shown: bool,
 }
 
 impl<'a, P: Eprint + Clock> Progress<'a, P> {
-    /// Returns the progress of a run that begins now in a file of `size` bytes, and reads `all` bytes with those of another file.
-    /// Returns `None` if the file is empty, if all are at most 64 MiB, or if there is no clock.
+    /// Returns the progress of a run that begins now in a file of `size` bytes. `all` is the number of bytes of this file and of
+    /// another one that is read beside it. Returns `None` if the file is empty, if `all` is at most 64 MiB, or if there is no
+    /// clock.
     fn begin(to: &'a P, program: Program<'a>, size: u64, all: u64) -> Option<Progress<'a, P>>
         ensures empty { size ≡ 0 → result ≡ None }
         ensures small { all ≤ 2 ^ 26 → result ≡ None }
@@ -100,7 +101,7 @@ impl<'a, P: Eprint + Clock> Progress<'a, P> {
         })
     }
 
-    /// Shows the line, if a second has passed since the last one.
+    /// Shows the line if a second has passed since the last one.
     fn show(&mut self) {
         let to = self.to;
         let Ok(now) = Instant::now(to) else {
@@ -115,7 +116,7 @@ impl<'a, P: Eprint + Clock> Progress<'a, P> {
         }
     }
 
-    /// Erases the line, if one is on the terminal.
+    /// Erases the line if one is on the terminal.
     fn erase(&mut self) {
         if self.shown {
             self.shown = false;
@@ -141,8 +142,8 @@ impl<P: Eprint + Clock> Drop for Progress<'_, P> {
 /// Returns the progress of a run of `program` that begins now in the file of this path, or in standard input if there is none.
 /// The run may read another file `beside` it.
 ///
-/// Returns `None` if progress is not `wanted`, if one of these is no regular file, if the first is empty, or if they have at
-/// most 64 MiB together.
+/// Returns `None` if progress is not `wanted`, if one of these is not a regular file, if the first is empty, if they have at most
+/// 64 MiB together, or if there is no clock.
 pub fn progress_in<'a, P: Files + Eprint + Clock>(
     rt: &'a P,
     program: Program<'a>,
@@ -166,14 +167,14 @@ pub fn progress_in<'a, P: Files + Eprint + Clock>(
     Progress::begin(rt, program, size, size.saturating_add(other))
 }
 
-/// Returns how many bytes the file of this path has, if it is a regular file.
+/// Returns the number of bytes of the file of this path, or `None` if it is not a regular file.
 fn size_of(rt: &impl Files, path: &str) -> Option<u64> {
     let metadata = fs::metadata(rt, path).ok()?;
     metadata.is_file().then_some(metadata.len())
 }
 
-/// A reader that gives what another reader gives, and shows the progress of the run before each read: all whole lines that it
-/// gave are done then.
+/// A reader that gives the bytes of another reader, and shows the progress of the run before each read. All whole lines given
+/// so far are done then.
 #[derive(Debug, Drop)]
 pub struct ProgressReader<'a, R: Read, P: Eprint + Clock> {
     reader: R,

@@ -1,4 +1,4 @@
-//! What a command line of `partmem` asks for, and what the program says about itself.
+//! The settings that a command line of `partmem` requests, and what the program prints about itself.
 
 ghost use Rattle.std.specs.Prelude.{◌≡◌, ◌<◌, true};
 ghost use Rattle.std.specs.Option.{ForSome};
@@ -8,7 +8,7 @@ use crate::arguments::Program;
 use crate::machine::Machine;
 use model_core::config::Config;
 
-/// What `partmem` says about itself.
+/// What `partmem` prints about itself.
 pub const PROGRAM: Program<'static> = Program {
     name: "partmem",
     about: "Runs a trace on a machine that tenants share, and writes its replies",
@@ -17,7 +17,7 @@ pub const PROGRAM: Program<'static> = Program {
     unwritten: "replies could not be written",
 };
 
-/// The same if it writes a tenant's own list.
+/// The same as [`PROGRAM`] if `partmem` writes a tenant's own list.
 pub const OWN_PROGRAM: Program<'static> = Program {
     unwritten: "own list could not be written",
     ..PROGRAM
@@ -59,18 +59,18 @@ Exit status:
 Example:
   printf 'admin grant 0\\n0 alloc 1\\n0 report\\n' | partmem --order 3 --superblocks 2 --tenants 2";
 
-/// What a command line of `partmem` asks for.
+/// The settings that a command line of `partmem` requests.
 #[derive(Debug, Drop)]
 pub struct Settings {
     /// The sizes of the machine, each in its range.
     pub config: Config,
-    /// The one tenant whose lines are written, a number below the tenants. All lines if there is none.
+    /// The only tenant whose lines are written, a number below the number of tenants. `None` means all lines.
     pub only: Option<u8>,
-    /// The tenant whose own list is written in place of replies, a number below the tenants.
+    /// The tenant whose own list is written instead of replies, a number below the number of tenants.
     pub own: Option<u8>,
-    /// Whether the tally of the run is printed.
+    /// True if the tally of the run is printed.
     pub tally: bool,
-    /// The path of the trace, as it was written. Standard input if there is none.
+    /// The path of the trace, as given. `None` means standard input.
     pub file: Option<String>,
     ghost bootable: { is_bootable config ≡ true },
     ghost below: { ForSome only (λ tenant. tenant < config.tenants) },

@@ -1,4 +1,4 @@
-//! The sizes that a command line asks for.
+//! The sizes that a command line requests.
 
 ghost use Rattle.std.specs.Prelude.{◌≡◌, true, IfErr, IfOk, OnErr};
 ghost use Rattle.clap.specs.Words.{found_of, one_text};
@@ -12,14 +12,14 @@ use clap::ArgMatches;
 use model_core::config::Config;
 use std::alloc::Global;
 
-/// Returns the sizes that the command line asks for.
+/// Returns the sizes that the command line requests.
 ///
-/// Refused with `BadLine` if one is missing or out of its range, or with `NoMemory` if there is no memory for saying so.
+/// Fails with `BadLine` if one is missing or out of its range, or with `NoMemory` if there is no memory for that message.
 pub fn sizes_found(alloc: Global, matches: &ArgMatches<'_>) -> Result<Config, Outcome>
     ensures asked { IfOk result (AsksSizes (one_text (found_of matches.now))) }
     ensures bootable { IfOk result (λ config. is_bootable config ≡ true) }
     ensures refused { IfErr result (IsBadLine bad_size_text) }
-    // So sizes that are given are found, whatever memory there is.
+    // So sizes that are given and valid are found, however little memory there is.
     ensures given { OnErr result (AsksNoSizes (one_text (found_of matches.now))) }
 {
     let config = Config {

@@ -20,16 +20,16 @@ const ONLY: &str = "Writes the lines of this tenant alone, a number below the te
 
 /// Reads the words of a command line, without the program's name.
 ///
-/// Refused with `Help` or `Version` if that is asked for, with `BadLine` if the words are faulty or `--own` cannot be had, with
-/// `BadOnly` if they are in order and `--only` is not below the tenants, or with `NoMemory`.
+/// Fails with `Help` or `Version` if the words request that, with `BadLine` if they are faulty or `--own` is not possible, with
+/// `BadOnly` if they are valid and `--only` is not below the number of tenants, or with `NoMemory`.
 pub fn read_words<'a>(alloc: Global, words: &'a [&'a str]) -> Result<Settings, Outcome>
     ensures config { IfOk result (λ settings. is_bootable settings.config ≡ true) }
     ensures only { IfOk result (λ settings. ForSome settings.only (λ tenant. tenant < settings.config.tenants)) }
     ensures own { IfOk result (λ settings. ForSome settings.own (λ tenant. tenant < settings.config.tenants)) }
-    // Which word is under which name is as clap's model says.
+    // The settings are those that clap's model finds in the words.
     ensures asked { IfOk result (IsRequestedBy (map (λ word. word.now) words.entry.now)) }
     ensures refused { IfErr result (IsRefusedFor (map (λ word. word.now) words.entry.now)) }
-    // Settings that can be had are refused for want of memory alone.
+    // Valid settings are refused only if there is not enough memory.
     ensures given { IfErr result (λ outcome. IsInOrder (map (λ word. word.now) words.entry.now)
         → (settings : Settings) → CanBeHad (map (λ word. word.now) words.entry.now) settings → outcome ≡ Outcome.NoMemory) }
 {
@@ -46,10 +46,10 @@ pub fn read_words<'a>(alloc: Global, words: &'a [&'a str]) -> Result<Settings, O
     })
 }
 
-/// Returns the tenant whose own list is asked for.
+/// Returns the tenant whose own list is requested, or `None` if no own list is.
 ///
-/// Refused with `BadLine` if replies to one tenant or a tally are asked for too, or if it is no tenant of the machine; or with
-/// `NoMemory` if there is no memory for saying so.
+/// Fails with `BadLine` if `--only` or `--tally` is given too, or if the machine has no such tenant, or with `NoMemory` if
+/// there is no memory for that message.
 fn own_found(
     alloc: Global,
     matches: &ArgMatches<'_>,
@@ -74,7 +74,7 @@ fn own_found(
     Ok(Some(tenant as u8))
 }
 
-/// The arguments of `partmem`, with their ranges.
+/// Returns the command of `partmem`: its arguments, with their ranges.
 fn command<'a>(alloc: Global) -> Result<Command<'a>, AllocError>
     ensures { IfOk result (λ command. app_of command ≡ command_line) }
 {
