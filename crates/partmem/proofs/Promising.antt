@@ -1,4 +1,4 @@
--- What a run writes keeps the promises.
+-- The output of a run keeps the promises.
 use Rattle.std.proofs.Common.{◌≡◌, ℕ, ◌≤◌, nat_le, true, ◌&&◌, List, sym, subst}
 use Rattle.std.proofs.lemmas.Bool.{and_parts, leb-true}
 use Rattle.model_core.specs.declared.limits.TheConstants.{LEAST_ORDER, MOST_ORDER, MOST_SUPERBLOCKS, MOST_TENANTS}

@@ -1,4 +1,4 @@
--- From the answer of a replay on a new machine to the outcome of a run.
+-- From the result of a replay on a new machine to the outcome of a run.
 use Rattle.std.proofs.Common.{◌≡◌, ℕ, ◌-◌, Bool, true, false, not, inl, inr, List, [], ◌∷◌, ◌++◌, length, take, Option, Some, None, Result, Ok, Err, OnOk, IfSome, refl, ap, sym, subst, ◌∙◌, append_assoc, arith}
 use Rattle.std.specs.Io.KnownBytes.{Appends, Consumes, IsAtEnd, append_known}
 use Rattle.std.proofs.Math.Seq.{take-length}
@@ -23,7 +23,7 @@ use Rattle.command_line.specs.Outcome.{after_flush, outcome_of}
 use Rattle.partmem.specs.Outcome.{tally_of, without_unwritten}
 use Rattle.partmem.specs.Run.{shown_replies, IsPrivate, IsBeginning, Answers, EndsAs, HasReached, IsGiven, IsOfTrace, Tallies}
 
--- the outcome of a run whose replay returned this
+-- the outcome of a run whose replay had this result
 abbrev pub run_outcome : Result Tally ReplayError → (unsent flushed : Bool) → Outcome
 run_outcome replayed unsent flushed = after_flush (outcome_of replayed) unsent flushed
 
@@ -37,7 +37,7 @@ pub booted : (m : Machine) (k : KernelContent) → k ≡ opening_content m.confi
 unfolding opening_content
 booted m k is shows = record { order = ap (λ parts. parts.order) is; shows = shows }
 
--- in the kernel's words and in the machine's
+-- the order of the kernel is that of the machine
 at_order : (m : Machine) (k : KernelContent) (lines : List (List ℕ)) → IsNew m k
     → shown_lines m.only cache_limit k.order lines (opening_world m.config.superblocks m.config.tenants) ≡ shown_replies m lines
 at_order m k lines new =
@@ -52,7 +52,7 @@ private_at config (Some t) k given taken order shows own = λ tenant.
     subst (λ o. taken ≡ with_line_feeds (private_lines cache_limit o config.superblocks config.tenants t given)) order
     (own config.superblocks config.tenants shows tenant)
 
--- what was taken of lines that were cut short is a beginning of what they show, and further ones after them
+-- the bytes taken of lines that were cut short are a prefix of the text of these and further lines
 cut_first : (only : Option ℕ) (before after : KernelContent) (w : World) (lines done : List (List ℕ)) (line : List ℕ) (rest : List (List ℕ)) (taken : List ℕ) (tally : Tally)
     → Shows before w → lines ≡ (done ++ line ∷ []) ++ rest → IsCutShort only before after done line taken tally
     → IsBeginning taken (shown_lines only cache_limit before.order lines w)
@@ -63,7 +63,7 @@ cut_first only before after w lines done line rest taken tally shows split cut =
       ap (λ xs. shown_lines only cache_limit before.order xs w) split ∙ later.1 ∙ ap (λ text. text ++ later.0) part.4 ∙ append_assoc taken part.1 later.0,
     )
 
--- a beginning of what the ended lines show is one of what any trace shows that goes on from them
+-- a prefix of the text of the ended lines is a prefix of the text of any trace that begins with the same bytes
 goes_on : ShownStays → (m : Machine) (k : KernelContent) (given more taken : List ℕ) → IsNew m k
     → IsBeginning taken (shown_lines m.only cache_limit k.order (ended_lines given) (opening_world m.config.superblocks m.config.tenants))
     → IsBeginning taken (shown_replies m (lines_of_trace (given ++ more)))
@@ -73,7 +73,7 @@ goes_on stays m k given more taken new (rest, shown) =
       sym (at_order m k (lines_of_trace (given ++ more)) new) ∙ later.1 ∙ ap (λ text. text ++ later.0) shown ∙ append_assoc taken rest later.0,
     )
 
--- nothing more comes
+-- no more bytes come
 all_came : (m : Machine) (given more taken : List ℕ) → more ≡ [] → IsBeginning taken (shown_replies m (lines_of_trace given))
     → IsBeginning taken (shown_replies m (lines_of_trace (given ++ more)))
 all_came m given more taken none begins =
@@ -90,7 +90,8 @@ cut_begins stays m k k' ended given more taken done line tally new (inr (is_over
     (cut_first m.only k k' _ (lines_of_trace given) done line [] taken tally new.shows (all ∙ sym (append-nil _)) cut)
     )
 
--- Whatever the replay answered, a trace goes on from what was given, unless the feed has ended.
+-- For every result of the replay, the bytes taken are a prefix of the text of any trace that begins with the bytes given. If the
+-- feed has ended, the trace has no more bytes.
 pub begins : ShownStays → (m : Machine) (k k' : KernelContent) (ended : Bool) (given more taken : List ℕ) (replayed : Result Tally ReplayError) → IsNew m k
     → Replays ended m.only k k' given taken replayed → IsDone replayed ended → (ended ≡ true → more ≡ [])
     → IsBeginning taken (shown_replies m (lines_of_trace (given ++ more)))
@@ -102,7 +103,7 @@ begins stays m k k' ended given more taken (Err (Failed.Feed tally)) new ran don
 begins stays m k k' ended given more taken (Err (Failed.Drain tally)) new ran done over =
     cut_begins stays m k k' ended given more taken ran.0 ran.1 tally new ran.2 ran.3 over
 
--- where it could not be written, that is what was given
+-- the outcome if the replies could not be written
 pub unwritten : ShownStays → (m : Machine) (k k' : KernelContent) (ended : Bool) (given taken : List ℕ) (replayed : Result Tally ReplayError) → IsNew m k
     → Replays ended m.only k k' given taken replayed → IsDone replayed ended → Answers m Unwritable given taken
 unwritten stays m k k' ended given taken replayed new ran done =
@@ -122,14 +123,14 @@ answers stays m k k' ended given taken (Err (Failed.Feed tally)) true flushed ne
 answers stays m k k' ended given taken (Err (Failed.Feed tally)) false flushed new ran done own = ran.shown _ new.shows ∙ at_order m k (ended_lines given) new
 answers stays m k k' ended given taken (Err (Failed.Drain tally)) unsent flushed new ran done own = unwritten stays m k k' ended given taken (Err (Failed.Drain tally)) new ran done
 
--- a beginning of what was counted is counted by its length
+-- less the unwritten bytes, the counts are those of the bytes that were written
 counted : (tally : Tally) (lines : List (List ℕ)) (taken : List ℕ) (unwritten : ℕ) → Counts tally lines taken
     → Counts (without_unwritten tally unwritten) lines (take (length taken - unwritten) taken)
 counted tally lines taken unwritten counts =
     let size : length (take (length taken - unwritten) taken) ≡ length taken - unwritten = length-take-le (length taken - unwritten) taken (omega arith) in
     record { lines = counts.lines; events = counts.events; faults = counts.faults; written = ap (λ n. n - unwritten) counts.written ∙ sym size }
 
--- what the run counted, whatever its outcome
+-- the counts of the run, for every outcome
 pub tallied : (m : Machine) (k k' : KernelContent) (ended unread undrained : Bool) (given taken : List ℕ) (replayed : Result Tally ReplayError) (unsent flushed : Bool) (unwritten : ℕ)
     → IsNew m k → Replays ended m.only k k' given taken replayed → IsDone replayed ended → NamesFailed replayed unread undrained
     → Tallies m (run_outcome replayed unsent flushed) (without_unwritten (tally_of replayed) unwritten) ended unread given taken (take (length taken - unwritten) taken)
@@ -144,7 +145,7 @@ tallied m k k' ended unread undrained given taken (Err (Failed.Drain tally)) uns
     let cut = subst (λ order. IsCutIn (λ xs. shown_lines m.only cache_limit order xs world) ran.0 ran.1 taken) new.order (ran.3.shown world new.shows) in
     inr (inr (ran.0, ran.1, ran.2, cut, counted _ _ taken unwritten ran.3.counted))
 
--- a drain that holds nothing has handed on all
+-- if a drain holds nothing, the writer has all of its bytes
 all_reached : (before writer : Option (List ℕ)) (held taken : List ℕ) → held ≡ [] → Appends before (append_known writer held) taken
     → (take (length taken - length held) taken ≡ taken) × Appends before writer taken
 all_reached before writer held taken none appended =
@@ -157,7 +158,7 @@ all_reached before writer held taken none appended =
     append_known-nil None = refl
     append_known-nil (Some xs) = ap (λ bytes. Some bytes) (append-nil xs)
 
--- how much of what was taken went on, where a flush that was good left nothing behind
+-- the part of the taken bytes that the writer took; after a flush that succeeded nothing is held
 pub reached : (replayed : Result Tally ReplayError) (unsent flushed failed : Bool) (before writer : Option (List ℕ)) (held taken : List ℕ)
     → failed ≡ not flushed → (flushed ≡ true → held ≡ []) → Appends before (append_known writer held) taken
     → HasReached (run_outcome replayed unsent flushed) failed before writer held taken (take (length taken - length held) taken)
@@ -170,7 +171,7 @@ reached (Err (Failed.Feed tally)) false false true before writer held taken same
 reached (Err (Failed.Feed tally)) false false false before writer held taken same none appended = absurd cc
 reached (Err (Failed.Drain tally)) unsent flushed failed before writer held taken same none appended = (appended, refl)
 
--- which end had failed
+-- the end that failed
 pub ends : (replayed : Result Tally ReplayError) (ended unread undrained unsent flushed : Bool) → IsDone replayed ended → NamesFailed replayed unread undrained
     → (unsent ≡ true → flushed ≡ false) → (undrained ≡ true → flushed ≡ false)
     → EndsAs (run_outcome replayed unsent flushed) ended unread (not flushed) unsent
@@ -195,14 +196,14 @@ given_so_far (Err (Failed.Feed tally)) true flushed ended given more done over =
 given_so_far (Err (Failed.Feed tally)) false flushed ended given more done over = (more, refl)
 given_so_far (Err (Failed.Drain tally)) unsent flushed ended given more done over = (more, refl)
 
--- a fact of all that goes on from what was given is one of the trace
+-- what holds of all traces that begin with the bytes given holds of the trace
 pub of_trace : (P : List ℕ → Type 0) (known left : Option (List ℕ)) (ended : Bool) (given : List ℕ) → Consumes known left given → (ended ≡ true → IsAtEnd left)
     → ((more : List ℕ) → (ended ≡ true → more ≡ []) → P (given ++ more)) → IfSome known P
 of_trace P None left ended given consumed over fact = tt
 of_trace P (Some trace) None ended given consumed over fact = absurd consumed
 of_trace P (Some trace) (Some more) ended given consumed over fact = subst P (sym consumed) (fact more over)
 
--- what the run was of the trace, whatever its outcome
+-- the output of the run, by the whole trace, for every outcome
 pub traced : ShownStays → (m : Machine) (k k' : KernelContent) (ended : Bool) (given taken : List ℕ) (replayed : Result Tally ReplayError) (outcome : Outcome) (known left : Option (List ℕ))
     → IsNew m k → Replays ended m.only k k' given taken replayed → IsDone replayed ended
     → ((more : List ℕ) → (ended ≡ true → more ≡ []) → IsGiven outcome (given ++ more) given)

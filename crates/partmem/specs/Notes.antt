@@ -1,4 +1,4 @@
--- What a run of the program notes.
+-- The notes of a run of the program.
 use Rattle.std.specs.Prelude.{◌≡◌, ◌⊎◌, ℕ, suc, Bool, List, [], ◌++◌, length, take}
 use Rattle.words_core.specs.Cutting.{lines_of_trace}
 use Rattle.words_core.specs.Grammar.{reading_of}
@@ -10,16 +10,16 @@ use Rattle.replay_core.specs.Runs.{HasCome}
 use Rattle.command_line.specs.declared.outcome.Outcome.{Outcome}
 use Rattle.command_line.specs.declared.machine.Machine.{Machine}
 
--- what these lines add to notes on a new machine: the refusals that are shown, and the faulty lines
+-- the notes after these lines on a new machine: the refusals that are shown, and the faulty lines
 abbrev pub with_notes : {N : Type 0} → Noting N → Machine → List (List ℕ) → N → N
 with_notes noting m lines notes =
     noted_lines noting m.only cache_limit m.config.order 1 lines (opening_world m.config.superblocks m.config.tenants) notes
 
--- what the beginning of a line adds behind these lines, if it is faulty as far as it was read
+-- the notes after the beginning of a line that follows these lines; it is noted if it is faulty as far as it was read
 abbrev pub with_unended : {N : Type 0} → Noting N → List (List ℕ) → List ℕ → N → N
 with_unended noting lines tail notes = noted_fault noting (suc (length lines)) (take 256 tail) (reading_of tail) notes
 
--- What was noted of the `count` lines that were run, when the run ended so; and behind them of an unfinished line, if the trace
+-- The notes after the `count` lines that were run, for a run with this outcome; and then of an unfinished line, if the trace
 -- could not be read.
 abbrev pub HasNoted : {N : Type 0} → Noting N → Machine → Outcome → ℕ → Bool → List ℕ → N → N → Type 0
 HasNoted noting m Outcome.Done count ended given notes notes' = notes' ≡ with_notes noting m (lines_of_trace given) notes

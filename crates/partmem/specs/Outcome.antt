@@ -1,4 +1,4 @@
--- How a run ends, and what it counted.
+-- How a run ends, and its counts.
 use Rattle.std.specs.Prelude.{ℕ, ◌-◌, Result, Ok, Err}
 use Rattle.command_line.specs.declared.outcome.Outcome.{Outcome}
 use Rattle.partmem.specs.declared.outcome.Ended.{Ended}
@@ -12,20 +12,20 @@ outcome_of_kept (Ok done) = Outcome.Done
 outcome_of_kept (Err KeepError.Feed) = Outcome.Unreadable
 outcome_of_kept (Err KeepError.Drain) = Outcome.Unwritable
 
--- what had been done when the replay answered so
+-- the counts in the result of a replay
 abbrev pub tally_of : Result Tally ReplayError → Tally
 tally_of (Ok tally) = tally
 tally_of (Err (ReplayError.Feed tally)) = tally
 tally_of (Err (ReplayError.Drain tally)) = tally
 
--- the same if this number of the bytes was not written
+-- the same counts, less the bytes that were not written
 abbrev pub without_unwritten : Tally → ℕ → Tally
 without_unwritten tally unwritten = record { lines = tally.lines; events = tally.events; faults = tally.faults; written = tally.written - unwritten }
 
--- nothing was done
+-- the counts if nothing was done
 abbrev pub no_tally : Tally
 no_tally = record { lines = 0; events = 0; faults = 0; written = 0 }
 
--- a run that ended so before the first line
+-- a run that ended with this outcome before the first line
 abbrev pub ended_at_once : Outcome → Ended
 ended_at_once outcome = record { outcome = outcome; tally = no_tally }

@@ -1,4 +1,4 @@
--- What a run of the program writes with `--own`.
+-- The output of a run of the program with `--own`.
 use Rattle.std.specs.Prelude.{◌≡◌, ℕ, List, []}
 use Rattle.words_core.specs.Cutting.{lines_of_trace}
 use Rattle.model_core.specs.declared.config.Config.{Config}
@@ -9,11 +9,11 @@ use Rattle.own_trace.specs.Kept.{own_text, own_trace}
 use Rattle.command_line.specs.declared.outcome.Outcome.{Outcome}
 use Rattle.partmem.specs.Run.{IsBeginning}
 
--- those of these lines that are the own list of tenant t, on a new machine
+-- the text of those lines that make the own list of tenant t, on a new machine
 abbrev pub own_of : Config → ℕ → List (List ℕ) → List ℕ
 own_of config t lines = own_text t cache_limit config.order lines (opening_world config.superblocks config.tenants)
 
--- what was written of the bytes that were given, when the run ended so
+-- the bytes written, by the bytes given and the outcome of the run
 abbrev pub WritesOwn : Config → ℕ → Outcome → List ℕ → List ℕ → Type 0
 WritesOwn config t Outcome.Done given written = written ≡ own_trace cache_limit config.order config.superblocks config.tenants t given
 WritesOwn config t Outcome.Unreadable given written = written ≡ own_of config t (ended_lines given)

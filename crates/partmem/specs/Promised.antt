@@ -1,5 +1,5 @@
--- That what a run of the program writes keeps the promises, which leave open what the machine of the definitions decides: which
--- block, which object, which frames are given back.
+-- The output of a run of the program keeps the promises. They leave open what the machine of the definitions decides: which block
+-- and which object a request gets, and which frames are freed.
 use Rattle.std.specs.Prelude.{◌≡◌, ℕ, List, [], ◌++◌}
 use Rattle.words_core.specs.Cutting.{lines_of_trace}
 use Rattle.world_core.specs.Limits.{cache_limit}
@@ -13,7 +13,7 @@ abbrev pub AreAllowed : Machine → List (List ℕ) → List ℕ → Type 0
 AreAllowed m lines text =
     IsAllowedText m.only cache_limit m.config.order m.config.superblocks m.config.tenants lines text
 
--- what was written of the bytes that were given, when the run ended so
+-- the bytes written, by the bytes given and the outcome of the run
 abbrev pub WritesAllowed : Machine → Outcome → List ℕ → List ℕ → Type 0
 WritesAllowed m Outcome.Done given written = AreAllowed m (lines_of_trace given) written
 WritesAllowed m Outcome.Unreadable given written = AreAllowed m (ended_lines given) written

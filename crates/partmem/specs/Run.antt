@@ -1,4 +1,4 @@
--- What a run of the program writes.
+-- The output of a run of the program.
 use Rattle.std.specs.Prelude.{◌≡◌, ◌⊎◌, ℕ, ◌-◌, ◌<◌, Bool, true, false, List, [], ◌∷◌, ◌++◌, length, take, Option, Some, None}
 use Rattle.std.specs.Io.KnownBytes.{Appends, append_known}
 use Rattle.words_core.specs.Cutting.{lines_of_trace}
@@ -13,11 +13,11 @@ use Rattle.command_line.specs.declared.outcome.Outcome.{Outcome}
 use Rattle.command_line.specs.declared.machine.Machine.{Machine}
 use Rattle.partmem.specs.Outcome.{no_tally}
 
--- what these lines show on a new machine: all replies, or those to one tenant
+-- the text that these lines show on a new machine: all replies, or those to one tenant
 abbrev pub shown_replies : Machine → List (List ℕ) → List ℕ
 shown_replies m lines = shown_lines m.only cache_limit m.config.order lines (opening_world m.config.superblocks m.config.tenants)
 
--- the lines that a tenant's private machine answers to the tenant's own list of the trace
+-- the reply lines of a tenant's private machine to the tenant's own list of the trace
 abbrev pub private_replies : Config → ℕ → List ℕ → List (List ℕ)
 private_replies config t trace = private_lines cache_limit config.order config.superblocks config.tenants t trace
 
@@ -29,7 +29,7 @@ IsPrivate (Some t) config trace written = t < config.tenants → written ≡ wit
 abbrev pub IsBeginning : List ℕ → List ℕ → Type 0
 IsBeginning part whole = (rest : List ℕ) × (whole ≡ part ++ rest)
 
--- what was written of the bytes that were given, when the run ended so; a run has no other outcomes than these
+-- the bytes written, by the bytes given and the outcome of the run; outcomes that do not occur are ⊥
 abbrev pub Answers : Machine → Outcome → List ℕ → List ℕ → Type 0
 Answers m Outcome.Done given written = (written ≡ shown_replies m (lines_of_trace given)) × IsPrivate m.only m.config given written
 Answers m Outcome.Unreadable given written = written ≡ shown_replies m (ended_lines given)
@@ -40,12 +40,12 @@ Answers m (Outcome.Version text) given written = ⊥
 Answers m (Outcome.BadLine text) given written = ⊥
 Answers m Outcome.BadOnly given written = ⊥
 
--- What was held back is the end of it: the writer took the rest, and nothing else.
+-- The bytes held back are the end of the bytes written: the writer took those before them, and nothing else.
 abbrev pub IsHeldBack : (before writer : Option (List ℕ)) → (held written sent : List ℕ) → Type 0
 IsHeldBack before writer held written sent = Appends before (append_known writer held) written × (sent ≡ take (length written - length held) written)
 
--- Of what was written for a run that ended so, the writer took this: all of it, or what is not held back by a drain that has
--- failed. Before it the writer had, or the drain held, what the drain had taken before.
+-- The writer took these of the bytes written, by the outcome of the run: all of them, or those that a failed drain does not hold
+-- back. `before` are the bytes that the drain had taken before the run.
 abbrev pub HasReached : Outcome → (failed : Bool) → (before writer : Option (List ℕ)) → (held written sent : List ℕ) → Type 0
 HasReached Outcome.Done failed before writer held written sent = (sent ≡ written) × Appends before writer written
 HasReached Outcome.Unreadable false before writer held written sent = (sent ≡ written) × Appends before writer written
@@ -57,8 +57,8 @@ HasReached (Outcome.Version text) failed before writer held written sent = ⊥
 HasReached (Outcome.BadLine text) failed before writer held written sent = ⊥
 HasReached Outcome.BadOnly failed before writer held written sent = ⊥
 
--- What is counted when the run ended so: the lines that were run, and what the writer took. If the replies could not be written,
--- all lines had been answered before a flush or a send failed, or the last line that was run is the one whose reply was cut.
+-- The counts, by the outcome of the run: the lines that were run, and the bytes that the writer took. If the replies could not be
+-- written, either all lines had been answered before a flush or a send failed, or the reply to the last line was cut short.
 abbrev pub Tallies : Machine → Outcome → Tally → (ended unread : Bool) → (given written sent : List ℕ) → Type 0
 Tallies m Outcome.Done tally ended unread given written sent = Counts tally (lines_of_trace given) sent
 Tallies m Outcome.Unreadable tally ended unread given written sent = Counts tally (ended_lines given) sent
@@ -73,8 +73,8 @@ Tallies m (Outcome.Version text) tally ended unread given written sent = ⊥
 Tallies m (Outcome.BadLine text) tally ended unread given written sent = ⊥
 Tallies m Outcome.BadOnly tally ended unread given written sent = ⊥
 
--- Which end had failed when the run ended so; a trace is done only at its end. Where both had, a send failed before the feed did,
--- or the feed before the last flush.
+-- Which end failed, by the outcome of the run; a trace is done only at its end. If both failed, either a send failed before the
+-- feed did, or the feed failed before the last flush.
 abbrev pub EndsAs : Outcome → (ended unread unwritten unsent : Bool) → Type 0
 EndsAs Outcome.Done ended unread unwritten unsent = (ended ≡ true) × (unread ≡ false) × (unwritten ≡ false) × (unsent ≡ false)
 EndsAs Outcome.Unreadable ended unread unwritten unsent = (unread ≡ true) × (unsent ≡ false)
@@ -85,7 +85,7 @@ EndsAs (Outcome.Version text) ended unread unwritten unsent = ⊥
 EndsAs (Outcome.BadLine text) ended unread unwritten unsent = ⊥
 EndsAs Outcome.BadOnly ended unread unwritten unsent = ⊥
 
--- how much of the trace was given when the run ended so: a beginning, and all of it where it is done
+-- the bytes given, by the outcome of the run: a prefix of the trace, and all of it if it is done
 abbrev pub IsGiven : Outcome → List ℕ → List ℕ → Type 0
 IsGiven Outcome.Done trace given = trace ≡ given
 IsGiven (Outcome.Help text) trace given = IsBeginning given trace
@@ -96,7 +96,7 @@ IsGiven (Outcome.BadLine text) trace given = IsBeginning given trace
 IsGiven Outcome.BadOnly trace given = IsBeginning given trace
 IsGiven Outcome.NoMemory trace given = IsBeginning given trace
 
--- However the run ended, what was written is a beginning of the whole that the trace gives.
+-- For every outcome of the run, the bytes written are a prefix of the output of the whole trace.
 pub record IsOfTrace (outcome : Outcome) (trace given whole written : List ℕ) : Type 0 where
   pub part : IsGiven outcome trace given
   pub begins : IsBeginning written whole

@@ -2,7 +2,7 @@
 //!
 //! `partmem --order S --superblocks N --tenants T [--only T | --own T] [--tally] [FILE]`
 //!
-//! The exits are those of [`Outcome`].
+//! The exit status is that of the [`Outcome`].
 //!
 //! `--tally` prints the counts of the run, however it ended: `partmem: 6 lines, 6 events, 0 faults, 214 bytes written`. Then come
 //! the message of the exit, the reason why a file could not be opened or read, the count of each refusal, and the first faulty
@@ -38,7 +38,7 @@ const BUFFER_BYTES: usize = 65_536;
 fn main(rt: HostRuntime) -> ExitCode {
     match read_command_line(&rt) {
         Ok(settings) => {
-            // Replies on a terminal show how far the run is, so no line of progress is written between them.
+            // Replies on a terminal show the progress of the run, so no line of progress is printed between them.
             let wanted = rt.stderr().is_terminal() && !rt.stdout().is_terminal();
             let progress = progress_in(&rt, PROGRAM, settings.file.as_deref(), None, wanted);
             let ran = run_from(&rt, &settings, progress);
@@ -61,14 +61,14 @@ struct Ran {
     notes: Option<RunNotes>,
 }
 
-/// The settings of the command line.
+/// Returns the settings of the command line.
 fn read_command_line(rt: &(impl Env + AllocGlobal)) -> Result<Settings, Outcome> {
     let words = words_given(rt)?;
     let texts = texts_of(rt.alloc(), words.as_slice())?;
     read_words(rt.alloc(), texts.as_slice())
 }
 
-/// Runs the trace, from FILE or from standard input, into standard output: a copy of the loop for each.
+/// Runs the trace, from FILE or from standard input, and writes to standard output. Each of the two has its own copy of the loop.
 fn run_from<P: Eprint + Clock>(
     rt: &(impl Files + Input + Print + AllocGlobal),
     settings: &Settings,
@@ -87,7 +87,7 @@ fn run_from<P: Eprint + Clock>(
     }
 }
 
-/// Runs the trace of a reader into standard output. A trace that could not be opened is unreadable.
+/// Runs the trace of a reader and writes to standard output. If the trace could not be opened, the outcome is `Unreadable`.
 fn run_opened<R: Read + Drop>(
     rt: &(impl Print + AllocGlobal),
     settings: &Settings,
@@ -124,7 +124,7 @@ fn run_opened<R: Read + Drop>(
     }
 }
 
-/// Runs the trace of a reader into standard output, and takes notes.
+/// Runs the trace of a reader, writes to standard output, and takes notes.
 fn run_noted<R: Read + Drop>(rt: &(impl Print + AllocGlobal), machine: &Machine, reader: R) -> Ran {
     let mut watched = WatchedReader::new(reader);
     let mut notes = RunNotes::new();
@@ -164,7 +164,7 @@ fn keep_own<R: Read + Drop>(
     }
 }
 
-/// Runs the trace of a reader into a writer.
+/// Runs the trace of a reader and writes its replies to a writer.
 fn run_between<R: Read + Drop, W: Write + Drop, N: Notes>(
     rt: &impl AllocGlobal,
     machine: &Machine,
@@ -205,8 +205,8 @@ fn tell_run(rt: &impl Eprint, settings: &Settings, ran: Ran) -> ExitCode {
     code
 }
 
-/// Prints the count of each refusal, and the first faulty lines. If the replies could not be written, some of these answers were
-/// not, so the lines say that they count answers.
+/// Prints the count of each refusal, and the first faulty lines. If the replies could not be written, some of the counted
+/// refusals were not written, so the lines say `answered`.
 fn tell_notes(rt: &impl Eprint, notes: &RunNotes, outcome: &Outcome) {
     let counted = match outcome {
         Outcome::Unwritable => " answered",

@@ -1,4 +1,4 @@
-//! How a run ends, and what it counted.
+//! How a run ends, and its counts.
 
 ghost use Rattle.std.specs.Prelude.{◌≡◌};
 ghost use Rattle.partmem.specs.Outcome.{ended_at_once, outcome_of_kept, tally_of, without_unwritten};
@@ -17,7 +17,7 @@ pub struct Ended {
 }
 
 impl Ended {
-    /// Returns the end of a run in which nothing was done.
+    /// Returns the end of a run with this outcome in which nothing was done.
     pub fn at_once(outcome: Outcome) -> Ended
         ensures { result ≡ ended_at_once outcome }
     {
@@ -28,7 +28,7 @@ impl Ended {
     }
 }
 
-/// Returns the outcome of a run that kept a tenant's own list so.
+/// Returns the outcome of a run that kept a tenant's own list with this result.
 pub fn outcome_of_kept(kept: &Result<(), KeepError>) -> Outcome
     ensures { result ≡ outcome_of_kept kept.now }
 {

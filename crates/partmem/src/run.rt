@@ -15,8 +15,8 @@ use std::alloc::Global;
 use std::io::Write;
 use std::mem;
 
-/// Boots a new machine of these sizes, replays the trace and flushes, also after a failed feed but not after a failed drain.
-/// The first failure decides the outcome. The notes are those of [`replay_noted`].
+/// Boots a new machine of these sizes, replays the trace and flushes. It also flushes if the feed failed, but not if the drain
+/// failed. The first failure decides the outcome. The notes are those of [`replay_noted`].
 pub fn run<F: Feed, W: Write, N: Notes>(
     alloc: Global,
     machine: &Machine,
@@ -26,7 +26,8 @@ pub fn run<F: Feed, W: Write, N: Notes>(
 ) -> Ended
     requires feed_fine { F.has_failed feed.old ≡ false }
     requires drain_fine { ⟦<WriterDrain<W> as Drain>⟧.has_failed drain.old ≡ false }
-    // The bytes given of the trace, the bytes written, how many of these the writer took, the counts of the tally, and the notes.
+    // The bytes given of the trace, the bytes written, those of them that the writer took, the counts of the tally, and the
+    // notes.
     ensures ran { (given : List ℕ) × (written : List ℕ) × (sent : List ℕ)
         × Consumes (F.remaining feed.old) (F.remaining feed.new) given
         × Appends (⟦<WriterDrain<W> as Drain>⟧.contents drain.old) (⟦<WriterDrain<W> as Drain>⟧.contents drain.new) written
