@@ -61,7 +61,7 @@ def constants(text):
 
 
 # What Rust calls a struct of the header. This comes from the exports, where both languages give a parameter the same name.
-names = {"Machine": "partmem_machine"}
+names = {"MachineStorage": "partmem_machine"}
 
 
 def of_rust(text):
@@ -130,7 +130,7 @@ def structs_of_source(in_header):
         lines = [line.strip().rstrip(",").removeprefix("pub ") for line in fields.splitlines()]
         pairs = [line.split(": ", 1) for line in lines if line and not line.startswith("ghost")]
         read_of[name] = [(FIELDS.get(field, field), kind) for field, kind in pairs]
-    if [read_of.pop("Machine"), read_of.pop("Slot")] != [[("is_booted", "bool"), ("slot", "Slot")], [("at", "*mut u8")]]:
+    if [read_of.pop("MachineStorage"), read_of.pop("Slot")] != [[("is_booted", "bool"), ("slot", "Slot")], [("at", "*mut u8")]]:
         fail("a machine is held in another way")
     # Rows have no parameter: their names are those of the fields that have them.
     for name, fields in read_of.items():

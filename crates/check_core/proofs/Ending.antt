@@ -6,7 +6,7 @@ use Rattle.words_core.specs.declared.event.LineFault.{LineFault}
 use Rattle.words_core.specs.declared.reply.Reply.{Reply}
 use Rattle.promise_core.specs.State.{Known}
 use Rattle.judge.specs.Adding.{IsAllowedAddition}
-use Rattle.judge.specs.Machine.{SeenMachine, ShowsKnown}
+use Rattle.judge.specs.KnownMachine.{SeenMachine, ShowsKnown}
 use Rattle.check_core.specs.declared.finding.Unchecked.{Unchecked}
 use Rattle.check_core.specs.declared.finding.Unchecked.TheVariants as Not
 use Rattle.check_core.specs.Checking.{AddsAt, ComesToAdd, IsEndedBy, IsStoppedBy}

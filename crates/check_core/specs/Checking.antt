@@ -7,7 +7,7 @@ use Rattle.words_core.specs.declared.reply.Reply.{Reply}
 use Rattle.promise_core.specs.Promises.{allowed}
 use Rattle.promise_core.specs.State.{Known}
 use Rattle.judge.specs.Adding.{is_addition}
-use Rattle.judge.specs.Machine.{SeenMachine, ShowsKnown, IsVerdict}
+use Rattle.judge.specs.KnownMachine.{SeenMachine, ShowsKnown, IsVerdict}
 use Rattle.check_core.specs.declared.finding.Finding.{Finding}
 use Rattle.check_core.specs.declared.finding.Unchecked.{Unchecked}
 use Rattle.check_core.specs.declared.gathered.Gathered.{Gathered}

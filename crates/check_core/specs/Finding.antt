@@ -18,7 +18,7 @@ use Rattle.promise_core.specs.declared.promise.Promise.{Promise}
 use Rattle.words_core.specs.Texts.{text_of}
 use Rattle.promise_core.specs.State.{Known}
 use Rattle.promise_core.specs.Promises.{allowed}
-use Rattle.judge.specs.Machine.{SeenMachine}
+use Rattle.judge.specs.KnownMachine.{SeenMachine}
 use Rattle.check_core.specs.Tables.{reply_of_text}
 use Rattle.check_core.specs.declared.finding.Finding.{Finding}
 use Rattle.check_core.specs.declared.shown.TheConstants.{MOST_TEXT_BYTES}

@@ -7,7 +7,7 @@ use Rattle.words_core.specs.declared.event.LineFault.{LineFault}
 use Rattle.words_core.specs.declared.reply.Reply.{Reply}
 use Rattle.model_core.specs.Blocks.{Block, HasFrame, block}
 use Rattle.words_core.specs.Grammar.{reading_of}
-use Rattle.judge.specs.Machine.{SeenMachine}
+use Rattle.judge.specs.KnownMachine.{SeenMachine}
 use Rattle.check_core.specs.Finding.{page_in_way}
 use Rattle.check_core.specs.Forms.{◌>>=◌}
 use Rattle.check_core.specs.Gathered.{whole_of}

@@ -2,7 +2,7 @@
 
 ghost use Rattle.std.specs.Prelude.{◌≡◌, ℕ, ◌+◌, ◌^◌, ◌<◌, ◌==◌, List, IfOk, true, false, length};
 ghost use Rattle.promise_core.specs.State.{Known};
-ghost use Rattle.judge.specs.Machine.{ShowsKnown};
+ghost use Rattle.judge.specs.KnownMachine.{ShowsKnown};
 ghost use Rattle.check_core.specs.Checking.{ComesToAdd, IsEndedBy, IsKeptAtEnd};
 ghost use Rattle.check_core.specs.Finding.{finding_of};
 ghost use Rattle.check_core.specs.Reading.{HasEnded, HasGiven, WhateverFollows, readings_of};
@@ -13,7 +13,7 @@ use crate::lines::next_reading;
 use crate::reader::LineReader;
 use crate::shown::{MOST_TEXT_BYTES, Shown};
 use crate::verdicts::judge_line;
-use judge::Machine;
+use judge::KnownMachine;
 use promise_core::promise::Promise;
 use streams::{Feed, Stopped};
 
@@ -23,7 +23,7 @@ use streams::{Feed, Stopped};
 /// `shown` then holds the last line and what was read as its reply. If a reply is left over behind the last line's, `shown` holds
 /// this reply and no line.
 pub fn check<T: Feed, R: Feed>(
-    machine: &mut Machine,
+    machine: &mut KnownMachine,
     trace: &mut LineReader<T>,
     replies: &mut LineReader<R>,
     shown: &mut Shown,

@@ -7,7 +7,7 @@ use crate::answer::read_answer;
 use crate::gathered::Gathered;
 use crate::lines::reading;
 use crate::taken::{TakenFrame, taken_frame};
-use judge::Machine;
+use judge::KnownMachine;
 use model_core::limits::MOST_BYTES;
 
 /// The largest number of bytes of a line of a trace: 255, a carriage return and a line feed.
@@ -42,7 +42,7 @@ impl Shown {
     }
 
     /// Searches the machine that judged the line for a live page block that overlaps the page block of the reply.
-    pub fn look_for_taken(&mut self, machine: &Machine)
+    pub fn look_for_taken(&mut self, machine: &KnownMachine)
         ensures line { self.new.line ≡ self.old.line }
         ensures reply { self.new.reply ≡ self.old.reply }
         ensures taken { (asked told : List ℕ) → Gathers MOST_PART_BYTES asked self.old.line → Gathers MOST_TEXT_BYTES told self.old.reply

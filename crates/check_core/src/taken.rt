@@ -9,7 +9,7 @@ ghost use Rattle.words_core.specs.declared.reply.Body.{Body};
 ghost use Rattle.check_core.specs.Finding.{page_in_way};
 ghost use Rattle.check_core.specs.Taken.{IsFirstShared};
 
-use judge::Machine;
+use judge::KnownMachine;
 use judge_core::FrameBlock;
 use model_core::limits::MOST_ORDER;
 use words_core::{Answer, Command, Event};
@@ -25,7 +25,7 @@ pub struct TakenFrame {
 
 /// Returns the tenant's first live page block that shares a frame with the page block of this answer, and the first shared frame.
 /// Returns `None` if there is none, or if the answer allocates no page block.
-pub fn taken_frame(machine: &Machine, event: &Event, answer: &Answer<'_>) -> Option<TakenFrame>
+pub fn taken_frame(machine: &KnownMachine, event: &Event, answer: &Answer<'_>) -> Option<TakenFrame>
     ensures page { option_map (λ taken. taken.page) result ≡ page_in_way machine.now event.now (body_of_answer answer.now) }
     // The frame is the first one that both blocks share.
     ensures frame { (t k f : ℕ) → event.now ≡ Event.Tenant t (Command.Alloc k) → body_of_answer answer.now ≡ Body.Frame f

@@ -4,7 +4,7 @@ ghost use Rattle.std.specs.Prelude.{◌≡◌, ℕ, ◌+◌, ◌<◌, ◌≤◌,
 ghost use Rattle.words_core.specs.declared.reply.Reply.{Reply};
 ghost use Rattle.promise_core.specs.State.{Known};
 ghost use Rattle.judge.specs.Adding.{IsAllowedAddition};
-ghost use Rattle.judge.specs.Machine.{SeenMachine, ShowsKnown};
+ghost use Rattle.judge.specs.KnownMachine.{SeenMachine, ShowsKnown};
 ghost use Rattle.check_core.specs.Checking.{AddsAt, HasGathered, IsEndedBy, IsLineVerdict, IsTextVerdict};
 ghost use Rattle.check_core.specs.Finding.{broken_by, lines_to, more_lines, refusal_read, reply_in, text_read};
 ghost use Rattle.check_core.specs.Gathered.{Gathers};
@@ -18,7 +18,7 @@ use crate::gathering::{gather, is_text};
 use crate::reader::LineReader;
 use crate::shown::MOST_TEXT_BYTES;
 use crate::table::read_table;
-use judge::{Machine, Verdict};
+use judge::{KnownMachine, Verdict};
 use model_core::limits::MOST_BYTES;
 use promise_core::promise::Promise;
 use streams::Feed;
@@ -32,7 +32,7 @@ pub(crate) type LineVerdict = Result<u128, Promise>;
 
 /// Reads the reply to a line, and judges it.
 pub(crate) fn judge_line<R: Feed>(
-    machine: &mut Machine,
+    machine: &mut KnownMachine,
     reading: &Result<Option<Event>, LineFault>,
     replies: &mut LineReader<R>,
     text: &mut Gathered<MOST_TEXT_BYTES>,
@@ -82,7 +82,7 @@ fn judge_fault<R: Feed>(
 
 /// Reads the reply to an event, and judges it.
 fn judge_event<R: Feed>(
-    machine: &mut Machine,
+    machine: &mut KnownMachine,
     event: &Event,
     replies: &mut LineReader<R>,
     text: &mut Gathered<MOST_TEXT_BYTES>,
@@ -110,7 +110,7 @@ fn judge_event<R: Feed>(
 /// Reads the `more` lines that follow the first line of the reply to an event, and judges the reply.
 #[inline(never)]
 fn judge_lines<R: Feed>(
-    machine: &mut Machine,
+    machine: &mut KnownMachine,
     event: &Event,
     more: u128,
     replies: &mut LineReader<R>,
@@ -137,7 +137,7 @@ fn judge_lines<R: Feed>(
 /// line, if there is one.
 #[inline(always)]
 fn judge_gathered(
-    machine: &mut Machine,
+    machine: &mut KnownMachine,
     event: &Event,
     lines: u128,
     refused: Option<(Addressee, Refusal)>,
@@ -162,7 +162,7 @@ fn judge_gathered(
 /// Judges what was gathered as the reply to an event. Returns `None` if it is no reply.
 #[inline(always)]
 fn judge_text(
-    machine: &mut Machine,
+    machine: &mut KnownMachine,
     event: &Event,
     text: &Gathered<MOST_TEXT_BYTES>,
 ) -> Result<Option<Verdict>, Unchecked>
@@ -184,7 +184,7 @@ fn judge_text(
 /// Does the same for a table. It needs a large buffer, which is cleared only here.
 #[cold]
 #[inline(never)]
-fn judge_table(machine: &mut Machine, event: &Event, text: &[u8]) -> Option<Verdict>
+fn judge_table(machine: &mut KnownMachine, event: &Event, text: &[u8]) -> Option<Verdict>
     ensures { (w : Known) → ShowsKnown machine.old w → IsTextVerdict result event.now (table_of text.now) w machine.new }
 {
     let table = read_table(text)?;
@@ -207,7 +207,7 @@ fn refusal_in(text: &Gathered<MOST_TEXT_BYTES>) -> Option<(Addressee, Refusal)>
 /// Returns the promise that is broken by lines that are no reply. `refused` is the refusal in the first line alone, if there is
 /// one.
 fn broken_by(
-    machine: &mut Machine,
+    machine: &mut KnownMachine,
     event: &Event,
     refused: Option<(Addressee, Refusal)>,
 ) -> Result<Promise, Unchecked>
@@ -224,7 +224,7 @@ fn broken_by(
 }
 
 /// Returns the number of lines behind the first in a reply to an event, if the reply is no refusal.
-fn more_lines(machine: &Machine, event: &Event) -> u128
+fn more_lines(machine: &KnownMachine, event: &Event) -> u128
     ensures lines { (w : Known) → ShowsKnown machine.now w → result ≡ more_lines event.now w }
     ensures most { result + 1 < 2 ^ 128 }
 {

@@ -4,8 +4,8 @@ use Rattle.clap.specs.Words.{Row, Text, one_of, one_text, rows_of}
 use Rattle.clap.specs.declared.parser.matches.Found.{Found}
 use Rattle.clap.proofs.WalkLemmas.{one_text-rows}
 use Rattle.model_core.specs.declared.config.Config.{Config}
-use Rattle.command_line.specs.Machine.{AsksMachine, AsksNoSizes, AsksNoTenant, AsksSizes, IsNoMachine, MayWrite, Writes}
-use Rattle.command_line.specs.declared.machine.Machine.{Machine}
+use Rattle.command_line.specs.MachineOptions.{AsksMachine, AsksNoSizes, AsksNoTenant, AsksSizes, IsNoMachine, MayWrite, Writes}
+use Rattle.command_line.specs.declared.machine_options.MachineOptions.{MachineOptions}
 use Rattle.command_line.specs.declared.outcome.Outcome.{Outcome}
 
 -- a text has only one number
@@ -37,7 +37,7 @@ asks_sizes read other config same asks = record {
   tenants = subst (λ text. Writes text config.tenants) (same (codes "tenants")) asks.tenants;
 }
 
-pub asks_machine : (read other : Text → Option Text) (m : Machine) → ((name : Text) → read name ≡ other name) → AsksMachine read m → AsksMachine other m
+pub asks_machine : (read other : Text → Option Text) (m : MachineOptions) → ((name : Text) → read name ≡ other name) → AsksMachine read m → AsksMachine other m
 asks_machine read other m same asks = record {
   sizes = asks_sizes read other m.config same asks.sizes;
   only = subst (λ text. MayWrite text m.only) (same (codes "only")) asks.only;
@@ -69,7 +69,7 @@ no_machine read other Outcome.Unreadable same none = absurd none
 no_machine read other Outcome.Unwritable same none = absurd none
 
 -- if a machine is requested, `--only` does not name a missing tenant
-tenant_given : (read : Text → Option Text) (m : Machine) → AsksMachine read m → ¬ AsksNoTenant read
+tenant_given : (read : Text → Option Text) (m : MachineOptions) → AsksMachine read m → ¬ AsksNoTenant read
 tenant_given read m asks none =
     let only : m.only ≡ Some none.tenant = one_number (read (codes "only")) m.only none.tenant asks.only none.only in
     let tenants : none.sizes.tenants ≡ m.config.tenants =
@@ -78,7 +78,7 @@ tenant_given read m asks none =
     omega (arith, none.above)
 
 -- a machine that is requested is found
-pub machine_given : (read : Text → Option Text) (m : Machine) (outcome : Outcome) → AsksMachine read m → ¬ IsNoMachine read outcome
+pub machine_given : (read : Text → Option Text) (m : MachineOptions) (outcome : Outcome) → AsksMachine read m → ¬ IsNoMachine read outcome
 machine_given read m (Outcome.BadLine text) asks none = none.0 m.config asks.sizes m.bootable
 machine_given read m Outcome.NoMemory asks none = none m.config asks.sizes m.bootable
 machine_given read m Outcome.BadOnly asks none = tenant_given read m asks none

@@ -8,10 +8,10 @@ use Rattle.clap.proofs.OnLiterals.{clap_on_literals}
 use Rattle.clap.proofs.WalkLemmas.{first_value-rows}
 use Rattle.command_line.proofs.Reading.{asks_machine, no_machine, one_number, one_text-of_rows, same_number, same_written}
 use Rattle.command_line.proofs.Refusals.{parsed_as, refused_as, rows_as}
-use Rattle.command_line.specs.Machine.{AsksMachine, IsNoMachine, MayWrite, Writes}
+use Rattle.command_line.specs.MachineOptions.{AsksMachine, IsNoMachine, MayWrite, Writes}
 use Rattle.command_line.specs.Outcome.{IsRefusedBy}
 use Rattle.command_line.specs.Settings.{Asks, IsAlone, IsFlag, IsInOrder, IsNoOwn, IsNoSettings, command_line, parse_faults, machine_of}
-use Rattle.command_line.specs.declared.machine.Machine.{Machine}
+use Rattle.command_line.specs.declared.machine_options.MachineOptions.{MachineOptions}
 use Rattle.command_line.specs.declared.outcome.Outcome.{Outcome}
 use Rattle.command_line.specs.declared.settings.Settings.{Settings}
 
@@ -61,7 +61,7 @@ pub no_machine_rows : (f : Found) (rows : List Row) (outcome : Outcome) → rows
 no_machine_rows f rows outcome same none = inl (no_machine (one_text f) (λ name. one_of name rows) outcome (one_text-of_rows f rows same) none)
 
 -- the same for a tenant's own list
-pub no_own_rows : (f : Found) (rows : List Row) (m : Machine) (flag : Bool) (outcome : Outcome) → rows_of f ≡ rows → AsksMachine (one_text f) m
+pub no_own_rows : (f : Found) (rows : List Row) (m : MachineOptions) (flag : Bool) (outcome : Outcome) → rows_of f ≡ rows → AsksMachine (one_text f) m
     → IsFlag (one_text f (codes "tally")) flag → IsNoOwn (one_text f) m flag outcome → IsNoSettings (λ name. one_of name rows) outcome
 no_own_rows f rows m flag outcome same machine tally (tenant, own, why) = inr (
   m,
@@ -72,7 +72,7 @@ no_own_rows f rows m flag outcome same machine tally (tenant, own, why) = inr (
 )
 
 -- an own list that is valid is found
-pub own_given : (read : Text → Option Text) (m : Machine) (flag : Bool) (outcome : Outcome) (own : Option ℕ) → MayWrite (read (codes "own")) own
+pub own_given : (read : Text → Option Text) (m : MachineOptions) (flag : Bool) (outcome : Outcome) (own : Option ℕ) → MayWrite (read (codes "own")) own
     → ForSome own (λ t. t < m.config.tenants) → IsAlone own m.only flag → ¬ IsNoOwn read m flag outcome
 own_given read m flag outcome own may below alone (tenant, writes, why) =
     let is : own ≡ Some tenant = one_number (read (codes "own")) own tenant may writes in
@@ -87,7 +87,7 @@ machine_asked f rows s same asks =
     asks_machine (λ name. one_of name rows) (one_text f) (machine_of s) (λ name. sym (one_text-of_rows f rows same name)) asks.machine
 
 -- valid settings are no cause to refuse their own list
-pub own_fits : (f : Found) (rows : List Row) (m : Machine) (s : Settings) (flag : Bool) → rows_of f ≡ rows
+pub own_fits : (f : Found) (rows : List Row) (m : MachineOptions) (s : Settings) (flag : Bool) → rows_of f ≡ rows
     → AsksMachine (one_text f) m → IsFlag (one_text f (codes "tally")) flag → Asks (λ name. one_of name rows) (λ name. first_of name rows) s
     → ((given : Bool) → IsFlag (one_of (codes "tally") rows) given → IsAlone s.own s.only given)
     → MayWrite (one_text f (codes "own")) s.own × ForSome s.own (λ t. t < m.config.tenants) × IsAlone s.own m.only flag

@@ -1,6 +1,6 @@
 pub mod Arguments
 pub mod Files
-pub mod Machine
+pub mod MachineOptions
 pub mod Outcome
 pub mod Progress
 pub mod Settings

@@ -6,14 +6,14 @@ use Rattle.std.specs.String.{string_bytes}
 use Rattle.clap.specs.Words.{App, Kinds, Rule, Text, fault_of, first_of, matches_of, new_rule, one_of, takes, with_rule}
 use Rattle.clap.specs.declared.builder.action.ArgAction.TheVariants.{SetTrue}
 use Rattle.command_line.specs.Arguments.{machine_command, number_rule, positional_rule}
-use Rattle.command_line.specs.Machine.{AsksMachine, IsNoMachine, MayWrite, Writes}
+use Rattle.command_line.specs.MachineOptions.{AsksMachine, IsNoMachine, MayWrite, Writes}
 use Rattle.command_line.specs.Outcome.{IsBadLine, IsRefusedBy}
-use Rattle.command_line.specs.declared.machine.Machine.{Machine}
+use Rattle.command_line.specs.declared.machine_options.MachineOptions.{MachineOptions}
 use Rattle.command_line.specs.declared.outcome.Outcome.{Outcome}
 use Rattle.command_line.specs.declared.settings.Settings.{Settings}
 
 -- the machine, and the tenant whose lines are written
-abbrev pub machine_of : Settings → Machine
+abbrev pub machine_of : Settings → MachineOptions
 machine_of settings = record { config = settings.config; only = settings.only; bootable = settings.bootable; below = settings.below }
 
 -- a flag is set if its text is `true`
@@ -66,7 +66,7 @@ abbrev pub own_no_tenant_text : Text
 own_no_tenant_text = codes "partmem: --own names no tenant\n"
 
 -- why a tenant's own list is refused, with this machine and with a tally or without one; `--only` and `--tally` are tested first
-abbrev pub IsNoOwn : (Text → Option Text) → Machine → Bool → Outcome → Type 0
+abbrev pub IsNoOwn : (Text → Option Text) → MachineOptions → Bool → Outcome → Type 0
 IsNoOwn read machine tally outcome = (tenant : ℕ) × Writes (read (codes "own")) tenant
     × (((¬ IsAlone (Some tenant) machine.only tally) × IsBadLine own_beside_text outcome)
     ⊎ (IsAlone (Some tenant) machine.only tally × (machine.config.tenants ≤ tenant) × IsBadLine own_no_tenant_text outcome))
@@ -74,7 +74,7 @@ IsNoOwn read machine tally outcome = (tenant : ℕ) × Writes (read (codes "own"
 -- why the arguments give no settings: they give no machine, or `--own` is refused
 abbrev pub IsNoSettings : (Text → Option Text) → Outcome → Type 0
 IsNoSettings read outcome = IsNoMachine read outcome
-    ⊎ ((machine : Machine) × (tally : Bool) × AsksMachine read machine × IsFlag (read (codes "tally")) tally
+    ⊎ ((machine : MachineOptions) × (tally : Bool) × AsksMachine read machine × IsFlag (read (codes "tally")) tally
     × IsNoOwn read machine tally outcome)
 
 -- the kinds of error for which clap's model refuses these words; empty if it takes them

@@ -5,7 +5,7 @@ ghost use Rattle.std.specs.String.{string_bytes};
 ghost use Rattle.clap.specs.Words.{HasMatchesOf, app_of, fault_of, first_value, found_of, is_simple_and_free, one_text};
 ghost use Rattle.clap.specs.Words.{rule_of, takes};
 ghost use Rattle.command_line.specs.Arguments.{machine_command, number_rule, positional_rule, sizes_command};
-ghost use Rattle.command_line.specs.Machine.{MayWrite, Writes};
+ghost use Rattle.command_line.specs.MachineOptions.{MayWrite, Writes};
 ghost use Rattle.command_line.specs.Outcome.{IsParsedBy, IsRefusal};
 
 use crate::outcome::{Outcome, not_parsed};

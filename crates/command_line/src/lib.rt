@@ -2,13 +2,13 @@
 //! run, and the end of the program. The command line of `partmem` itself is here too ([`read_words`]), so that tests can call it.
 //!
 //! Such a program has the arguments of `command`, or of `sizes_command` if it has no `--only`, and adds its own with
-//! `Command::arg`. From the matches it reads the machine with `Machine::found`, or the sizes with `sizes_found`, and then its own
-//! arguments.
+//! `Command::arg`. From the matches it reads the machine with `MachineOptions::found`, or the sizes with `sizes_found`, and then
+//! its own arguments.
 #![tactic(auto)]
 
 mod arguments;
 mod files;
-mod machine;
+mod machine_options;
 mod outcome;
 mod process;
 mod progress;
@@ -18,7 +18,7 @@ mod words;
 
 pub use arguments::{Program, command, number, parse, path_of, positional, sizes_command};
 pub use files::{FileError, WatchedReader, open, tell_file};
-pub use machine::Machine;
+pub use machine_options::MachineOptions;
 pub use outcome::{Line, Outcome, outcome_of};
 pub use process::{hand_out, tell, texts_of, words_given};
 pub use progress::{Progress, ProgressReader, progress_in};

@@ -5,7 +5,7 @@ ghost use Rattle.std.specs.Option.{ForSome};
 ghost use Rattle.model_core.specs.Booting.{is_bootable};
 
 use crate::arguments::Program;
-use crate::machine::Machine;
+use crate::machine_options::MachineOptions;
 use model_core::config::Config;
 
 /// What `partmem` prints about itself.
@@ -80,10 +80,10 @@ impl Settings {
     ghost use Rattle.command_line.specs.Settings.{machine_of};
 
     /// Returns the machine, and the tenant whose lines are written.
-    pub fn machine(&self) -> Machine
+    pub fn machine(&self) -> MachineOptions
         ensures { result ≡ machine_of self.now }
     {
-        Machine {
+        MachineOptions {
             config: self.config,
             only: self.only,
         }

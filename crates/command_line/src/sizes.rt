@@ -3,7 +3,7 @@
 ghost use Rattle.std.specs.Prelude.{◌≡◌, true, IfErr, IfOk, OnErr};
 ghost use Rattle.clap.specs.Words.{found_of, one_text};
 ghost use Rattle.model_core.specs.Booting.{is_bootable};
-ghost use Rattle.command_line.specs.Machine.{AsksNoSizes, AsksSizes, bad_size_text};
+ghost use Rattle.command_line.specs.MachineOptions.{AsksNoSizes, AsksSizes, bad_size_text};
 ghost use Rattle.command_line.specs.Outcome.{IsBadLine};
 
 use crate::arguments::number_of;

@@ -4,12 +4,12 @@ ghost use Rattle.std.specs.Prelude.{◌≡◌, ◌<◌, true, IfErr, IfOk, map, 
 ghost use Rattle.std.specs.Option.{ForSome};
 ghost use Rattle.clap.specs.Words.{app_of, found_of, one_text};
 ghost use Rattle.model_core.specs.Booting.{is_bootable};
-ghost use Rattle.command_line.specs.Machine.{MayWrite};
+ghost use Rattle.command_line.specs.MachineOptions.{MayWrite};
 ghost use Rattle.command_line.specs.Settings.{CanBeHad, IsAlone, IsInOrder, IsNoOwn, IsRefusedFor, IsRequestedBy, command_line};
 ghost use Rattle.command_line.specs.declared.settings.Settings.{Settings};
 
 use crate::arguments::{self, number, number_written, parse, path_of, positional};
-use crate::machine::Machine;
+use crate::machine_options::MachineOptions;
 use crate::outcome::{Outcome, bad_line};
 use crate::settings::{PROGRAM, Settings};
 use clap::{Arg, ArgAction, ArgMatches, Command};
@@ -34,7 +34,7 @@ pub fn read_words<'a>(alloc: Global, words: &'a [&'a str]) -> Result<Settings, O
         → (settings : Settings) → CanBeHad (map (λ word. word.now) words.entry.now) settings → outcome ≡ Outcome.NoMemory) }
 {
     let matches = parse(alloc, command(alloc)?, words)?;
-    let machine = Machine::found(alloc, &matches)?;
+    let machine = MachineOptions::found(alloc, &matches)?;
     let tally = matches.get_flag("tally");
     let own = own_found(alloc, &matches, &machine, tally)?;
     Ok(Settings {
@@ -53,7 +53,7 @@ pub fn read_words<'a>(alloc: Global, words: &'a [&'a str]) -> Result<Settings, O
 fn own_found(
     alloc: Global,
     matches: &ArgMatches<'_>,
-    machine: &Machine,
+    machine: &MachineOptions,
     tally: bool,
 ) -> Result<Option<u8>, Outcome>
     ensures asked { IfOk result (MayWrite (one_text (found_of matches.now) (codes "own"))) }

@@ -1,7 +1,7 @@
 //! The command line.
 
 use clap::{Arg, ArgAction, Command};
-use command_line::{Machine, Outcome, Program, number, parse, path_of, positional};
+use command_line::{MachineOptions, Outcome, Program, number, parse, path_of, positional};
 use frame_picture::history::MOST_COLUMNS;
 use std::alloc::{AllocError, Global};
 
@@ -40,7 +40,7 @@ Example:
 #[derive(Debug, Drop)]
 pub struct Settings {
     /// The machine, and the tenant to draw if only one is drawn.
-    pub machine: Machine,
+    pub machine: MachineOptions,
     /// The largest number of columns of the picture, 1 to 4096.
     pub columns: u32,
     /// Whether a table of the figures is written instead of a picture.
@@ -54,7 +54,7 @@ pub fn read_words<'a>(alloc: Global, words: &'a [&'a str]) -> Result<Settings, O
     let matches = parse(alloc, command(alloc)?, words)?;
     let columns = matches.get_one::<u32>("columns").unwrap_or(DEFAULT_COLUMNS);
     Ok(Settings {
-        machine: Machine::found(alloc, &matches)?,
+        machine: MachineOptions::found(alloc, &matches)?,
         columns: columns.clamp(1, MOST_COLUMNS),
         figures: matches.get_flag("figures"),
         file: path_of(alloc, &matches, "FILE")?,

@@ -20,7 +20,7 @@ use Rattle.judge.specs.declared.verdict.Failure.{Failure}
 use Rattle.judge.specs.declared.verdict.Failure.TheVariants as Of
 use Rattle.judge.specs.Judged.{broken, verdict_on, failing, tenant_verdict, IsVerdictFor, AreOwnersAfter, IsJudged}
 use Rattle.judge.specs.Seen.{Seen, state_of}
-use Rattle.judge.specs.Machine.{SeenMachine, known_of, FitsLimits}
+use Rattle.judge.specs.KnownMachine.{SeenMachine, known_of, FitsLimits}
 use Rattle.judge.proofs.Owning.{opened}
 use Rattle.judge.proofs.Verdicts.{formless}
 

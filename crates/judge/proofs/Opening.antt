@@ -3,7 +3,7 @@ use Rattle.std.proofs.Common.{◌≡◌, ℕ, zero, suc, List, [], ◌∷◌, �
 use Rattle.model_core.specs.declared.limits.TheConstants.{MOST_CACHES}
 use Rattle.promise_core.specs.State.{opening_state, opening}
 use Rattle.judge.specs.Seen.{Seen, state_of, IsOpeningTenant}
-use Rattle.judge.specs.Machine.{SeenMachine, ShowsKnown}
+use Rattle.judge.specs.KnownMachine.{SeenMachine, ShowsKnown}
 
 -- a fact about each tenant still holds with one more tenant that has it
 pub each_more : (P : Seen → Type 0) (xs : List Seen) (z : Seen) → ((k : ℕ) (y : Seen) → slice_get xs k ≡ Some y → P y) → P z

@@ -5,7 +5,7 @@ use Rattle.words_core.specs.declared.event.Event.{Event}
 use Rattle.words_core.specs.declared.reply.Reply.{Reply}
 use Rattle.promise_core.specs.State.{Known}
 use Rattle.promise_core.specs.Promises.{allowed}
-use Rattle.judge.specs.Machine.{SeenMachine, ShowsKnown}
+use Rattle.judge.specs.KnownMachine.{SeenMachine, ShowsKnown}
 
 -- a reply with this body adds something to the state: a slot, a page block, a cache or an object
 abbrev pub is_addition : Body → Bool

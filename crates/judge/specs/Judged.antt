@@ -15,7 +15,7 @@ use Rattle.promise_core.specs.Promises.{allowed, is_one, kept}
 use Rattle.promise_core.specs.State.{State, Known, state_after, owners_after}
 use Rattle.judge.specs.declared.verdict.Failure.{Failure}
 use Rattle.judge.specs.Seen.{Seen, state_of}
-use Rattle.judge.specs.Machine.{SeenMachine, KeepsSizes, known_of}
+use Rattle.judge.specs.KnownMachine.{SeenMachine, KeepsSizes, known_of}
 use Rattle.judge.specs.Adding.{is_addition, IsAllowedAddition}
 
 -- `Ok` if all promises are kept, else the first that is not

@@ -1,4 +1,4 @@
 pub mod Seen
-pub mod Machine
+pub mod KnownMachine
 pub mod Adding
 pub mod Judged

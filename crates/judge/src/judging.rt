@@ -7,17 +7,17 @@ ghost use Rattle.promise_core.specs.State.{Known};
 ghost use Rattle.promise_core.specs.Promises.{allowed, named};
 ghost use Rattle.judge.specs.Adding.{IsAllowedAddition};
 ghost use Rattle.judge.specs.Judged.{IsJudged, failing};
-ghost use Rattle.judge.specs.Machine.{ShowsKnown, IsVerdict, KeepsSizes};
+ghost use Rattle.judge.specs.KnownMachine.{ShowsKnown, IsVerdict, KeepsSizes};
 
 use crate::addressing::{is_for, judge_stranger, says_no_tenant, tenant_named};
-use crate::machine::Machine;
+use crate::known_machine::KnownMachine;
 use crate::owners::judge_pool;
 use crate::verdict::{Failure, Verdict, followed, on_refusal};
 use promise_core::promise::Promise;
 use std::alloc::AllocError;
 use words_core::{Addressee, Answer, Body, Event, Reply};
 
-impl Machine {
+impl KnownMachine {
     /// Judges an answer to the event, and updates the state if the answer is allowed. Returns the first promise that the answer
     /// breaks, if it breaks one. Returns `AllocError` if memory runs out for what an allowed answer adds. After a breach and
     /// after an error the state is unchanged.
@@ -41,7 +41,7 @@ impl Machine {
         }
     }
 
-    /// Does what [`Machine::judge`] does. Fails if the answer is not followed.
+    /// Does what [`KnownMachine::judge`] does. Fails if the answer is not followed.
     fn judge_answer(
         &mut self,
         event: &Event,
@@ -99,7 +99,7 @@ impl Machine {
         self.judge_rows(event, reply)
     }
 
-    /// Does what [`Machine::judge_table`] does, with one fact in its contract.
+    /// Does what [`KnownMachine::judge_table`] does, with one fact in its contract.
     fn judge_rows(&mut self, event: &Event, reply: &Reply) -> Verdict
         requires { is_table reply.now.body ≡ true }
         ensures { IsJudged event.now reply.now self.old self.new (failing result) }

@@ -9,7 +9,7 @@ mod bytes;
 mod caches;
 mod counts;
 mod judging;
-mod machine;
+mod known_machine;
 mod marks;
 mod objects;
 mod owners;
@@ -21,5 +21,5 @@ mod taken;
 mod tenant;
 mod verdict;
 
-pub use machine::Machine;
+pub use known_machine::KnownMachine;
 pub use verdict::Verdict;

@@ -6,7 +6,7 @@ use Rattle.clap.proofs.OnLiterals.{clap_on_literals}
 use Rattle.clap.proofs.WalkLemmas.{first_value-rows}
 use Rattle.command_line.proofs.Reading.{asks_no_sizes, asks_sizes, one_text-of_rows}
 use Rattle.command_line.proofs.Refusals.{parsed_as, refused_as, rows_as}
-use Rattle.command_line.specs.Machine.{AsksNoSizes, bad_size_text}
+use Rattle.command_line.specs.MachineOptions.{AsksNoSizes, bad_size_text}
 use Rattle.command_line.specs.Outcome.{IsBadLine, IsRefusedBy}
 use Rattle.command_line.specs.declared.outcome.Outcome.{Outcome}
 use Rattle.partcheck.specs.Settings.{AsksCheck, IsCheckInOrder, IsNoCheck, IsNoFile, check_command_line, check_faults}

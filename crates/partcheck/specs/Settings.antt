@@ -4,7 +4,7 @@ use Rattle.std.specs.Str.{bytes_eq}
 use Rattle.std.specs.String.{string_bytes}
 use Rattle.clap.specs.Words.{App, Kinds, Rule, Text, fault_of, first_of, matches_of, one_of, takes, with_rule}
 use Rattle.command_line.specs.Arguments.{positional_rule, sizes_command}
-use Rattle.command_line.specs.Machine.{AsksNoSizes, AsksSizes, bad_size_text}
+use Rattle.command_line.specs.MachineOptions.{AsksNoSizes, AsksSizes, bad_size_text}
 use Rattle.command_line.specs.Outcome.{IsBadLine, IsRefusedBy}
 use Rattle.command_line.specs.declared.outcome.Outcome.{Outcome}
 use Rattle.partcheck.specs.declared.settings.Settings.{Settings}

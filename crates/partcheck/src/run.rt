@@ -7,7 +7,7 @@ ghost use Rattle.check_core.specs.Reading.{HasGiven, WhateverFollows, readings_o
 ghost use Rattle.partcheck.specs.Checked.{IsFindingOf, opening_of};
 
 use check_core::{Finding, LineReader, Shown, Unchecked, check, laws};
-use judge::Machine;
+use judge::KnownMachine;
 use model_core::config::Config;
 use std::alloc::Global;
 use std::mem;
@@ -40,7 +40,7 @@ pub fn run<T: Feed, R: Feed>(
 {
     laws::kept_is_allowed();
     laws::broken_is_not_allowed();
-    let mut machine = Machine::new(
+    let mut machine = KnownMachine::new(
         alloc,
         config.order as u8,
         config.superblocks as u16,

@@ -19,7 +19,7 @@ use Rattle.own_trace.specs.Keeping.{IsKeptShort, KeepsOwn, NamesEnd}
 use Rattle.own_trace.proofs.Kept.{own_both}
 use Rattle.command_line.specs.declared.outcome.Outcome.{Outcome}
 use Rattle.command_line.specs.declared.outcome.Outcome.TheVariants.{Unwritable}
-use Rattle.command_line.specs.declared.machine.Machine.{Machine}
+use Rattle.command_line.specs.declared.machine_options.MachineOptions.{MachineOptions}
 use Rattle.command_line.specs.Outcome.{after_flush}
 use Rattle.partmem.specs.Outcome.{no_tally, outcome_of_kept}
 use Rattle.partmem.specs.Own.{own_of, WritesOwn}
@@ -79,13 +79,13 @@ own_given kept unsent flushed ended given more done over =
     (given_so_far (as_replayed kept) unsent flushed ended given more (same_done kept ended done) over)
 
 -- the order of the kernel is that of the machine
-at_order : (m : Machine) (t : ℕ) (k : KernelContent) (lines : List (List ℕ)) → IsNew m k
+at_order : (m : MachineOptions) (t : ℕ) (k : KernelContent) (lines : List (List ℕ)) → IsNew m k
     → own_text t cache_limit k.order lines (opening_world m.config.superblocks m.config.tenants) ≡ own_of m.config t lines
 at_order m t k lines new =
     ap (λ order. own_text t cache_limit order lines (opening_world m.config.superblocks m.config.tenants)) new.order
 
 -- a prefix of the own list of some lines is a prefix of the own list of any lines that begin with them
-goes_on : (m : Machine) (t : ℕ) (lines xs more : List (List ℕ)) (taken : List ℕ) → lines ≡ xs ++ more → IsBeginning taken (own_of m.config t xs)
+goes_on : (m : MachineOptions) (t : ℕ) (lines xs more : List (List ℕ)) (taken : List ℕ) → lines ≡ xs ++ more → IsBeginning taken (own_of m.config t xs)
     → IsBeginning taken (own_of m.config t lines)
 goes_on m t lines xs more taken split (rest, whole) =
     let w : World = opening_world m.config.superblocks m.config.tenants in
@@ -94,22 +94,22 @@ goes_on m t lines xs more taken split (rest, whole) =
       ap (own_of m.config t) split ∙ own_both t cache_limit m.config.order xs more w ∙ ap (λ text. text ++ later) whole ∙ append_assoc taken rest later,
     )
 
-whole_begins : (m : Machine) (t : ℕ) (k : KernelContent) (lines : List (List ℕ)) (taken : List ℕ) → IsNew m k
+whole_begins : (m : MachineOptions) (t : ℕ) (k : KernelContent) (lines : List (List ℕ)) (taken : List ℕ) → IsNew m k
     → taken ≡ own_text t cache_limit k.order lines (opening_world m.config.superblocks m.config.tenants) → IsBeginning taken (own_of m.config t lines)
 whole_begins m t k lines taken new is = ([], sym (at_order m t k lines new) ∙ sym is ∙ sym (append-nil taken))
 
-part_begins : (m : Machine) (t : ℕ) (k k' : KernelContent) (lines : List (List ℕ)) (line taken : List ℕ) → IsNew m k → IsKeptShort t k k' lines line taken
+part_begins : (m : MachineOptions) (t : ℕ) (k k' : KernelContent) (lines : List (List ℕ)) (line taken : List ℕ) → IsNew m k → IsKeptShort t k k' lines line taken
     → IsBeginning taken (own_of m.config t (lines ++ line ∷ []))
 part_begins m t k k' lines line taken new short =
     let part = short.kept _ new.shows in
     (part.1, sym (at_order m t k (lines ++ line ∷ []) new) ∙ part.4)
 
-all_came : (m : Machine) (t : ℕ) (given more taken : List ℕ) → more ≡ [] → IsBeginning taken (own_of m.config t (lines_of_trace given))
+all_came : (m : MachineOptions) (t : ℕ) (given more taken : List ℕ) → more ≡ [] → IsBeginning taken (own_of m.config t (lines_of_trace given))
     → IsBeginning taken (own_of m.config t (lines_of_trace (given ++ more)))
 all_came m t given more taken none begins =
     subst (λ trace. IsBeginning taken (own_of m.config t (lines_of_trace trace))) (sym (ap (λ bytes. given ++ bytes) none ∙ append-nil given)) begins
 
-cut_begins : EndedLinesStay → (m : Machine) (t : ℕ) (ended : Bool) (given more taken : List ℕ) (lines : List (List ℕ)) → HasCome ended given lines
+cut_begins : EndedLinesStay → (m : MachineOptions) (t : ℕ) (ended : Bool) (given more taken : List ℕ) (lines : List (List ℕ)) → HasCome ended given lines
     → IsBeginning taken (own_of m.config t lines) → (ended ≡ true → more ≡ []) → IsBeginning taken (own_of m.config t (lines_of_trace (given ++ more)))
 cut_begins stays m t ended given more taken lines (inl (rest, split)) begins over =
     let whole = stays given more in
@@ -119,7 +119,7 @@ cut_begins stays m t ended given more taken lines (inr (is_over, all)) begins ov
 
 -- For every result of `keep`, the bytes taken are a prefix of the own list of any trace that begins with the bytes given. If the
 -- feed has ended, the trace has no more bytes.
-own_begins : EndedLinesStay → (m : Machine) (t : ℕ) (k k' : KernelContent) (ended : Bool) (given more taken : List ℕ) (kept : Result (Unit {0}) KeepError) → IsNew m k
+own_begins : EndedLinesStay → (m : MachineOptions) (t : ℕ) (k k' : KernelContent) (ended : Bool) (given more taken : List ℕ) (kept : Result (Unit {0}) KeepError) → IsNew m k
     → KeepsOwn ended t k k' given taken kept → OnOk kept (ended ≡ true) → (ended ≡ true → more ≡ [])
     → IsBeginning taken (own_of m.config t (lines_of_trace (given ++ more)))
 own_begins stays m t k k' ended given more taken (Ok _) new ran done over =
@@ -131,14 +131,14 @@ own_begins stays m t k k' ended given more taken (Err Kept.Drain) new ran done o
     cut_begins stays m t ended given more taken (ran.0 ++ ran.1 ∷ []) ran.2 (part_begins m t k k' ran.0 ran.1 taken new ran.3) over
 
 -- the outcome if the own list could not be written
-own_unwritten : EndedLinesStay → (m : Machine) (t : ℕ) (k k' : KernelContent) (ended : Bool) (given taken : List ℕ) (kept : Result (Unit {0}) KeepError) → IsNew m k
+own_unwritten : EndedLinesStay → (m : MachineOptions) (t : ℕ) (k k' : KernelContent) (ended : Bool) (given taken : List ℕ) (kept : Result (Unit {0}) KeepError) → IsNew m k
     → KeepsOwn ended t k k' given taken kept → OnOk kept (ended ≡ true) → WritesOwn m.config t Unwritable given taken
 own_unwritten stays m t k k' ended given taken kept new ran done =
     subst (λ trace. IsBeginning taken (own_of m.config t (lines_of_trace trace))) (append-nil given)
     (own_begins stays m t k k' ended given [] taken kept new ran done (λ _. refl))
 
 -- the outcome of the run
-pub own_written : EndedLinesStay → (m : Machine) (t : ℕ) (k k' : KernelContent) (ended : Bool) (given taken : List ℕ) (kept : Result (Unit {0}) KeepError) (unsent flushed : Bool)
+pub own_written : EndedLinesStay → (m : MachineOptions) (t : ℕ) (k k' : KernelContent) (ended : Bool) (given taken : List ℕ) (kept : Result (Unit {0}) KeepError) (unsent flushed : Bool)
     → IsNew m k → KeepsOwn ended t k k' given taken kept → OnOk kept (ended ≡ true) → WritesOwn m.config t (kept_outcome kept unsent flushed) given taken
 own_written stays m t k k' ended given taken (Ok x) unsent true new ran done = ran.kept _ new.shows ∙ at_order m t k (lines_of_trace given) new
 own_written stays m t k k' ended given taken (Ok x) unsent false new ran done = own_unwritten stays m t k k' ended given taken (Ok x) new ran done
@@ -147,7 +147,7 @@ own_written stays m t k k' ended given taken (Err Kept.Feed) false flushed new r
 own_written stays m t k k' ended given taken (Err Kept.Drain) unsent flushed new ran done = own_unwritten stays m t k k' ended given taken (Err Kept.Drain) new ran done
 
 -- the output of the run, by the whole trace
-pub own_traced : EndedLinesStay → (m : Machine) (t : ℕ) (k k' : KernelContent) (ended : Bool) (given taken : List ℕ) (kept : Result (Unit {0}) KeepError) (unsent flushed : Bool)
+pub own_traced : EndedLinesStay → (m : MachineOptions) (t : ℕ) (k k' : KernelContent) (ended : Bool) (given taken : List ℕ) (kept : Result (Unit {0}) KeepError) (unsent flushed : Bool)
     (known left : Option (List ℕ)) → IsNew m k → KeepsOwn ended t k k' given taken kept → OnOk kept (ended ≡ true) → Consumes known left given → (ended ≡ true → IsAtEnd left)
     → IfSome known (λ trace. IsOfTrace (kept_outcome kept unsent flushed) trace given (own_of m.config t (lines_of_trace trace)) taken)
 own_traced stays m t k k' ended given taken kept unsent flushed known left new ran done consumed over =

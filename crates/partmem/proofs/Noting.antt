@@ -13,12 +13,12 @@ use Rattle.streams.specs.declared.tally.ReplayError.TheVariants as Failed
 use Rattle.replay_core.specs.Noting.{Noting, noted_fault, noted_lines}
 use Rattle.replay_core.specs.Runs.{AreNoted, Noted, Replays, IsDone}
 use Rattle.replay_core.proofs.RunLemmas.{reading_of_nothing}
-use Rattle.command_line.specs.declared.machine.Machine.{Machine}
+use Rattle.command_line.specs.declared.machine_options.MachineOptions.{MachineOptions}
 use Rattle.partmem.specs.Outcome.{tally_of}
 use Rattle.partmem.specs.Notes.{HasNoted, with_notes, with_unended}
 use Rattle.partmem.proofs.Writing.{IsNew, run_outcome}
 
-module _ {N : Type 0} (noting : Noting N) (m : Machine) where
+module _ {N : Type 0} (noting : Noting N) (m : MachineOptions) where
   at_new : (k : KernelContent) (lines : List (List ℕ)) (n n' : N) → IsNew m k → AreNoted noting m.only k lines n n' → n' ≡ with_notes noting m lines n
   at_new k lines n n' new noted =
       noted (opening_world m.config.superblocks m.config.tenants) new.shows

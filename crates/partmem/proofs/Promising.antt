@@ -11,7 +11,7 @@ use Rattle.model_core.specs.Booting.{is_between, is_bootable}
 use Rattle.kernel_core.proofs.Opening.{bootable}
 use Rattle.command_line.specs.declared.outcome.Outcome.{Outcome}
 use Rattle.command_line.specs.declared.outcome.Outcome.TheVariants.{Done, Help, Version, Unreadable, Unwritable, BadLine, BadOnly, NoMemory}
-use Rattle.command_line.specs.declared.machine.Machine.{Machine}
+use Rattle.command_line.specs.declared.machine_options.MachineOptions.{MachineOptions}
 use Rattle.partmem.specs.Run.{shown_replies, Answers}
 use Rattle.partmem.specs.Promised.{AreAllowed, WritesAllowed}
 
@@ -21,13 +21,13 @@ not_less c is =
     let first = and_parts (is_between LEAST_ORDER MOST_ORDER c.order) (is_between 1 MOST_SUPERBLOCKS c.superblocks && is_between 1 MOST_TENANTS c.tenants) is in
     leb-true LEAST_ORDER c.order (and_parts (nat_le LEAST_ORDER c.order) (nat_le c.order MOST_ORDER) first.0).0
 
-replies_allowed : (m : Machine) (lines : List (List ℕ)) → is_bootable m.config ≡ true → AreAllowed m lines (shown_replies m lines)
+replies_allowed : (m : MachineOptions) (lines : List (List ℕ)) → is_bootable m.config ≡ true → AreAllowed m lines (shown_replies m lines)
 replies_allowed m lines is =
     let sizes = bootable m.config is in
     shown_is_allowed m.only cache_limit m.config.order m.config.superblocks m.config.tenants lines (not_less m.config is)
     (ram_is_small m.config.order m.config.superblocks sizes.0 sizes.1)
 
-pub promises_kept : (m : Machine) (outcome : Outcome) (given written : List ℕ) → is_bootable m.config ≡ true → Answers m outcome given written
+pub promises_kept : (m : MachineOptions) (outcome : Outcome) (given written : List ℕ) → is_bootable m.config ≡ true → Answers m outcome given written
     → WritesAllowed m outcome given written
 promises_kept m Done given written is answers =
     subst (AreAllowed m (lines_of_trace given)) (sym answers.0) (replies_allowed m (lines_of_trace given) is)

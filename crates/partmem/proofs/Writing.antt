@@ -18,7 +18,7 @@ use Rattle.streams.specs.declared.tally.ReplayError.TheVariants as Failed
 use Rattle.replay_core.specs.Runs.{Counts, HasCome, IsCutIn, IsCutShort, Replays, IsDone, NamesFailed, HasOwnLines}
 use Rattle.command_line.specs.declared.outcome.Outcome.{Outcome}
 use Rattle.command_line.specs.declared.outcome.Outcome.TheVariants.{Unwritable, NoMemory}
-use Rattle.command_line.specs.declared.machine.Machine.{Machine}
+use Rattle.command_line.specs.declared.machine_options.MachineOptions.{MachineOptions}
 use Rattle.command_line.specs.Outcome.{after_flush, outcome_of}
 use Rattle.partmem.specs.Outcome.{tally_of, without_unwritten}
 use Rattle.partmem.specs.Run.{shown_replies, IsPrivate, IsBeginning, Answers, EndsAs, HasReached, IsGiven, IsOfTrace, Tallies}
@@ -28,17 +28,17 @@ abbrev pub run_outcome : Result Tally ReplayError → (unsent flushed : Bool) �
 run_outcome replayed unsent flushed = after_flush (outcome_of replayed) unsent flushed
 
 -- the kernel shows the machine's opening world
-pub record IsNew (m : Machine) (k : KernelContent) : Type 0 where
+pub record IsNew (m : MachineOptions) (k : KernelContent) : Type 0 where
   pub order : k.order ≡ m.config.order
   pub shows : Shows k (opening_world m.config.superblocks m.config.tenants)
 
-pub booted : (m : Machine) (k : KernelContent) → k ≡ opening_content m.config.order m.config.superblocks m.config.tenants
+pub booted : (m : MachineOptions) (k : KernelContent) → k ≡ opening_content m.config.order m.config.superblocks m.config.tenants
     → Shows k (opening_world m.config.superblocks m.config.tenants) → IsNew m k
 unfolding opening_content
 booted m k is shows = record { order = ap (λ parts. parts.order) is; shows = shows }
 
 -- the order of the kernel is that of the machine
-at_order : (m : Machine) (k : KernelContent) (lines : List (List ℕ)) → IsNew m k
+at_order : (m : MachineOptions) (k : KernelContent) (lines : List (List ℕ)) → IsNew m k
     → shown_lines m.only cache_limit k.order lines (opening_world m.config.superblocks m.config.tenants) ≡ shown_replies m lines
 at_order m k lines new =
     ap (λ order. shown_lines m.only cache_limit order lines (opening_world m.config.superblocks m.config.tenants)) new.order
@@ -64,7 +64,7 @@ cut_first only before after w lines done line rest taken tally shows split cut =
     )
 
 -- a prefix of the text of the ended lines is a prefix of the text of any trace that begins with the same bytes
-goes_on : ShownStays → (m : Machine) (k : KernelContent) (given more taken : List ℕ) → IsNew m k
+goes_on : ShownStays → (m : MachineOptions) (k : KernelContent) (given more taken : List ℕ) → IsNew m k
     → IsBeginning taken (shown_lines m.only cache_limit k.order (ended_lines given) (opening_world m.config.superblocks m.config.tenants))
     → IsBeginning taken (shown_replies m (lines_of_trace (given ++ more)))
 goes_on stays m k given more taken new (rest, shown) =
@@ -74,12 +74,12 @@ goes_on stays m k given more taken new (rest, shown) =
     )
 
 -- no more bytes come
-all_came : (m : Machine) (given more taken : List ℕ) → more ≡ [] → IsBeginning taken (shown_replies m (lines_of_trace given))
+all_came : (m : MachineOptions) (given more taken : List ℕ) → more ≡ [] → IsBeginning taken (shown_replies m (lines_of_trace given))
     → IsBeginning taken (shown_replies m (lines_of_trace (given ++ more)))
 all_came m given more taken none begins =
     subst (λ trace. IsBeginning taken (shown_replies m (lines_of_trace trace))) (sym (ap (λ bytes. given ++ bytes) none ∙ append-nil given)) begins
 
-cut_begins : ShownStays → (m : Machine) (k k' : KernelContent) (ended : Bool) (given more taken : List ℕ) (done : List (List ℕ)) (line : List ℕ) (tally : Tally) → IsNew m k
+cut_begins : ShownStays → (m : MachineOptions) (k k' : KernelContent) (ended : Bool) (given more taken : List ℕ) (done : List (List ℕ)) (line : List ℕ) (tally : Tally) → IsNew m k
     → HasCome ended given (done ++ line ∷ []) → IsCutShort m.only k k' done line taken tally → (ended ≡ true → more ≡ [])
     → IsBeginning taken (shown_replies m (lines_of_trace (given ++ more)))
 cut_begins stays m k k' ended given more taken done line tally new (inl (rest, split)) cut over =
@@ -92,7 +92,7 @@ cut_begins stays m k k' ended given more taken done line tally new (inr (is_over
 
 -- For every result of the replay, the bytes taken are a prefix of the text of any trace that begins with the bytes given. If the
 -- feed has ended, the trace has no more bytes.
-pub begins : ShownStays → (m : Machine) (k k' : KernelContent) (ended : Bool) (given more taken : List ℕ) (replayed : Result Tally ReplayError) → IsNew m k
+pub begins : ShownStays → (m : MachineOptions) (k k' : KernelContent) (ended : Bool) (given more taken : List ℕ) (replayed : Result Tally ReplayError) → IsNew m k
     → Replays ended m.only k k' given taken replayed → IsDone replayed ended → (ended ≡ true → more ≡ [])
     → IsBeginning taken (shown_replies m (lines_of_trace (given ++ more)))
 begins stays m k k' ended given more taken (Ok tally) new ran done over =
@@ -104,14 +104,14 @@ begins stays m k k' ended given more taken (Err (Failed.Drain tally)) new ran do
     cut_begins stays m k k' ended given more taken ran.0 ran.1 tally new ran.2 ran.3 over
 
 -- the outcome if the replies could not be written
-pub unwritten : ShownStays → (m : Machine) (k k' : KernelContent) (ended : Bool) (given taken : List ℕ) (replayed : Result Tally ReplayError) → IsNew m k
+pub unwritten : ShownStays → (m : MachineOptions) (k k' : KernelContent) (ended : Bool) (given taken : List ℕ) (replayed : Result Tally ReplayError) → IsNew m k
     → Replays ended m.only k k' given taken replayed → IsDone replayed ended → Answers m Unwritable given taken
 unwritten stays m k k' ended given taken replayed new ran done =
     subst (λ trace. IsBeginning taken (shown_replies m (lines_of_trace trace))) (append-nil given)
     (begins stays m k k' ended given [] taken replayed new ran done (λ _. refl))
 
 -- the outcome of the run
-pub answers : ShownStays → (m : Machine) (k k' : KernelContent) (ended : Bool) (given taken : List ℕ) (replayed : Result Tally ReplayError) (unsent flushed : Bool) → IsNew m k
+pub answers : ShownStays → (m : MachineOptions) (k k' : KernelContent) (ended : Bool) (given taken : List ℕ) (replayed : Result Tally ReplayError) (unsent flushed : Bool) → IsNew m k
     → Replays ended m.only k k' given taken replayed → IsDone replayed ended → OnOk replayed (HasOwnLines m.only k given taken)
     → Answers m (run_outcome replayed unsent flushed) given taken
 answers stays m k k' ended given taken (Ok tally) unsent true new ran done own = (
@@ -131,7 +131,7 @@ counted tally lines taken unwritten counts =
     record { lines = counts.lines; events = counts.events; faults = counts.faults; written = ap (λ n. n - unwritten) counts.written ∙ sym size }
 
 -- the counts of the run, for every outcome
-pub tallied : (m : Machine) (k k' : KernelContent) (ended unread undrained : Bool) (given taken : List ℕ) (replayed : Result Tally ReplayError) (unsent flushed : Bool) (unwritten : ℕ)
+pub tallied : (m : MachineOptions) (k k' : KernelContent) (ended unread undrained : Bool) (given taken : List ℕ) (replayed : Result Tally ReplayError) (unsent flushed : Bool) (unwritten : ℕ)
     → IsNew m k → Replays ended m.only k k' given taken replayed → IsDone replayed ended → NamesFailed replayed unread undrained
     → Tallies m (run_outcome replayed unsent flushed) (without_unwritten (tally_of replayed) unwritten) ended unread given taken (take (length taken - unwritten) taken)
 tallied m k k' ended unread undrained given taken (Ok tally) unsent true unwritten new ran done named = counted _ _ taken unwritten ran.counted
@@ -204,7 +204,7 @@ of_trace P (Some trace) None ended given consumed over fact = absurd consumed
 of_trace P (Some trace) (Some more) ended given consumed over fact = subst P (sym consumed) (fact more over)
 
 -- the output of the run, by the whole trace, for every outcome
-pub traced : ShownStays → (m : Machine) (k k' : KernelContent) (ended : Bool) (given taken : List ℕ) (replayed : Result Tally ReplayError) (outcome : Outcome) (known left : Option (List ℕ))
+pub traced : ShownStays → (m : MachineOptions) (k k' : KernelContent) (ended : Bool) (given taken : List ℕ) (replayed : Result Tally ReplayError) (outcome : Outcome) (known left : Option (List ℕ))
     → IsNew m k → Replays ended m.only k k' given taken replayed → IsDone replayed ended
     → ((more : List ℕ) → (ended ≡ true → more ≡ []) → IsGiven outcome (given ++ more) given)
     → Consumes known left given → (ended ≡ true → IsAtEnd left)

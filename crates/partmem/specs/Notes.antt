@@ -8,10 +8,10 @@ use Rattle.world_core.specs.Output.{ended_lines, with_line_feeds}
 use Rattle.replay_core.specs.Noting.{Noting, noted_fault, noted_lines}
 use Rattle.replay_core.specs.Runs.{HasCome}
 use Rattle.command_line.specs.declared.outcome.Outcome.{Outcome}
-use Rattle.command_line.specs.declared.machine.Machine.{Machine}
+use Rattle.command_line.specs.declared.machine_options.MachineOptions.{MachineOptions}
 
 -- the notes after these lines on a new machine: the refusals that are shown, and the faulty lines
-abbrev pub with_notes : {N : Type 0} → Noting N → Machine → List (List ℕ) → N → N
+abbrev pub with_notes : {N : Type 0} → Noting N → MachineOptions → List (List ℕ) → N → N
 with_notes noting m lines notes =
     noted_lines noting m.only cache_limit m.config.order 1 lines (opening_world m.config.superblocks m.config.tenants) notes
 
@@ -21,7 +21,7 @@ with_unended noting lines tail notes = noted_fault noting (suc (length lines)) (
 
 -- The notes after the `count` lines that were run, for a run with this outcome; and then of an unfinished line, if the trace
 -- could not be read.
-abbrev pub HasNoted : {N : Type 0} → Noting N → Machine → Outcome → ℕ → Bool → List ℕ → N → N → Type 0
+abbrev pub HasNoted : {N : Type 0} → Noting N → MachineOptions → Outcome → ℕ → Bool → List ℕ → N → N → Type 0
 HasNoted noting m Outcome.Done count ended given notes notes' = notes' ≡ with_notes noting m (lines_of_trace given) notes
 HasNoted noting m Outcome.Unreadable count ended given notes notes' = (tail : List ℕ) × (given ≡ with_line_feeds (ended_lines given) ++ tail)
     × (notes' ≡ with_unended noting (ended_lines given) tail (with_notes noting m (ended_lines given) notes))

@@ -6,15 +6,15 @@ use Rattle.world_core.specs.Limits.{cache_limit}
 use Rattle.world_core.specs.Output.{ended_lines}
 use Rattle.promise_kept.specs.Written.{IsAllowedText}
 use Rattle.command_line.specs.declared.outcome.Outcome.{Outcome}
-use Rattle.command_line.specs.declared.machine.Machine.{Machine}
+use Rattle.command_line.specs.declared.machine_options.MachineOptions.{MachineOptions}
 
 -- on a new machine the text is that of allowed replies to these lines: of all replies, or of those to one tenant
-abbrev pub AreAllowed : Machine → List (List ℕ) → List ℕ → Type 0
+abbrev pub AreAllowed : MachineOptions → List (List ℕ) → List ℕ → Type 0
 AreAllowed m lines text =
     IsAllowedText m.only cache_limit m.config.order m.config.superblocks m.config.tenants lines text
 
 -- the bytes written, by the bytes given and the outcome of the run
-abbrev pub WritesAllowed : Machine → Outcome → List ℕ → List ℕ → Type 0
+abbrev pub WritesAllowed : MachineOptions → Outcome → List ℕ → List ℕ → Type 0
 WritesAllowed m Outcome.Done given written = AreAllowed m (lines_of_trace given) written
 WritesAllowed m Outcome.Unreadable given written = AreAllowed m (ended_lines given) written
 WritesAllowed m Outcome.Unwritable given written = (rest : List ℕ) × AreAllowed m (lines_of_trace given) (written ++ rest)

@@ -10,11 +10,11 @@ use Rattle.world_core.specs.Laws.{private_lines}
 use Rattle.streams.specs.declared.tally.Tally.{Tally}
 use Rattle.replay_core.specs.Runs.{Counts, HasCome, IsCutIn}
 use Rattle.command_line.specs.declared.outcome.Outcome.{Outcome}
-use Rattle.command_line.specs.declared.machine.Machine.{Machine}
+use Rattle.command_line.specs.declared.machine_options.MachineOptions.{MachineOptions}
 use Rattle.partmem.specs.Outcome.{no_tally}
 
 -- the text that these lines show on a new machine: all replies, or those to one tenant
-abbrev pub shown_replies : Machine → List (List ℕ) → List ℕ
+abbrev pub shown_replies : MachineOptions → List (List ℕ) → List ℕ
 shown_replies m lines = shown_lines m.only cache_limit m.config.order lines (opening_world m.config.superblocks m.config.tenants)
 
 -- the reply lines of a tenant's private machine to the tenant's own list of the trace
@@ -30,7 +30,7 @@ abbrev pub IsBeginning : List ℕ → List ℕ → Type 0
 IsBeginning part whole = (rest : List ℕ) × (whole ≡ part ++ rest)
 
 -- the bytes written, by the bytes given and the outcome of the run; outcomes that do not occur are ⊥
-abbrev pub Answers : Machine → Outcome → List ℕ → List ℕ → Type 0
+abbrev pub Answers : MachineOptions → Outcome → List ℕ → List ℕ → Type 0
 Answers m Outcome.Done given written = (written ≡ shown_replies m (lines_of_trace given)) × IsPrivate m.only m.config given written
 Answers m Outcome.Unreadable given written = written ≡ shown_replies m (ended_lines given)
 Answers m Outcome.Unwritable given written = IsBeginning written (shown_replies m (lines_of_trace given))
@@ -59,7 +59,7 @@ HasReached Outcome.BadOnly failed before writer held written sent = ⊥
 
 -- The counts, by the outcome of the run: the lines that were run, and the bytes that the writer took. If the replies could not be
 -- written, either all lines had been answered before a flush or a send failed, or the reply to the last line was cut short.
-abbrev pub Tallies : Machine → Outcome → Tally → (ended unread : Bool) → (given written sent : List ℕ) → Type 0
+abbrev pub Tallies : MachineOptions → Outcome → Tally → (ended unread : Bool) → (given written sent : List ℕ) → Type 0
 Tallies m Outcome.Done tally ended unread given written sent = Counts tally (lines_of_trace given) sent
 Tallies m Outcome.Unreadable tally ended unread given written sent = Counts tally (ended_lines given) sent
 Tallies m Outcome.Unwritable tally ended unread given written sent =

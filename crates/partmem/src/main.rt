@@ -19,8 +19,8 @@ mod run;
 
 pub use command_line::{Outcome, Settings, outcome_of, read_words};
 use command_line::{
-    FileError, Machine, OWN_PROGRAM, PROGRAM, Progress, ProgressReader, WatchedReader, hand_out,
-    progress_in, tell, tell_file, texts_of, words_given,
+    FileError, MachineOptions, OWN_PROGRAM, PROGRAM, Progress, ProgressReader, WatchedReader,
+    hand_out, progress_in, tell, tell_file, texts_of, words_given,
 };
 use outcome::Ended;
 use own::run_own;
@@ -125,7 +125,11 @@ fn run_opened<R: Read + Drop>(
 }
 
 /// Runs the trace of a reader, writes to standard output, and takes notes.
-fn run_noted<R: Read + Drop>(rt: &(impl Print + AllocGlobal), machine: &Machine, reader: R) -> Ran {
+fn run_noted<R: Read + Drop>(
+    rt: &(impl Print + AllocGlobal),
+    machine: &MachineOptions,
+    reader: R,
+) -> Ran {
     let mut watched = WatchedReader::new(reader);
     let mut notes = RunNotes::new();
     let ended = run_between(rt, machine, &mut watched, io::writer(rt), &mut notes);
@@ -139,7 +143,7 @@ fn run_noted<R: Read + Drop>(rt: &(impl Print + AllocGlobal), machine: &Machine,
 /// Writes a tenant's own list of the trace of a reader to standard output. Nothing is counted.
 fn keep_own<R: Read + Drop>(
     rt: &(impl Print + AllocGlobal),
-    machine: &Machine,
+    machine: &MachineOptions,
     tenant: u8,
     reader: R,
 ) -> Ran {
@@ -167,7 +171,7 @@ fn keep_own<R: Read + Drop>(
 /// Runs the trace of a reader and writes its replies to a writer.
 fn run_between<R: Read + Drop, W: Write + Drop, N: Notes>(
     rt: &impl AllocGlobal,
-    machine: &Machine,
+    machine: &MachineOptions,
     reader: R,
     writer: W,
     notes: &mut N,

@@ -8,7 +8,7 @@ ghost use Rattle.words_core.specs.Cutting.{lines_of_trace};
 
 use crate::outcome::outcome_of_kept;
 use crate::run::flush;
-use command_line::{Machine, Outcome};
+use command_line::{MachineOptions, Outcome};
 use kernel_core::{BootError, Kernel, laws};
 use own_trace::keep;
 use replay_core::{Drain, Feed, WriterDrain};
@@ -20,7 +20,7 @@ use std::mem;
 /// [`run`](crate::run::run) does. Writes no reply.
 pub fn run_own<F: Feed, W: Write>(
     alloc: Global,
-    machine: &Machine,
+    machine: &MachineOptions,
     tenant: u8,
     feed: &mut F,
     drain: &mut WriterDrain<W>,

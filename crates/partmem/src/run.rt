@@ -8,7 +8,7 @@ ghost use Rattle.partmem.specs.Run.{Answers, EndsAs, HasReached, IsOfTrace, Tall
 ghost use Rattle.words_core.specs.Cutting.{lines_of_trace};
 
 use crate::outcome::{Ended, tally_of};
-use command_line::{Machine, Outcome, outcome_of};
+use command_line::{MachineOptions, Outcome, outcome_of};
 use kernel_core::{BootError, Kernel, laws};
 use replay_core::{Drain, Feed, Notes, WriterDrain, replay_noted};
 use std::alloc::Global;
@@ -19,7 +19,7 @@ use std::mem;
 /// failed. The first failure decides the outcome. The notes are those of [`replay_noted`].
 pub fn run<F: Feed, W: Write, N: Notes>(
     alloc: Global,
-    machine: &Machine,
+    machine: &MachineOptions,
     feed: &mut F,
     drain: &mut WriterDrain<W>,
     notes: &mut N,

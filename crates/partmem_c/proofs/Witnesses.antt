@@ -29,7 +29,7 @@ use Rattle.kernel_core.proofs.Witnesses.{opening_shown}
 use Rattle.streams.specs.Lines.{IsOneLine}
 use Rattle.partmem_c.specs.Lines.{AnswersLine}
 use Rattle.partmem_c.specs.Laws.{Call, lines_of_calls, Ran, MayChangeThreads}
-use Rattle.partmem_c.specs.contracts.machine.Machine.{the_row}
+use Rattle.partmem_c.specs.contracts.machine_storage.MachineStorage.{the_row}
 
 -- an event that changes nothing in the world that is shown is a step to the same kernel
 stays : (k : KernelContent) (w : World) (event : Event) (to : Addressee) (body : Body) → Shows k w → world_step cache_limit k.order event w ≡ answer to body w

@@ -11,7 +11,7 @@ use Rattle.kernel_core.specs.Content.{KernelContent}
 use Rattle.kernel_core.specs.Shows.{Shows}
 use Rattle.streams.specs.Lines.{IsOneLine}
 use Rattle.partmem_c.specs.Lines.{AnswersLine}
-use Rattle.partmem_c.specs.contracts.machine.Machine.{the_row}
+use Rattle.partmem_c.specs.contracts.machine_storage.MachineStorage.{the_row}
 
 -- a call with status `DONE`: its line, and the text that it wrote
 pub record Call : Type 0 where

@@ -8,7 +8,7 @@ ghost use Rattle.world_core.specs.World.{opening_world};
 ghost use Rattle.partmem_c.specs.Events.{machine_status};
 ghost use Rattle.partmem_c.specs.Booting.{config_of};
 
-use crate::machine::Machine;
+use crate::machine_storage::MachineStorage;
 use crate::status::{BAD_CONFIG, DONE, HAS_MACHINE, NO_MACHINE, NO_MEMORY};
 use kernel_core::{BootError, Config, Kernel};
 use std::alloc::Global;
@@ -31,7 +31,7 @@ pub struct MachineConfig {
 #[unsafe(no_mangle)]
 pub extern "C" fn partmem_boot_kernel(
     alloc: Global,
-    machine: &mut Machine,
+    machine: &mut MachineStorage,
     config: &MachineConfig,
 ) -> u32
     ensures has_machine { (result ≡ HAS_MACHINE) ↔ IsSome machine.old.slot.held }
@@ -65,7 +65,7 @@ pub extern "C" fn partmem_boot_kernel(
 
 /// Ends the machine and drops it, so that its memory is freed. The place then holds none and can be booted again. Returns `NO_MACHINE`.
 #[unsafe(no_mangle)]
-pub extern "C" fn partmem_end_kernel(alloc: Global, machine: &mut Machine) -> u32
+pub extern "C" fn partmem_end_kernel(alloc: Global, machine: &mut MachineStorage) -> u32
     ensures status { result ≡ machine_status machine.old.slot.held }
     ensures vacant { machine.new.slot.held ≡ None }
 {

@@ -8,7 +8,7 @@ ghost use Rattle.partmem_c.specs.Calls.{read_over, read_length, is_writable};
 
 use crate::calls::{call_status, run_command};
 use crate::events::status_of_none;
-use crate::machine::Machine;
+use crate::machine_storage::MachineStorage;
 use crate::status::DONE;
 use crate::telling::{ReplyNumbers, bytes_in_reply, numbers_of_answer};
 use kernel_core::Kernel;
@@ -22,7 +22,7 @@ use words_core::{Answer, Refusal, Request};
 #[unsafe(no_mangle)]
 pub extern "C" fn partmem_read(
     alloc: Global,
-    machine: &mut Machine,
+    machine: &mut MachineStorage,
     tenant: u32,
     place: u32,
     to: &mut [u8],
@@ -79,7 +79,7 @@ fn put_over(bytes: &[u8], to: &mut [u8])
 #[unsafe(no_mangle)]
 pub extern "C" fn partmem_write(
     alloc: Global,
-    machine: &mut Machine,
+    machine: &mut MachineStorage,
     tenant: u32,
     place: u32,
     from: &[u8],

@@ -8,7 +8,7 @@ ghost use Rattle.partmem_c.specs.Calls.{RunsCall, numbers_in_reply, call_status,
 
 use crate::events::run;
 use crate::kinds::REFUSED;
-use crate::machine::Machine;
+use crate::machine_storage::MachineStorage;
 use crate::status::{DONE, NO_MACHINE};
 use crate::telling::{ReplyNumbers, numbers_of_answer};
 use model_core::limits::{FRAME_BYTES, MOST_ORDER};
@@ -19,7 +19,7 @@ use words_core::{AdminCommand, Request};
 #[inline(always)]
 pub(crate) fn run_command(
     alloc: Global,
-    machine: &mut Machine,
+    machine: &mut MachineStorage,
     tenant: u32,
     request: Request<'_>,
 ) -> Option<ReplyNumbers>
@@ -40,7 +40,7 @@ pub(crate) fn run_command(
 /// Runs a command of the administrator other than `pool`, and returns the numbers of its reply, or `None` if there is no machine.
 pub(crate) fn run_admin_command(
     alloc: Global,
-    machine: &mut Machine,
+    machine: &mut MachineStorage,
     command: AdminCommand,
 ) -> Option<ReplyNumbers>
     requires { command ≢ Pool }

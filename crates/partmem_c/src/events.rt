@@ -13,7 +13,7 @@ ghost use Rattle.partmem_c.specs.Events.{some_bytes, admin_command_of, requested
 
 use crate::kinds::NOTHING;
 use crate::lines::put;
-use crate::machine::Machine;
+use crate::machine_storage::MachineStorage;
 use crate::status::{BUFFER_TOO_SMALL, DONE, NO_MACHINE, NOT_AN_EVENT};
 use crate::telling::{
     ReplyNumbers, bytes_in_reply, numbers_of_answer, numbers_of_owners, numbers_of_report,
@@ -174,7 +174,7 @@ fn some_bytes<const N: usize>(bytes: &[u8]) -> Option<ArrayVec<u8, N>>
 #[unsafe(no_mangle)]
 pub extern "C" fn partmem_event(
     alloc: Global,
-    machine: &mut Machine,
+    machine: &mut MachineStorage,
     request: &RequestNumbers,
     bytes: &[u8],
     reply: &mut ReplyNumbers,
@@ -212,7 +212,7 @@ fn kind_with_buffer(kind: u32, buffer: usize) -> u32
 /// Returns the status of a call whose buffer is too small, or whose kind is `NOTHING`.
 #[cold]
 #[inline(never)]
-fn status_without_buffer(machine: &Machine, request: &RequestNumbers, bytes: &[u8]) -> u32
+fn status_without_buffer(machine: &MachineStorage, request: &RequestNumbers, bytes: &[u8]) -> u32
     ensures { result ≡ status_of_event machine.now.slot.held request.now bytes.now BUFFER_TOO_SMALL }
 {
     if !machine.is_booted() {
@@ -232,7 +232,7 @@ fn status_without_buffer(machine: &Machine, request: &RequestNumbers, bytes: &[u
 #[inline(never)]
 fn plain_event<const KIND: u32>(
     alloc: Global,
-    machine: &mut Machine,
+    machine: &mut MachineStorage,
     request: &RequestNumbers,
     reply: &mut ReplyNumbers,
 ) -> u32
@@ -273,7 +273,7 @@ fn plain_request(kind: u32, request: &RequestNumbers) -> Request<'static>
 #[inline(always)]
 fn ask(
     alloc: Global,
-    machine: &mut Machine,
+    machine: &mut MachineStorage,
     tenant: u32,
     command: Request<'_>,
     reply: &mut ReplyNumbers,
@@ -299,7 +299,7 @@ fn ask(
 #[inline(always)]
 fn event_in_first(
     alloc: Global,
-    machine: &mut Machine,
+    machine: &mut MachineStorage,
     request: &RequestNumbers,
     bytes: &[u8],
     reply: &mut ReplyNumbers,
@@ -326,7 +326,7 @@ fn event_in_first(
 #[inline(never)]
 fn other_event(
     alloc: Global,
-    machine: &mut Machine,
+    machine: &mut MachineStorage,
     request: &RequestNumbers,
     bytes: &[u8],
     reply: &mut ReplyNumbers,
@@ -352,7 +352,7 @@ fn other_event(
 #[inline(never)]
 fn read_event(
     alloc: Global,
-    machine: &mut Machine,
+    machine: &mut MachineStorage,
     request: &RequestNumbers,
     reply: &mut ReplyNumbers,
     buffer: &mut [u8],
@@ -381,7 +381,7 @@ fn read_event(
 #[inline(never)]
 fn write_event(
     alloc: Global,
-    machine: &mut Machine,
+    machine: &mut MachineStorage,
     request: &RequestNumbers,
     bytes: &[u8],
     reply: &mut ReplyNumbers,
@@ -409,7 +409,7 @@ fn write_event(
 #[inline(never)]
 fn cache_event(
     alloc: Global,
-    machine: &mut Machine,
+    machine: &mut MachineStorage,
     request: &RequestNumbers,
     bytes: &[u8],
     reply: &mut ReplyNumbers,
@@ -432,7 +432,7 @@ fn cache_event(
 }
 
 /// Returns the status of a call whose numbers and bytes are not an event.
-pub(crate) fn status_of_none(machine: &Machine) -> u32
+pub(crate) fn status_of_none(machine: &MachineStorage) -> u32
     ensures { result ≡ (if is_some machine.now.slot.held then NOT_AN_EVENT else NO_MACHINE) }
 {
     if machine.is_booted() {
@@ -447,7 +447,7 @@ pub(crate) fn status_of_none(machine: &Machine) -> u32
 #[inline(never)]
 fn rare_event(
     alloc: Global,
-    machine: &mut Machine,
+    machine: &mut MachineStorage,
     request: &RequestNumbers,
     bytes: &[u8],
     reply: &mut ReplyNumbers,

@@ -8,7 +8,7 @@ ghost use Rattle.partmem_c.specs.Figures.{order_figures, cache_figures, no_figur
 ghost use Rattle.partmem_c.specs.Figures.{reported_figures, figures_of_report, PutsFigures};
 
 use crate::calls::block_bytes;
-use crate::machine::Machine;
+use crate::machine_storage::MachineStorage;
 use crate::status::{DONE, NO_MACHINE};
 use kernel_core::Kernel;
 use model_core::report::{CacheRow, OrderRow};
@@ -87,7 +87,7 @@ impl Figures {
 #[unsafe(no_mangle)]
 pub extern "C" fn partmem_report(
     alloc: Global,
-    machine: &mut Machine,
+    machine: &mut MachineStorage,
     tenant: u32,
     figures: &mut Figures,
 ) -> u32

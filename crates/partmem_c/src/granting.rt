@@ -7,7 +7,7 @@ ghost use Rattle.partmem_c.specs.Calls.{RunsCall, numbers_in_reply, call_status,
 
 use crate::calls::{call_status, run_admin_command};
 use crate::kinds::{GRANTED, MOVED};
-use crate::machine::Machine;
+use crate::machine_storage::MachineStorage;
 use crate::telling::ReplyNumbers;
 use std::alloc::Global;
 use words_core::AdminCommand;
@@ -26,7 +26,7 @@ pub struct HeldSlot {
 #[unsafe(no_mangle)]
 pub extern "C" fn partmem_grant(
     alloc: Global,
-    machine: &mut Machine,
+    machine: &mut MachineStorage,
     tenant: u32,
     granted: &mut HeldSlot,
 ) -> u32
@@ -44,7 +44,7 @@ pub extern "C" fn partmem_grant(
 #[unsafe(no_mangle)]
 pub extern "C" fn partmem_take_back(
     alloc: Global,
-    machine: &mut Machine,
+    machine: &mut MachineStorage,
     tenant: u32,
     slot: u32,
 ) -> u32
@@ -60,7 +60,7 @@ pub extern "C" fn partmem_take_back(
 #[unsafe(no_mangle)]
 pub extern "C" fn partmem_move(
     alloc: Global,
-    machine: &mut Machine,
+    machine: &mut MachineStorage,
     tenant: u32,
     slot: u32,
     moved: &mut HeldSlot,
@@ -77,7 +77,7 @@ pub extern "C" fn partmem_move(
 ///
 /// Returns `NO_MACHINE` or `NO_TENANT`.
 #[unsafe(no_mangle)]
-pub extern "C" fn partmem_reset(alloc: Global, machine: &mut Machine, tenant: u32) -> u32
+pub extern "C" fn partmem_reset(alloc: Global, machine: &mut MachineStorage, tenant: u32) -> u32
     ensures { RunsCall machine.old.slot.held (Admin (Reset tenant)) machine.new.slot.held
         (λ reply. result ≡ call_status (numbers_in_reply reply)) }
 {

@@ -5,7 +5,7 @@ ghost use Rattle.partmem_c.specs.Finding.{LooksUp};
 ghost use Rattle.partmem_c.specs.Holders.{FindsHolder, no_holder, cache_or_none};
 
 use crate::lookups::put;
-use crate::machine::Machine;
+use crate::machine_storage::MachineStorage;
 use crate::status::NO_MACHINE;
 use kernel_core::Kernel;
 use std::alloc::Global;
@@ -36,7 +36,7 @@ const NO_HOLDER: HolderNumbers = HolderNumbers {
 #[unsafe(no_mangle)]
 pub extern "C" fn partmem_find_object(
     alloc: Global,
-    machine: &mut Machine,
+    machine: &mut MachineStorage,
     tenant: u32,
     place: u32,
     found: &mut HolderNumbers,

@@ -6,7 +6,7 @@ ghost use Rattle.partmem_c.specs.Actions.{OwnSightsOfCalls};
 ghost use Rattle.partmem_c.specs.Calls.{OffsetsAreRefused};
 ghost use Rattle.partmem_c.specs.Laws.{StandsAfterCalls, OwnLinesOfCalls, SameLinesOfCalls, MayChangeThreads};
 
-use crate::machine::Machine;
+use crate::machine_storage::MachineStorage;
 use std::alloc::Global;
 use world_core::laws;
 
@@ -37,7 +37,7 @@ pub fn offsets_are_refused()
 {}
 
 /// Between two calls C holds a kernel with all its invariants. The call changes nothing.
-pub fn is_kernel(alloc: Global, machine: &mut Machine)
+pub fn is_kernel(alloc: Global, machine: &mut MachineStorage)
     ensures kernel { IfSome machine.old.slot.held (λ k. IsKernel k) }
     ensures same { machine.new.slot.held ≡ machine.old.slot.held }
 {

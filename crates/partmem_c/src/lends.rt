@@ -7,7 +7,7 @@ ghost use Rattle.kernel_core.specs.Lending.{IsLive, IsLent, LendsSpan};
 ghost use Rattle.partmem_c.specs.Finding.{LooksUp, Returns};
 ghost use Rattle.partmem_c.specs.Lends.{no_lent, IsLentAt, FindsRange, FindsWholeBlock, FindsObject};
 
-use crate::machine::Machine;
+use crate::machine_storage::MachineStorage;
 use crate::status::{DONE, NO_MACHINE};
 use kernel_core::{Kernel, Span};
 use std::alloc::Global;
@@ -101,7 +101,7 @@ fn first_of(bytes: &mut [u8]) -> *mut u8
 #[unsafe(no_mangle)]
 pub extern "C" fn partmem_lend(
     alloc: Global,
-    machine: &mut Machine,
+    machine: &mut MachineStorage,
     tenant: u32,
     place: u32,
     bytes: u32,
@@ -135,7 +135,7 @@ fn lend(kernel: &mut Kernel, tenant: u32, place: u32, bytes: u32) -> Result<Lent
 #[unsafe(no_mangle)]
 pub extern "C" fn partmem_lend_block(
     alloc: Global,
-    machine: &mut Machine,
+    machine: &mut MachineStorage,
     tenant: u32,
     place: u32,
     block: &mut Lent,
@@ -168,7 +168,7 @@ fn lend_block(kernel: &mut Kernel, tenant: u32, place: u32) -> Result<Lent, Refu
 #[unsafe(no_mangle)]
 pub extern "C" fn partmem_lend_object(
     alloc: Global,
-    machine: &mut Machine,
+    machine: &mut MachineStorage,
     tenant: u32,
     cache: u32,
     place: u32,

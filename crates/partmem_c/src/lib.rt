@@ -1,8 +1,8 @@
 //! The kernel as a static library for C: `partmem.h` beside this crate declares what it exports.
 //!
-//! A C program keeps each machine in a [`machine::Machine`] of its own, which it sets to zeros. Each command has a function that
-//! runs its event ([`events`]) and returns a [`status`]: see [`granting`], [`pages`], [`objects`] and [`bytes`]. [`lends`] lends
-//! bytes in place; [`lookups`], [`holders`], [`figures`] and [`owners`] look things up.
+//! A C program keeps each machine in a [`machine_storage::MachineStorage`] of its own, which it sets to zeros. Each command has a
+//! function that runs its event ([`events`]) and returns a [`status`]: see [`granting`], [`pages`], [`objects`] and [`bytes`].
+//! [`lends`] lends bytes in place; [`lookups`], [`holders`], [`figures`] and [`owners`] look things up.
 //!
 //! An export tests everything that C can get wrong without breaking memory. After an error or a refusal nothing has changed, and
 //! the results are zeros. There are two exceptions: a read leaves its bytes as they were, and [`events::partmem_event`] its
@@ -21,7 +21,7 @@ pub mod laws;
 pub mod lends;
 pub mod lines;
 pub mod lookups;
-pub mod machine;
+pub mod machine_storage;
 pub mod objects;
 pub mod owners;
 pub mod pages;

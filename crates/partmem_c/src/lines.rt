@@ -15,7 +15,7 @@ ghost use Rattle.replay_core.specs.Standing.{IsRunnable};
 ghost use Rattle.partmem_c.specs.Lines.{has_line_feed, line_status, IsWide, IsTextWritten, PutsAnswer};
 ghost use Rattle.partmem_c.specs.Lines.{AnswersWhole, AnswersOrNot, RunsLine};
 
-use crate::machine::Machine;
+use crate::machine_storage::MachineStorage;
 use crate::status::{BUFFER_TOO_SMALL, DONE, NO_MACHINE, NOT_A_LINE};
 use kernel_core::Kernel;
 use model_core::limits::MOST_BYTES;
@@ -40,7 +40,7 @@ pub const MOST_TEXT_BYTES: usize = MOST_ROWS * MOST_REPLY_BYTES;
 #[unsafe(no_mangle)]
 pub extern "C" fn partmem_line(
     alloc: Global,
-    machine: &mut Machine,
+    machine: &mut MachineStorage,
     line: &[u8],
     buffer: &mut [u8],
     written: &mut usize,

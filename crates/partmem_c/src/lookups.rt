@@ -7,7 +7,7 @@ ghost use Rattle.partmem_c.specs.Finding.{LooksUp, Returns, slot_at, FindsBlock,
 
 use crate::calls::block_bytes;
 use crate::granting::HeldSlot;
-use crate::machine::Machine;
+use crate::machine_storage::MachineStorage;
 use crate::status::{DONE, NO_MACHINE};
 use kernel_core::{FrameKind, Kernel};
 use model_core::limits::FRAME_BYTES;
@@ -49,7 +49,7 @@ const NO_BLOCK: Block = Block {
 #[unsafe(no_mangle)]
 pub extern "C" fn partmem_find_slot(
     alloc: Global,
-    machine: &mut Machine,
+    machine: &mut MachineStorage,
     tenant: u32,
     slot: u32,
     found: &mut HeldSlot,
@@ -88,7 +88,7 @@ fn slot_at(kernel: &Kernel, tenant: u32, slot: u32) -> Result<HeldSlot, Refusal>
 #[unsafe(no_mangle)]
 pub extern "C" fn partmem_find_block(
     alloc: Global,
-    machine: &mut Machine,
+    machine: &mut MachineStorage,
     tenant: u32,
     place: u32,
     found: &mut Block,

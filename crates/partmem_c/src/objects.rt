@@ -11,7 +11,7 @@ use crate::calls::{block_bytes, call_status, run_command};
 use crate::events::status_of_none;
 use crate::kinds::{MADE, REAPED};
 use crate::lends::{Lent, lent_of, put_lent};
-use crate::machine::Machine;
+use crate::machine_storage::MachineStorage;
 use crate::status::NO_MACHINE;
 use crate::telling::ReplyNumbers;
 use kernel_core::Kernel;
@@ -47,7 +47,7 @@ const NO_CACHE: MadeCache = MadeCache {
 #[unsafe(no_mangle)]
 pub extern "C" fn partmem_make_cache(
     alloc: Global,
-    machine: &mut Machine,
+    machine: &mut MachineStorage,
     tenant: u32,
     size: u32,
     align: u32,
@@ -80,7 +80,7 @@ pub extern "C" fn partmem_make_cache(
 #[unsafe(no_mangle)]
 pub extern "C" fn partmem_destroy_cache(
     alloc: Global,
-    machine: &mut Machine,
+    machine: &mut MachineStorage,
     tenant: u32,
     cache: u32,
 ) -> u32
@@ -96,7 +96,7 @@ pub extern "C" fn partmem_destroy_cache(
 #[unsafe(no_mangle)]
 pub extern "C" fn partmem_take(
     alloc: Global,
-    machine: &mut Machine,
+    machine: &mut MachineStorage,
     tenant: u32,
     cache: u32,
     object: &mut Lent,
@@ -129,7 +129,7 @@ fn take_object(kernel: &mut Kernel, tenant: u32, cache: u32) -> Result<Lent, Ref
 #[unsafe(no_mangle)]
 pub extern "C" fn partmem_give(
     alloc: Global,
-    machine: &mut Machine,
+    machine: &mut MachineStorage,
     tenant: u32,
     cache: u32,
     place: u32,
@@ -146,7 +146,7 @@ pub extern "C" fn partmem_give(
 #[unsafe(no_mangle)]
 pub extern "C" fn partmem_reap(
     alloc: Global,
-    machine: &mut Machine,
+    machine: &mut MachineStorage,
     tenant: u32,
     frames: &mut u32,
 ) -> u32

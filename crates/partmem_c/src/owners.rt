@@ -5,7 +5,7 @@ ghost use Rattle.space_core.specs.Content.{owner_at};
 ghost use Rattle.partmem_c.specs.Owners.{owner_numbers, owner_status, owner_reported, size_of_superblock};
 
 use crate::calls::block_bytes;
-use crate::machine::Machine;
+use crate::machine_storage::MachineStorage;
 use crate::status::{DONE, NO_MACHINE, NO_SUPERBLOCK};
 use kernel_core::Kernel;
 use std::alloc::Global;
@@ -28,7 +28,7 @@ const NO_OWNER: Owner = Owner {
 
 /// Returns the number of bytes of each superblock, or 0 without a machine.
 #[unsafe(no_mangle)]
-pub extern "C" fn partmem_superblock_bytes(alloc: Global, machine: &mut Machine) -> u32
+pub extern "C" fn partmem_superblock_bytes(alloc: Global, machine: &mut MachineStorage) -> u32
     ensures bytes { result ≡ size_of_superblock machine.old.slot.held }
     ensures kept { machine.new.slot.held ≡ machine.old.slot.held }
 {
@@ -54,7 +54,7 @@ fn superblock_bytes(kernel: &Kernel) -> u32
 #[unsafe(no_mangle)]
 pub extern "C" fn partmem_find_superblock(
     alloc: Global,
-    machine: &mut Machine,
+    machine: &mut MachineStorage,
     superblock: u32,
     owner: &mut Owner,
 ) -> u32

@@ -8,7 +8,7 @@ ghost use Rattle.partmem_c.specs.Lends.{IsBlockLent, AllocLends};
 
 use crate::calls::{call_status, run_command};
 use crate::lends::{Lent, lent_of, put_lent};
-use crate::machine::Machine;
+use crate::machine_storage::MachineStorage;
 use crate::status::NO_MACHINE;
 use kernel_core::Kernel;
 use model_core::limits::FRAME_BYTES;
@@ -24,7 +24,7 @@ const NO_FRAME: u32 = 1 << 20;
 #[unsafe(no_mangle)]
 pub extern "C" fn partmem_alloc(
     alloc: Global,
-    machine: &mut Machine,
+    machine: &mut MachineStorage,
     tenant: u32,
     order: u32,
     block: &mut Lent,
@@ -54,7 +54,12 @@ fn alloc_block(kernel: &mut Kernel, tenant: u32, order: u32) -> Result<Lent, Ref
 ///
 /// Returns `NO_MACHINE`, `NO_TENANT` or `NOT_A_BLOCK`.
 #[unsafe(no_mangle)]
-pub extern "C" fn partmem_free(alloc: Global, machine: &mut Machine, tenant: u32, place: u32) -> u32
+pub extern "C" fn partmem_free(
+    alloc: Global,
+    machine: &mut MachineStorage,
+    tenant: u32,
+    place: u32,
+) -> u32
     ensures { RunsCall machine.old.slot.held (Tenant tenant (Free (frame_at_place place))) machine.new.slot.held
         (λ reply. result ≡ call_status (numbers_in_reply reply)) }
 {

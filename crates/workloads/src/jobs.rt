@@ -8,7 +8,7 @@ use crate::maker::Maker;
 use crate::numbers::Numbers;
 use check_core::{Finding, LineReader, Shown, Unchecked, check};
 use frame_picture::history::History;
-use judge::Machine;
+use judge::KnownMachine;
 use kernel_core::{Config, Kernel};
 use own_trace::keep;
 use picture_svg::picture::Picture;
@@ -279,7 +279,7 @@ fn checked(alloc: Global, config: Config, trace: &[u8], replies: &[u8]) -> Resul
     if !config.is_bootable() {
         return Ok(0);
     }
-    let mut machine = Machine::new(
+    let mut machine = KnownMachine::new(
         alloc,
         config.order as u8,
         config.superblocks as u16,

@@ -1,6 +1,6 @@
 use Rattle.std.proofs.Common.{◌≡◌, ℕ, ◌+◌, ◌≤◌, List, false}
 use Rattle.promise_core.specs.State.{Known}
-use Rattle.judge.specs.Machine.{ShowsKnown}
+use Rattle.judge.specs.KnownMachine.{ShowsKnown}
 use Rattle.check_core.specs.Reading.{HasGiven}
 use Rattle.check_core.proofs.CheckLemmas.{IsBehind}
 use Rattle.check_core.proofs.checking.check.Given as goal

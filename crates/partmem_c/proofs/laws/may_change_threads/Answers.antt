@@ -1,4 +1,4 @@
-use Rattle.partmem_c.proofs.machine.Machine.TheSendSync.{the_send}
+use Rattle.partmem_c.proofs.machine_storage.MachineStorage.TheSendSync.{the_send}
 use Rattle.partmem_c.proofs.laws.may_change_threads.Goals as goal
 
 pub returns : goal.returns

@@ -5,7 +5,7 @@ ghost use Rattle.model_core.specs.declared.limits.TheConstants.{MOST_CACHES, MOS
 ghost use Rattle.model_core.specs.Operations.{overlaps};
 ghost use Rattle.std.specs.Option.{option_map_or};
 ghost use Rattle.promise_core.specs.State.{opening};
-ghost use Rattle.judge.specs.Machine.{ShowsKnown};
+ghost use Rattle.judge.specs.KnownMachine.{ShowsKnown};
 
 use crate::tenant::Tenant;
 use judge_core::FrameBlock;
@@ -15,7 +15,7 @@ use std::marker::Model;
 
 /// What replies reported of a machine: the owner of each superblock, and what each tenant has.
 #[derive(Debug, Drop)]
-pub struct Machine {
+pub struct KnownMachine {
     pub(crate) order: u8,
     /// Indexed by superblock. `None` if nobody owns it.
     pub(crate) owners: Vec<Option<Owner>>,
@@ -23,8 +23,8 @@ pub struct Machine {
     pub(crate) tenants: Vec<Tenant>,
 }
 
-impl Model for Machine {
-    ghost use Rattle.judge.specs.Machine.{SeenMachine, FitsLimits};
+impl Model for KnownMachine {
+    ghost use Rattle.judge.specs.KnownMachine.{SeenMachine, FitsLimits};
 
     ghost Value = { SeenMachine };
 
@@ -33,7 +33,7 @@ impl Model for Machine {
     ghost invariant = { λ m. FitsLimits (record { order = m.order; owners = m.owners.items; tenants = m.tenants.items }) };
 }
 
-impl Machine {
+impl KnownMachine {
     /// Returns a machine with this number of superblocks of `2^order` frames, which nobody owns, and this number of tenants,
     /// which have nothing. Fails if memory runs out.
     pub fn new(
@@ -41,7 +41,7 @@ impl Machine {
         order: u8,
         superblocks: u16,
         tenants: u8,
-    ) -> Result<Machine, AllocError>
+    ) -> Result<KnownMachine, AllocError>
         requires order { order ≤ MOST_ORDER }
         requires superblocks { superblocks ≤ MOST_SUPERBLOCKS }
         ensures { IfOk result (λ machine. ShowsKnown machine (opening MOST_CACHES order superblocks tenants)) }
@@ -51,7 +51,7 @@ impl Machine {
         for _tenant in 0..tenants {
             all.push(Tenant::new(alloc, order, superblocks)?)?;
         }
-        Ok(Machine {
+        Ok(KnownMachine {
             order,
             owners,
             tenants: all,

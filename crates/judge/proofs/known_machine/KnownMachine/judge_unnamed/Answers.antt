@@ -4,14 +4,14 @@ use Rattle.words_core.specs.declared.event.Event.TheVariants as On
 use Rattle.words_core.specs.declared.event.AdminCommand.TheVariants as Do
 use Rattle.promise_core.specs.declared.promise.Promise.{Promise}
 use Rattle.promise_core.specs.Promises.{is_for, allowed, due}
-use Rattle.judge.specs.Machine.{known_of}
+use Rattle.judge.specs.KnownMachine.{known_of}
 use Rattle.judge.specs.Seen.{state_of}
 use Rattle.judge.specs.Judged.{IsJudged, IsVerdictFor}
 use Rattle.judge.specs.declared.verdict.Failure.TheVariants as Of
 use Rattle.judge.proofs.Bridging.{unnamed, pool_astray, pool_answered}
 use Rattle.judge.proofs.Verdicts.{refused, misfit}
 use Rattle.judge.proofs.Misfits.{unfit}
-use Rattle.judge.proofs.machine.Machine.judge_unnamed.Goals as goal
+use Rattle.judge.proofs.known_machine.KnownMachine.judge_unnamed.Goals as goal
 
 pub returns-then-not-is_for : goal.returns-then-not-is_for
 returns-then-not-is_for c =

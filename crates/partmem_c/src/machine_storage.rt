@@ -10,13 +10,13 @@ use std::mem::replace;
 
 /// The place where C keeps a machine. All zero while empty. Clauses call its kernel `slot.held`.
 #[repr(C)]
-pub struct Machine {
+pub struct MachineStorage {
     is_booted: bool,
     pub slot: Slot,
     ghost agrees: { is_booted ≡ is_some slot.held },
 }
 
-impl Machine {
+impl MachineStorage {
     /// Returns whether the place holds a machine.
     pub fn is_booted(&self) -> bool
         ensures { result ≡ is_some self.now.slot.held }

@@ -1,8 +1,8 @@
 use Rattle.std.proofs.Common.{[], ◌∷◌, length, length-append, refl, ap, rules, arith}
 use Rattle.judge.specs.Seen.{IsOpeningTenant}
-use Rattle.judge.specs.Machine.{SeenMachine}
+use Rattle.judge.specs.KnownMachine.{SeenMachine}
 use Rattle.judge.proofs.Opening.{each_more, opening_shown}
-use Rattle.judge.proofs.machine.Machine.new.Goals as goal
+use Rattle.judge.proofs.known_machine.KnownMachine.new.Goals as goal
 
 pub loop-tenant-preserved : goal.loop-tenant-preserved
 loop-tenant-preserved c = record {

@@ -5,7 +5,7 @@ use Rattle.std.specs.Str.Parse.{IsNumeral, digits_value, without_leading_plus}
 use Rattle.clap.specs.Words.{Text}
 use Rattle.model_core.specs.Booting.{is_bootable}
 use Rattle.model_core.specs.declared.config.Config.{Config}
-use Rattle.command_line.specs.declared.machine.Machine.{Machine}
+use Rattle.command_line.specs.declared.machine_options.MachineOptions.{MachineOptions}
 use Rattle.command_line.specs.declared.outcome.Outcome.{Outcome}
 
 -- the text is a number below 2 ^ 32 in decimal digits, after a `+` if there is one
@@ -30,7 +30,7 @@ pub record AsksSizes (read : Text → Option Text) (config : Config) : Type 0 wh
   pub tenants : Writes (read (codes "tenants")) config.tenants
 
 -- the machine's sizes and its `only` are those given under the arguments' names
-pub record AsksMachine (read : Text → Option Text) (machine : Machine) : Type 0 where
+pub record AsksMachine (read : Text → Option Text) (machine : MachineOptions) : Type 0 where
   pub sizes : AsksSizes read machine.config
   pub only : MayWrite (read (codes "only")) machine.only
 

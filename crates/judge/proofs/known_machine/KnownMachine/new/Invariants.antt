@@ -1,6 +1,6 @@
 use Rattle.std.proofs.Common.{◌≡◌, ℕ, Some, length, slice_get}
 use Rattle.judge.specs.Seen.{Seen, IsOpeningTenant}
-use Rattle.judge.proofs.machine.Machine.new.Given as goal
+use Rattle.judge.proofs.known_machine.KnownMachine.new.Given as goal
 
 abbrev pub invariant-loop-tenant : goal.invariant-loop-tenant
 invariant-loop-tenant l = record {

@@ -14,7 +14,7 @@ use std::alloc::Global;
 
 /// A machine, and the tenant whose part is written or drawn.
 #[derive(Debug, Drop)]
-pub struct Machine {
+pub struct MachineOptions {
     /// The sizes, each in its range.
     pub config: Config,
     /// The only tenant whose part is written or drawn, a number below the number of tenants. `None` means all tenants.
@@ -23,25 +23,25 @@ pub struct Machine {
     ghost below: { ForSome only (λ tenant. tenant < config.tenants) },
 }
 
-impl Machine {
-    ghost use Rattle.command_line.specs.Machine.{AsksMachine, IsNoMachine};
+impl MachineOptions {
+    ghost use Rattle.command_line.specs.MachineOptions.{AsksMachine, IsNoMachine};
 
     /// Returns the machine that the command line requests.
     ///
     /// Fails with `BadLine` if a size is missing or out of its range, or with `NoMemory` if there is no memory for that message.
     /// Fails with `BadOnly` if the sizes are valid and `--only` is not below the number of tenants.
-    pub fn found(alloc: Global, matches: &ArgMatches<'_>) -> Result<Machine, Outcome>
+    pub fn found(alloc: Global, matches: &ArgMatches<'_>) -> Result<MachineOptions, Outcome>
         ensures asked { IfOk result (AsksMachine (one_text (found_of matches.now))) }
         ensures refused { IfErr result (IsNoMachine (one_text (found_of matches.now))) }
     {
         let config = sizes_found(alloc, matches)?;
         let Some(tenant) = number_written(matches, "only") else {
-            return Ok(Machine { config, only: None });
+            return Ok(MachineOptions { config, only: None });
         };
         if tenant >= config.tenants {
             return Err(Outcome::BadOnly);
         }
         let only = Some(tenant as u8);
-        Ok(Machine { config, only })
+        Ok(MachineOptions { config, only })
     }
 }
