@@ -6,9 +6,9 @@ ghost use Rattle.judge_core.specs.Holders.{shown_holder};
 ghost use Rattle.shadow_memory.specs.Inside.{CellStep, shown_kept, doubted_of, removed_of};
 ghost use Rattle.shadow_memory.specs.Summaries.{IsSummarizedBy, IsChanged};
 
+use crate::holder_predicates::{HolderPredicate, fails_all, passes_all};
 use crate::kept::KeptByte;
 use crate::summary::Summary;
-use crate::tests_of_holders::{HolderTest, fails_all, passes_all};
 use judge_core::{LeftByte, RangeHolder};
 
 /// A change of what was left at places.
@@ -41,7 +41,7 @@ pub(crate) trait Change {
 #[derive(Drop)]
 pub(crate) struct Doubt<T>(pub T);
 
-impl<T: HolderTest> Doubt<T> {
+impl<T: HolderPredicate> Doubt<T> {
     /// Returns the stored byte after the change.
     fn doubted(&self, kept: KeptByte) -> KeptByte
         ensures { (place : ℕ) → shown_kept result ≡ doubted_of (T.test self.now.0) place (shown_kept kept) }
@@ -63,7 +63,7 @@ impl<T: HolderTest> Doubt<T> {
     }
 }
 
-impl<T: HolderTest> Change for Doubt<T> {
+impl<T: HolderPredicate> Change for Doubt<T> {
     ghost step = { λ d. doubted_of (T.test d.0) };
 
     fn change_places(&self, cells: &mut [KeptByte], _first: u64, low: usize, high: usize) {
@@ -96,7 +96,7 @@ impl<T: HolderTest> Change for Doubt<T> {
 #[derive(Drop)]
 pub(crate) struct Remove<T>(pub T);
 
-impl<T: HolderTest> Remove<T> {
+impl<T: HolderPredicate> Remove<T> {
     /// Returns the stored byte after the change.
     fn without(&self, kept: KeptByte) -> KeptByte
         ensures { (place : ℕ) → shown_kept result ≡ removed_of (T.test self.now.0) place (shown_kept kept) }
@@ -114,7 +114,7 @@ impl<T: HolderTest> Remove<T> {
     }
 }
 
-impl<T: HolderTest> Change for Remove<T> {
+impl<T: HolderPredicate> Change for Remove<T> {
     ghost step = { λ d. removed_of (T.test d.0) };
 
     fn change_places(&self, cells: &mut [KeptByte], _first: u64, low: usize, high: usize) {

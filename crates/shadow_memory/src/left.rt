@@ -12,10 +12,10 @@ ghost use Rattle.shadow_memory.specs.Left.{left_slots, left_at, has_place, Becom
 ghost use Rattle.shadow_memory.specs.Inside.{StaysNear, AreFrom, AreStepped, within};
 
 use crate::change::{Change, Doubt, Put, Remove};
+use crate::holder_predicates::{Fails, IsInNoSlab, IsNotBeside, IsObject, IsOfCache, IsPage};
 use crate::kept::KeptByte;
 use crate::slot::SlotBytes;
 use crate::slots::{change_slots, drop_slot, kept_from, left_in, places_of};
-use crate::tests_of_holders::{Fails, IsInNoSlab, IsNotBeside, IsObject, IsOfCache, IsPage};
 use judge_core::{FrameBlock, Held, LeftByte, RangeHolder};
 use std::alloc::{AllocError, Global};
 use std::marker::Model;

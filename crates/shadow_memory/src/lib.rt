@@ -3,6 +3,7 @@
 #![tactic(auto)]
 
 mod change;
+mod holder_predicates;
 mod kept;
 mod left;
 mod ranges;
@@ -10,6 +11,5 @@ mod reading;
 mod slot;
 mod slots;
 mod summary;
-mod tests_of_holders;
 
 pub use left::ShadowMemory;

@@ -4,6 +4,6 @@ use Rattle.shadow_memory.proofs.Passing.{changed_more}
 use Rattle.shadow_memory.proofs.change.RemoveChange.change_places.Goals as goal
 
 pub loop-k-preserved : goal.loop-k-preserved
-loop-k-preserved g c = changed_more (removed_of (g.T.HolderTest.test c.args.self.now.0)) c.args._first c.args.low c.loop-k.k
+loop-k-preserved g c = changed_more (removed_of (g.T.HolderPredicate.test c.args.self.now.0)) c.args._first c.args.low c.loop-k.k
     c.args.cells.now c.loop-k.cells
     c.without.result (omega arith) (omega arith) c.loop-k.invariant (c.without.ensures (c.args._first + c.loop-k.k))

@@ -14,7 +14,7 @@ use judge_core::{FrameBlock, Held, HeldCache, RangeHolder};
 use model_core::limits::FRAME_BYTES;
 
 /// A test of a holder.
-pub(crate) trait HolderTest {
+pub(crate) trait HolderPredicate {
     ghost test: { Self → Holder → Bool };
 
     /// Returns whether the holder passes.
@@ -29,7 +29,7 @@ pub(crate) trait HolderTest {
 
 /// Returns the result of the test for the holders that these owners allow, if it is known to be the same for all. Otherwise it
 /// returns `None`.
-fn tells_of<T: HolderTest>(test: &T, owners: Owners) -> Option<bool>
+fn tells_of<T: HolderPredicate>(test: &T, owners: Owners) -> Option<bool>
     ensures { IfSome result (λ told. (h : Holder) → MayOwn owners h → T.test test.now h ≡ told) }
 {
     match owners {
@@ -41,7 +41,7 @@ fn tells_of<T: HolderTest>(test: &T, owners: Owners) -> Option<bool>
 }
 
 /// Returns true only if each holder that these owners allow passes.
-pub(crate) fn passes_all<T: HolderTest>(test: &T, owners: Owners) -> bool
+pub(crate) fn passes_all<T: HolderPredicate>(test: &T, owners: Owners) -> bool
     ensures { result ≡ true → (h : Holder) → MayOwn owners h → T.test test.now h ≡ true }
 {
     match tells_of(test, owners) {
@@ -51,7 +51,7 @@ pub(crate) fn passes_all<T: HolderTest>(test: &T, owners: Owners) -> bool
 }
 
 /// Returns true only if each holder that these owners allow fails.
-pub(crate) fn fails_all<T: HolderTest>(test: &T, owners: Owners) -> bool
+pub(crate) fn fails_all<T: HolderPredicate>(test: &T, owners: Owners) -> bool
     ensures { result ≡ true → (h : Holder) → MayOwn owners h → T.test test.now h ≡ false }
 {
     match tells_of(test, owners) {
@@ -64,7 +64,7 @@ pub(crate) fn fails_all<T: HolderTest>(test: &T, owners: Owners) -> bool
 #[derive(Drop)]
 pub(crate) struct Fails<T>(pub T);
 
-impl<T: HolderTest> HolderTest for Fails<T> {
+impl<T: HolderPredicate> HolderPredicate for Fails<T> {
     ghost test = { λ n holder. not (T.test n.0 holder) };
 
     fn passes(&self, holder: RangeHolder) -> bool {
@@ -83,7 +83,7 @@ impl<T: HolderTest> HolderTest for Fails<T> {
 #[derive(Drop)]
 pub(crate) struct IsPage;
 
-impl HolderTest for IsPage {
+impl HolderPredicate for IsPage {
     ghost test = { λ _ holder. is_same Holder.Page holder };
 
     fn passes(&self, holder: RangeHolder) -> bool {
@@ -105,7 +105,7 @@ pub(crate) struct IsObject {
     pub first: u32,
 }
 
-impl HolderTest for IsObject {
+impl HolderPredicate for IsObject {
     ghost test = { λ o holder. is_same (Holder.Object o.number o.first) holder };
 
     fn passes(&self, holder: RangeHolder) -> bool {
@@ -132,7 +132,7 @@ pub(crate) struct IsOfCache {
     pub number: u32,
 }
 
-impl HolderTest for IsOfCache {
+impl HolderPredicate for IsOfCache {
     ghost test = { λ o holder. is_object (λ n p. n == o.number) holder };
 
     fn passes(&self, holder: RangeHolder) -> bool {
@@ -155,7 +155,7 @@ pub(crate) struct IsNotBeside {
     pub size: u32,
 }
 
-impl HolderTest for IsNotBeside {
+impl HolderPredicate for IsNotBeside {
     ghost test = { λ o holder. not (is_object (λ n p. n == o.number
         && (p == o.first || (nat_le (o.first + o.size) p || nat_le (p + o.size) o.first))) holder) };
 
@@ -187,7 +187,7 @@ pub(crate) struct IsInNoSlab<'a> {
     pub held: &'a Held,
 }
 
-impl<'a> HolderTest for IsInNoSlab<'a> {
+impl<'a> HolderPredicate for IsInNoSlab<'a> {
     ghost test = { λ o holder. is_object (is_in_no_slab o.held.now) holder };
 
     fn passes(&self, holder: RangeHolder) -> bool {
