@@ -10,8 +10,8 @@ use Rattle.std.proofs.lemmas.Bool.{cases_lt, false≢true, false_from_ne_true}
 use Rattle.model_core.specs.Blocks.{block}
 use Rattle.model_core.specs.declared.limits.TheConstants.{MOST_ORDER, MOST_SUPERBLOCKS, MOST_TENANTS}
 use Rattle.model_core.specs.Choice.{is_free}
-use Rattle.model_core.proofs.Choosing.{free_is_tested}
-use Rattle.model_core.proofs.Counting.{count_none}
+use Rattle.model_core.proofs.BlockChoice.{free_is_tested}
+use Rattle.model_core.proofs.CountBelow.{count_none}
 use Rattle.model_core.proofs.Lists.{everywhere}
 use Rattle.buddy_core.specs.Content.{Holding, Content, nothing_held, empty_buddy, has_order, taken_block_count}
 use Rattle.buddy_core.specs.Stored.{StoredSuperblock, StoredTenant, bare_superblock, bare_tenant, superblock_of, stored_tenant, superblock_at, held_by, order_under, taken_by, holding_shown, content_shown}

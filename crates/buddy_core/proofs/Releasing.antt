@@ -7,9 +7,9 @@ use Rattle.std.proofs.Math.Nat.{mul-le-mul_right}
 use Rattle.model_core.specs.Blocks.{Taken}
 use Rattle.model_core.specs.Choice.{is_available}
 use Rattle.model_core.specs.Numbered.{number_at, IsOpen}
-use Rattle.model_core.proofs.TakeOut.{TakesOut}
-use Rattle.model_core.proofs.Halves.{one_open}
-use Rattle.model_core.proofs.Joining.{releasing, release_stays_sound}
+use Rattle.model_core.proofs.BlockTakenOut.{TakesOut}
+use Rattle.model_core.proofs.BlockHalves.{one_open}
+use Rattle.model_core.proofs.BuddyJoins.{releasing, release_stays_sound}
 use Rattle.buddy_core.specs.Content.{Content, has_order, holding_of, taken_of}
 use Rattle.buddy_core.specs.Tree.{Shows, IsLess}
 use Rattle.buddy_core.specs.Counts.{IsTakenOut}
@@ -17,8 +17,8 @@ use Rattle.buddy_core.specs.Stored.{StoredSuperblock, StoredTenant, superblock_o
 use Rattle.buddy_core.specs.Kept.{IsKept, IsTenantKept}
 use Rattle.buddy_core.proofs.ContentShown.{taken_shown, IsShown, size_is, slot_within}
 use Rattle.buddy_core.proofs.TenantCounts.{table_size, count_set, order_here, taken_bit}
-use Rattle.model_core.proofs.Counting.{bit}
-use Rattle.buddy_core.proofs.Counting.{free_balance, half_counts}
+use Rattle.model_core.proofs.CountBelow.{bit}
+use Rattle.buddy_core.proofs.FreeBlockCounts.{free_balance, half_counts}
 use Rattle.buddy_core.proofs.TreeSlots.{less_in_slot, same_elsewhere, open_in_slot, number_in}
 use Rattle.buddy_core.proofs.RootOrders.{word_before}
 use Rattle.buddy_core.proofs.BlockSteps.{IsStep, changed}

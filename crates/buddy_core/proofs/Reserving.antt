@@ -8,10 +8,10 @@ use Rattle.std.proofs.lemmas.Bool.{cases_lt, cases_order}
 use Rattle.model_core.specs.Blocks.{Block, block, Taken, IsFree, IsChoice, IsWithout}
 use Rattle.model_core.specs.Choice.{is_available, is_free}
 use Rattle.model_core.specs.Numbered.{number_at, IsOpen}
-use Rattle.model_core.proofs.TakeOut.{TakesOut}
+use Rattle.model_core.proofs.BlockTakenOut.{TakesOut}
 use Rattle.model_core.proofs.FreeBlocks.{reserving, has_first}
-use Rattle.model_core.proofs.Joining.{reserve_stays_sound}
-use Rattle.model_core.proofs.Choosing.{free_is_tested}
+use Rattle.model_core.proofs.BuddyJoins.{reserve_stays_sound}
+use Rattle.model_core.proofs.BlockChoice.{free_is_tested}
 use Rattle.buddy_core.specs.Content.{has_order}
 use Rattle.buddy_core.specs.Tree.{Shows, IsLess, IsLeast}
 use Rattle.std.specs.Int.{bit_at}
@@ -22,9 +22,9 @@ use Rattle.buddy_core.specs.Stored.{StoredTree, StoredSuperblock, StoredTenant, 
 use Rattle.buddy_core.specs.Kept.{IsKept, IsTenantKept, available_in}
 use Rattle.buddy_core.proofs.ContentShown.{taken_shown, slot_within}
 use Rattle.buddy_core.proofs.TenantCounts.{table_size, count_set, taken_bit}
-use Rattle.model_core.proofs.Counting.{bit}
+use Rattle.model_core.proofs.CountBelow.{bit}
 use Rattle.model_core.proofs.Lists.{some_of}
-use Rattle.buddy_core.proofs.Counting.{count_some, count_found, frame_below, free_balance, whole_counts}
+use Rattle.buddy_core.proofs.FreeBlockCounts.{count_some, count_found, frame_below, free_balance, whole_counts}
 use Rattle.buddy_core.proofs.TreeSlots.{root_tells, least_free, less_in_slot, same_elsewhere}
 use Rattle.buddy_core.proofs.RootOrders.{word_after}
 use Rattle.buddy_core.proofs.BlockSteps.{IsStep, changed}

@@ -5,7 +5,7 @@ use Rattle.std.specs.Int.{bit_at}
 use Rattle.std.proofs.lemmas.Bool.{cases_eq}
 use Rattle.model_core.specs.Numbered.{number_at, IsOpen}
 use Rattle.model_core.proofs.BlocksByNumber.{number_first}
-use Rattle.model_core.proofs.TakeOut.{TakesOut, open_after, open_stays}
+use Rattle.model_core.proofs.BlockTakenOut.{TakesOut, open_after, open_stays}
 use Rattle.buddy_core.specs.Tree.{Shows, IsLess, HasOpen}
 use Rattle.buddy_core.proofs.TreeSlots.{node_tells}
 

@@ -7,8 +7,8 @@ use Rattle.std.proofs.lemmas.Bool.{cases_eq, both_ways, false_from_ne_true}
 use Rattle.model_core.specs.Blocks.{Taken, IsTaken, IsSound}
 use Rattle.model_core.specs.Choice.{is_available}
 use Rattle.model_core.specs.Numbered.{number_at}
-use Rattle.model_core.proofs.Halves.{clear_from}
-use Rattle.model_core.proofs.TakeOut.{TakesOut}
+use Rattle.model_core.proofs.BlockHalves.{clear_from}
+use Rattle.model_core.proofs.BlockTakenOut.{TakesOut}
 use Rattle.model_core.proofs.BlocksByNumber.{number_is, number_first, available_is, available_tells, number_of_frame, same_slot}
 use Rattle.model_core.proofs.FreeBlocks.{same_bool}
 use Rattle.buddy_core.specs.Content.{Holding, taken_block_count}

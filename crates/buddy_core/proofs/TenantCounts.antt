@@ -13,7 +13,7 @@ use Rattle.buddy_core.specs.Stored.{StoredSuperblock, StoredTenant, stored_tenan
 use Rattle.buddy_core.specs.Kept.{IsKept, IsTenantKept}
 use Rattle.buddy_core.specs.Counts.{CanCountMore, IsTakenOut}
 use Rattle.buddy_core.proofs.ContentShown.{slot_within}
-use Rattle.model_core.proofs.Counting.{count_le, bit}
+use Rattle.model_core.proofs.CountBelow.{count_le, bit}
 
 pow_le : (i j : ℕ) → i ≤ j → 2 ^ i ≤ 2 ^ j
 pow_le i j le = go (cases_lt i j)

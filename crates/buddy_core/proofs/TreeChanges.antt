@@ -8,11 +8,11 @@ use Rattle.std.proofs.Math.Nat.{pow-suc}
 use Rattle.model_core.specs.Numbered.{number_at, is_clear, IsOpen}
 use Rattle.buddy_core.specs.Stored.{bare_tree}
 use Rattle.buddy_core.specs.Tree.{orders, word, word_at, Shows, IsWith, IsLess, Mended, IsConfined}
-use Rattle.model_core.proofs.Halves.{clear_same, clear_from}
+use Rattle.model_core.proofs.BlockHalves.{clear_same, clear_from}
 use Rattle.buddy_core.proofs.TreeNumbers.{halves, number_above, number_below, half_clear, inside_clear, frame_not_clear}
 use Rattle.buddy_core.proofs.TreeOrders.{orders_clear, orders_none, orders_same, orders_whole, word_whole, word_inside}
 use Rattle.buddy_core.proofs.TreeNodes.{node_stored, word_at-set_same, word_at-set_other, far_whole, far_half}
-use Rattle.buddy_core.proofs.TreeMends.{inside_with, around_with, away, climbs, climbs_split, climbs_join}
+use Rattle.buddy_core.proofs.TreeClimb.{inside_with, around_with, away, climbs, climbs_split, climbs_join}
 
 -- a bare tree has a word for each node
 pub bare_size : (top : ℕ) → length (bare_tree top).words + 1 ≡ 2 ^ (top + 1)

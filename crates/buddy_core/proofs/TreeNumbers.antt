@@ -4,7 +4,7 @@ use Rattle.std.proofs.lemmas.Bool.{and_parts, and_left, cases_Bool, both_ways, c
 use Rattle.std.proofs.lemmas.Nat.{shr_below, div_below, pow_pos}
 use Rattle.std.proofs.Math.Nat.{pow-suc}
 use Rattle.model_core.specs.Numbered.{number_at, is_clear}
-use Rattle.model_core.proofs.Halves.{clear_at}
+use Rattle.model_core.proofs.BlockHalves.{clear_at}
 use Rattle.model_core.proofs.BlocksByNumber.{number_is}
 
 -- a number with the half p is 2 * p or 2 * p + 1

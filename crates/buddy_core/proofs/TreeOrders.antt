@@ -7,7 +7,7 @@ use Rattle.std.proofs.lemmas.Nat.{or_lt, pow_below}
 use Rattle.std.proofs.lemmas.Nat.Bits.{bit_at_or, bit_at-pow_same, bit_at-pow_other, bit_at-zero, bit_at-lt}
 use Rattle.model_core.specs.Numbered.{number_at, is_clear}
 use Rattle.buddy_core.specs.Tree.{orders, word, HasOpen}
-use Rattle.model_core.proofs.Halves.{clear_same}
+use Rattle.model_core.proofs.BlockHalves.{clear_same}
 use Rattle.buddy_core.proofs.TreeNumbers.{halves, number_above, inside_clear, none_clear}
 
 -- a clear block has only its own order

@@ -10,8 +10,8 @@ use Rattle.std.proofs.Math.Nat.{pow-suc, mul-le-mul_right}
 use Rattle.model_core.specs.Blocks.{block, Taken, IsFree}
 use Rattle.model_core.specs.Choice.{is_available}
 use Rattle.model_core.specs.Numbered.{number_at, is_clear, IsOpen}
-use Rattle.model_core.proofs.Halves.{clear_at, clear_same, same_above}
-use Rattle.model_core.proofs.TakeOut.{TakesOut}
+use Rattle.model_core.proofs.BlockHalves.{clear_at, clear_same, same_above}
+use Rattle.model_core.proofs.BlockTakenOut.{TakesOut}
 use Rattle.model_core.proofs.BlocksByNumber.{number_first, aligned_first, number_of_frame, frame_of_number, free_is_open, open_is_free, number_is}
 use Rattle.buddy_core.specs.Tree.{orders, word, Shows, IsLess, HasOpen, IsLeast}
 use Rattle.buddy_core.proofs.TreeNumbers.{number_above, number_below, number_whole, inside_clear}

@@ -20,7 +20,7 @@ use Rattle.words_core.specs.declared.reply.Refusal.{Refusal}
 use Rattle.words_core.specs.declared.reply.Reply.{Reply}
 use Rattle.promise_core.specs.State.{State, Known, state_after}
 use Rattle.promise_core.specs.Promises.{due, refusals, room, busy, owners, report, is_no_tenant, allowed}
-use Rattle.promise_core.proofs.Allowed.{state_for, allowed_is}
+use Rattle.promise_core.proofs.AllowedReplies.{state_for, allowed_is}
 use Rattle.check_core.specs.Finding.{more_lines}
 use Rattle.check_core.proofs.TextLemmas.{lines_in}
 

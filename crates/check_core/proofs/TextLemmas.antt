@@ -22,7 +22,7 @@ use Rattle.words_core.specs.declared.reply.Refusal.{Refusal}
 use Rattle.words_core.specs.declared.reply.Refusal.TheVariants.{NoFrames}
 use Rattle.words_core.specs.declared.reply.Reply.{Reply}
 use Rattle.words_core.specs.Texts.{number_of_refusal, name_of_refusal, name_of_fault, addressee_text, body_texts, text_of}
-use Rattle.world_core.proofs.TextLines.{AreTexts, addressee_is_text, body_text}
+use Rattle.world_core.proofs.ReplyLines.{AreTexts, addressee_is_text, body_text}
 use Rattle.check_core.specs.Finding.{lines_at}
 use Rattle.check_core.specs.Ranges.{AddresseeFits, BodyFits, ReportFits, Fits}
 use Rattle.check_core.specs.declared.shown.TheConstants.{MOST_TEXT_BYTES}

@@ -1,4 +1,4 @@
-pub mod Reading
-pub mod Refusals
-pub mod Rows
+pub mod MachineOptionsRead
+pub mod ParserRefusals
+pub mod CommandLineRows
 pub mod SettingsRead

@@ -6,8 +6,8 @@ use Rattle.clap.specs.Words.{one_text, rows_of, takes}
 use Rattle.clap.specs.declared.parser.matches.Found.{Found}
 use Rattle.clap.proofs.OnLiterals.{clap_on_literals}
 use Rattle.clap.proofs.WalkLemmas.{first_value-rows}
-use Rattle.command_line.proofs.Reading.{asks_machine, no_machine, one_number, one_text-of_rows, same_number, same_written}
-use Rattle.command_line.proofs.Refusals.{parsed_as, refused_as, rows_as}
+use Rattle.command_line.proofs.MachineOptionsRead.{asks_machine, no_machine, one_number, one_text-of_rows, same_number, same_written}
+use Rattle.command_line.proofs.ParserRefusals.{parsed_as, refused_as, rows_as}
 use Rattle.command_line.specs.MachineOptions.{AsksMachine, IsNoMachine, MayWrite, Writes}
 use Rattle.command_line.specs.Outcome.{IsRefusedBy}
 use Rattle.command_line.specs.Settings.{Asks, IsAlone, IsFlag, IsInOrder, IsNoOwn, IsNoSettings, command_line, parse_faults, machine_of}

@@ -1,6 +1,6 @@
-pub mod Covering
-pub mod Even
-pub mod Filling
+pub mod RectanglesCover
+pub mod ColumnLines
+pub mod ListFilled
 pub mod Greatest
 pub mod PowerLemmas
 pub mod RowLemmas

@@ -1,7 +1,7 @@
-pub mod Keys
-pub mod Lists
-pub mod ByNumber
-pub mod Slabs
-pub mod Marks
-pub mod Clear
-pub mod Pages
+pub mod RisingKeys
+pub mod ComputedTests
+pub mod CachesByNumber
+pub mod SlabPlaces
+pub mod SlabMarks
+pub mod VacantBlockMarks
+pub mod PageBlocks

@@ -12,7 +12,7 @@ use Rattle.world_core.specs.PrivateStep.{Entry, Ask, command_step, private_step}
 use Rattle.world_core.specs.PrivateRun.{private_run}
 use Rattle.world_core.specs.World.{World, opening_world, world_step}
 use Rattle.world_core.specs.OwnList.{own_entries}
-use Rattle.world_core.proofs.Runs.{step_leaves, opening-machine}
+use Rattle.world_core.proofs.OwnListRuns.{step_leaves, opening-machine}
 use Rattle.kernel_core.specs.Content.{KernelContent}
 use Rattle.kernel_core.specs.Shows.{Shows}
 use Rattle.kernel_core.specs.Steps.{Steps}

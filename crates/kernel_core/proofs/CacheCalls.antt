@@ -23,8 +23,8 @@ use Rattle.slab_core.specs.Taking.{place_taken}
 use Rattle.kernel_core.specs.Content.{KernelContent, content_of}
 use Rattle.kernel_core.specs.Shows.{ShowsMachine}
 use Rattle.kernel_core.specs.Steps.{StepsMachine}
-use Rattle.kernel_core.proofs.Commanding.{answered, called, commanded, by_err, by_none}
-use Rattle.kernel_core.proofs.Changing.{marks_kept}
+use Rattle.kernel_core.proofs.CallsAsCommands.{answered, called, commanded, by_err, by_none}
+use Rattle.kernel_core.proofs.CallEffects.{marks_kept}
 
 -- a take, with the order of the superblocks as the tables have it
 pub taken : (r r' : spaces.Content) (b b' : buddies.Content) (s s' : tables.Content) (t : ℕ) → Agree r b s → Spares t r r' b b' s s'

@@ -19,14 +19,14 @@ use Rattle.slab_tables.specs.Content.{Content, IsSlabs, layout_numbers, head_of,
 use Rattle.machine_changes.specs.Shows as showing
 use Rattle.machine_changes.specs.Steady.{IsSteady}
 use Rattle.machine_changes.specs.Laws.{is_kind}
-use Rattle.machine_changes.proofs.Facts.{cache_shown}
-use Rattle.machine_changes.proofs.Steady.{placed_as}
-use Rattle.machine_changes.proofs.ByKind.{from_list, head_is}
-use Rattle.machine_changes.proofs.Taken.{taken_meets}
+use Rattle.machine_changes.proofs.SlabFacts.{cache_shown}
+use Rattle.machine_changes.proofs.SteadyParts.{placed_as}
+use Rattle.machine_changes.proofs.SlabsByKind.{from_list, head_is}
+use Rattle.machine_changes.proofs.TakenBlocks.{taken_meets}
 use Rattle.machine_changes.specs.Slots.{HoldTogether}
 use Rattle.kernel_core.specs.Content.{KernelContent, content_of}
 use Rattle.kernel_core.specs.Shows.{ShowsMachine}
-use Rattle.kernel_core.proofs.Changing.{steady, opened, known}
+use Rattle.kernel_core.proofs.CallEffects.{steady, opened, known}
 
 -- if no taken block begins at a frame, and all that begin before it end at or before it, the frame is not taken
 pub free_here : (taken : Taken) (x : ℕ) → AreEndedBefore taken x → None ≡ taken x → IsTaken taken x → ⊥

@@ -5,17 +5,17 @@ use Rattle.model_core.specs.Operations.{after_grant, next_slot}
 use Rattle.model_core.specs.Owners.{owned_by}
 use Rattle.space_core.specs.Content as spaces
 use Rattle.space_core.specs.Changes.{IsLeastSlot, with_grant}
-use Rattle.space_core.proofs.Vacancy.{unowned-from_position}
+use Rattle.space_core.proofs.VacantSlots.{unowned-from_position}
 use Rattle.buddy_core.specs.Content as buddies
 use Rattle.slab_tables.specs.Content as tables
 use Rattle.machine_changes.specs.Slots.{HoldTogether, IsSpare, ChangesFor}
 use Rattle.machine_changes.proofs.SlotGranted.{granted_shows}
-use Rattle.machine_changes.proofs.SlotNext.{next_meets}
-use Rattle.machine_changes.proofs.SlotBare.{unowned_is_spare}
+use Rattle.machine_changes.proofs.NextSlot.{next_meets}
+use Rattle.machine_changes.proofs.NoSlabOnUnowned.{unowned_is_spare}
 use Rattle.kernel_core.specs.Content.{content_of, mark_after, KernelContent, PartsAgree}
 use Rattle.kernel_core.specs.Shows.{ShowsMachine, Shows}
 use Rattle.kernel_core.specs.Does.{Does, slot_grant_step}
-use Rattle.kernel_core.proofs.Changing.{marks_kept, marks_replaced, has_row, same_sizes}
+use Rattle.kernel_core.proofs.CallEffects.{marks_kept, marks_replaced, has_row, same_sizes}
 use Rattle.model_core.specs.Machine.{Machine}
 use Rattle.words_core.specs.declared.event.Event.TheVariants as On
 use Rattle.words_core.specs.declared.event.AdminCommand.TheVariants as Do
@@ -28,7 +28,7 @@ use Rattle.world_core.specs.World.{World, WorldStep, grant_step, world_step}
 use Rattle.world_core.proofs.MachineLists.{get_within}
 use Rattle.kernel_core.specs.Does as calls
 use Rattle.kernel_core.specs.Steps.{Steps}
-use Rattle.kernel_core.proofs.Worlds.{steps_done, steps_answered, unnamed}
+use Rattle.kernel_core.proofs.KernelToWorld.{steps_done, steps_answered, unnamed}
 
 -- the first superblock without owner is in no slot, and no slab begins on it
 pub free_is_spare : (r : spaces.Content) (b : buddies.Content) (s : tables.Content) (m : ℕ) → HoldTogether r b s → position is_none r.owners ≡ Some m → IsSpare b s m

@@ -12,13 +12,13 @@ use Rattle.buddy_core.specs.Content as buddies
 use Rattle.slab_tables.specs.Content as tables
 use Rattle.machine_changes.specs.Shows.{Agree}
 use Rattle.machine_changes.specs.Pages.{IsInReach, stored}
-use Rattle.machine_changes.proofs.PageHolds.{reach_bytes}
+use Rattle.machine_changes.proofs.PageReachHeld.{reach_bytes}
 use Rattle.machine_changes.proofs.Lookups.{some_same}
 use Rattle.kernel_core.specs.Content.{KernelContent, content_of}
 use Rattle.kernel_core.specs.Shows.{ShowsMachine}
 use Rattle.kernel_core.specs.Lending.{fit, bytes_in, with_left, IsLent}
-use Rattle.kernel_core.proofs.Changing.{steady}
-use Rattle.kernel_core.proofs.Fitting.{fit-same}
+use Rattle.kernel_core.proofs.CallEffects.{steady}
+use Rattle.kernel_core.proofs.LentSliceLength.{fit-same}
 use Rattle.kernel_core.proofs.PageCalls.{IsRequested, write_agrees, out_of_reach, within_reach}
 
 -- writing bytes over themselves changes nothing

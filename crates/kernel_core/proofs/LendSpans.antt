@@ -14,7 +14,7 @@ use Rattle.machine_changes.specs.Objects.{HasRange}
 use Rattle.machine_changes.specs.Pages.{IsInPage, IsInReach}
 use Rattle.machine_changes.specs.Steady.{IsSteady}
 use Rattle.machine_changes.proofs.Lookups.{some_none}
-use Rattle.machine_changes.proofs.PageBlocks.{block_decides, no_block_decides}
+use Rattle.machine_changes.proofs.PageReachByBlock.{block_decides, no_block_decides}
 use Rattle.slab_core.specs.Lending.{IsPageAt}
 use Rattle.words_core.specs.declared.event.Event.TheVariants as On
 use Rattle.words_core.specs.declared.event.Command.{Command}
@@ -27,8 +27,8 @@ use Rattle.kernel_core.specs.Content.{KernelContent, PartsAgree, content_of}
 use Rattle.kernel_core.specs.Steps.{Steps, StepsMachine}
 use Rattle.kernel_core.specs.Shows.{ShowsMachine}
 use Rattle.kernel_core.specs.Lending.{IsLive, HasBlock, IsBlockSpan, reply_for}
-use Rattle.kernel_core.proofs.Worlds.{unknown_tenant, steps_asked}
-use Rattle.kernel_core.proofs.Changing.{steady}
+use Rattle.kernel_core.proofs.KernelToWorld.{unknown_tenant, steps_asked}
+use Rattle.kernel_core.proofs.CallEffects.{steady}
 use Rattle.kernel_core.proofs.PageCalls.{block_slot, IsRequested, not_held, home_is}
 
 -- a taken block that is not a slab's

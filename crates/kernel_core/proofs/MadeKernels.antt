@@ -3,7 +3,7 @@ use Rattle.std.proofs.Common.{◌≡◌, ℕ, zero, suc, ◌+◌, ◌*◌, ◌/�
 use Rattle.std.specs.Prelude.{is_some, replicate, slice_index, IsSome}
 use Rattle.std.proofs.lemmas.Bool.{false≢true}
 use Rattle.model_core.specs.Blocks.{block, IsAligned, IsChoice}
-use Rattle.model_core.proofs.Choosing.{choice_is_found}
+use Rattle.model_core.proofs.BlockChoice.{choice_is_found}
 use Rattle.words_core.specs.declared.event.Event.TheVariants as On
 use Rattle.words_core.specs.declared.event.AdminCommand.TheVariants as Do
 use Rattle.words_core.specs.declared.event.Command.TheVariants.{Alloc, Read}
@@ -16,29 +16,29 @@ use Rattle.world_core.specs.World.{opening_world}
 use Rattle.space_core.specs.Content as spaces
 use Rattle.space_core.specs.Changes.{with_grant}
 use Rattle.space_core.specs.Windows.{home_of, bytes_under, byte_at, window_of}
-use Rattle.space_core.proofs.Changed.{granted-IsSpace}
-use Rattle.space_core.proofs.Empty.{empty_space-IsSpace}
-use Rattle.space_core.proofs.Laws.{laws_of}
-use Rattle.space_core.proofs.Vacancy.{unowned-from_position}
+use Rattle.space_core.proofs.InvariantKept.{granted-IsSpace}
+use Rattle.space_core.proofs.EmptySpace.{empty_space-IsSpace}
+use Rattle.space_core.proofs.SpaceLaws.{laws_of}
+use Rattle.space_core.proofs.VacantSlots.{unowned-from_position}
 use Rattle.buddy_core.specs.Content as buddies
 use Rattle.slab_tables.specs.Content as tables
-use Rattle.slab_tables.proofs.Keeping.{slabs_opening}
+use Rattle.slab_tables.proofs.InvariantKept.{slabs_opening}
 use Rattle.machine_changes.specs.Shows.{ShowsMachine, machine_frame_of, has_slab}
 use Rattle.machine_changes.specs.Slots.{HoldTogether}
 use Rattle.machine_changes.specs.Pages.{IsInReach}
-use Rattle.machine_changes.proofs.SlotEmpty.{none_in, opening_shows}
+use Rattle.machine_changes.proofs.EmptyTenant.{none_in, opening_shows}
 use Rattle.machine_changes.proofs.Lookups.{some_same}
 use Rattle.slab_core.proofs.ReserveByNeed.{found_choice, found_step}
-use Rattle.slab_core.proofs.ReserveOne.{IsServed, is_served}
+use Rattle.slab_core.proofs.ReserveBesideSlabs.{IsServed, is_served}
 use Rattle.kernel_core.specs.Content.{KernelContent, content_of, opening_content}
-use Rattle.kernel_core.proofs.Changing.{has_row, parts_agree, steady}
+use Rattle.kernel_core.proofs.CallEffects.{has_row, parts_agree, steady}
 use Rattle.kernel_core.proofs.Granting.{IsGrantable, buddy_after, changes, does_granted, granted_reply, steps_granted}
 use Rattle.kernel_core.proofs.PageCalls.{alloc_done, IsRequested, held, read_done}
 use Rattle.kernel_core.specs.Shows.{Shows}
 use Rattle.kernel_core.specs.Stores.{IsKernel, Loads}
 use Rattle.kernel_core.specs.Actions.{Runs, Acts, IsBooted}
 use Rattle.kernel_core.proofs.Witnesses.{opening_shown}
-use Rattle.kernel_core.proofs.Worlds.{steps_asked}
+use Rattle.kernel_core.proofs.KernelToWorld.{steps_asked}
 
 kernel_of : (r : spaces.Content) (b : buddies.Content) (s : tables.Content) → HoldTogether r b s → IsKernel (content_of r b s)
 kernel_of r b s together = record { agree = parts_agree r b s together; together = together }

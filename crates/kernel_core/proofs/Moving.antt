@@ -5,7 +5,7 @@ use Rattle.std.proofs.lemmas.Option.{slice_get_past}
 use Rattle.model_core.specs.Owners.{owned_by, is_owner}
 use Rattle.space_core.specs.Content as spaces
 use Rattle.space_core.specs.Changes.{with_move}
-use Rattle.space_core.proofs.Vacancy.{unowned-from_position}
+use Rattle.space_core.proofs.VacantSlots.{unowned-from_position}
 use Rattle.buddy_core.specs.Content as buddies
 use Rattle.slab_tables.specs.Content as tables
 use Rattle.slab_tables.specs.Changes.{IsMoved}
@@ -13,7 +13,7 @@ use Rattle.machine_changes.specs.Slots.{HoldTogether, ChangesFor}
 use Rattle.machine_changes.proofs.SlotMoved.{moved_shows}
 use Rattle.kernel_core.specs.Content.{MarksFollow, content_of, mark_after, KernelContent, PartsAgree, superblock_at}
 use Rattle.kernel_core.specs.Does.{Moves, no_step}
-use Rattle.kernel_core.proofs.Changing.{marks_kept, marks_replaced, has_row, same_sizes}
+use Rattle.kernel_core.proofs.CallEffects.{marks_kept, marks_replaced, has_row, same_sizes}
 use Rattle.kernel_core.proofs.Granting.{buddy_after}
 use Rattle.model_core.specs.declared.owner.Owner.{Owner}
 use Rattle.model_core.specs.Machine.{Machine, holds}
@@ -28,7 +28,7 @@ use Rattle.world_core.specs.World.{World, WorldStep, answer, given_up, moved_to,
 use Rattle.world_core.proofs.MachineLists.{slice_set-same, get_within}
 use Rattle.kernel_core.specs.Shows.{Shows}
 use Rattle.kernel_core.specs.Steps.{Steps}
-use Rattle.kernel_core.proofs.Worlds.{steps_done, steps_answered, unnamed}
+use Rattle.kernel_core.proofs.KernelToWorld.{steps_done, steps_answered, unnamed}
 use Rattle.kernel_core.proofs.Owners.{is_under, given_up_one}
 
 -- superblock `from` is in slot u of tenant t, and `to` is the first superblock without owner

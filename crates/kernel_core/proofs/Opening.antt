@@ -3,7 +3,7 @@ use Rattle.std.proofs.Common.{◌≡◌, ℕ, ◌<◌, ◌≤◌, ◌&&◌, nat_
 use Rattle.std.proofs.lemmas.List.{length-replicate}
 use Rattle.buddy_core.specs.Content as buddies
 use Rattle.machine_changes.specs.Shows.{Agree}
-use Rattle.machine_changes.proofs.SlotEmpty.{opening_shows}
+use Rattle.machine_changes.proofs.EmptyTenant.{opening_shows}
 use Rattle.kernel_core.specs.Content.{content_of, opening_content, PartsAgree}
 use Rattle.std.proofs.lemmas.Bool.{and_parts, leb-true}
 use Rattle.std.proofs.lemmas.Option.{slice_get_within, same_Some}

@@ -9,7 +9,7 @@ use Rattle.std.proofs.Math.ListN.{length-map}
 use Rattle.space_core.specs.Content as spaces
 use Rattle.model_core.specs.Owners.{owned_by, is_owner}
 use Rattle.world_core.specs.World.{given_up}
-use Rattle.world_core.proofs.Runs.{is_same}
+use Rattle.world_core.proofs.OwnListRuns.{is_same}
 use Rattle.machine_changes.proofs.Lookups.{some_none, some_same}
 
 -- an owner is determined by its tenant and its slot

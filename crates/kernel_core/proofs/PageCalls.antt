@@ -15,7 +15,7 @@ use Rattle.space_core.specs.Content as spaces
 use Rattle.buddy_core.specs.Content as buddies
 use Rattle.slab_tables.specs.Content as tables
 use Rattle.machine_changes.specs.Pages.{released, IsInReach, IsWritten, stored}
-use Rattle.machine_changes.proofs.PageTaken.{released_shows, released_agrees}
+use Rattle.machine_changes.proofs.PageReleased.{released_shows, released_agrees}
 use Rattle.machine_changes.specs.Shows.{Agree, frame_under, machine_frame_of, has_slab}
 use Rattle.machine_changes.specs.Steady.{IsSteady}
 use Rattle.std.specs.Prelude.{is_some}
@@ -24,8 +24,8 @@ use Rattle.machine_changes.specs.Keeps.{Spares}
 use Rattle.kernel_core.specs.Content.{KernelContent, content_of}
 use Rattle.kernel_core.specs.Shows.{ShowsMachine}
 use Rattle.kernel_core.specs.Steps.{StepsMachine, body_of}
-use Rattle.kernel_core.proofs.Changing.{steady}
-use Rattle.kernel_core.proofs.Commanding.{answered, called, by_none}
+use Rattle.kernel_core.proofs.CallEffects.{steady}
+use Rattle.kernel_core.proofs.CallsAsCommands.{answered, called, by_none}
 use Rattle.std.specs.List.{range_with_len}
 use Rattle.model_core.specs.Reach.{in_reach}
 use Rattle.model_core.specs.declared.refusals.ReadRefusal.{ReadRefusal}
@@ -34,7 +34,7 @@ use Rattle.space_core.specs.Windows.{is_in_slot, home_of, window_of}
 use Rattle.machine_changes.proofs.Lookups.{some_none}
 use Rattle.machine_changes.specs.Slots.{HoldTogether}
 use Rattle.machine_changes.proofs.PageReach.{reach_meets}
-use Rattle.machine_changes.proofs.PageHolds.{reach_reads, reach_held}
+use Rattle.machine_changes.proofs.PageReachHeld.{reach_reads, reach_held}
 use Rattle.machine_changes.proofs.PageWritten.{written_shows, written_agrees}
 
 large_is : (order o : ℕ) (m : Machine) → nat_lt order o ≡ true → alloc_step order o m ≡ record { answer = Err AllocRefusal.BadOrder; machine = m }

@@ -16,7 +16,7 @@ use Rattle.words_core.specs.declared.report.Report.{Report}
 use Rattle.world_core.specs.PrivateStep.{figures_of}
 use Rattle.kernel_core.specs.Content.{KernelContent, PartsAgree}
 use Rattle.kernel_core.specs.Shows.{ShowsMachine}
-use Rattle.kernel_core.proofs.Changing.{steady}
+use Rattle.kernel_core.proofs.CallEffects.{steady}
 
 abbrev row : ℕ → ℕ → OrderRow
 row free taken = record { free = free; taken = taken }

@@ -14,15 +14,15 @@ use Rattle.model_core.specs.Owners.{owned_by, is_of}
 use Rattle.kernel_core.specs.Content.{mark_after, MarksFollow, content_of, KernelContent, PartsAgree}
 use Rattle.kernel_core.specs.GivenUp.{GivesUp, owner_without}
 use Rattle.machine_changes.proofs.Lookups.{some_none}
-use Rattle.kernel_core.proofs.Changing.{marks_replaced, has_row, same_sizes}
+use Rattle.kernel_core.proofs.CallEffects.{marks_replaced, has_row, same_sizes}
 use Rattle.model_core.specs.Machine.{empty_machine, Machine}
 use Rattle.space_core.specs.Content as spaces
-use Rattle.space_core.proofs.Reading.{same_twice}
+use Rattle.space_core.proofs.BytesUnderSlots.{same_twice}
 use Rattle.buddy_core.specs.Content as buddies
 use Rattle.slab_tables.specs.Content as tables
 use Rattle.slab_tables.specs.Changes.{IsReset}
 use Rattle.machine_changes.specs.Slots.{HoldTogether, ChangesFor}
-use Rattle.machine_changes.proofs.SlotEmptied.{emptied_shows}
+use Rattle.machine_changes.proofs.TenantEmptied.{emptied_shows}
 use Rattle.kernel_core.specs.Does.{Does, machine_reset_step}
 use Rattle.words_core.specs.declared.event.Event.TheVariants as On
 use Rattle.words_core.specs.declared.event.AdminCommand.TheVariants as Do
@@ -32,11 +32,11 @@ use Rattle.words_core.specs.declared.reply.Body.TheVariants.{WasReset, Owners, R
 use Rattle.words_core.specs.declared.reply.Refusal.TheVariants.{NoTenant}
 use Rattle.world_core.specs.Limits.{cache_limit}
 use Rattle.world_core.specs.World.{World, WorldStep, answer, given_up, reset_step, world_step}
-use Rattle.world_core.proofs.Runs.{is_same, is_other}
+use Rattle.world_core.proofs.OwnListRuns.{is_same, is_other}
 use Rattle.kernel_core.specs.Does as calls
 use Rattle.kernel_core.specs.Shows.{Shows}
 use Rattle.kernel_core.specs.Steps.{Steps}
-use Rattle.kernel_core.proofs.Worlds.{steps_done, steps_answered, unnamed}
+use Rattle.kernel_core.proofs.KernelToWorld.{steps_done, steps_answered, unnamed}
 
 -- those of the first m superblocks that tenant t owned are taken back, `told` in number
 pub record IsGivingUp (old now : Content) (t m told : ℕ) : Type 0 where

@@ -8,18 +8,18 @@ use Rattle.words_core.specs.declared.reply.Addressee.TheVariants as To
 use Rattle.words_core.specs.declared.reply.Body.TheVariants.{Written}
 use Rattle.words_core.specs.declared.reply.Reply.{Reply}
 use Rattle.space_core.specs.Content as spaces
-use Rattle.space_core.proofs.Laws.{laws_of, with_window-IsSpace}
+use Rattle.space_core.proofs.SpaceLaws.{laws_of, with_window-IsSpace}
 use Rattle.buddy_core.specs.Content as buddies
 use Rattle.slab_tables.specs.Content as tables
 use Rattle.machine_changes.specs.Pages.{IsInReach, stored}
 use Rattle.machine_changes.specs.Slots.{HoldTogether}
-use Rattle.machine_changes.proofs.PageHolds.{reach_bytes}
+use Rattle.machine_changes.proofs.PageReachHeld.{reach_bytes}
 use Rattle.kernel_core.specs.Content.{KernelContent, content_of}
-use Rattle.kernel_core.proofs.Changing.{parts_agree, steady, with_space}
+use Rattle.kernel_core.proofs.CallEffects.{parts_agree, steady, with_space}
 use Rattle.kernel_core.proofs.PageCalls.{IsRequested, held, write_agrees, write_done}
 use Rattle.kernel_core.specs.Steps.{Steps}
 use Rattle.kernel_core.specs.Stores.{IsKernel, StoresAreWrites, LoadsAreOwn}
-use Rattle.kernel_core.proofs.Worlds.{steps_asked}
+use Rattle.kernel_core.proofs.KernelToWorld.{steps_asked}
 
 abbrev write_of : ℕ → List ℕ → Command
 write_of place bytes = Write place (record { items = bytes })

@@ -16,7 +16,7 @@ use Rattle.machine_changes.proofs.SlotBusy.{busy_meets}
 use Rattle.kernel_core.specs.Content.{KernelContent, content_of, mark_after, superblock_at, PartsAgree}
 use Rattle.kernel_core.specs.Shows.{ShowsMachine, Shows}
 use Rattle.kernel_core.specs.Does.{Does}
-use Rattle.kernel_core.proofs.Changing.{marks_kept, marks_replaced, does_nothing, has_row, same_sizes}
+use Rattle.kernel_core.proofs.CallEffects.{marks_kept, marks_replaced, does_nothing, has_row, same_sizes}
 use Rattle.model_core.specs.declared.owner.Owner.{Owner}
 use Rattle.std.specs.List.{position_or_len}
 use Rattle.model_core.specs.Owners.{is_owner}
@@ -31,7 +31,7 @@ use Rattle.world_core.specs.Limits.{cache_limit}
 use Rattle.world_core.specs.World.{World, WorldStep, given_up, take_back_answered, slot_step, world_step}
 use Rattle.world_core.proofs.MachineLists.{get_within}
 use Rattle.kernel_core.specs.Steps.{Steps}
-use Rattle.kernel_core.proofs.Worlds.{steps_done, steps_answered, unnamed}
+use Rattle.kernel_core.proofs.KernelToWorld.{steps_done, steps_answered, unnamed}
 use Rattle.kernel_core.proofs.Owners.{is_under, found_under, given_up_one}
 
 -- some frame of slot u of tenant t is taken

@@ -2,8 +2,8 @@
 use Rattle.std.proofs.Common.{ℕ, ◌≤◌, refl, arith}
 use Rattle.std.proofs.lemmas.List.{length-replicate}
 use Rattle.model_core.specs.declared.limits.TheConstants.{MOST_SUPERBLOCKS, MOST_TENANTS}
-use Rattle.space_core.proofs.Empty.{empty_space-IsSpace}
-use Rattle.machine_changes.proofs.SlotEmpty.{opening_shows}
+use Rattle.space_core.proofs.EmptySpace.{empty_space-IsSpace}
+use Rattle.machine_changes.proofs.EmptyTenant.{opening_shows}
 use Rattle.world_core.specs.World.{opening_world}
 use Rattle.kernel_core.specs.Content.{PartsAgree, opening_content}
 use Rattle.kernel_core.specs.Shows.{Shows}

@@ -4,7 +4,7 @@ use Rattle.std.specs.Prelude.{◌≢◌}
 use Rattle.std.proofs.lemmas.Bool.{cases_lt, cases_eq}
 use Rattle.klist_core.specs.Links.{IsNearest, IsAfter, IsChain}
 use Rattle.klist_core.proofs.Directions.{IsDirection, IsKeyed, IsGreatest, IsLastBelow}
-use Rattle.klist_core.proofs.Changes.{IsPut, IsBetween, same_list, same_key, others_kept_large, others_kept_small, kept_large, kept_small, joined_large, joined_small}
+use Rattle.klist_core.proofs.NearestChanged.{IsPut, IsBetween, same_list, same_key, others_kept_large, others_kept_small, kept_large, kept_small, joined_large, joined_small}
 
 -- the link after `before` in list h is now `to`, and of the other links only that of node n has changed
 pub record IsRelinked (ends links ends' links' : ℕ → Option ℕ) (h n : ℕ) (before to : Option ℕ) : Type 0 where

@@ -4,7 +4,7 @@ use Rattle.std.proofs.lemmas.Bool.{cases_lt, cases_eq, eq-eqb, ne_eqb}
 use Rattle.std.specs.Prelude.{◌≢◌}
 use Rattle.klist_core.specs.Places.{IsByKey, place_at}
 use Rattle.klist_core.specs.Links.{IsLeastFrom, IsNearest, IsChain, back_from, ranked, ranks}
-use Rattle.klist_core.proofs.Changes.{IsPut, same_list, same_key, nearest_same}
+use Rattle.klist_core.proofs.NearestChanged.{IsPut, same_list, same_key, nearest_same}
 
 -- the rank of a node that is now inserted into list h under the key k
 abbrev pub rank_in : ℕ → ℕ → ℕ → ℕ

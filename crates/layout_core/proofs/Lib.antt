@@ -1,7 +1,7 @@
-pub mod Objects
-pub mod Fits
-pub mod Bytes
-pub mod Orders
-pub mod Repeating
+pub mod ObjectByChunk
+pub mod ObjectsFit
+pub mod PatternBytes
+pub mod SlabOrders
+pub mod RepeatedBytes
 pub mod Reciprocals
 pub mod Witnesses

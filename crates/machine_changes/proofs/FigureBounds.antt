@@ -10,9 +10,9 @@ use Rattle.std.proofs.lemmas.List.Sums.{sum_by_more, count_by-le-length}
 use Rattle.std.proofs.lemmas.Nat.{mul-le, pow_pos}
 use Rattle.model_core.specs.Blocks.{block, IsSound}
 use Rattle.model_core.specs.Choice.{is_free, count_below}
-use Rattle.model_core.proofs.Apart.{has_first}
+use Rattle.model_core.proofs.BlocksApart.{has_first}
 use Rattle.model_core.proofs.BlocksByNumber.{number_of_frame, same_slot}
-use Rattle.model_core.proofs.Counting.{bit, count_le}
+use Rattle.model_core.proofs.CountBelow.{bit, count_le}
 use Rattle.buddy_core.specs.Content as buddies
 use Rattle.machine_changes.specs.Figures.{frames_below, FiguresFit}
 use Rattle.machine_changes.proofs.FigureOrders.{size, sizes_by_order, frames_rise}

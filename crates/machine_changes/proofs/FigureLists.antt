@@ -11,10 +11,10 @@ use Rattle.buddy_core.specs.Content as buddies
 use Rattle.slab_tables.specs.Content.{Content}
 use Rattle.machine_changes.specs.Shows.{machine_frame_of, has_slab, ShowsMachine}
 use Rattle.machine_changes.specs.Steady.{IsSteady}
-use Rattle.machine_changes.proofs.Facts.{has_it, one_slab}
+use Rattle.machine_changes.proofs.SlabFacts.{has_it, one_slab}
 use Rattle.machine_changes.proofs.Lookups.{some_none, in_found}
-use Rattle.machine_changes.proofs.Reserved.{order_found}
-use Rattle.machine_changes.proofs.Taken.{slab_kept}
+use Rattle.machine_changes.proofs.PageReserved.{order_found}
+use Rattle.machine_changes.proofs.TakenBlocks.{slab_kept}
 use Rattle.machine_changes.proofs.FigureSums.{AreKeyed, rising_keyed, append_keyed, mapped_keyed}
 
 abbrev pub first : Block → ℕ

@@ -10,8 +10,8 @@ use Rattle.model_core.specs.Choice.{free_blocks}
 use Rattle.model_core.specs.Machine.{Machine, holds, beyond, taken_blocks, order_in, taken_in}
 use Rattle.model_core.specs.WellFormed.{RisesFrom}
 use Rattle.model_core.specs.Reports.{frames_taken, free_count, taken_count}
-use Rattle.model_core.proofs.Chosen.{held_below}
-use Rattle.model_core.proofs.Counting.{bit, blocks_either}
+use Rattle.model_core.proofs.ChosenBlock.{held_below}
+use Rattle.model_core.proofs.CountBelow.{bit, blocks_either}
 use Rattle.model_core.specs.Elements.{IsIn}
 use Rattle.model_core.proofs.Lists.{any_in, any_none, each_from}
 use Rattle.space_core.specs.Content as spaces
@@ -19,7 +19,7 @@ use Rattle.buddy_core.specs.Content as buddies
 use Rattle.slab_tables.specs.Content.{Content}
 use Rattle.machine_changes.specs.Shows.{ShowsMachine, Agree}
 use Rattle.machine_changes.specs.Steady.{IsSteady}
-use Rattle.machine_changes.proofs.Taken.{order_none, taken_meets}
+use Rattle.machine_changes.proofs.TakenBlocks.{order_none, taken_meets}
 use Rattle.machine_changes.specs.Figures.{FiguresMeet, frames_below}
 use Rattle.machine_changes.proofs.FigureSums.{AreKeyed, rising_keyed, sum_tabled}
 use Rattle.machine_changes.proofs.FigureOrders.{size, sizes_by_order, frames_sum}

@@ -6,7 +6,7 @@ use Rattle.std.proofs.lemmas.Bool.{cases_eq, cases_lt, eq-eqb, ne_eqb}
 use Rattle.std.proofs.lemmas.List.Sums.{sum_by-cons}
 use Rattle.model_core.specs.Blocks.{Block}
 use Rattle.model_core.specs.CacheOperations.{frames_of}
-use Rattle.model_core.proofs.Counting.{bit}
+use Rattle.model_core.proofs.CountBelow.{bit}
 use Rattle.buddy_core.specs.Content.{has_order}
 use Rattle.machine_changes.specs.Figures.{frames_in}
 

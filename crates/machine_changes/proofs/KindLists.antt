@@ -3,12 +3,12 @@ use Rattle.std.proofs.Common.{ℕ, List, map, subst}
 use Rattle.std.specs.Prelude.{filter}
 use Rattle.model_core.specs.Elements.{IsIn}
 use Rattle.model_core.proofs.Lists.{filter_in, in_filter, filter_rises, in_map, map_in}
-use Rattle.model_core.proofs.Rising.{same_members}
+use Rattle.model_core.proofs.RisingLists.{same_members}
 use Rattle.klist_core.specs.Lists as lists
-use Rattle.klist_core.proofs.Listing.{list_rises, in_list, listed, key_among}
+use Rattle.klist_core.proofs.KeyNodePairs.{list_rises, in_list, listed, key_among}
 use Rattle.slab_tables.specs.Content.{head_of}
 use Rattle.machine_changes.specs.Laws.{is_kind, KindsHold}
-use Rattle.machine_changes.proofs.ByKind.{to_list, from_list}
+use Rattle.machine_changes.proofs.SlabsByKind.{to_list, from_list}
 
 -- membership in a list, as the model defines it
 pub in_among : {X : Type 0} (x : X) (xs : List X) → IsIn x xs → IsIn x xs

@@ -6,7 +6,7 @@ use Rattle.model_core.specs.Machine.{order_in}
 use Rattle.model_core.specs.WellFormed.{RisesFrom}
 use Rattle.model_core.specs.Elements.{IsIn}
 use Rattle.machine_changes.proofs.Lookups.{at, found_kept, in_found, through}
-use Rattle.machine_changes.proofs.Reserved.{order_found}
+use Rattle.machine_changes.proofs.PageReserved.{order_found}
 
 -- lookups in a list of blocks after the block at a frame is removed
 pub order_less : (f : ℕ) (bs : List Block) (g : ℕ) → order_in (filter (λ x. not (x.first == f)) bs) g ≡ cond (g == f) None (order_in bs g)

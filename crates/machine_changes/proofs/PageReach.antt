@@ -16,12 +16,12 @@ use Rattle.machine_changes.specs.Shows.{is_live, ShowsMachine}
 use Rattle.machine_changes.specs.Steady.{IsSteady}
 use Rattle.machine_changes.specs.Changes.{Found, found}
 use Rattle.machine_changes.proofs.Lookups.{some_same, in_found}
-use Rattle.machine_changes.proofs.Facts.{shown, cache_shown, slab_in}
-use Rattle.machine_changes.proofs.Flags.{length_flags, flag_at}
-use Rattle.machine_changes.proofs.Objects.{object_of, live_object, object_kept}
+use Rattle.machine_changes.proofs.SlabFacts.{shown, cache_shown, slab_in}
+use Rattle.machine_changes.proofs.ObjectFlags.{length_flags, flag_at}
+use Rattle.machine_changes.proofs.LiveObjects.{object_of, live_object, object_kept}
 use Rattle.machine_changes.specs.Objects.{HasRange}
 use Rattle.machine_changes.specs.Pages.{IsInReach, ReachMeets}
-use Rattle.machine_changes.proofs.PageBlocks.{page_tells, page_from}
+use Rattle.machine_changes.proofs.PageReachByBlock.{page_tells, page_from}
 
 module _ (r : spaces.Content) (b : buddies.Content) (s : Content) (t place len : ℕ) (m : Machine) (st : IsSteady r b s t) (h : ShowsMachine r b s t m) where
   -- a range inside a live object of the machine is inside one of the tables

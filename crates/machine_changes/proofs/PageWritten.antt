@@ -19,11 +19,11 @@ use Rattle.machine_changes.specs.Records.{count_true}
 use Rattle.machine_changes.specs.Shows.{machine_frame_of, byte_or_zero, record_byte, live_of, slab_at, is_inside, IsSlab, IsAgreed, ShowsMachine, Agree}
 use Rattle.machine_changes.specs.Keeps.{Spares}
 use Rattle.machine_changes.specs.Steady.{IsSteady}
-use Rattle.machine_changes.proofs.Facts.{one_slab, one_first, one_stays, all_stay, record_inside, same_slab}
-use Rattle.machine_changes.proofs.Objects.{fit_of}
-use Rattle.machine_changes.proofs.Steady.{slab_from}
+use Rattle.machine_changes.proofs.SlabFacts.{one_slab, one_first, one_stays, all_stay, record_inside, same_slab}
+use Rattle.machine_changes.proofs.LiveObjects.{fit_of}
+use Rattle.machine_changes.proofs.SteadyParts.{slab_from}
 use Rattle.machine_changes.specs.Pages.{IsInReach, stored, WrittenShows, WrittenAgrees}
-use Rattle.machine_changes.proofs.PageHolds.{byte_of, page_outside, object_inside, reach_held, mapped_in_reach}
+use Rattle.machine_changes.proofs.PageReachHeld.{byte_of, page_outside, object_inside, reach_held, mapped_in_reach}
 use Rattle.machine_changes.proofs.PageHoldings.{same_caches}
 
 module _ (r : spaces.Content) (b : buddies.Content) (s : Content) (t place : ℕ) (new : List ℕ) (laws : SpaceLaws r) (a : Agree r b s)

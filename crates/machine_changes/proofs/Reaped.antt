@@ -8,7 +8,7 @@ use Rattle.machine_changes.specs.Shows.{ShowsMachine}
 use Rattle.machine_changes.specs.Changes.{kept_slabs, gone_blocks, returned}
 use Rattle.machine_changes.specs.Laws.{ReapedShows}
 use Rattle.machine_changes.proofs.Lookups.{in_found}
-use Rattle.machine_changes.proofs.Returned.{returned_shows}
+use Rattle.machine_changes.proofs.SlabsReturned.{returned_shows}
 
 -- tests that agree on each element filter a list alike
 

@@ -10,17 +10,17 @@ use Rattle.model_core.specs.Machine.{Machine, slab_block, slab_blocks, taken_blo
 use Rattle.model_core.specs.Operations.{overlaps, is_busy}
 use Rattle.model_core.specs.Elements.{IsIn}
 use Rattle.model_core.proofs.Lists.{some_any, in_append, map_in, flat_map_in}
-use Rattle.model_core.proofs.Apart.{overlap_from}
+use Rattle.model_core.proofs.BlocksApart.{overlap_from}
 use Rattle.space_core.specs.Content as spaces
 use Rattle.buddy_core.specs.Content as buddies
 use Rattle.slab_tables.specs.Content.{Content}
 use Rattle.machine_changes.specs.Shows.{machine_frame_of, has_slab, ShowsMachine}
 use Rattle.machine_changes.specs.Steady.{IsSteady}
 use Rattle.machine_changes.proofs.Lookups.{some_none, some_same, in_found}
-use Rattle.machine_changes.proofs.Reserved.{order_found}
-use Rattle.machine_changes.proofs.Taken.{slab_kept, taken_meets}
+use Rattle.machine_changes.proofs.PageReserved.{order_found}
+use Rattle.machine_changes.proofs.TakenBlocks.{slab_kept, taken_meets}
 use Rattle.machine_changes.specs.Slots.{BusyMeets}
-use Rattle.machine_changes.proofs.SlotBare.{steady_of}
+use Rattle.machine_changes.proofs.NoSlabOnUnowned.{steady_of}
 
 -- Blocks that share a frame
 

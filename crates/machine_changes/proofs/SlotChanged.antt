@@ -7,7 +7,7 @@ use Rattle.std.proofs.Math.Nat.{div-div-eq-div-mul}
 use Rattle.model_core.specs.Machine.{Machine, slot_of}
 use Rattle.model_core.specs.WellFormed.{RisesFrom}
 use Rattle.model_core.specs.declared.limits.TheConstants.{MOST_CACHES}
-use Rattle.model_core.proofs.Rising.{has}
+use Rattle.model_core.proofs.RisingLists.{has}
 use Rattle.klist_core.specs.Places.{place_at}
 use Rattle.space_core.specs.Content as spaces
 use Rattle.space_core.specs.Windows.{byte_at}
@@ -17,8 +17,8 @@ use Rattle.slab_tables.specs.Content.{Content, IsSlabs, kept_at, cache_at, cache
 use Rattle.machine_changes.specs.Shows.{frame_under, machine_frame_of, byte_or_zero, record_byte, slab_at, has_slab, IsSlab, ShowsMachine, IsAgreed, Agree}
 use Rattle.machine_changes.specs.Steady.{IsSteady}
 use Rattle.machine_changes.proofs.Lookups.{through}
-use Rattle.machine_changes.proofs.Facts.{has_it, same_slab, live_stays, no_slab_under, slot_inside}
-use Rattle.machine_changes.proofs.SlotAgreed.{agreed_still}
+use Rattle.machine_changes.proofs.SlabFacts.{has_it, same_slab, live_stays, no_slab_under, slot_inside}
+use Rattle.machine_changes.proofs.SlotPartsAgree.{agreed_still}
 
 -- dividing a place by the size of a superblock in bytes gives its slot
 pub slot_by_unit : (unit top place : ℕ) → unit ≡ 4096 * 2 ^ top → place / unit ≡ slot_of top place

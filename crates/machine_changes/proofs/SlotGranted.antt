@@ -7,7 +7,7 @@ use Rattle.std.proofs.lemmas.Nat.{mod_below, pow_pos}
 use Rattle.model_core.specs.Machine.{Machine, put_rising, slot_of}
 use Rattle.model_core.specs.Operations.{next_slot, after_grant}
 use Rattle.model_core.specs.Owners.{owned_by}
-use Rattle.model_core.proofs.Rising.{has}
+use Rattle.model_core.proofs.RisingLists.{has}
 use Rattle.space_core.specs.Content as spaces
 use Rattle.space_core.specs.Changes.{IsLeastSlot, with_grant}
 use Rattle.space_core.specs.Windows.{byte_at}
@@ -18,10 +18,10 @@ use Rattle.machine_changes.specs.Shows.{frame_under, has_slab, ShowsMachine}
 use Rattle.machine_changes.specs.Keeps.{Keeps}
 use Rattle.machine_changes.specs.Slots.{HoldTogether, GrantedShows}
 use Rattle.machine_changes.proofs.SlotLists.{has_put, put_still_rises}
-use Rattle.machine_changes.proofs.SlotNext.{next_meets}
-use Rattle.machine_changes.proofs.SlotAgreed.{IsLocal, agree_of, keeps_untabled}
+use Rattle.machine_changes.proofs.NextSlot.{next_meets}
+use Rattle.machine_changes.proofs.SlotPartsAgree.{IsLocal, agree_of, keeps_untabled}
 use Rattle.machine_changes.proofs.SlotChanged.{IsReslotted, slot_by_unit, mine_agreed, reslotted_shows}
-use Rattle.machine_changes.proofs.SlotBare.{steady_of, tenant_of, unowned_bare}
+use Rattle.machine_changes.proofs.NoSlabOnUnowned.{steady_of, tenant_of, unowned_bare}
 use Rattle.machine_changes.proofs.SlotHoldings.{slots_with}
 
 module _ (r : spaces.Content) (b : buddies.Content) (s : Content) (t u m : ℕ) (h : HoldTogether r b s) (tenant : t < length r.slots)

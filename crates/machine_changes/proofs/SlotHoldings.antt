@@ -5,9 +5,9 @@ use Rattle.std.proofs.lemmas.Bool.{eq-eqb, ne_eqb, cases_eq}
 use Rattle.space_core.specs.Content as spaces
 use Rattle.buddy_core.specs.Content as buddies
 use Rattle.slab_tables.specs.Content.{Content}
-use Rattle.machine_changes.proofs.Steady.{within}
+use Rattle.machine_changes.proofs.SteadyParts.{within}
 use Rattle.machine_changes.specs.Slots.{HoldTogether}
-use Rattle.machine_changes.proofs.SlotBare.{tenant_of}
+use Rattle.machine_changes.proofs.NoSlabOnUnowned.{tenant_of}
 
 replaced : (xs : List (Option ℕ)) (u : ℕ) (x : Option ℕ) (v : ℕ) → u < length xs
     → slice_index_or (slice_set xs u x) v None ≡ cond (eqb v u) x (slice_index_or xs v None)

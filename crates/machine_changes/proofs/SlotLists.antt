@@ -6,7 +6,7 @@ use Rattle.std.proofs.lemmas.List.{map-id}
 use Rattle.model_core.specs.Machine.{put_rising, least_missing}
 use Rattle.model_core.specs.WellFormed.{RisesFrom}
 use Rattle.model_core.proofs.Lists.{any_in, each_from, put_rises, filter_rises, none_of}
-use Rattle.model_core.proofs.Rising.{has, none_below}
+use Rattle.model_core.proofs.RisingLists.{has, none_below}
 use Rattle.machine_changes.proofs.Lookups.{eq_turned, found_put, found_kept, through}
 
 -- u, if it is one of these slots

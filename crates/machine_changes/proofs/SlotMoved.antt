@@ -19,11 +19,11 @@ use Rattle.slab_tables.specs.Changes.{IsMoved}
 use Rattle.machine_changes.specs.Shows.{frame_under, machine_frame_of, byte_or_zero, record_byte, IsAgreed, ShowsMachine}
 use Rattle.machine_changes.specs.Keeps.{Keeps}
 use Rattle.machine_changes.proofs.Lookups.{some_none, some_same}
-use Rattle.machine_changes.proofs.Facts.{superblock_of_machine_frame, frame_of_machine_frame, under_is}
+use Rattle.machine_changes.proofs.SlabFacts.{superblock_of_machine_frame, frame_of_machine_frame, under_is}
 use Rattle.machine_changes.specs.Slots.{HoldTogether, MovedShows}
-use Rattle.machine_changes.proofs.SlotAgreed.{IsLocal, agree_of, agreed_still}
-use Rattle.machine_changes.proofs.SlotBare.{tenant_of, slab_there, is_owned}
-use Rattle.machine_changes.proofs.SlotCarried.{IsSameSlab, SameSlab, IsCarried, carried_shows}
+use Rattle.machine_changes.proofs.SlotPartsAgree.{IsLocal, agree_of, agreed_still}
+use Rattle.machine_changes.proofs.NoSlabOnUnowned.{tenant_of, slab_there, is_owned}
+use Rattle.machine_changes.proofs.SlabsMoved.{IsSameSlab, SameSlab, IsCarried, carried_shows}
 use Rattle.machine_changes.proofs.SlotHoldings.{slots_with, slot_below}
 
 module _ (r : spaces.Content) (b : buddies.Content) (s s' : Content) (t u from to : ℕ) (h : HoldTogether r b s) (tenant : t < length r.slots)

@@ -7,7 +7,7 @@ use Rattle.std.proofs.lemmas.Nat.{div-add-mod', mod_below, pow_pos}
 use Rattle.model_core.specs.Blocks.{block, slot_block, HasFrame, HasTaken}
 use Rattle.model_core.specs.Machine.{Machine}
 use Rattle.model_core.specs.Operations.{after_take_back}
-use Rattle.model_core.proofs.Apart.{has_first}
+use Rattle.model_core.proofs.BlocksApart.{has_first}
 use Rattle.space_core.specs.Content as spaces
 use Rattle.space_core.specs.Changes.{with_take_back}
 use Rattle.space_core.specs.Windows.{byte_at}
@@ -17,11 +17,11 @@ use Rattle.slab_tables.specs.Content.{Content, layout_numbers}
 use Rattle.machine_changes.specs.Shows.{frame_under, machine_frame_of, has_slab, ShowsMachine}
 use Rattle.machine_changes.specs.Steady.{IsSteady}
 use Rattle.machine_changes.specs.Keeps.{Keeps}
-use Rattle.machine_changes.proofs.Facts.{some_slab}
+use Rattle.machine_changes.proofs.SlabFacts.{some_slab}
 use Rattle.machine_changes.specs.Slots.{HoldTogether, TakenBackShows}
 use Rattle.machine_changes.proofs.SlotLists.{has_less, less_still_rises}
-use Rattle.machine_changes.proofs.SlotAgreed.{IsLocal, agree_of, keeps_untabled}
-use Rattle.machine_changes.proofs.SlotBare.{steady_of, tenant_of}
+use Rattle.machine_changes.proofs.SlotPartsAgree.{IsLocal, agree_of, keeps_untabled}
+use Rattle.machine_changes.proofs.NoSlabOnUnowned.{steady_of, tenant_of}
 use Rattle.machine_changes.proofs.SlotChanged.{IsReslotted, slot_by_unit, mine_agreed, reslotted_shows}
 use Rattle.machine_changes.proofs.SlotHoldings.{slots_with, slot_below}
 

@@ -7,7 +7,7 @@ use Rattle.std.proofs.lemmas.Bool.{false≢true, both_ways, and_parts, and_from,
 use Rattle.model_core.specs.Blocks.{Block, block, HasFrame, around, Taken, IsTaken, HasTaken, IsFree}
 use Rattle.model_core.specs.Numbered.{number_at, is_clear, IsOpen}
 use Rattle.model_core.specs.Choice.{is_any_below, has_frame, is_taken, is_available}
-use Rattle.model_core.proofs.Halves.{clear_at, clear_from, clear_fails, same_above}
+use Rattle.model_core.proofs.BlockHalves.{clear_at, clear_from, clear_fails, same_above}
 
 -- numbers and divisions -------------------------------------------------------------------------
 

@@ -14,14 +14,14 @@ use Rattle.model_core.specs.Laws.{makes_slab_at}
 use Rattle.model_core.specs.ByteLaws.{writes, AllocKeeps, FreeKeeps, TakeKeeps, GiveKeeps, BytesStay, RunsKeepBytes}
 use Rattle.model_core.specs.Elements.{IsIn}
 use Rattle.model_core.proofs.Lists.{each_weaker, each_filtered, Found, found, PutIn, put_in, any_map, any_none, any_split, none_of}
-use Rattle.model_core.proofs.ByNeed.{by_need_keeps, by_need_found}
+use Rattle.model_core.proofs.ReapingByNeed.{by_need_keeps, by_need_found}
 use Rattle.model_core.proofs.Outcomes.{alloc_outcome, take_outcome, outcome}
-use Rattle.model_core.proofs.Apart.{one_side}
-use Rattle.model_core.proofs.Laid.{Laid, laid, all_laid, laid_block, in_laid, in_laid_object, in_slab_laid, IsLaidOut, laid_out}
+use Rattle.model_core.proofs.BlocksApart.{one_side}
+use Rattle.model_core.proofs.LaidSlabs.{Laid, laid, all_laid, laid_block, in_laid, in_laid_object, in_slab_laid, IsLaidOut, laid_out}
 use Rattle.model_core.proofs.MemoryKept.{any_put, no_object, slab_held}
-use Rattle.model_core.proofs.Split.{filter_laid, laid_of, slab_blocks_laid, is_empty_laid, kept_laid, gone_laid}
+use Rattle.model_core.proofs.SlabAmongOthers.{filter_laid, laid_of, slab_blocks_laid, is_empty_laid, kept_laid, gone_laid}
 use Rattle.model_core.proofs.CacheSteps.{IsGrown, grown_is, IsMade, made}
-use Rattle.model_core.proofs.Constructed.{grown_byte, next_unheld}
+use Rattle.model_core.proofs.ConstructedObjects.{grown_byte, next_unheld}
 use Rattle.model_core.proofs.SlabsLeave.{flagged_same}
 use Rattle.model_core.proofs.WellFormedRuns.{keeps_well_formed}
 

@@ -14,11 +14,11 @@ use Rattle.model_core.specs.WellFormed.{RisesFrom, IsApart, IsCut, IsCache, IsWe
 use Rattle.model_core.proofs.Layouts.{layouts_fit}
 use Rattle.model_core.specs.Elements.{IsIn}
 use Rattle.model_core.proofs.Lists.{each_left, each_right, each_put, each_less, each_middle, each_weaker, each_in, each_unmap, each_from, Found, found, found_replaced, PutIn, put_in, put_rises, in_left, in_right, in_map}
-use Rattle.model_core.proofs.Apart.{apart_first}
-use Rattle.model_core.proofs.Chosen.{chosen_apart, chosen_placed}
-use Rattle.model_core.proofs.Laid.{Laid, laid, laid_in, all_laid, laid_block, IsLaidOut, taken_laid, laid_out, Numbered, well_formed}
+use Rattle.model_core.proofs.BlocksApart.{apart_first}
+use Rattle.model_core.proofs.ChosenBlock.{chosen_apart, chosen_placed}
+use Rattle.model_core.proofs.LaidSlabs.{Laid, laid, laid_in, all_laid, laid_block, IsLaidOut, taken_laid, laid_out, Numbered, well_formed}
 use Rattle.model_core.proofs.MemoryKept.{with_flags, flags_set, slab_put}
-use Rattle.model_core.proofs.Split.{in_middle, laid_parts}
+use Rattle.model_core.proofs.SlabAmongOthers.{in_middle, laid_parts}
 use Rattle.model_core.proofs.PageSteps.{by_need_kept}
 
 pub in_all_laid : (c : Cache) (s : Slab) (cs : List Cache) → IsIn c cs → IsIn s c.slabs → IsIn (laid c s) (all_laid cs)

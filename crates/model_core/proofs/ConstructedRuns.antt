@@ -17,14 +17,14 @@ use Rattle.model_core.specs.WellFormed.{IsWellFormed}
 use Rattle.model_core.specs.Laws.{Object, IsObject, place_of, makes_slab_at, hands_out, hand_outs, ConstructedFirst, ConstructedWhenTaken}
 use Rattle.model_core.specs.Elements.{IsIn}
 use Rattle.model_core.proofs.Lists.{each_in}
-use Rattle.model_core.proofs.ByNeed.{by_need_keeps}
+use Rattle.model_core.proofs.ReapingByNeed.{by_need_keeps}
 use Rattle.model_core.proofs.Outcomes.{outcome}
-use Rattle.model_core.proofs.Laid.{laid, all_laid}
+use Rattle.model_core.proofs.LaidSlabs.{laid, all_laid}
 use Rattle.model_core.proofs.PageSteps.{created_laid}
 use Rattle.model_core.proofs.CacheSteps.{IsMade, made}
 use Rattle.model_core.proofs.Objects.{live_is}
 use Rattle.model_core.proofs.ObjectsApart.{IsLaidObject, laid_object}
-use Rattle.model_core.proofs.Constructed.{IsFresh, AllFresh, IsConstructed, AllConstructed, fresh_constructed, constructed_flagged, fresh_written, fresh_flagged, fresh_grown, fresh_destroyed, fresh_reaped, fresh_granted, fresh_taken_back}
+use Rattle.model_core.proofs.ConstructedObjects.{IsFresh, AllFresh, IsConstructed, AllConstructed, fresh_constructed, constructed_flagged, fresh_written, fresh_flagged, fresh_grown, fresh_destroyed, fresh_reaped, fresh_granted, fresh_taken_back}
 use Rattle.model_core.proofs.WellFormedRuns.{keeps_well_formed, runs_well_formed}
 
 -- the machine after the operation is fresh there, or in constructed state if an object that begins at the place was handed out

@@ -9,8 +9,8 @@ use Rattle.model_core.specs.Blocks.{Block, block, HasFrame, around, Taken, with_
 use Rattle.model_core.specs.Numbered.{number_at, IsOpen}
 use Rattle.model_core.specs.Choice.{is_available}
 use Rattle.model_core.specs.BlockLaws.{EachFrameInOne, Splits, ReservedIsUntaken}
-use Rattle.model_core.proofs.Halves.{open_around, one_open, same_above}
-use Rattle.model_core.proofs.TakeOut.{TakesOut, IsOtherHalf, open_after, open_stays, open_half}
+use Rattle.model_core.proofs.BlockHalves.{open_around, one_open, same_above}
+use Rattle.model_core.proofs.BlockTakenOut.{TakesOut, IsOtherHalf, open_after, open_stays, open_half}
 use Rattle.model_core.proofs.BlocksByNumber.{number_is, first_is, same_first, number_first, aligned_first, number_around, aligned_below, number_of_frame, frame_of_number, same_slot, available_tells, available_is, taken_is_unavailable, free_is_open, open_is_free}
 
 -- aligned blocks of the same order and number are the same

@@ -1,11 +1,11 @@
 pub mod BlockRows
-pub mod Halves
-pub mod TakeOut
+pub mod BlockHalves
+pub mod BlockTakenOut
 pub mod BlocksByNumber
 pub mod FreeBlocks
-pub mod Joining
-pub mod Choosing
-pub mod Counting
+pub mod BuddyJoins
+pub mod BlockChoice
+pub mod CountBelow
 mod LayoutRows
 mod RowAnswers
 mod PageRows
@@ -13,15 +13,15 @@ mod CacheRows
 mod ReapingRows
 pub mod Layouts
 pub mod Lists
-pub mod Rising
-pub mod ByNeed
+pub mod RisingLists
+pub mod ReapingByNeed
 pub mod Outcomes
-pub mod Apart
-pub mod Chosen
+pub mod BlocksApart
+pub mod ChosenBlock
 pub mod TakenSteps
-pub mod Laid
+pub mod LaidSlabs
 pub mod MemoryKept
-pub mod Split
+pub mod SlabAmongOthers
 pub mod PageSteps
 pub mod CacheSteps
 pub mod Objects
@@ -29,12 +29,12 @@ pub mod ByteSteps
 pub mod WellFormedRuns
 pub mod ObjectsApart
 pub mod SlabBlocks
-pub mod Constructed
+pub mod ConstructedObjects
 pub mod ConstructedRuns
 pub mod BytesStay
 pub mod WritesAlone
 pub mod SlabsLeave
-pub mod Vacant
+pub mod VacantBlocks
 pub mod Room
 pub mod Witnesses
 mod WitnessesObjects

@@ -14,8 +14,8 @@ use Rattle.model_core.specs.WellFormed.{IsApart, AreApart}
 use Rattle.model_core.proofs.BlocksByNumber.{number_of_frame, same_slot}
 use Rattle.model_core.specs.Elements.{IsIn}
 use Rattle.model_core.proofs.Lists.{each_put, each_less, each_middle, each_weaker, each_both, each_filtered, each_filter, each_in, each_map, each_unmap, any_append, any_none, none_any, some_any, any_map, any_split, or_turned}
-use Rattle.model_core.proofs.Apart.{apart_turned, in_block-true, apart_any, Across, apart_put, apart_filter, one_side}
-use Rattle.model_core.proofs.Laid.{Laid, laid_layout, laid_block, in_laid, in_laid_object, Placed, mapped_by, IsCutLaid, IsLaidOut}
+use Rattle.model_core.proofs.BlocksApart.{apart_turned, in_block-true, apart_any, Across, apart_put, apart_filter, one_side}
+use Rattle.model_core.proofs.LaidSlabs.{Laid, laid_layout, laid_block, in_laid, in_laid_object, Placed, mapped_by, IsCutLaid, IsLaidOut}
 
 pub any_put : {X : Type 0} (p : X → Bool) (xs ys : List X) (x : X) → list_any p (xs ++ x ∷ ys) ≡ (p x || list_any p (xs ++ ys))
 any_put p xs ys x = any_append p xs (x ∷ ys) ∙ (or_turned (list_any p xs) (p x) (list_any p ys) ∙ ap (λ b. p x || b) (sym (any_append p xs ys)))

@@ -13,8 +13,8 @@ use Rattle.model_core.specs.Reach.{is_within, within_block, within_object, withi
 use Rattle.model_core.specs.WellFormed.{IsApart, IsWellFormed}
 use Rattle.model_core.specs.Elements.{IsIn}
 use Rattle.model_core.proofs.Lists.{each_in, each_unmap, some_any, any_in, any_none, each_weaker, in_append}
-use Rattle.model_core.proofs.Apart.{in_block-from, apart_place}
-use Rattle.model_core.proofs.Laid.{Laid, laid, all_laid, laid_layout, laid_block, in_laid, in_laid_object, IsCutLaid, IsLaidOut, laid_out}
+use Rattle.model_core.proofs.BlocksApart.{in_block-from, apart_place}
+use Rattle.model_core.proofs.LaidSlabs.{Laid, laid, all_laid, laid_layout, laid_block, in_laid, in_laid_object, IsCutLaid, IsLaidOut, laid_out}
 use Rattle.model_core.proofs.MemoryKept.{place_held}
 use Rattle.model_core.proofs.CacheSteps.{in_all_laid}
 

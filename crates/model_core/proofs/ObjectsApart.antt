@@ -10,8 +10,8 @@ use Rattle.model_core.specs.WellFormed.{RisesFrom, IsApart, AreApart, IsCache, I
 use Rattle.model_core.specs.Laws.{TakenApart, Object, IsObject, place_of, HasByte, ObjectsApart, RecordsFree}
 use Rattle.model_core.specs.Elements.{IsIn}
 use Rattle.model_core.proofs.Lists.{each_in, rises_above}
-use Rattle.model_core.proofs.Apart.{in_block-true, one_holder}
-use Rattle.model_core.proofs.Laid.{Laid, laid, all_laid, laid_layout, laid_block, IsCutLaid, laid_out}
+use Rattle.model_core.proofs.BlocksApart.{in_block-true, one_holder}
+use Rattle.model_core.proofs.LaidSlabs.{Laid, laid, all_laid, laid_layout, laid_block, IsCutLaid, laid_out}
 use Rattle.model_core.proofs.CacheSteps.{in_all_laid}
 use Rattle.model_core.proofs.Objects.{IsByte, IsByteOf, byte_is_of, fit_of}
 

@@ -19,7 +19,7 @@ use Rattle.model_core.specs.Runs.{Operation, Alloc, Free, Write, Create, Take, G
 use Rattle.model_core.specs.Laws.{block_of_growth, made_block, RefusalsStay}
 use Rattle.model_core.specs.Elements.{IsIn}
 use Rattle.model_core.proofs.Lists.{find_in, in_map}
-use Rattle.model_core.proofs.ByNeed.{by_need_keeps, by_need_none}
+use Rattle.model_core.proofs.ReapingByNeed.{by_need_keeps, by_need_none}
 
 -- Slabs that are used and made
 

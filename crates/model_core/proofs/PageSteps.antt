@@ -15,12 +15,12 @@ use Rattle.model_core.specs.CacheOperations.{created, next_number}
 use Rattle.model_core.specs.WellFormed.{RisesFrom, IsApart, IsCut, IsCache, IsWellFormed}
 use Rattle.model_core.specs.Elements.{IsIn}
 use Rattle.model_core.proofs.Lists.{each_left, each_right, each_put, each_weaker, each_filter, each_map, each_unmap, any_none, none_any, Found, found, PutIn, put_in, put_rises, filter_rises, least_is_missing}
-use Rattle.model_core.proofs.ByNeed.{by_need_keeps}
-use Rattle.model_core.proofs.Apart.{apart_first}
-use Rattle.model_core.proofs.Chosen.{chosen_apart, chosen_placed}
-use Rattle.model_core.proofs.Laid.{all_laid, laid_block, IsLaidOut, taken_laid, laid_out, Numbered, well_formed}
+use Rattle.model_core.proofs.ReapingByNeed.{by_need_keeps}
+use Rattle.model_core.proofs.BlocksApart.{apart_first}
+use Rattle.model_core.proofs.ChosenBlock.{chosen_apart, chosen_placed}
+use Rattle.model_core.proofs.LaidSlabs.{all_laid, laid_block, IsLaidOut, taken_laid, laid_out, Numbered, well_formed}
 use Rattle.model_core.proofs.MemoryKept.{block_put, blocks_filtered, given_back, slot_put, slot_gone}
-use Rattle.model_core.proofs.Split.{laid_without, filter_laid, laid_of, is_empty_laid, kept_laid, gone_laid, slab_blocks_laid}
+use Rattle.model_core.proofs.SlabAmongOthers.{laid_without, filter_laid, laid_of, is_empty_laid, kept_laid, gone_laid, slab_blocks_laid}
 
 pub empty_kept : {limit : ℕ} (order : ℕ) → IsWellFormed limit order empty_machine
 unfolding empty_machine

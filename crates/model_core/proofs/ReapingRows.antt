@@ -9,7 +9,7 @@ use Rattle.model_core.specs.Reach.{in_reach}
 use Rattle.model_core.specs.Operations.{refuse, alloc_step, read_step, next_slot, after_grant}
 use Rattle.model_core.specs.CacheOperations.{create_step, cache_step, next_number, take_step, give_step, reap_step}
 use Rattle.model_core.specs.Runs.{Operation, Alloc, Create, Take, Give, Reap, Grant}
-use Rattle.model_core.proofs.ByNeed.{alloc_reaps}
+use Rattle.model_core.proofs.ReapingByNeed.{alloc_reaps}
 use Rattle.model_core.proofs.RowAnswers.{number_of, numbers, machine_after}
 
 -- a page block is refused while an object is live in its frames, and is allocated once the object is given back

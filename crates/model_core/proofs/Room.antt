@@ -20,9 +20,9 @@ use Rattle.model_core.specs.Room.{BlockIsPromised, AllocIsPromised, TakeIsPromis
 use Rattle.model_core.specs.Elements.{IsIn}
 use Rattle.model_core.proofs.Lists.{each_in, in_filter, none_any, some_any, any_in, rises_more, in_left, in_right, in_map, in_append}
 use Rattle.model_core.proofs.BlocksByNumber.{number_is, number_first, number_of_frame, aligned_first}
-use Rattle.model_core.proofs.Chosen.{held_below}
-use Rattle.model_core.proofs.ByNeed.{by_need_found, by_need_reaps}
-use Rattle.model_core.proofs.Vacant.{IsVacant, some_choice}
+use Rattle.model_core.proofs.ChosenBlock.{held_below}
+use Rattle.model_core.proofs.ReapingByNeed.{by_need_found, by_need_reaps}
+use Rattle.model_core.proofs.VacantBlocks.{IsVacant, some_choice}
 
 -- Lists of numbers
 

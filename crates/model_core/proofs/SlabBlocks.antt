@@ -10,10 +10,10 @@ use Rattle.model_core.specs.Slabs.{new_slab, grown, empty_blocks, reaped}
 use Rattle.model_core.specs.WellFormed.{IsApart, AreApart}
 use Rattle.model_core.specs.Laws.{GrowthTakes, ReapReleases}
 use Rattle.model_core.proofs.Lists.{each_left, each_right, each_map, each_unmap, each_filter}
-use Rattle.model_core.proofs.Rising.{order_in-middle, none_found}
-use Rattle.model_core.proofs.Chosen.{chosen_apart}
-use Rattle.model_core.proofs.Laid.{Laid, laid, all_laid, laid_block, taken_laid}
-use Rattle.model_core.proofs.Split.{is_empty_laid, kept_laid, gone_laid}
+use Rattle.model_core.proofs.RisingLists.{order_in-middle, none_found}
+use Rattle.model_core.proofs.ChosenBlock.{chosen_apart}
+use Rattle.model_core.proofs.LaidSlabs.{Laid, laid, all_laid, laid_block, taken_laid}
+use Rattle.model_core.proofs.SlabAmongOthers.{is_empty_laid, kept_laid, gone_laid}
 use Rattle.model_core.proofs.CacheSteps.{IsGrown, grown_is}
 use Rattle.model_core.proofs.ObjectsApart.{contains_in}
 use Rattle.model_core.proofs.TakenSteps.{apart_firsts}

@@ -11,15 +11,15 @@ use Rattle.model_core.specs.WellFormed.{in_slab, IsWellFormed}
 use Rattle.model_core.specs.ByteLaws.{SlabsLeaveZeroes}
 use Rattle.model_core.specs.Elements.{IsIn}
 use Rattle.model_core.proofs.Lists.{Found, found, any_append, any_map, any_split}
-use Rattle.model_core.proofs.ByNeed.{by_need_keeps}
+use Rattle.model_core.proofs.ReapingByNeed.{by_need_keeps}
 use Rattle.model_core.proofs.Outcomes.{outcome}
-use Rattle.model_core.proofs.Laid.{Laid, laid, all_laid, laid_block, in_laid, in_slab_laid}
+use Rattle.model_core.proofs.LaidSlabs.{Laid, laid, all_laid, laid_block, in_laid, in_slab_laid}
 use Rattle.model_core.proofs.MemoryKept.{any_put, with_flags}
-use Rattle.model_core.proofs.Split.{filter_laid, laid_of, slab_blocks_laid, is_empty_laid, kept_laid, gone_laid}
+use Rattle.model_core.proofs.SlabAmongOthers.{filter_laid, laid_of, slab_blocks_laid, is_empty_laid, kept_laid, gone_laid}
 use Rattle.model_core.proofs.PageSteps.{created_laid}
 use Rattle.model_core.proofs.CacheSteps.{IsFlagged, flagged, IsGrown, grown_is, IsMade, made}
 use Rattle.model_core.proofs.Objects.{live_is}
-use Rattle.model_core.proofs.Constructed.{grown_byte}
+use Rattle.model_core.proofs.ConstructedObjects.{grown_byte}
 
 -- the place is still in a slab
 abbrev Still : ℕ → Machine → Type 0

@@ -12,10 +12,10 @@ use Rattle.model_core.specs.WellFormed.{IsApart, AreApart, IsPlaced}
 use Rattle.model_core.specs.Laws.{TakenSound, AllocTakes, FreeReleases}
 use Rattle.model_core.specs.Elements.{IsIn}
 use Rattle.model_core.proofs.Lists.{each_in, each_left, each_weaker, PutIn, put_in}
-use Rattle.model_core.proofs.Rising.{order_in-middle, none_found}
-use Rattle.model_core.proofs.Apart.{apart_first, one_holder}
-use Rattle.model_core.proofs.Chosen.{chosen_apart}
-use Rattle.model_core.proofs.Laid.{all_laid, laid_block, taken_laid, laid_out}
+use Rattle.model_core.proofs.RisingLists.{order_in-middle, none_found}
+use Rattle.model_core.proofs.BlocksApart.{apart_first, one_holder}
+use Rattle.model_core.proofs.ChosenBlock.{chosen_apart}
+use Rattle.model_core.proofs.LaidSlabs.{all_laid, laid_block, taken_laid, laid_out}
 use Rattle.model_core.proofs.Outcomes.{alloc_outcome}
 use Rattle.model_core.proofs.PageSteps.{by_need_kept}
 

@@ -17,7 +17,7 @@ use Rattle.model_core.specs.Runs.{Operation, Alloc, Create, Take, Give, Grant, A
 use Rattle.model_core.specs.WellFormed.{IsApart, IsWellFormed}
 use Rattle.model_core.specs.Laws.{ChoiceIsUntaken, ChoicesMeet, AllocReaps, TakeReaps, RefusalsStay, KeepsWellFormed, RunsWellFormed, TakenApart, TakenSound, AllocTakes, FreeReleases, GrowthTakes, ReapReleases}
 use Rattle.model_core.specs.Room.{IsAmple, BlockIsPromised, AllocIsPromised, TakeIsPromised}
-use Rattle.model_core.proofs.Choosing.{choice_is_found}
+use Rattle.model_core.proofs.BlockChoice.{choice_is_found}
 use Rattle.model_core.proofs.WellFormedRuns.{runs_well_formed}
 use Rattle.model_core.proofs.RowAnswers.{machine_after}
 

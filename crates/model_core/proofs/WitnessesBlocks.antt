@@ -11,8 +11,8 @@ use Rattle.model_core.specs.Slabs.{grown_cache, grown, slab_to_use, reaped, by_n
 use Rattle.model_core.specs.Operations.{alloc_step, next_slot, after_grant}
 use Rattle.model_core.specs.CacheOperations.{create_step, cache_step, next_number, take_step}
 use Rattle.model_core.specs.Runs.{Alloc, Grant}
-use Rattle.model_core.proofs.Choosing.{free_is_tested, choice_is_found}
-use Rattle.model_core.proofs.Chosen.{held_below, choice_is_untaken}
+use Rattle.model_core.proofs.BlockChoice.{free_is_tested, choice_is_found}
+use Rattle.model_core.proofs.ChosenBlock.{held_below, choice_is_untaken}
 use Rattle.model_core.proofs.TakenSteps.{taken_sound}
 use Rattle.model_core.proofs.Witnesses.{well_formed_left, machine, is_well_formed}
 use Rattle.model_core.proofs.RowAnswers.{machine_after}

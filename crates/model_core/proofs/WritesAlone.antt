@@ -13,17 +13,17 @@ use Rattle.model_core.specs.WellFormed.{IsApart, IsWellFormed}
 use Rattle.model_core.specs.ByteLaws.{writes, WritesAlone}
 use Rattle.model_core.specs.Elements.{IsIn}
 use Rattle.model_core.proofs.Lists.{in_filter, each_in, Found, found, any_map, any_split, none_any, in_left, in_right, in_map}
-use Rattle.model_core.proofs.ByNeed.{by_need_keeps}
+use Rattle.model_core.proofs.ReapingByNeed.{by_need_keeps}
 use Rattle.model_core.proofs.Outcomes.{outcome}
-use Rattle.model_core.proofs.Apart.{in_block-true, apart_place}
-use Rattle.model_core.proofs.Chosen.{chosen_apart}
-use Rattle.model_core.proofs.Laid.{Laid, laid, all_laid, laid_block, in_laid, Placed, IsCutLaid, taken_laid, laid_out}
+use Rattle.model_core.proofs.BlocksApart.{in_block-true, apart_place}
+use Rattle.model_core.proofs.ChosenBlock.{chosen_apart}
+use Rattle.model_core.proofs.LaidSlabs.{Laid, laid, all_laid, laid_block, in_laid, Placed, IsCutLaid, taken_laid, laid_out}
 use Rattle.model_core.proofs.MemoryKept.{frame_slot, place_held}
-use Rattle.model_core.proofs.Split.{laid_of, slab_blocks_laid, is_empty_laid, gone_laid}
+use Rattle.model_core.proofs.SlabAmongOthers.{laid_of, slab_blocks_laid, is_empty_laid, gone_laid}
 use Rattle.model_core.proofs.PageSteps.{by_need_kept, not_busy}
 use Rattle.model_core.proofs.CacheSteps.{in_all_laid}
 use Rattle.model_core.proofs.Objects.{byte_is_of, IsPageByte, IsLiveByte, reached, live_byte, page_apart}
-use Rattle.model_core.proofs.Constructed.{grown_byte, not_gone, next_unheld}
+use Rattle.model_core.proofs.ConstructedObjects.{grown_byte, not_gone, next_unheld}
 use Rattle.model_core.proofs.ObjectsApart.{one_key}
 
 -- What is in reach lies in a taken block

@@ -1,5 +1,5 @@
-pub mod Alone
-pub mod Kept
-pub mod Lines
+pub mod OwnListAlone
+pub mod KeptLines
+pub mod OneMoreLine
 pub mod Superblocks
 pub mod Witnesses

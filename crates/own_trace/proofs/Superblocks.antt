@@ -7,7 +7,7 @@ use Rattle.std.proofs.Math.Bool.{or-true}
 use Rattle.model_core.specs.declared.owner.Owner.{Owner}
 use Rattle.model_core.specs.Owners.{is_of, is_owner}
 use Rattle.world_core.specs.World.{given_up}
-use Rattle.promise_kept.proofs.Owning.{pool_empty, pool_first, one_owner, nobodys, some_free}
+use Rattle.promise_kept.proofs.SuperblockOwners.{pool_empty, pool_first, one_owner, nobodys, some_free}
 
 abbrev pub Owners : Type 0
 Owners = List (Option Owner)

@@ -1,4 +1,4 @@
-pub mod Reading
-mod Rows
-pub mod Sound
-pub mod Texts
+pub mod SettingsRead
+mod CommandLineRows
+pub mod FindingOfNewMachine
+pub mod JoinedTexts

@@ -1,4 +1,4 @@
-pub mod Keeping
-pub mod Noting
-pub mod Promising
-pub mod Writing
+pub mod OwnRunOutcome
+pub mod NotedRun
+pub mod PromisesKept
+pub mod ReplayOutcome

@@ -24,7 +24,7 @@ use Rattle.world_core.specs.Laws.{HaveSameOwnList, opening_history}
 use Rattle.kernel_core.specs.Content.{KernelContent, opening_content}
 use Rattle.kernel_core.specs.Shows.{Shows}
 use Rattle.kernel_core.specs.Steps.{Steps}
-use Rattle.kernel_core.proofs.Worlds.{steps_answered, one_world}
+use Rattle.kernel_core.proofs.KernelToWorld.{steps_answered, one_world}
 use Rattle.kernel_core.proofs.Witnesses.{opening_shown}
 use Rattle.streams.specs.Lines.{IsOneLine}
 use Rattle.partmem_c.specs.Lines.{AnswersLine}

@@ -2,4 +2,4 @@ pub mod CellLemmas
 pub mod MarkLemmas
 pub mod PictureLemmas
 pub mod TextLemmas
-pub mod Writing
+pub mod JoinedTexts

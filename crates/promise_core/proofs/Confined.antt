@@ -25,10 +25,10 @@ use Rattle.promise_core.specs.State.{State, Known, opening_state, opening, is_in
 use Rattle.promise_core.specs.Promises.{is_no_tenant, named, owners, bytes, allowed, all_allowed}
 use Rattle.promise_core.specs.Laws.{gives_pattern, writes_byte, grants_slot, was_given, was_written, is_own, Confined}
 use Rattle.promise_core.specs.Lying.{AreOfHeld}
-use Rattle.promise_core.proofs.Allowed.{ok_same, allowed_is}
-use Rattle.promise_core.proofs.Explained.{own, IsExplained, own_written, own_more, may_own, each_may}
+use Rattle.promise_core.proofs.AllowedReplies.{ok_same, allowed_is}
+use Rattle.promise_core.proofs.ExplainedBytes.{own, IsExplained, own_written, own_more, may_own, each_may}
 use Rattle.promise_core.proofs.Steps.{in_put, replicated, some_state, some_number, none_named, states_at, same_cells, without_cells, object_cells, range_cells, doubted_cells}
-use Rattle.promise_core.proofs.Reached.{AllLaid, allowed_laid, opening_laid}
+use Rattle.promise_core.proofs.ReachedStates.{AllLaid, allowed_laid, opening_laid}
 
 -- Lists
 

@@ -14,10 +14,10 @@ use Rattle.model_core.specs.WellFormed.{IsApart, IsWellFormed}
 use Rattle.model_core.specs.Laws.{Object, IsObject, place_of}
 use Rattle.model_core.specs.Elements.{IsIn}
 use Rattle.model_core.proofs.Lists.{each_in, any_with, in_right, in_map, in_flat_map}
-use Rattle.model_core.proofs.Apart.{apart_place, apart_turned}
-use Rattle.model_core.proofs.Chosen.{chosen_apart}
+use Rattle.model_core.proofs.BlocksApart.{apart_place, apart_turned}
+use Rattle.model_core.proofs.ChosenBlock.{chosen_apart}
 use Rattle.model_core.proofs.ObjectsApart.{contains_in}
-use Rattle.model_core.proofs.ByNeed.{by_need_none}
+use Rattle.model_core.proofs.ReapingByNeed.{by_need_none}
 use Rattle.model_core.proofs.PageSteps.{by_need_kept}
 use Rattle.words_core.specs.declared.event.Event.TheVariants as On
 use Rattle.words_core.specs.declared.event.Command.TheVariants as Command
@@ -30,9 +30,9 @@ use Rattle.promise_core.specs.Bytes.{Holder, is_same, without}
 use Rattle.promise_core.specs.State.{State, state_after}
 use Rattle.promise_core.specs.Promises.{due}
 use Rattle.promise_kept.specs.Meets.{holdings_of, is_object_live, Meets, IsKeptBy, IsPromiseKept}
-use Rattle.promise_kept.proofs.Stand.{by_need_stands, room_served}
-use Rattle.promise_kept.proofs.Cells.{all_kept, formed, without_some, without_may, refused}
-use Rattle.promise_kept.proofs.Reaped.{untold, by_need_meets, object_in_slab}
+use Rattle.promise_kept.proofs.SeenBlocks.{by_need_stands, room_served}
+use Rattle.promise_kept.proofs.PlaceCells.{all_kept, formed, without_some, without_may, refused}
+use Rattle.promise_kept.proofs.KnownAfterReaping.{untold, by_need_meets, object_in_slab}
 
 -- the cells of objects in this block
 abbrev left_there : Block → ℕ → Holder → Bool

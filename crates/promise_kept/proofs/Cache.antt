@@ -13,7 +13,7 @@ use Rattle.model_core.specs.CacheOperations.{created, next_number, create_step, 
 use Rattle.model_core.specs.WellFormed.{RisesFrom, IsWellFormed}
 use Rattle.model_core.specs.Elements.{IsIn}
 use Rattle.model_core.proofs.Lists.{in_put, any_with, each_map, least_is_missing}
-use Rattle.model_core.proofs.Laid.{in_slab_laid, in_laid}
+use Rattle.model_core.proofs.LaidSlabs.{in_slab_laid, in_laid}
 use Rattle.model_core.proofs.ObjectsApart.{contains_in, in_contains}
 use Rattle.model_core.proofs.PageSteps.{created_laid}
 use Rattle.promise_core.specs.Holdings.{KnownCache, Holdings, known_cache}
@@ -29,7 +29,7 @@ use Rattle.words_core.specs.declared.reply.Body.TheVariants as Say
 use Rattle.words_core.specs.declared.reply.Refusal.{Refusal}
 use Rattle.world_core.specs.PrivateStep.{cache_body, command_step}
 use Rattle.promise_core.specs.Promises.{due}
-use Rattle.promise_kept.proofs.Cells.{all_kept, formed, refused}
+use Rattle.promise_kept.proofs.PlaceCells.{all_kept, formed, refused}
 
 -- The smallest number that no cache has
 

@@ -17,9 +17,9 @@ use Rattle.model_core.specs.Laws.{Object, IsObject, place_of}
 use Rattle.model_core.specs.Elements.{IsIn}
 use Rattle.model_core.proofs.Lists.{Found, found, find_in, filter_in, in_filter, any_in, any_map, any_split, some_any, each_map, each_true, in_map, in_flat_map}
 use Rattle.model_core.proofs.ObjectsApart.{contains_in, in_contains}
-use Rattle.model_core.proofs.Laid.{Laid, laid, all_laid, laid_block, in_laid, in_slab_laid, laid_out}
-use Rattle.model_core.proofs.Split.{filter_laid, laid_of, slab_blocks_laid}
-use Rattle.model_core.proofs.Constructed.{not_gone}
+use Rattle.model_core.proofs.LaidSlabs.{Laid, laid, all_laid, laid_block, in_laid, in_slab_laid, laid_out}
+use Rattle.model_core.proofs.SlabAmongOthers.{filter_laid, laid_of, slab_blocks_laid}
+use Rattle.model_core.proofs.ConstructedObjects.{not_gone}
 use Rattle.model_core.proofs.CacheSteps.{in_all_laid}
 use Rattle.words_core.specs.declared.event.Command.TheVariants as Command
 use Rattle.words_core.specs.declared.report.Report.{Report}
@@ -30,16 +30,16 @@ use Rattle.promise_core.specs.Holdings.{vacant_blocks}
 use Rattle.promise_core.specs.Bytes.{Holder, is_object, may_be, without}
 use Rattle.promise_core.specs.State.{State, state_after}
 use Rattle.promise_core.specs.Promises.{due, can_come_back, empty_frames}
-use Rattle.promise_core.proofs.Causes.{listed_some}
+use Rattle.promise_core.proofs.RefusalCauses.{listed_some}
 use Rattle.promise_kept.specs.Meets.{cache_as_known, holdings_of, is_object_live, Meets, IsKeptBy, IsPromiseKept}
-use Rattle.promise_kept.proofs.Seen.{none_live}
-use Rattle.promise_kept.proofs.Stand.{one_live}
-use Rattle.promise_kept.proofs.Cells.{without_some, without_may, fresh_may, refused}
-use Rattle.promise_kept.proofs.Reaped.{slab_no_page, object_in_slab}
-use Rattle.promise_kept.proofs.Live.{apart_in}
-use Rattle.promise_kept.proofs.Known.{seen, seen_is, cache_seen, IsLiveIn, live_told, told_live}
-use Rattle.promise_kept.proofs.Counts.{empty_vacant}
-use Rattle.promise_kept.proofs.Frames.{frames_divide, empty_of, told_frames}
+use Rattle.promise_kept.proofs.EmptySlabsUnseen.{none_live}
+use Rattle.promise_kept.proofs.SeenBlocks.{one_live}
+use Rattle.promise_kept.proofs.PlaceCells.{without_some, without_may, fresh_may, refused}
+use Rattle.promise_kept.proofs.KnownAfterReaping.{slab_no_page, object_in_slab}
+use Rattle.promise_kept.proofs.LiveObjects.{apart_in}
+use Rattle.promise_kept.proofs.KnownCaches.{seen, seen_is, cache_seen, IsLiveIn, live_told, told_live}
+use Rattle.promise_kept.proofs.EmptySlabFrames.{empty_vacant}
+use Rattle.promise_kept.proofs.FramesReturned.{frames_divide, empty_of, told_frames}
 
 -- a cache without live objects
 

@@ -25,7 +25,7 @@ use Rattle.promise_core.specs.Bytes.{Holder, is_same, doubted}
 use Rattle.promise_core.specs.State.{State, state_after}
 use Rattle.promise_core.specs.Promises.{due}
 use Rattle.promise_kept.specs.Meets.{holdings_of, is_object_live, Meets, IsKeptBy, IsPromiseKept}
-use Rattle.promise_kept.proofs.Cells.{all_kept, formed, doubt_may, doubt_lives, refused}
+use Rattle.promise_kept.proofs.PlaceCells.{all_kept, formed, doubt_may, doubt_lives, refused}
 
 -- the page cells of this block
 abbrev freed_there : Block → ℕ → Holder → Bool

@@ -16,7 +16,7 @@ use Rattle.model_core.proofs.ObjectsApart.{contains_in, one_key, in_contains}
 use Rattle.model_core.proofs.CacheSteps.{live_kept}
 use Rattle.model_core.proofs.SlabsLeave.{flagged_same}
 use Rattle.model_core.proofs.Objects.{IsLive, live_is}
-use Rattle.model_core.proofs.Rising.{same_members}
+use Rattle.model_core.proofs.RisingLists.{same_members}
 use Rattle.words_core.specs.declared.event.Command.TheVariants as Command
 use Rattle.words_core.specs.declared.reply.Body.TheVariants as Say
 use Rattle.words_core.specs.declared.reply.Refusal.{Refusal}
@@ -26,10 +26,10 @@ use Rattle.promise_core.specs.Bytes.{Holder, is_same, may_be, doubted}
 use Rattle.promise_core.specs.State.{State, state_after}
 use Rattle.promise_core.specs.Promises.{due}
 use Rattle.promise_kept.specs.Meets.{cache_as_known, holdings_of, is_object_live, Meets, IsKeptBy, IsPromiseKept}
-use Rattle.promise_kept.proofs.Live.{IsSlab, slabs_of, live_rises, IsLivePlace, live_place, place_listed}
-use Rattle.promise_kept.proofs.Flag.{replaced_is, replaced_one, live_after, live_other, WasObject, was_object, caches_known}
-use Rattle.promise_kept.proofs.Cells.{doubt_may, doubt_lives, refused}
-use Rattle.promise_kept.proofs.Known.{seen, seen_is, cache_seen, live_told, told_live, live_replaced}
+use Rattle.promise_kept.proofs.LiveObjects.{IsSlab, slabs_of, live_rises, IsLivePlace, live_place, place_listed}
+use Rattle.promise_kept.proofs.ObjectFlag.{replaced_is, replaced_one, live_after, live_other, WasObject, was_object, caches_known}
+use Rattle.promise_kept.proofs.PlaceCells.{doubt_may, doubt_lives, refused}
+use Rattle.promise_kept.proofs.KnownCaches.{seen, seen_is, cache_seen, live_told, told_live, live_replaced}
 
 abbrev gone : ℕ → List ℕ → List ℕ
 gone place ps = filter (λ p. not (eqb p place)) ps

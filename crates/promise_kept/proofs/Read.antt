@@ -12,8 +12,8 @@ use Rattle.model_core.specs.Reach.{in_reach}
 use Rattle.model_core.specs.Operations.{Step, refuse, read_step}
 use Rattle.model_core.specs.WellFormed.{IsWellFormed}
 use Rattle.model_core.specs.Laws.{place_of}
-use Rattle.model_core.proofs.Apart.{in_block-from}
-use Rattle.model_core.proofs.Laid.{laid_out, in_slab_laid}
+use Rattle.model_core.proofs.BlocksApart.{in_block-from}
+use Rattle.model_core.proofs.LaidSlabs.{laid_out, in_slab_laid}
 use Rattle.model_core.proofs.Objects.{IsPageByte, page_apart, reached, reached_mapped, within_is}
 use Rattle.model_core.proofs.ObjectsApart.{contains_in}
 use Rattle.model_core.proofs.Lists.{none_of, some_of}
@@ -28,10 +28,10 @@ use Rattle.promise_core.specs.Bytes.{Holder, Cells, known_fresh_byte, may_be, ma
 use Rattle.promise_core.specs.State.{State, with_range, state_after}
 use Rattle.promise_core.specs.Promises.{due}
 use Rattle.promise_kept.specs.Meets.{cache_as_known, Meets, IsKeptBy, IsPromiseKept}
-use Rattle.promise_kept.proofs.Cells.{all_kept, formed, refused}
-use Rattle.promise_kept.proofs.Range.{IsHolder, holder_is, range_meets}
+use Rattle.promise_kept.proofs.PlaceCells.{all_kept, formed, refused}
+use Rattle.promise_kept.proofs.RangeHolders.{IsHolder, holder_is, range_meets}
 use Rattle.promise_kept.proofs.Write.{reach_seen}
-use Rattle.promise_kept.proofs.Known.{cache_known}
+use Rattle.promise_kept.proofs.KnownCaches.{cache_known}
 
 -- the bytes of a range, if each of its places has one
 read_all : (bytes : ℕ → Option ℕ) (place len : ℕ) → ((p : ℕ) → place ≤ p → p < place + len → is_some (bytes p) ≡ true)

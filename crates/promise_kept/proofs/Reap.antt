@@ -24,14 +24,14 @@ use Rattle.promise_core.specs.Holdings.{known_cache, slab_around, vacant_blocks}
 use Rattle.promise_core.specs.Bytes.{Holder, is_object, without}
 use Rattle.promise_core.specs.State.{State, is_in_use, is_in_no_slab, state_after}
 use Rattle.promise_core.specs.Promises.{due, can_come_back, empty_frames}
-use Rattle.promise_core.proofs.Causes.{listed_some}
+use Rattle.promise_core.proofs.RefusalCauses.{listed_some}
 use Rattle.promise_kept.specs.Meets.{cache_as_known, holdings_of, Meets, IsPromiseKept}
-use Rattle.promise_kept.proofs.Stand.{one_live, slab_seen}
-use Rattle.promise_kept.proofs.Cells.{all_kept, without_some, without_may}
-use Rattle.promise_kept.proofs.Reaped.{untold, meets_reaped, object_in_slab}
-use Rattle.promise_kept.proofs.Known.{seen, seen_is, cache_known}
-use Rattle.promise_kept.proofs.Counts.{empty_vacant, empty_apart}
-use Rattle.promise_kept.proofs.Frames.{IsLeast, least_order, frames_divide, told_frames}
+use Rattle.promise_kept.proofs.SeenBlocks.{one_live, slab_seen}
+use Rattle.promise_kept.proofs.PlaceCells.{all_kept, without_some, without_may}
+use Rattle.promise_kept.proofs.KnownAfterReaping.{untold, meets_reaped, object_in_slab}
+use Rattle.promise_kept.proofs.KnownCaches.{seen, seen_is, cache_known}
+use Rattle.promise_kept.proofs.EmptySlabFrames.{empty_vacant, empty_apart}
+use Rattle.promise_kept.proofs.FramesReturned.{IsLeast, least_order, frames_divide, told_frames}
 
 module _ (limit order : ℕ) (m : Machine) (s : State) (w : IsWellFormed limit order m) (h : Meets order s m) (k : Meets order (seen m s) m) where
   comes_back : can_come_back order (holdings_of m).caches (frames_of (flat_map empty_blocks m.caches)) (seen m s) ≡ true

@@ -15,7 +15,7 @@ use Rattle.model_core.specs.CacheOperations.{frames_of}
 use Rattle.model_core.specs.Reports.{frames_held, frames_taken, frames_free, free_count, order_row, order_rows, greatest, greatest_free, rows_of_caches}
 use Rattle.model_core.specs.Reports as reports
 use Rattle.model_core.specs.WellFormed.{IsPlaced, IsWellFormed}
-use Rattle.model_core.proofs.Counting.{bit}
+use Rattle.model_core.proofs.CountBelow.{bit}
 use Rattle.model_core.specs.Elements.{IsIn}
 use Rattle.model_core.proofs.Lists.{each_in}
 use Rattle.model_core.proofs.ObjectsApart.{in_contains}
@@ -29,10 +29,10 @@ use Rattle.promise_core.specs.Holdings.{vacant_blocks}
 use Rattle.promise_core.specs.State.{State, state_after}
 use Rattle.promise_core.specs.Promises.{frames_of_counts, known_count, due, report, still}
 use Rattle.promise_kept.specs.Meets.{cache_as_known, holdings_of, Meets, IsPromiseKept}
-use Rattle.promise_kept.proofs.Cells.{all_kept, formed}
-use Rattle.promise_kept.proofs.Known.{seen, seen_is}
-use Rattle.promise_kept.proofs.Figures.{available_count, free_frames, free_fits}
-use Rattle.promise_kept.proofs.Rows.{is_order, filter_length, taken_seen_by_order, rows_seen}
+use Rattle.promise_kept.proofs.PlaceCells.{all_kept, formed}
+use Rattle.promise_kept.proofs.KnownCaches.{seen, seen_is}
+use Rattle.promise_kept.proofs.ReportFigures.{available_count, free_frames, free_fits}
+use Rattle.promise_kept.proofs.ReportRows.{is_order, filter_length, taken_seen_by_order, rows_seen}
 
 -- Numbers by their order
 

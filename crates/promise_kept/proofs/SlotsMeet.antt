@@ -13,18 +13,18 @@ use Rattle.model_core.specs.Laws.{Object, IsObject, place_of}
 use Rattle.model_core.specs.Elements.{IsIn}
 use Rattle.model_core.proofs.Lists.{each_in, each_from, some_any, any_in, any_none, none_any, PutIn, put_in, in_left, in_map, map_in, in_append, flat_map_in}
 use Rattle.model_core.proofs.MemoryKept.{any_put, place_held}
-use Rattle.model_core.proofs.Laid.{laid, all_laid, laid_block, IsLaidOut, laid_out, Placed}
+use Rattle.model_core.proofs.LaidSlabs.{laid, all_laid, laid_block, IsLaidOut, laid_out, Placed}
 use Rattle.model_core.proofs.CacheSteps.{in_all_laid}
-use Rattle.model_core.proofs.Constructed.{next_unheld}
+use Rattle.model_core.proofs.ConstructedObjects.{next_unheld}
 use Rattle.model_core.proofs.ObjectsApart.{contains_in, in_contains}
 use Rattle.promise_core.specs.Holdings.{Holdings, known_blocks, is_slot_busy}
 use Rattle.promise_core.specs.Bytes.{Holder, may_be, without}
 use Rattle.promise_core.specs.State.{State, opening_state}
 use Rattle.promise_kept.specs.Meets.{cache_as_known, holdings_of, is_object_live, Meets}
-use Rattle.promise_kept.proofs.Owning.{below_missing}
-use Rattle.promise_kept.proofs.Stand.{taken_seen}
-use Rattle.promise_kept.proofs.Cells.{fresh_may, without_some, without_may}
-use Rattle.promise_kept.proofs.Reaped.{object_in_slab}
+use Rattle.promise_kept.proofs.SuperblockOwners.{below_missing}
+use Rattle.promise_kept.proofs.SeenBlocks.{taken_seen}
+use Rattle.promise_kept.proofs.PlaceCells.{fresh_may, without_some, without_may}
+use Rattle.promise_kept.proofs.KnownAfterReaping.{object_in_slab}
 
 -- whether a holder is live does not depend on the slots
 lives_still : (us : List ℕ) (h : Holdings) (holder : Holder) (place : ℕ) → is_object_live h holder place ≡ true → is_object_live (record h { slots = us }) holder place ≡ true

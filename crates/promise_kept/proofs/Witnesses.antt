@@ -20,7 +20,7 @@ use Rattle.world_core.specs.World.{World, opening_world, world_step, world_after
 use Rattle.world_core.specs.OwnList.{own_list}
 use Rattle.world_core.specs.Output.{events_of}
 use Rattle.world_core.specs.Laws.{opening_history}
-use Rattle.world_core.proofs.Runs.{own_run}
+use Rattle.world_core.proofs.OwnListRuns.{own_run}
 use Rattle.promise_core.specs.State.{State, opening}
 use Rattle.promise_core.specs.Promises.{allowed}
 use Rattle.promise_kept.specs.Meets.{Meets, IsPromiseKept}

@@ -12,7 +12,7 @@ use Rattle.model_core.specs.Machine.{Machine, empty_machine, holds}
 use Rattle.model_core.specs.Owners.{owned_by, is_of, is_owner}
 use Rattle.model_core.specs.Operations.{next_slot, after_grant, is_busy, after_take_back}
 use Rattle.model_core.specs.WellFormed.{IsWellFormed}
-use Rattle.model_core.proofs.Constructed.{next_unheld}
+use Rattle.model_core.proofs.ConstructedObjects.{next_unheld}
 use Rattle.model_core.proofs.PageSteps.{empty_kept, grant_kept, slot_gone_kept}
 use Rattle.words_core.specs.declared.event.Event.{Event}
 use Rattle.words_core.specs.declared.event.Event.TheVariants as On
@@ -32,8 +32,8 @@ use Rattle.promise_core.specs.State.{State, Known, opening_state, state_after, o
 use Rattle.promise_core.specs.Promises.{is_for, first_due, due, is_one, named, known_after, verdict, kept, is_no_tenant, judged, allowed}
 use Rattle.promise_kept.specs.Meets.{holdings_of, Meets, IsPromiseKept}
 use Rattle.promise_kept.specs.MeetsWorld.{MeetsWorld, IsKeptIn}
-use Rattle.promise_kept.proofs.Cells.{all_kept}
-use Rattle.promise_kept.proofs.Owning.{pool_empty, not_all_owned, given_others, given_own, granted_any, given_free, first_passes, one_owner, owner_of, slots_fewer}
+use Rattle.promise_kept.proofs.PlaceCells.{all_kept}
+use Rattle.promise_kept.proofs.SuperblockOwners.{pool_empty, not_all_owned, given_others, given_own, granted_any, given_free, first_passes, one_owner, owner_of, slots_fewer}
 use Rattle.promise_kept.proofs.SlotsMeet.{granted, taken_back, grant_meets, take_back_meets, busy_seen, busy_may, below_next, grant_holds, taken_unheld, others_held, nothing_meets}
 
 -- Lists

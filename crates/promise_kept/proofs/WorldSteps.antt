@@ -31,15 +31,15 @@ use Rattle.world_core.specs.Output.{events_of}
 use Rattle.world_core.specs.Laws.{opening_history}
 use Rattle.world_core.specs.Reached.{operations_in}
 use Rattle.world_core.proofs.Operations.{entries_are_operations}
-use Rattle.world_core.proofs.Asked.{IsPossibleEvent, reading_possible, events_possible}
+use Rattle.world_core.proofs.AskableCommands.{IsPossibleEvent, reading_possible, events_possible}
 use Rattle.promise_core.specs.State.{State, Known, opening_state, opening, state_after, owners_after}
 use Rattle.promise_core.specs.Promises.{is_for, due, named, kept, allowed, all_allowed}
 use Rattle.promise_core.proofs.Steps.{replicated}
 use Rattle.promise_kept.specs.Meets.{Meets, IsPromiseKept}
 use Rattle.promise_kept.specs.MeetsWorld.{MeetsWorld, IsKeptIn, IsEventKept}
 use Rattle.promise_kept.specs.WorldLaws.{CanBeRequested, KeepsPromises, TraceKeepsPromises, StrangerChangesNothing}
-use Rattle.promise_kept.proofs.Cells.{all_kept}
-use Rattle.promise_kept.proofs.Owning.{pool_first, same_owners}
+use Rattle.promise_kept.proofs.PlaceCells.{all_kept}
+use Rattle.promise_kept.proofs.SuperblockOwners.{pool_first, same_owners}
 use Rattle.promise_kept.proofs.SlotsMeet.{nothing_meets}
 use Rattle.promise_kept.proofs.World.{none_beside, verdict_kept, allowed_stranger, now, told, stranger, grant_full, grant_done, no_slot, slot_busy, back_done, reset_done, move_no_slot, move_full, move_done, command_done}
 use Rattle.promise_kept.proofs.Alloc.{alloc_is_kept}
@@ -48,7 +48,7 @@ use Rattle.promise_kept.proofs.Write.{write_is_kept}
 use Rattle.promise_kept.proofs.Read.{read_is_kept}
 use Rattle.promise_kept.proofs.Cache.{cache_is_kept}
 use Rattle.promise_kept.proofs.Destroy as destroy
-use Rattle.promise_kept.proofs.Taking as taking
+use Rattle.promise_kept.proofs.TakeCommand as taking
 use Rattle.promise_kept.proofs.Give as give
 use Rattle.promise_kept.proofs.Reap as reap
 use Rattle.promise_kept.proofs.Report.{report_kept}

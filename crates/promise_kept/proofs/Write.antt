@@ -19,9 +19,9 @@ use Rattle.promise_core.specs.Bytes.{Holder, with_bytes, holder_of}
 use Rattle.promise_core.specs.State.{State, with_range, state_after}
 use Rattle.promise_core.specs.Promises.{due}
 use Rattle.promise_kept.specs.Meets.{Meets, IsKeptBy, IsPromiseKept}
-use Rattle.promise_kept.proofs.Seen.{reach_same}
-use Rattle.promise_kept.proofs.Cells.{all_kept, formed, refused}
-use Rattle.promise_kept.proofs.Range.{range_meets}
+use Rattle.promise_kept.proofs.EmptySlabsUnseen.{reach_same}
+use Rattle.promise_kept.proofs.PlaceCells.{all_kept, formed, refused}
+use Rattle.promise_kept.proofs.RangeHolders.{range_meets}
 
 -- a range has a holder that is seen exactly if it is in reach
 pub reach_seen : (order : ℕ) (m : Machine) (s : State) (place len : ℕ) → Meets order s m → is_some (holder_of s.has place len) ≡ in_reach m place len

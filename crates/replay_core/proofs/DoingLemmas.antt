@@ -6,7 +6,7 @@ use Rattle.std.specs.Result.{is_err}
 use Rattle.std.specs.Prelude.{MatchResult, nat_eq}
 use Rattle.words_core.specs.Cutting.{lines_of_trace}
 use Rattle.world_core.specs.Output.{with_line_feeds, ended_lines}
-use Rattle.world_core.proofs.Showing.{with_line_feeds-append}
+use Rattle.world_core.proofs.ShownReplies.{with_line_feeds-append}
 use Rattle.streams.specs.declared.feed.Stopped.{Stopped}
 use Rattle.streams.proofs.MoveLemmas.{appends_nothing, appends_more, appends_kept}
 use Rattle.streams.specs.Lines.{IsOneLine}

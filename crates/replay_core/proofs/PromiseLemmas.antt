@@ -6,7 +6,7 @@ use Rattle.world_core.specs.Limits.{cache_limit}
 use Rattle.world_core.specs.World.{World, opening_world}
 use Rattle.world_core.specs.Output.{shown_lines}
 use Rattle.promise_kept.specs.Written.{IsAllowedText}
-use Rattle.promise_kept.proofs.Written.{ram_is_small, shown_is_allowed}
+use Rattle.promise_kept.proofs.WrittenReplies.{ram_is_small, shown_is_allowed}
 use Rattle.kernel_core.specs.Content.{KernelContent}
 use Rattle.kernel_core.specs.Shows.{Shows}
 use Rattle.streams.specs.declared.tally.Tally.{Tally}

@@ -5,7 +5,7 @@ use Rattle.words_core.specs.declared.event.Event.TheVariants as On
 use Rattle.words_core.specs.declared.event.Command.TheVariants as Command
 use Rattle.words_core.specs.declared.event.LineFault.{LineFault}
 use Rattle.words_core.specs.Grammar.{reading_of}
-use Rattle.world_core.proofs.Asked.{IsPossibleEvent, reading_possible}
+use Rattle.world_core.proofs.AskableCommands.{IsPossibleEvent, reading_possible}
 use Rattle.kernel_core.specs.Steps.{HasPattern}
 use Rattle.replay_core.specs.Standing.{IsRunnable}
 

@@ -1,7 +1,7 @@
 pub mod Places
-pub mod Stepping
-pub mod Changes
+pub mod StepsByPlace
+pub mod ReplyChanges
 pub mod SlotsHeld
 pub mod ReadBytes
-pub mod Passing
-pub mod Padding
+pub mod RangeChanges
+pub mod UnstoredPlaces

@@ -13,8 +13,8 @@ use Rattle.slab_tables.specs.Content.{Content, IsSlabs, head_of}
 use Rattle.machine_changes.specs.Shows.{Agree}
 use Rattle.machine_changes.specs.Steady.{IsSteady}
 use Rattle.slab_core.specs.Fitting.{IsUnusedBlock, WouldFitAround, AreRefused}
-use Rattle.slab_core.proofs.FittingFree.{held_within}
-use Rattle.slab_core.proofs.FittingFrames.{listed_taken}
+use Rattle.slab_core.proofs.LargeFreeBlocks.{held_within}
+use Rattle.slab_core.proofs.IdleFrames.{listed_taken}
 
 -- how many frames the search still has ahead, at most
 abbrev pub left : Option (ℕ × ℕ) → ℕ

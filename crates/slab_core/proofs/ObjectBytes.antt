@@ -8,8 +8,8 @@ use Rattle.machine_changes.specs.Shows.{ShowsMachine}
 use Rattle.machine_changes.specs.Steady.{IsSteady}
 use Rattle.machine_changes.specs.Changes.{Found}
 use Rattle.machine_changes.specs.Objects.{IsLiveObject, HasRange}
-use Rattle.machine_changes.proofs.Facts.{cache_shown}
-use Rattle.machine_changes.proofs.Objects.{found_gives}
+use Rattle.machine_changes.proofs.SlabFacts.{cache_shown}
+use Rattle.machine_changes.proofs.LiveObjects.{found_gives}
 use Rattle.slab_core.specs.Lending.{HasObject}
 
 module _ (r : spaces.Content) (b : buddies.Content) (s : Content) (t c place bytes : ℕ) (o : Found) where

@@ -7,10 +7,10 @@ use Rattle.model_core.specs.Blocks.{block, HasFrame, IsAligned}
 use Rattle.model_core.specs.Machine.{Machine, choice}
 use Rattle.model_core.specs.Operations.{with_block, alloc_step}
 use Rattle.model_core.specs.Slabs.{reaped, choice_by_need}
-use Rattle.model_core.proofs.Apart.{has_first}
+use Rattle.model_core.proofs.BlocksApart.{has_first}
 use Rattle.model_core.proofs.FreeBlocks.{reserved_is_untaken}
 use Rattle.machine_changes.proofs.Reaped.{reaped_shows}
-use Rattle.model_core.proofs.ByNeed.{alloc_reaps, by_need_found, by_need_reaps, by_need_stays}
+use Rattle.model_core.proofs.ReapingByNeed.{alloc_reaps, by_need_found, by_need_reaps, by_need_stays}
 use Rattle.space_core.specs.Content as spaces
 use Rattle.buddy_core.specs.Content as buddies
 use Rattle.slab_tables.specs.Content.{Content, IsSlabs, layout_numbers}
@@ -21,9 +21,9 @@ use Rattle.machine_changes.specs.Fitting.{WouldFit}
 use Rattle.machine_changes.proofs.Lookups.{some_none}
 use Rattle.slab_core.specs.Calls.{idle_at}
 use Rattle.slab_core.specs.Fitting.{HasFreeBlock}
-use Rattle.slab_core.proofs.FittingFrames.{idle_begins}
-use Rattle.slab_core.proofs.ReserveOne.{vacant_free}
-use Rattle.slab_core.proofs.ReturnMany.{idle_empty}
+use Rattle.slab_core.proofs.IdleFrames.{idle_begins}
+use Rattle.slab_core.proofs.ReserveBesideSlabs.{vacant_free}
+use Rattle.slab_core.proofs.ReturnEmptySlabs.{idle_empty}
 
 -- The step of the machine, for each choice
 module _ (order k : ℕ) (m : Machine) where

@@ -1,8 +1,8 @@
-pub mod Totals
-pub mod Reading
-pub mod Keeping
-pub mod Below
-pub mod Emptying
-pub mod Clearing
-pub mod Moving
-pub mod Standing
+pub mod LiveTotals
+pub mod TableReads
+pub mod InvariantKept
+pub mod CacheNumberBound
+pub mod ListEmptied
+pub mod CachesCleared
+pub mod SlabsMoved
+pub mod KeyedListWalk

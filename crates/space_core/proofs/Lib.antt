@@ -1,15 +1,15 @@
 mod TableLemmas
 mod Mapping
 mod BankLemmas
-mod Stored
-pub mod Empty
-mod Mapped
-pub mod Changed
-pub mod Vacancy
+mod StoredBytes
+pub mod EmptySpace
+mod MappingKept
+pub mod InvariantKept
+pub mod VacantSlots
 mod Places
-pub mod Reading
-mod Own
-mod Others
-mod Spare
-pub mod Laws
+pub mod BytesUnderSlots
+mod OwnBytes
+mod TenantsKept
+mod UnownedBytes
+pub mod SpaceLaws
 pub mod Ranges

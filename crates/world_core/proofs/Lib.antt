@@ -1,17 +1,17 @@
 pub mod MachineLists
 pub mod Worlds
-pub mod Runs
-pub mod TextLines
+pub mod OwnListRuns
+pub mod ReplyLines
 pub mod TenantLines
-pub mod Showing
+pub mod ShownReplies
 pub mod Operations
 pub mod MoreCaches
-pub mod Asked
-pub mod Reached
+pub mod AskableCommands
+pub mod ReachedMachines
 pub mod ReachedObjects
 mod WitnessesConstructed
 pub mod ReachedBlock
-mod Computed
+mod ComputedTraces
 pub mod Rows
 pub mod Witnesses
 pub mod WitnessesReached

@@ -15,9 +15,9 @@ use Rattle.world_core.specs.OwnList.{own_list}
 use Rattle.world_core.specs.Output.{events_of}
 use Rattle.world_core.specs.Laws.{opening_history}
 use Rattle.world_core.specs.Reached.{reached_machine, ReachedBlock, ReachedObject, NobodyStarves}
-use Rattle.world_core.proofs.Asked.{own_lists_are_requests}
-use Rattle.world_core.proofs.Reached.{reached_well_formed}
-use Rattle.world_core.proofs.Runs.{own_run}
+use Rattle.world_core.proofs.AskableCommands.{own_lists_are_requests}
+use Rattle.world_core.proofs.ReachedMachines.{reached_well_formed}
+use Rattle.world_core.proofs.OwnListRuns.{own_run}
 
 pub reached_block : ReachedBlock
 unfolding command_step

@@ -12,7 +12,7 @@ use Rattle.words_core.specs.declared.reply.Body.TheVariants as Say
 use Rattle.world_core.specs.PrivateStep.{take_body, command_step}
 use Rattle.world_core.specs.Reached.{operations_in, reached_machine, ReachedApart, ReachedRecordsFree, ReachedConstructed, ReachedConstructedWhenTaken}
 use Rattle.world_core.proofs.Operations.{entries_are_operations}
-use Rattle.world_core.proofs.Reached.{reached_well_formed}
+use Rattle.world_core.proofs.ReachedMachines.{reached_well_formed}
 
 pub reached_apart : ReachedApart
 reached_apart limit order entries asked = objects_apart limit order (reached_machine limit order entries) (reached_well_formed limit order entries asked)

@@ -6,7 +6,7 @@ use Rattle.world_core.specs.PrivateStep.{Entry}
 use Rattle.world_core.specs.World.{opening_world, history}
 use Rattle.world_core.specs.Output.{output_of, events_of, lines_for}
 use Rattle.world_core.specs.OwnList.{own_list}
-use Rattle.world_core.proofs.Computed.{computed_texts}
+use Rattle.world_core.proofs.ComputedTraces.{computed_texts}
 
 pub record Row : Type 0 where
   pub trace : List ℕ

@@ -36,8 +36,8 @@ use Rattle.world_core.specs.OwnList.{if_for, replies_to}
 use Rattle.world_core.specs.Output.{shown_reading, shown_lines, output_of, event_in, events_of, lines_for, texts_for}
 use Rattle.world_core.specs.Laws.{OwnLines, SameLines, private_lines, opening_history}
 use Rattle.world_core.specs.PrivateRun.{private_run}
-use Rattle.world_core.proofs.TextLines.{AreTexts, body_text, addressee_is_text, cut_rows, decimal_digits, starts_same, starts_apart, starts_number}
-use Rattle.world_core.proofs.Runs as runs
+use Rattle.world_core.proofs.ReplyLines.{AreTexts, body_text, addressee_is_text, cut_rows, decimal_digits, starts_same, starts_apart, starts_number}
+use Rattle.world_core.proofs.OwnListRuns as runs
 
 behind_2 : (front a b : List ℕ) → (front ++ a) ++ b ≡ front ++ (([] ++ a) ++ b)
 behind_2 front a b = append_assoc front a b

@@ -16,7 +16,7 @@ use Rattle.world_core.specs.World.{opening_world}
 use Rattle.world_core.specs.OwnList.{is_refused, replies_to}
 use Rattle.world_core.specs.Output.{shown_lines, output_of, events_of, lines_for, texts_for, line_feed, with_line_feeds}
 use Rattle.world_core.specs.Laws.{OwnRun, HaveSameOwnList, SameReplies, SameTexts, MoreCaches, OwnLines, SameLines, AllShown, OwnShown, OwnLinesShown, EndedAllButTail, EndedLinesStay, ShownStays, opening_history, private_lines}
-use Rattle.world_core.proofs.Computed.{computed_lines, computed_machine, computed_texts}
+use Rattle.world_core.proofs.ComputedTraces.{computed_lines, computed_machine, computed_texts}
 
 -- tenant 0 alone, and beside others
 abbrev alone : List ℕ

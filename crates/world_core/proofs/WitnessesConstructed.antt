@@ -4,7 +4,7 @@ use Rattle.model_core.specs.Machine.{Slab, Cache}
 use Rattle.words_core.specs.declared.event.Command.TheVariants as Command
 use Rattle.world_core.specs.PrivateStep.{Entry, Ask, Grant, command_step}
 use Rattle.world_core.specs.Reached.{reached_machine, ReachedConstructed, ReachedConstructedWhenTaken}
-use Rattle.world_core.proofs.Computed.{computed_machine}
+use Rattle.world_core.proofs.ComputedTraces.{computed_machine}
 
 -- A slot granted, and a cache
 

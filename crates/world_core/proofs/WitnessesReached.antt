@@ -21,7 +21,7 @@ use Rattle.world_core.specs.PrivateStep.{Entry, Ask, Grant, command_step, privat
 use Rattle.world_core.specs.World.{World, opening_world, world_step, world_after}
 use Rattle.world_core.specs.Output.{events_of}
 use Rattle.world_core.specs.Reached.{reached_machine, AreRequests, EntriesAreOperations, OwnListsAreRequests, IsFreeIn, ReachedWellFormed, ReachedSound, ReachedFreeOnce, ReachedSplits, ReachedJoins, ReachedApart, ReachedRecordsFree, ReachedBlock, ReachedObject, NobodyStarves}
-use Rattle.world_core.proofs.Computed.{computed_lines, computed_machine}
+use Rattle.world_core.proofs.ComputedTraces.{computed_lines, computed_machine}
 
 -- A slot granted, a cache, an object of it taken and given back: one slab, which is empty
 

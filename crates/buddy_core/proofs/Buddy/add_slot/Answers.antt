@@ -10,11 +10,11 @@ use Rattle.buddy_core.specs.Kept.{IsKept}
 use Rattle.buddy_core.proofs.ContentShown.{shown_is, slot_at, blank_of, bare_of}
 use Rattle.buddy_core.proofs.TenantCounts.{room}
 use Rattle.buddy_core.proofs.TenantChanged.{kept_changed, shown_changed}
-use Rattle.buddy_core.proofs.Granting.{grant_change, grant_holding}
-use Rattle.buddy_core.proofs.Bounding.{bounded_noted}
+use Rattle.buddy_core.proofs.SlotAdded.{grant_change, grant_holding}
+use Rattle.buddy_core.proofs.SummaryBounds.{bounded_noted}
 use Rattle.buddy_core.proofs.TreeOrders.{orders_clear, bit_apart}
 use Rattle.buddy_core.proofs.TreeSearch.{first_word}
-use Rattle.model_core.proofs.Halves.{clear_from}
+use Rattle.model_core.proofs.BlockHalves.{clear_from}
 use Rattle.buddy_core.proofs.Buddy.add_slot.Goals as goal
 use Rattle.buddy_core.proofs.Buddy.add_slot.Goals.{After-add_slot}
 

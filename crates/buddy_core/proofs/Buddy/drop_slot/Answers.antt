@@ -8,8 +8,8 @@ use Rattle.buddy_core.specs.Stored.{StoredTree, StoredSuperblock, StoredTenant, 
 use Rattle.buddy_core.specs.Kept.{IsKept}
 use Rattle.buddy_core.proofs.ContentShown.{IsShown, slot_within, shown_is, slot_read, by_shown, blank_of, bare_of}
 use Rattle.buddy_core.proofs.TenantChanged.{kept_changed, shown_changed}
-use Rattle.buddy_core.proofs.Dropping.{quiet, busy, dropped, some_free, drop_change, drop_holding}
-use Rattle.buddy_core.proofs.Bounding.{bounded_dropped}
+use Rattle.buddy_core.proofs.SlotDropped.{quiet, busy, dropped, some_free, drop_change, drop_holding}
+use Rattle.buddy_core.proofs.SummaryBounds.{bounded_dropped}
 use Rattle.buddy_core.proofs.Buddy.drop_slot.Goals as goal
 use Rattle.buddy_core.proofs.Buddy.drop_slot.Goals.{After-unwrap-m, After-root, Else-root-order, After-drop_slot}
 

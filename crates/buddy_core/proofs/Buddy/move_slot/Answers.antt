@@ -5,7 +5,7 @@ use Rattle.buddy_core.specs.Stored.{StoredTenant, stored_tenant, superblock_at, 
 use Rattle.buddy_core.specs.Kept.{IsKept}
 use Rattle.buddy_core.specs.Summary.{AreBounded}
 use Rattle.buddy_core.proofs.ContentShown.{shown_is, slot_at, slot_read, blank_of}
-use Rattle.buddy_core.proofs.Moving.{move_kept, move_shown, move_bounded}
+use Rattle.buddy_core.proofs.SlotMoved.{move_kept, move_shown, move_bounded}
 use Rattle.buddy_core.proofs.Buddy.move_slot.Goals as goal
 use Rattle.buddy_core.proofs.Buddy.move_slot.Goals.{After-swap}
 

@@ -3,7 +3,7 @@ use Rattle.buddy_core.specs.Stored.{StoredSuperblock, StoredTenant, bare_superbl
 use Rattle.buddy_core.specs.Summary.{AreBounded}
 use Rattle.buddy_core.specs.Kept.{IsKept}
 use Rattle.buddy_core.proofs.NothingHeld.{opening_kept, opening_shown}
-use Rattle.buddy_core.proofs.Bounding.{bounded_first}
+use Rattle.buddy_core.proofs.SummaryBounds.{bounded_first}
 use Rattle.buddy_core.proofs.Buddy.new.Goals as goal
 
 pub invariant_of-result : goal.invariant_of-result

@@ -12,7 +12,7 @@ use Rattle.buddy_core.proofs.TenantCounts.{room, slot_small}
 use Rattle.buddy_core.proofs.TenantChanged.{kept_changed, shown_changed}
 use Rattle.buddy_core.proofs.BlockSteps.{IsStep, step_change, holding_now}
 use Rattle.buddy_core.proofs.Releasing.{released_orders, IsAt, begins_at, at_frame, superblock_lt, order_le, Released, joined_order, joined_is, joined_le, rises, some_taken, some_buddies, released_step}
-use Rattle.buddy_core.proofs.Bounding.{bounded_noted}
+use Rattle.buddy_core.proofs.SummaryBounds.{bounded_noted}
 use Rattle.buddy_core.proofs.Buddy.release_in.Goals as goal
 use Rattle.buddy_core.proofs.Buddy.release_in.Goals.{After-self, In_ok-k, After-release_at-joined, After-index_mut-2, After-count_released}
 

@@ -15,7 +15,7 @@ use Rattle.buddy_core.proofs.TenantCounts.{room, slot_small}
 use Rattle.buddy_core.proofs.TenantChanged.{kept_changed, shown_changed}
 use Rattle.buddy_core.proofs.BlockSteps.{IsStep, step_change, holding_now}
 use Rattle.buddy_core.proofs.Reserving.{reserved_orders, Reserved, source_at, counted, none_without, order_within, IsFound, found_at, superblock_lt, is_choice, some_free, reserved_step}
-use Rattle.buddy_core.proofs.Bounding.{bounded_by, bounded_noted}
+use Rattle.buddy_core.proofs.SummaryBounds.{bounded_by, bounded_noted}
 use Rattle.buddy_core.proofs.Buddy.reserve.Goals as goal
 use Rattle.buddy_core.proofs.Buddy.reserve.Goals.{After-find, After-index, After-index_mut-superblock, After-search-first, After-index_mut, After-count_reserved}
 

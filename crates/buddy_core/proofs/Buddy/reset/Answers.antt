@@ -8,7 +8,7 @@ use Rattle.buddy_core.specs.Summary.{AreBounded}
 use Rattle.buddy_core.specs.Kept.{IsKept, HasTenantSizes}
 use Rattle.buddy_core.proofs.ContentShown.{shown_is, slot_read, blank_of, bare_of}
 use Rattle.buddy_core.proofs.NothingHeld.{cleared_tenant}
-use Rattle.buddy_core.proofs.Resetting.{Cleared, cleared_none, cleared_past, cleared_more, next_order, reset_kept, reset_shown, reset_bounded}
+use Rattle.buddy_core.proofs.TenantReset.{Cleared, cleared_none, cleared_past, cleared_more, next_order, reset_kept, reset_shown, reset_bounded}
 use Rattle.buddy_core.proofs.Buddy.reset.Goals as goal
 
 pub loop-slot-init : goal.loop-slot-init

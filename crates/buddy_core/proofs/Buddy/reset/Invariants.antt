@@ -1,6 +1,6 @@
 use Rattle.std.proofs.Common.{◌≡◌}
 use Rattle.buddy_core.specs.Stored.{stored_tenant}
-use Rattle.buddy_core.proofs.Resetting.{Cleared}
+use Rattle.buddy_core.proofs.TenantReset.{Cleared}
 use Rattle.buddy_core.proofs.Buddy.reset.Given as goal
 
 abbrev pub invariant-loop-slot : goal.invariant-loop-slot

@@ -1,4 +1,4 @@
-use Rattle.command_line.proofs.Refusals.{refused_by}
+use Rattle.command_line.proofs.ParserRefusals.{refused_by}
 use Rattle.command_line.proofs.arguments.parse.Goals as goal
 
 pub returns-in-Err-clause-kinds : goal.returns-in-Err-clause-kinds

@@ -3,7 +3,7 @@ use Rattle.clap.specs.Words.{Text, found_of, matches_of, one_text}
 use Rattle.command_line.specs.Settings.{IsFlag, command_line, machine_of}
 use Rattle.command_line.specs.declared.outcome.Outcome.{Outcome}
 use Rattle.command_line.specs.declared.settings.Settings.{Settings}
-use Rattle.command_line.proofs.Reading.{machine_given}
+use Rattle.command_line.proofs.MachineOptionsRead.{machine_given}
 use Rattle.command_line.proofs.SettingsRead.{asks_rows, line_parsed, line_refused, line_rows, machine_asked, no_machine_rows, no_own_rows, own_fits}
 use Rattle.command_line.proofs.SettingsRead.{own_given, taken_by}
 use Rattle.command_line.proofs.words.read_words.Goals as goal

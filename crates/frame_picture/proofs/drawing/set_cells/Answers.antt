@@ -2,7 +2,7 @@ use Rattle.std.proofs.Common.{◌≡◌, ℕ, ◌<◌, List, Some, slice_get, sl
 use Rattle.std.proofs.lemmas.Option.{slice_get_within, slice_get_read}
 use Rattle.frame_picture.specs.declared.drawing.Tone.{Tone}
 use Rattle.frame_picture.specs.declared.history.Column.{Column}
-use Rattle.frame_picture.proofs.Filling.{more_filled}
+use Rattle.frame_picture.proofs.ListFilled.{more_filled}
 use Rattle.frame_picture.specs.Tones.{not_held, IsRowTone}
 use Rattle.frame_picture.proofs.drawing.set_cells.Goals as goal
 

@@ -3,7 +3,7 @@ use Rattle.std.proofs.Math.ListN.{length-set}
 use Rattle.frame_picture.specs.declared.drawing.Tone.{Tone}
 use Rattle.frame_picture.specs.Tones.{not_held, IsRowTone}
 use Rattle.frame_picture.proofs.drawing.set_rows.Goals as goal
-use Rattle.frame_picture.proofs.Filling.{more_set}
+use Rattle.frame_picture.proofs.ListFilled.{more_set}
 
 pub loop-row-preserved : goal.loop-row-preserved
 loop-row-preserved c = record {

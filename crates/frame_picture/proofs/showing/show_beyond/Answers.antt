@@ -3,7 +3,7 @@ use Rattle.std.proofs.lemmas.Nat.{shl_whole}
 use Rattle.std.proofs.lemmas.Option.{slice_get_within}
 use Rattle.kernel_core.specs.Frames.{IsFrame}
 use Rattle.world_core.proofs.MachineLists.{slice_get-set_other}
-use Rattle.frame_picture.proofs.Filling.{more_filled}
+use Rattle.frame_picture.proofs.ListFilled.{more_filled}
 use Rattle.frame_picture.proofs.showing.show_beyond.Goals as goal
 
 pub loop-k-preserved : goal.loop-k-preserved

@@ -3,7 +3,7 @@ use Rattle.std.proofs.lemmas.Option.{slice_get_within}
 use Rattle.model_core.specs.Machine.{Machine}
 use Rattle.frame_picture.specs.Columns.{AreFigures}
 use Rattle.frame_picture.specs.declared.history.Figures.{Figures}
-use Rattle.frame_picture.proofs.Filling.{more_filled}
+use Rattle.frame_picture.proofs.ListFilled.{more_filled}
 use Rattle.frame_picture.proofs.showing.show_figures.Goals as goal
 
 pub loop-own-preserved : goal.loop-own-preserved

@@ -1,7 +1,7 @@
 use Rattle.std.proofs.Common.{◌≡◌, ℕ, ◌+◌, ◌-◌, List, flat_map, ap, sym, arith}
 use Rattle.std.specs.List.{range_with_len}
 use Rattle.framemap.specs.Tables.{row_text}
-use Rattle.picture_svg.proofs.Writing.{as_text, nothing, renamed, then_text}
+use Rattle.picture_svg.proofs.JoinedTexts.{as_text, nothing, renamed, then_text}
 use Rattle.framemap.proofs.TableLemmas.{range_more}
 use Rattle.framemap.proofs.figures.write_column.Goals as goal
 

@@ -3,7 +3,7 @@ use Rattle.std.proofs.lemmas.List.{take_all}
 use Rattle.frame_picture.specs.declared.history.Column.{Column}
 use Rattle.frame_picture.specs.Histories.{columns_of, drawn_order}
 use Rattle.framemap.specs.Tables.{column_rows, heading_text, table_text}
-use Rattle.picture_svg.proofs.Writing.{flushed, renamed}
+use Rattle.picture_svg.proofs.JoinedTexts.{flushed, renamed}
 use Rattle.framemap.proofs.figures.write_figures.Goals as goal
 
 pub returns : goal.returns

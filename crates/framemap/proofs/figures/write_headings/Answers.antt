@@ -1,7 +1,7 @@
 use Rattle.std.proofs.Common.{◌≡◌, ℕ, ◌+◌, ◌++◌, List, codes, flat_map, ap, sym, ◌∙◌, append_assoc, arith}
 use Rattle.std.specs.List.{range_with_len}
 use Rattle.framemap.specs.Tables.{free_heading, heading_text}
-use Rattle.picture_svg.proofs.Writing.{as_text, last_exactly, texts_more, then_exactly}
+use Rattle.picture_svg.proofs.JoinedTexts.{as_text, last_exactly, texts_more, then_exactly}
 use Rattle.framemap.proofs.figures.write_headings.Goals as goal
 
 pub loop-order-preserved : goal.loop-order-preserved

@@ -1,6 +1,6 @@
 use Rattle.std.proofs.Common.{codes}
 use Rattle.framemap.specs.Tables.{row_text}
-use Rattle.picture_svg.proofs.Writing.{exactly, last_exactly, then_text}
+use Rattle.picture_svg.proofs.JoinedTexts.{exactly, last_exactly, then_text}
 use Rattle.framemap.proofs.TableLemmas.{row_is}
 use Rattle.framemap.proofs.figures.write_row.Goals as goal
 

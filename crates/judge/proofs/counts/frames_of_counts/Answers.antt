@@ -1,5 +1,5 @@
 use Rattle.std.proofs.Common.{arith}
-use Rattle.judge.proofs.Sums.{from_order, no_order}
+use Rattle.judge.proofs.RowSums.{from_order, no_order}
 use Rattle.judge.proofs.counts.frames_of_counts.Goals as goal
 
 pub loop-order-preserved : goal.loop-order-preserved

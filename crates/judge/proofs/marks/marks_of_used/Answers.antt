@@ -1,5 +1,5 @@
 use Rattle.std.proofs.Common.{arith}
-use Rattle.judge.proofs.Following.{all_marked}
+use Rattle.judge.proofs.KnownAfterCommand.{all_marked}
 use Rattle.judge.proofs.marks.marks_of_used.Goals as goal
 
 pub returns : goal.returns

@@ -1,7 +1,7 @@
 use Rattle.std.proofs.Common.{◌+◌, ◌==◌, ◌∙◌}
 use Rattle.std.specs.Prelude.{if◌then◌else◌}
 use Rattle.std.proofs.lemmas.Slice.Zip.{zip_end}
-use Rattle.judge.proofs.Sums.{all_pairs}
+use Rattle.judge.proofs.RowSums.{all_pairs}
 use Rattle.judge.proofs.taken.count_slabs.Goals as goal
 
 pub returns : goal.returns

@@ -2,7 +2,7 @@ use Rattle.std.proofs.Common.{◌*◌, ◌^◌, ◌==◌, true, ◌∙◌}
 use Rattle.std.specs.Prelude.{if◌then◌else◌}
 use Rattle.std.specs.Option.{option_map_or}
 use Rattle.std.proofs.lemmas.Slice.Zip.{zip_end}
-use Rattle.judge.proofs.Sums.{all_pairs}
+use Rattle.judge.proofs.RowSums.{all_pairs}
 use Rattle.judge.proofs.taken.sum_empty.Goals as goal
 
 pub returns : goal.returns

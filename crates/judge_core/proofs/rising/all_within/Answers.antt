@@ -1,7 +1,7 @@
 use Rattle.std.proofs.Common.{◌-◌, length, take, drop, sym, ap, ◌∙◌, arith, length-drop}
 use Rattle.std.specs.List.{prefix_len}
 use Rattle.std.proofs.lemmas.List.{take_all}
-use Rattle.judge_core.proofs.Keys.{all_within, is_below}
+use Rattle.judge_core.proofs.RisingKeys.{all_within, is_below}
 use Rattle.judge_core.proofs.rising.all_within.Goals as goal
 
 pub returns : goal.returns

@@ -1,6 +1,6 @@
 use Rattle.std.proofs.Common.{ltb, sym, rules, arith}
 use Rattle.std.proofs.lemmas.List.Sorted.{IsPartitionPoint-from_clause, IsPartitionedBy-ltb}
-use Rattle.judge_core.proofs.Keys.{prefix_point}
+use Rattle.judge_core.proofs.RisingKeys.{prefix_point}
 use Rattle.judge_core.proofs.rising.count_below.Goals as goal
 
 pub returns-clause-value : goal.returns-clause-value

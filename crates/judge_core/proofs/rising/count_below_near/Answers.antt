@@ -1,6 +1,6 @@
 use Rattle.std.proofs.Common.{ltb, ap, ◌∙◌, arith}
 use Rattle.std.proofs.lemmas.Bool.{le-ltb}
-use Rattle.judge_core.proofs.Keys.{prefix_near}
+use Rattle.judge_core.proofs.RisingKeys.{prefix_near}
 use Rattle.judge_core.proofs.rising.count_below_near.Goals as goal
 
 pub returns-in-Some-clause-value : goal.returns-in-Some-clause-value

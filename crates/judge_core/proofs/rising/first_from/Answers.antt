@@ -3,7 +3,7 @@ use Rattle.std.specs.Prelude.{find, IfSome}
 use Rattle.std.specs.Option.{is_some, option_copied}
 use Rattle.std.proofs.lemmas.Bool.{ltb-true, ltb-false}
 use Rattle.std.proofs.lemmas.List.{at_drop_more, at_drop_all}
-use Rattle.judge_core.proofs.Keys.{found_from}
+use Rattle.judge_core.proofs.RisingKeys.{found_from}
 use Rattle.judge_core.proofs.rising.first_from.Goals as goal
 
 got : {X : Type 0} (xs : List X) (n : ℕ) (o : Option (Bor X)) → is_some o ≡ ltb n (length xs) → IfSome o (λ x. x.now ≡ get_or xs n x.now)

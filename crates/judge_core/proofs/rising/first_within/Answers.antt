@@ -1,7 +1,7 @@
 use Rattle.std.proofs.Common.{Some, None, cond, sym, ap, ◌∙◌, arith}
 use Rattle.std.specs.Option.{option_copied, option_map_or}
 use Rattle.std.proofs.lemmas.Bool.{lt-ltb, le-ltb}
-use Rattle.judge_core.proofs.Keys.{within_from, is_below}
+use Rattle.judge_core.proofs.RisingKeys.{within_from, is_below}
 use Rattle.judge_core.proofs.rising.first_within.Goals as goal
 use Rattle.judge_core.proofs.rising.first_within.Goals.{in_default-via-in-Some+else-from-end, in_default-via-in_default}
 

@@ -1,7 +1,7 @@
 use Rattle.std.proofs.Common.{◌+◌, sym, ap, ◌∙◌, subst}
 use Rattle.std.specs.List.{insert, prefix_len}
 use Rattle.std.specs.List.Sorted.{IsNonDecreasingBy}
-use Rattle.judge_core.proofs.Keys.{put_behind, put_rises, is_below}
+use Rattle.judge_core.proofs.RisingKeys.{put_behind, put_rises, is_below}
 use Rattle.judge_core.proofs.rising.put.Goals as goal
 
 pub returns-clause-put : goal.returns-clause-put

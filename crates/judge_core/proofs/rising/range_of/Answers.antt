@@ -1,7 +1,7 @@
 use Rattle.std.proofs.Common.{◌≡◌, ℕ, ◌+◌, ◌-◌, ◌++◌, length, take, drop, sym, ap, ◌∙◌, arith, length-drop}
 use Rattle.std.specs.List.{prefix_len}
 use Rattle.std.proofs.lemmas.List.{take_all, drop-drop}
-use Rattle.judge_core.proofs.Keys.{others_kept, is_below}
+use Rattle.judge_core.proofs.RisingKeys.{others_kept, is_below}
 use Rattle.judge_core.proofs.rising.range_of.Goals as goal
 
 pub returns-clause-others : goal.returns-clause-others

@@ -1,7 +1,7 @@
 use Rattle.std.proofs.Common.{◌≡◌, ◌≤◌, ◌++◌, not, length, take, drop, sym, ap, ◌∙◌, subst, arith}
 use Rattle.std.specs.Prelude.{◌==◌, filter}
 use Rattle.std.specs.List.{remove}
-use Rattle.judge_core.proofs.Keys.{remove_next}
+use Rattle.judge_core.proofs.RisingKeys.{remove_next}
 use Rattle.judge_core.proofs.rising.remove.Goals as goal
 
 pub loop-preserved : goal.loop-preserved

@@ -1,6 +1,6 @@
 use Rattle.std.proofs.Common.{◌+◌, ap, ◌∙◌}
 use Rattle.std.specs.Prelude.{find}
-use Rattle.judge_core.proofs.Keys.{one_key, is_within}
+use Rattle.judge_core.proofs.RisingKeys.{one_key, is_within}
 use Rattle.judge_core.proofs.rising.with_key.Goals as goal
 
 pub returns : goal.returns

@@ -1,4 +1,4 @@
-use Rattle.kernel_core.proofs.Worlds.{one_world}
+use Rattle.kernel_core.proofs.KernelToWorld.{one_world}
 use Rattle.kernel_core.proofs.laws.one_world.Goals as goal
 
 pub returns : goal.returns

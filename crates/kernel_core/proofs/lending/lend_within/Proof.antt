@@ -30,7 +30,7 @@ use Rattle.space_core.specs.contracts.Space.{the_row}
 use Rattle.space_core.specs.contracts.Space.window_in as callee
 use Rattle.space_core.proofs.Space.window_in.Met.{met}
 use Rattle.kernel_core.specs.Lending.{fit}
-use Rattle.kernel_core.proofs.Fitting.{fitted_lent, lends_fitted}
+use Rattle.kernel_core.proofs.LentSliceLength.{fitted_lent, lends_fitted}
 use Rattle.kernel_core.specs.contracts.lending.lend_within as f
 use Rattle.kernel_core.specs.contracts.lending.lend_within.Key.{name as #self}
 use Rattle.kernel_core.proofs.lending.lend_within.Statement.{statement}

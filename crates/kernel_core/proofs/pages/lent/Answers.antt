@@ -1,5 +1,5 @@
 use Rattle.std.proofs.Common.{◌/◌}
-use Rattle.kernel_core.proofs.Changing.{superblock_there}
+use Rattle.kernel_core.proofs.CallEffects.{superblock_there}
 use Rattle.kernel_core.proofs.PageCalls.{under_home}
 use Rattle.kernel_core.proofs.pages.lent.Goals as goal
 

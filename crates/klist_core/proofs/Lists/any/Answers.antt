@@ -1,7 +1,7 @@
 use Rattle.std.proofs.Common.{[]}
 use Rattle.std.proofs.lemmas.List.{get_or_read}
 use Rattle.klist_core.specs.Links.{head_at}
-use Rattle.klist_core.proofs.Reading.{some_linked}
+use Rattle.klist_core.proofs.LinkReads.{some_linked}
 use Rattle.klist_core.proofs.Lists.any.Goals as goal
 
 pub returns : goal.returns

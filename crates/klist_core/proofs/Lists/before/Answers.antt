@@ -1,6 +1,6 @@
 use Rattle.std.proofs.Common.{refl}
 use Rattle.klist_core.specs.Places.{place_at}
-use Rattle.klist_core.proofs.Before.{none_before, is_before}
+use Rattle.klist_core.proofs.NodeBefore.{none_before, is_before}
 use Rattle.klist_core.proofs.Lists.before.Goals as goal
 
 pub returns-in_err-previous : goal.returns-in_err-previous

@@ -1,7 +1,7 @@
 use Rattle.std.proofs.Common.{ℕ, List, sym, ◌∙◌, ap, Some, slice_get, arith}
 use Rattle.model_core.proofs.Lists.{none_in}
 use Rattle.klist_core.specs.Lists.{list_of}
-use Rattle.klist_core.proofs.Listing.{in_list, listed, list_rises, first_of_rising}
+use Rattle.klist_core.proofs.KeyNodePairs.{in_list, listed, list_rises, first_of_rising}
 use Rattle.klist_core.proofs.Lists.first_at.Goals as goal
 
 pub returns-in_err-node-clause-head : goal.returns-in_err-node-clause-head

@@ -1,5 +1,5 @@
 use Rattle.klist_core.specs.Places.{place_at}
-use Rattle.klist_core.proofs.Behind.{behind_last, behind_next, behind_previous, behind_on, behind_placed, behind_nearer}
+use Rattle.klist_core.proofs.WalkToKey.{behind_last, behind_next, behind_previous, behind_on, behind_placed, behind_nearer}
 use Rattle.klist_core.proofs.Lists.gap_behind.Goals as goal
 
 pub loop-next-init : goal.loop-next-init

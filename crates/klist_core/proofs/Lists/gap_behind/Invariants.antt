@@ -1,7 +1,7 @@
 use Rattle.std.proofs.Common.{◌-◌, ◌^◌}
 use Rattle.klist_core.specs.Places.{place_at}
 use Rattle.klist_core.proofs.Walks.{key_in}
-use Rattle.klist_core.proofs.Behind.{IsBehind}
+use Rattle.klist_core.proofs.WalkToKey.{IsBehind}
 use Rattle.klist_core.proofs.Lists.gap_behind.Given as goal
 
 abbrev pub invariant-loop-next : goal.invariant-loop-next

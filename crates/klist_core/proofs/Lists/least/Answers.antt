@@ -1,9 +1,9 @@
 use Rattle.std.proofs.Common.{ℕ, Some, refl, sym, ap, ◌∙◌, arith}
 use Rattle.std.proofs.lemmas.Bool.{eq-eqb, false≢true}
 use Rattle.klist_core.specs.Places.{place_at, is_in}
-use Rattle.klist_core.proofs.Behind.{in_placed}
-use Rattle.klist_core.proofs.Tables.{placed_within}
-use Rattle.klist_core.proofs.Search.{until_none, until_here, until_kept, until_all}
+use Rattle.klist_core.proofs.WalkToKey.{in_placed}
+use Rattle.klist_core.proofs.PlacesChanged.{placed_within}
+use Rattle.klist_core.proofs.LeastKeySearch.{until_none, until_here, until_kept, until_all}
 use Rattle.klist_core.proofs.Lists.least.Goals as goal
 
 pub loop-node-init : goal.loop-node-init

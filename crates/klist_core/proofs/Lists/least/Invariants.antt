@@ -1,5 +1,5 @@
 use Rattle.klist_core.specs.Places.{place_at}
-use Rattle.klist_core.proofs.Search.{IsLeastUntil}
+use Rattle.klist_core.proofs.LeastKeySearch.{IsLeastUntil}
 use Rattle.klist_core.proofs.Lists.least.Given as goal
 
 abbrev pub invariant-loop-node : goal.invariant-loop-node

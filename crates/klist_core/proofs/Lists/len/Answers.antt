@@ -2,7 +2,7 @@ use Rattle.std.proofs.Common.{[], ap, sym, ◌∙◌}
 use Rattle.std.proofs.lemmas.List.{get_or_read}
 use Rattle.klist_core.specs.Links.{head_at, places_of}
 use Rattle.klist_core.specs.declared.Head.{Head}
-use Rattle.klist_core.proofs.Listing.{length_list}
+use Rattle.klist_core.proofs.KeyNodePairs.{length_list}
 use Rattle.klist_core.proofs.Lists.len.Goals as goal
 
 pub returns-clause-length : goal.returns-clause-length

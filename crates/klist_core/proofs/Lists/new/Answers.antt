@@ -1,5 +1,5 @@
 use Rattle.std.proofs.Common.{◌≡◌, replicate, rules}
-use Rattle.klist_core.proofs.Fresh.{empty_head, linked_fresh, shown_fresh}
+use Rattle.klist_core.proofs.EmptyTable.{empty_head, linked_fresh, shown_fresh}
 use Rattle.klist_core.specs.Links.{free_node}
 use Rattle.klist_core.proofs.Lists.new.Goals as goal
 use Rattle.klist_core.proofs.Lists.new.Goals.{In_ok-nodes}

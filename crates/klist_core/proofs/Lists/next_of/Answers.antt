@@ -1,8 +1,8 @@
 use Rattle.std.proofs.Common.{◌<◌, [], length, arith}
 use Rattle.std.proofs.lemmas.List.{get_or_read, length-map}
 use Rattle.klist_core.specs.Links.{node_at, places_of, place_in}
-use Rattle.klist_core.proofs.Tables.{some_within}
-use Rattle.klist_core.proofs.Reading.{next_linked}
+use Rattle.klist_core.proofs.PlacesChanged.{some_within}
+use Rattle.klist_core.proofs.LinkReads.{next_linked}
 use Rattle.klist_core.proofs.Lists.next_of.Goals as goal
 
 pub returns : goal.returns

@@ -3,7 +3,7 @@ use Rattle.klist_core.specs.Links.{shown}
 use Rattle.klist_core.specs.Writes.{heads_linked, nodes_linked}
 use Rattle.klist_core.specs.declared.Head.{Head}
 use Rattle.klist_core.specs.declared.Node.{Node}
-use Rattle.klist_core.proofs.Calls.{IsInsertion, insertion_known, linked_in, shown_in, seam, linked_back}
+use Rattle.klist_core.proofs.KnownBeforeWrites.{IsInsertion, insertion_known, linked_in, shown_in, seam, linked_back}
 use Rattle.klist_core.proofs.Lists.put.Goals as goal
 use Rattle.klist_core.proofs.Lists.put.Goals.{After-link_place-previous, After-link_node}
 

@@ -3,7 +3,7 @@ use Rattle.klist_core.specs.Links.{shown}
 use Rattle.klist_core.specs.Writes.{heads_unlinked, nodes_unlinked}
 use Rattle.klist_core.specs.declared.Head.{Head}
 use Rattle.klist_core.specs.declared.Node.{Node}
-use Rattle.klist_core.proofs.Calls.{IsRemoval, removal_known, linked_out, shown_out, seam, linked_back}
+use Rattle.klist_core.proofs.KnownBeforeWrites.{IsRemoval, removal_known, linked_out, shown_out, seam, linked_back}
 use Rattle.klist_core.proofs.Lists.remove.Goals as goal
 use Rattle.klist_core.proofs.Lists.remove.Goals.{In-Some, After-unlink_node}
 

@@ -3,7 +3,7 @@ use Rattle.klist_core.specs.Links.{shown}
 use Rattle.klist_core.specs.Writes.{heads_linked, nodes_linked, heads_unlinked, nodes_unlinked}
 use Rattle.klist_core.specs.declared.Head.{Head}
 use Rattle.klist_core.specs.declared.Node.{Node}
-use Rattle.klist_core.proofs.Calls.{IsRemoval, removal_known, heads_replaced, nodes_replaced, nodes_stay, linked_over, shown_over, seam, linked_back}
+use Rattle.klist_core.proofs.KnownBeforeWrites.{IsRemoval, removal_known, heads_replaced, nodes_replaced, nodes_stay, linked_over, shown_over, seam, linked_back}
 use Rattle.klist_core.proofs.Lists.replace.Goals as goal
 use Rattle.klist_core.proofs.Lists.replace.Goals.{In-Some, After-unlink_node, After-link_node}
 

@@ -1,4 +1,4 @@
-use Rattle.klist_core.proofs.OneList.{insertion}
+use Rattle.klist_core.proofs.OneListChanged.{insertion}
 use Rattle.klist_core.proofs.laws.insertion_changes_one_list.Goals as goal
 
 pub returns : goal.returns

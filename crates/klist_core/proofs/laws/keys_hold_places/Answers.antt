@@ -2,7 +2,7 @@ use Rattle.std.proofs.Common.{ℕ}
 use Rattle.klist_core.specs.Lists.{list_of, keys_of}
 use Rattle.model_core.proofs.Lists.{in_map}
 use Rattle.model_core.proofs.ObjectsApart.{in_contains, contains_in}
-use Rattle.klist_core.proofs.Listing.{in_list, listed, key_among}
+use Rattle.klist_core.proofs.KeyNodePairs.{in_list, listed, key_among}
 use Rattle.klist_core.proofs.laws.keys_hold_places.Goals as goal
 
 pub returns : goal.returns

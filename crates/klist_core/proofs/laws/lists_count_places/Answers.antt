@@ -1,4 +1,4 @@
-use Rattle.klist_core.proofs.Listing.{lists_count_places}
+use Rattle.klist_core.proofs.KeyNodePairs.{lists_count_places}
 use Rattle.klist_core.proofs.laws.lists_count_places.Goals as goal
 
 pub returns : goal.returns

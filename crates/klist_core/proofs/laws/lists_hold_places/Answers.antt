@@ -1,6 +1,6 @@
 use Rattle.klist_core.specs.Lists.{list_of}
 use Rattle.model_core.proofs.ObjectsApart.{in_contains, contains_in}
-use Rattle.klist_core.proofs.Listing.{in_list, listed}
+use Rattle.klist_core.proofs.KeyNodePairs.{in_list, listed}
 use Rattle.klist_core.proofs.laws.lists_hold_places.Goals as goal
 
 pub returns : goal.returns

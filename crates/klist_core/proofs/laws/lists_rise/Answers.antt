@@ -1,4 +1,4 @@
-use Rattle.klist_core.proofs.Listing.{list_rises}
+use Rattle.klist_core.proofs.KeyNodePairs.{list_rises}
 use Rattle.klist_core.proofs.laws.lists_rise.Goals as goal
 
 pub returns : goal.returns

@@ -1,4 +1,4 @@
-use Rattle.klist_core.proofs.OneList.{removal}
+use Rattle.klist_core.proofs.OneListChanged.{removal}
 use Rattle.klist_core.proofs.laws.removal_changes_one_list.Goals as goal
 
 pub returns : goal.returns

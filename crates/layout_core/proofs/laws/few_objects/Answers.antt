@@ -1,4 +1,4 @@
-use Rattle.layout_core.proofs.Orders.{few_objects}
+use Rattle.layout_core.proofs.SlabOrders.{few_objects}
 use Rattle.layout_core.proofs.laws.few_objects.Goals as goal
 
 pub returns : goal.returns

@@ -1,4 +1,4 @@
-use Rattle.layout_core.proofs.Orders.{objects_apart}
+use Rattle.layout_core.proofs.SlabOrders.{objects_apart}
 use Rattle.layout_core.proofs.laws.objects_apart.Goals as goal
 
 pub returns : goal.returns

@@ -2,7 +2,7 @@ use Rattle.std.proofs.Common.{◌≡◌, ◌+◌, ◌≤◌, ◌++◌, length, d
 use Rattle.std.specs.Prelude.{slice_index}
 use Rattle.std.proofs.lemmas.List.{length-append, length-drop, length-take-le, get_or_append_left}
 use Rattle.std.proofs.Math.Nat.{mod_self, mod-eq_of_lt}
-use Rattle.layout_core.proofs.Repeating.{copied_on, twice}
+use Rattle.layout_core.proofs.RepeatedBytes.{copied_on, twice}
 use Rattle.layout_core.proofs.pattern.repeat.Goals as goal
 
 pub loop-done-init : goal.loop-done-init

@@ -1,4 +1,4 @@
-use Rattle.model_core.proofs.Choosing.{free_is_tested, choice_is_found, one_choice}
+use Rattle.model_core.proofs.BlockChoice.{free_is_tested, choice_is_found, one_choice}
 use Rattle.model_core.proofs.block_laws.choice_is_found.Goals as goal
 
 pub returns-clause-tested : goal.returns-clause-tested

@@ -1,5 +1,5 @@
 use Rattle.model_core.proofs.FreeBlocks.{each_frame_in_one, splits}
-use Rattle.model_core.proofs.Joining.{joins}
+use Rattle.model_core.proofs.BuddyJoins.{joins}
 use Rattle.model_core.proofs.block_laws.splits_and_joins.Goals as goal
 
 pub returns-clause-one_block : goal.returns-clause-one_block

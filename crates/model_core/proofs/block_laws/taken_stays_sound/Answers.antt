@@ -1,4 +1,4 @@
-use Rattle.model_core.proofs.Joining.{reserve_stays_sound, release_stays_sound, grant_stays_sound, take_back_stays_sound}
+use Rattle.model_core.proofs.BuddyJoins.{reserve_stays_sound, release_stays_sound, grant_stays_sound, take_back_stays_sound}
 use Rattle.model_core.proofs.block_laws.taken_stays_sound.Goals as goal
 
 pub returns-clause-reserve : goal.returns-clause-reserve

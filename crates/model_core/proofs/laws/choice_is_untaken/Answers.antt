@@ -1,4 +1,4 @@
-use Rattle.model_core.proofs.Chosen.{choice_is_untaken}
+use Rattle.model_core.proofs.ChosenBlock.{choice_is_untaken}
 use Rattle.model_core.proofs.laws.choice_is_untaken.Goals as goal
 
 pub returns : goal.returns

@@ -1,4 +1,4 @@
-use Rattle.model_core.proofs.Chosen.{choices_meet}
+use Rattle.model_core.proofs.ChosenBlock.{choices_meet}
 use Rattle.model_core.proofs.laws.choices_meet.Goals as goal
 
 pub returns : goal.returns

@@ -1,4 +1,4 @@
-use Rattle.model_core.proofs.ByNeed.{alloc_reaps, take_reaps}
+use Rattle.model_core.proofs.ReapingByNeed.{alloc_reaps, take_reaps}
 use Rattle.model_core.proofs.Outcomes.{refusals_stay}
 use Rattle.model_core.proofs.laws.reaps_by_need.Goals as goal
 

@@ -1,4 +1,4 @@
-use Rattle.own_trace.proofs.Lines.{are_kept, kept_short}
+use Rattle.own_trace.proofs.OneMoreLine.{are_kept, kept_short}
 use Rattle.own_trace.proofs.keeping.keep.Goals as goal
 
 pub returns-in-Ok-clause-kept : goal.returns-in-Ok-clause-kept

@@ -1,4 +1,4 @@
-use Rattle.own_trace.proofs.Alone.{own_list_alone, lines_alone}
+use Rattle.own_trace.proofs.OwnListAlone.{own_list_alone, lines_alone}
 use Rattle.own_trace.proofs.laws.alone.Goals as goal
 
 pub returns : goal.returns

@@ -1,4 +1,4 @@
-use Rattle.own_trace.proofs.Kept as kept
+use Rattle.own_trace.proofs.KeptLines as kept
 use Rattle.own_trace.proofs.laws.kept_are_own_list.Goals as goal
 
 pub returns : goal.returns

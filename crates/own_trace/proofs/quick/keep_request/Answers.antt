@@ -1,5 +1,5 @@
 use Rattle.std.proofs.Common.{◌≡◌, true, false, rules}
-use Rattle.own_trace.proofs.Lines.{line_run, not_kept, kept}
+use Rattle.own_trace.proofs.OneMoreLine.{line_run, not_kept, kept}
 use Rattle.own_trace.proofs.quick.keep_request.Goals as goal
 
 pub returns-then-not-run_request-clause-done : goal.returns-then-not-run_request-clause-done

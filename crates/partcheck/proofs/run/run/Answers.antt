@@ -3,7 +3,7 @@ use Rattle.std.proofs.lemmas.Result.{IfOk-from_err, IfOk-weaker}
 use Rattle.check_core.proofs.Ending.{ended_so, ran_out}
 use Rattle.check_core.proofs.ReadingLemmas.{gives_nothing}
 use Rattle.partcheck.specs.Checked.{IsFindingOf, opening_of}
-use Rattle.partcheck.proofs.Sound.{finds, known_texts}
+use Rattle.partcheck.proofs.FindingOfNewMachine.{finds, known_texts}
 use Rattle.partcheck.proofs.run.run.Goals as goal
 
 pub returns-in_err-machine-clause-found : goal.returns-in_err-machine-clause-found

@@ -1,6 +1,6 @@
 use Rattle.std.proofs.Common.{◌≡◌, ◌∙◌, true, false, sym}
 use Rattle.partcheck.specs.Telling.{begin_text, is_shown_plain}
-use Rattle.partcheck.proofs.Texts.{first_text, last_text, only_text, then_text}
+use Rattle.partcheck.proofs.JoinedTexts.{first_text, last_text, only_text, then_text}
 use Rattle.partcheck.proofs.telling.write_begin.Goals as goal
 
 pub returns-then-is_shown_plain : goal.returns-then-is_shown_plain

@@ -1,5 +1,5 @@
 use Rattle.partcheck.specs.Telling.{excerpt_of}
-use Rattle.partcheck.proofs.Texts.{first_text, last_text}
+use Rattle.partcheck.proofs.JoinedTexts.{first_text, last_text}
 use Rattle.partcheck.proofs.telling.write_excerpt.Goals as goal
 
 pub returns : goal.returns

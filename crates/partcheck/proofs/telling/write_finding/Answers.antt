@@ -1,4 +1,4 @@
-use Rattle.partcheck.proofs.Texts.{finding_flushed}
+use Rattle.partcheck.proofs.JoinedTexts.{finding_flushed}
 use Rattle.partcheck.proofs.telling.write_finding.Goals as goal
 
 pub returns : goal.returns

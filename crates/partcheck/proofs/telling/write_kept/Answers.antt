@@ -1,5 +1,5 @@
 use Rattle.partcheck.specs.Telling.{kept_text}
-use Rattle.partcheck.proofs.Texts.{only_text}
+use Rattle.partcheck.proofs.JoinedTexts.{only_text}
 use Rattle.partcheck.proofs.telling.write_kept.Goals as goal
 
 pub returns : goal.returns

@@ -1,5 +1,5 @@
 use Rattle.partcheck.specs.Telling.{reason_text}
-use Rattle.partcheck.proofs.Texts.{only_text}
+use Rattle.partcheck.proofs.JoinedTexts.{only_text}
 use Rattle.partcheck.proofs.telling.write_reason.Goals as goal
 
 pub returns-in-Blocks-Some : goal.returns-in-Blocks-Some

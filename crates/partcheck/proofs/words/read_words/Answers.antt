@@ -3,8 +3,8 @@ use Rattle.clap.specs.Words.{Text, found_of, matches_of}
 use Rattle.command_line.specs.declared.outcome.Outcome.{Outcome}
 use Rattle.partcheck.specs.Settings.{check_command_line}
 use Rattle.partcheck.specs.declared.settings.Settings.{Settings}
-use Rattle.partcheck.proofs.Reading.{asks_rows, check_parsed, check_refused, check_rows, check_taken}
-use Rattle.partcheck.proofs.Reading.{no_replies_rows, no_sizes_rows, no_trace_rows, replies_given, sizes_given, trace_given}
+use Rattle.partcheck.proofs.SettingsRead.{asks_rows, check_parsed, check_refused, check_rows, check_taken}
+use Rattle.partcheck.proofs.SettingsRead.{no_replies_rows, no_sizes_rows, no_trace_rows, replies_given, sizes_given, trace_given}
 use Rattle.partcheck.proofs.words.read_words.Goals as goal
 
 pub returns-clause-asked : goal.returns-clause-asked

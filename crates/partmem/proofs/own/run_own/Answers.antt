@@ -1,6 +1,6 @@
 use Rattle.std.proofs.Common.{[], refl, arith, rules}
-use Rattle.partmem.proofs.Keeping.{own_written, own_traced, own_reached, own_ends}
-use Rattle.partmem.proofs.Writing.{booted, nothing_of}
+use Rattle.partmem.proofs.OwnRunOutcome.{own_written, own_traced, own_reached, own_ends}
+use Rattle.partmem.proofs.ReplayOutcome.{booted, nothing_of}
 use Rattle.streams.proofs.MoveLemmas.{consumes_nothing, appends_nothing, appends_kept}
 use Rattle.partmem.proofs.own.run_own.Goals as goal
 

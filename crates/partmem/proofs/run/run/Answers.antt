@@ -1,7 +1,7 @@
 use Rattle.std.proofs.Common.{[], refl, arith, rules}
-use Rattle.partmem.proofs.Promising.{promises_kept}
-use Rattle.partmem.proofs.Writing.{booted, answers, given_so_far, traced, tallied, reached, ends, nothing_of}
-use Rattle.partmem.proofs.Noting.{noted}
+use Rattle.partmem.proofs.PromisesKept.{promises_kept}
+use Rattle.partmem.proofs.ReplayOutcome.{booted, answers, given_so_far, traced, tallied, reached, ends, nothing_of}
+use Rattle.partmem.proofs.NotedRun.{noted}
 use Rattle.streams.proofs.MoveLemmas.{consumes_nothing, appends_nothing, appends_kept}
 use Rattle.partmem.proofs.run.run.Goals as goal
 

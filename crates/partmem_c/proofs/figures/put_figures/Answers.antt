@@ -5,7 +5,7 @@ use Rattle.words_core.specs.declared.reply.Addressee.TheVariants as To
 use Rattle.words_core.specs.declared.reply.Body.TheVariants.{Report, Refused}
 use Rattle.words_core.specs.declared.reply.Refusal.TheVariants.{NoTenant}
 use Rattle.kernel_core.specs.Steps.{Steps}
-use Rattle.kernel_core.proofs.Worlds.{unknown_tenant}
+use Rattle.kernel_core.proofs.KernelToWorld.{unknown_tenant}
 use Rattle.partmem_c.proofs.figures.put_figures.Goals as goal
 
 pub returns-in_default : goal.returns-in_default

@@ -5,7 +5,7 @@ use Rattle.words_core.specs.declared.reply.Addressee.TheVariants.{Nobody}
 use Rattle.words_core.specs.declared.reply.Body.TheVariants.{Refused}
 use Rattle.words_core.specs.declared.reply.Refusal.TheVariants.{NoTenant}
 use Rattle.words_core.specs.declared.reply.Reply.{Reply}
-use Rattle.kernel_core.proofs.Worlds.{unknown_tenant}
+use Rattle.kernel_core.proofs.KernelToWorld.{unknown_tenant}
 use Rattle.partmem_c.proofs.lines.put_report.Goals as goal
 
 pub returns-in-None : goal.returns-in-None

@@ -12,7 +12,7 @@ use Rattle.picture_svg.specs.Marks.{refusals_text}
 use Rattle.picture_svg.specs.Sizes.{lower}
 use Rattle.picture_svg.specs.Texts.{tenant_title}
 use Rattle.picture_svg.proofs.TextLemmas.{band_parts}
-use Rattle.picture_svg.proofs.Writing.{exactly, last_texts, two}
+use Rattle.picture_svg.proofs.JoinedTexts.{exactly, last_texts, two}
 use Rattle.picture_svg.proofs.svg.draw_band.Goals as goal
 
 pub returns : goal.returns

@@ -2,9 +2,9 @@ use Rattle.std.proofs.Common.{◌≡◌, ℕ, ◌+◌, ◌-◌, List, ◌++◌, 
 use Rattle.std.proofs.lemmas.List.Concat.{flat_map-append}
 use Rattle.frame_picture.specs.declared.rectangles.Rectangle.{Rectangle}
 use Rattle.frame_picture.specs.Rectangles.{AreRectangles}
-use Rattle.frame_picture.proofs.Covering.{covers, rectangles_on}
+use Rattle.frame_picture.proofs.RectanglesCover.{covers, rectangles_on}
 use Rattle.picture_svg.specs.Texts.{rectangle_path}
-use Rattle.picture_svg.proofs.Writing.{both}
+use Rattle.picture_svg.proofs.JoinedTexts.{both}
 use Rattle.picture_svg.proofs.svg.draw_cells.Goals as goal
 
 pub loop-column-preserved : goal.loop-column-preserved

@@ -2,9 +2,9 @@ use Rattle.std.proofs.Common.{◌≡◌, ◌+◌, ◌-◌, List, [], ◌∷◌, 
 use Rattle.std.proofs.lemmas.List.{flat_map_more}
 use Rattle.frame_picture.specs.declared.rectangles.Rectangle.{Rectangle}
 use Rattle.frame_picture.specs.Rectangles.{AreRectangles}
-use Rattle.frame_picture.proofs.Covering.{row_with, row_without}
+use Rattle.frame_picture.proofs.RectanglesCover.{row_with, row_without}
 use Rattle.picture_svg.specs.Texts.{rectangle_path}
-use Rattle.picture_svg.proofs.Writing.{both}
+use Rattle.picture_svg.proofs.JoinedTexts.{both}
 use Rattle.picture_svg.proofs.svg.draw_ended.Goals as goal
 use Rattle.picture_svg.proofs.svg.draw_ended.Goals.{in-Some+in_ok-draw_rectangle, in_default}
 

@@ -4,7 +4,7 @@ use Rattle.frame_picture.specs.declared.history.Figures.{Figures}
 use Rattle.frame_picture.specs.Stacks.{figures_in_column, refused_until, taken_in_column}
 use Rattle.picture_svg.specs.Bands.{IsFiguresText}
 use Rattle.picture_svg.proofs.TextLemmas.{figures_is}
-use Rattle.picture_svg.proofs.Writing.{only_text}
+use Rattle.picture_svg.proofs.JoinedTexts.{only_text}
 use Rattle.picture_svg.proofs.svg.draw_figures.Goals as goal
 
 pub returns : goal.returns

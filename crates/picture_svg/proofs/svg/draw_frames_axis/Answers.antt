@@ -1,4 +1,4 @@
-use Rattle.picture_svg.proofs.Writing.{exactly, more}
+use Rattle.picture_svg.proofs.JoinedTexts.{exactly, more}
 use Rattle.picture_svg.proofs.svg.draw_frames_axis.Goals as goal
 
 pub loop-k-init : goal.loop-k-init

@@ -7,7 +7,7 @@ use Rattle.frame_picture.proofs.PowerLemmas.{shifted}
 use Rattle.picture_svg.specs.declared.svg.TheConstants.{LEFT}
 use Rattle.picture_svg.specs.Texts.{escaped, name_text, title_text, AppendsText}
 use Rattle.picture_svg.proofs.TextLemmas.{title_is}
-use Rattle.picture_svg.proofs.Writing.{as_text, exactly, last_texts, then_exactly, then_text, two}
+use Rattle.picture_svg.proofs.JoinedTexts.{as_text, exactly, last_texts, then_exactly, then_text, two}
 use Rattle.picture_svg.proofs.svg.draw_head.Goals as goal
 use Rattle.picture_svg.proofs.svg.draw_head.Goals.{in-Some+in_ok-write_escaped-in-Some, in-None+in_ok-write_all-in-None}
 

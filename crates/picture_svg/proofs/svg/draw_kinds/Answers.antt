@@ -1,5 +1,5 @@
 use Rattle.std.specs.Prelude.{⊤}
-use Rattle.picture_svg.proofs.Writing.{last_texts, more_texts}
+use Rattle.picture_svg.proofs.JoinedTexts.{last_texts, more_texts}
 use Rattle.picture_svg.proofs.svg.draw_kinds.Goals as goal
 
 pub loop-cell-preserved : goal.loop-cell-preserved

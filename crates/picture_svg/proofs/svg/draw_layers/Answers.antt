@@ -4,7 +4,7 @@ use Rattle.frame_picture.specs.declared.history.Column.{Column}
 use Rattle.frame_picture.specs.Histories.{columns_of, drawn_order}
 use Rattle.picture_svg.specs.Marks.{layer_text}
 use Rattle.picture_svg.proofs.MarkLemmas.{a_layer}
-use Rattle.picture_svg.proofs.Writing.{as_text, texts_more, then_exactly, then_text}
+use Rattle.picture_svg.proofs.JoinedTexts.{as_text, texts_more, then_exactly, then_text}
 use Rattle.picture_svg.proofs.svg.draw_layers.Goals as goal
 
 pub loop-k-preserved : goal.loop-k-preserved

@@ -1,5 +1,5 @@
 use Rattle.std.specs.Prelude.{⊤}
-use Rattle.picture_svg.proofs.Writing.{more, last_text}
+use Rattle.picture_svg.proofs.JoinedTexts.{more, last_text}
 use Rattle.picture_svg.proofs.svg.draw_lines_axis.Goals as goal
 
 pub loop-k-preserved : goal.loop-k-preserved

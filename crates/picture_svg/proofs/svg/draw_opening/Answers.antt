@@ -2,7 +2,7 @@ use Rattle.std.proofs.Common.{subst, append_assoc}
 use Rattle.std.specs.Io.KnownBytes.{Appends}
 use Rattle.picture_svg.specs.declared.svg.TheConstants.{STYLE}
 use Rattle.picture_svg.specs.Texts.{opening_text}
-use Rattle.picture_svg.proofs.Writing.{exactly, then_exactly, last_exactly}
+use Rattle.picture_svg.proofs.JoinedTexts.{exactly, then_exactly, last_exactly}
 use Rattle.picture_svg.proofs.svg.draw_opening.Goals as goal
 
 pub returns : goal.returns

@@ -1,4 +1,4 @@
-use Rattle.picture_svg.proofs.Writing.{more, more_texts}
+use Rattle.picture_svg.proofs.JoinedTexts.{more, more_texts}
 use Rattle.picture_svg.proofs.svg.draw_orders.Goals as goal
 
 pub loop-depth-preserved : goal.loop-depth-preserved

@@ -1,6 +1,6 @@
 use Rattle.std.proofs.Common.{◌≡◌, refl}
 use Rattle.picture_svg.specs.Texts.{rectangle_path}
-use Rattle.picture_svg.proofs.Writing.{only_text}
+use Rattle.picture_svg.proofs.JoinedTexts.{only_text}
 use Rattle.picture_svg.proofs.svg.draw_rectangle.Goals as goal
 
 pub returns : goal.returns

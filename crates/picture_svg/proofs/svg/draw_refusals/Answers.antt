@@ -5,7 +5,7 @@ use Rattle.picture_svg.specs.declared.svg.TheConstants.{LEFT}
 use Rattle.picture_svg.specs.Marks.{middle_of, refusal_mark, refusals_begin, refusals_text}
 use Rattle.picture_svg.specs.Sizes.{lower}
 use Rattle.picture_svg.proofs.MarkLemmas.{a_mark, no_mark}
-use Rattle.picture_svg.proofs.Writing.{exactly, last_exactly, renamed, texts_more, texts_same, then_exactly}
+use Rattle.picture_svg.proofs.JoinedTexts.{exactly, last_exactly, renamed, texts_more, texts_same, then_exactly}
 use Rattle.picture_svg.proofs.svg.draw_refusals.Goals as goal
 use Rattle.picture_svg.proofs.svg.draw_refusals.Goals.{then-refused_in-gt0+in_ok-write, else-refused_in-gt0}
 

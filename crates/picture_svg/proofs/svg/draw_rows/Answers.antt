@@ -9,7 +9,7 @@ use Rattle.picture_svg.specs.declared.svg.TheConstants.{LEFT}
 use Rattle.picture_svg.specs.Cells.{group_begin, AreKindPaths, AreRows, IsTonePath}
 use Rattle.picture_svg.specs.Texts.{parts_text}
 use Rattle.picture_svg.proofs.CellLemmas.{begins, concat_push, kind_more, taken_kind}
-use Rattle.picture_svg.proofs.Writing.{both, exactly, last_text}
+use Rattle.picture_svg.proofs.JoinedTexts.{both, exactly, last_text}
 use Rattle.picture_svg.proofs.svg.draw_rows.Goals as goal
 use Rattle.picture_svg.proofs.svg.draw_rows.Goals.{in-Free, in-NotHeld+in_ok-draw_tone-in-NotHeld, in_default+in_ok-draw_shades-in_default}
 

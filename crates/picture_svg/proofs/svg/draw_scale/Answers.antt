@@ -1,6 +1,6 @@
 use Rattle.std.proofs.Common.{append_assoc}
 use Rattle.picture_svg.specs.Marks.{scale_text}
-use Rattle.picture_svg.proofs.Writing.{exactly, then_exactly, last_exactly}
+use Rattle.picture_svg.proofs.JoinedTexts.{exactly, then_exactly, last_exactly}
 use Rattle.picture_svg.proofs.svg.draw_scale.Goals as goal
 
 pub returns : goal.returns

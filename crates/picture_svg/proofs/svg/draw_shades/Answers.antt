@@ -3,7 +3,7 @@ use Rattle.std.specs.List.{AllZip, concat}
 use Rattle.std.proofs.lemmas.Bool.{or_left, or_right, or_from}
 use Rattle.picture_svg.specs.Cells.{is_drawn, shade_of, IsTonePath}
 use Rattle.picture_svg.proofs.CellLemmas.{concat_push, kept_more, passed_over, quarters_are, quarters_at, tone_at}
-use Rattle.picture_svg.proofs.Writing.{both}
+use Rattle.picture_svg.proofs.JoinedTexts.{both}
 use Rattle.picture_svg.proofs.svg.draw_shades.Goals as goal
 use Rattle.picture_svg.proofs.svg.draw_shades.Goals.{then-quarters-eq4+in_ok-draw_tone, then-quarters-eq4-via-then-quarters-eq4, then-quarters-eq4-via-else-quarters-eq4+then-grid-gt1, else-quarters-eq4+else-grid-gt1}
 

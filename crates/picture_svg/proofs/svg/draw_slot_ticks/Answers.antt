@@ -1,5 +1,5 @@
 use Rattle.std.specs.Prelude.{⊤}
-use Rattle.picture_svg.proofs.Writing.{last_text, more}
+use Rattle.picture_svg.proofs.JoinedTexts.{last_text, more}
 use Rattle.picture_svg.proofs.svg.draw_slot_ticks.Goals as goal
 use Rattle.picture_svg.proofs.svg.draw_slot_ticks.Goals.{in-Some+in_ok-write, in_default}
 

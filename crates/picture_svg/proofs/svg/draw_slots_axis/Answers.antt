@@ -1,5 +1,5 @@
 use Rattle.std.specs.Prelude.{⊤}
-use Rattle.picture_svg.proofs.Writing.{last_texts, more}
+use Rattle.picture_svg.proofs.JoinedTexts.{last_texts, more}
 use Rattle.picture_svg.proofs.svg.draw_slots_axis.Goals as goal
 use Rattle.picture_svg.proofs.svg.draw_slots_axis.Goals.{in-Some+in_ok-writeln-2, in_default}
 

@@ -9,7 +9,7 @@ use Rattle.picture_svg.specs.declared.svg.TheConstants.{LEFT}
 use Rattle.picture_svg.specs.Bands.{IsStackText}
 use Rattle.picture_svg.specs.Marks.{layer_text, scale_text}
 use Rattle.picture_svg.proofs.MarkLemmas.{a_stack}
-use Rattle.picture_svg.proofs.Writing.{exactly, last_texts, then_text}
+use Rattle.picture_svg.proofs.JoinedTexts.{exactly, last_texts, then_text}
 use Rattle.picture_svg.proofs.svg.draw_stack.Goals as goal
 
 pub returns : goal.returns

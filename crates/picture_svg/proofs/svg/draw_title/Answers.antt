@@ -1,6 +1,6 @@
 use Rattle.std.proofs.Common.{append_assoc, ◌≡◌, true, false, nat_lt, lt-ltb, le-ltb}
 use Rattle.picture_svg.specs.Texts.{row_note, tenant_title}
-use Rattle.picture_svg.proofs.Writing.{exactly, renamed, then_exactly}
+use Rattle.picture_svg.proofs.JoinedTexts.{exactly, renamed, then_exactly}
 use Rattle.picture_svg.proofs.svg.draw_title.Goals as goal
 
 pub returns-in_ok-writeln-2 : goal.returns-in_ok-writeln-2

@@ -3,7 +3,7 @@ use Rattle.frame_picture.specs.declared.rectangles.Rectangle.{Rectangle}
 use Rattle.frame_picture.specs.Rectangles.{CoverTone}
 use Rattle.picture_svg.specs.Texts.{path_text, rectangle_path}
 use Rattle.picture_svg.specs.Cells.{class_of, IsTonePath}
-use Rattle.picture_svg.proofs.Writing.{both, exactly, last_text}
+use Rattle.picture_svg.proofs.JoinedTexts.{both, exactly, last_text}
 use Rattle.picture_svg.proofs.svg.draw_tone.Goals as goal
 
 -- the path is its parts, one behind the other

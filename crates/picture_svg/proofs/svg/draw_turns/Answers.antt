@@ -2,7 +2,7 @@ use Rattle.std.proofs.Common.{ℕ, ◌+◌, ◌++◌, List, flat_map, ap, sym, �
 use Rattle.std.specs.List.{range_with_len}
 use Rattle.picture_svg.specs.Marks.{turn_text}
 use Rattle.picture_svg.proofs.MarkLemmas.{a_turn, no_turn}
-use Rattle.picture_svg.proofs.Writing.{as_text, texts_more, texts_same, then_exactly}
+use Rattle.picture_svg.proofs.JoinedTexts.{as_text, texts_more, texts_same, then_exactly}
 use Rattle.picture_svg.proofs.svg.draw_turns.Goals as goal
 use Rattle.picture_svg.proofs.svg.draw_turns.Goals.{in-Some+in_ok-write, in_default}
 

@@ -1,4 +1,4 @@
-use Rattle.promise_core.proofs.Reached as reached
+use Rattle.promise_core.proofs.ReachedStates as reached
 use Rattle.promise_core.proofs.laws.left_in_held.Goals as goal
 
 pub returns : goal.returns

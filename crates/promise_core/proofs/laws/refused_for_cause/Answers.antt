@@ -1,4 +1,4 @@
-use Rattle.promise_core.proofs.Causes.{refused_for_cause}
+use Rattle.promise_core.proofs.RefusalCauses.{refused_for_cause}
 use Rattle.promise_core.proofs.laws.refused_for_cause.Goals as goal
 
 pub returns : goal.returns

@@ -1,4 +1,4 @@
-use Rattle.promise_core.proofs.Answered.{use_answerable}
+use Rattle.promise_core.proofs.EveryCommandAnswered.{use_answerable}
 use Rattle.promise_core.proofs.laws.use_answerable.Goals as goal
 
 pub returns : goal.returns

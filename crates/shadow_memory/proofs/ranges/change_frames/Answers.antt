@@ -1,7 +1,7 @@
 use Rattle.std.proofs.Common.{◌≡◌, ℕ, ◌+◌, ◌*◌, ◌/◌, ◌<◌, ◌≤◌, List, min, max, refl, sym, subst, arith}
 use Rattle.shadow_memory.specs.declared.summary.Summary.{Summary}
 use Rattle.shadow_memory.specs.Summaries.{AreSummarized}
-use Rattle.shadow_memory.proofs.Passing.{changed_part, marked_part, left_part}
+use Rattle.shadow_memory.proofs.RangeChanges.{changed_part, marked_part, left_part}
 use Rattle.shadow_memory.proofs.ranges.change_frames.Goals as goal
 
 here : (part k : ℕ) → part * 4096 ≤ k → k < part * 4096 + 4096 → k / 4096 ≡ part

@@ -1,5 +1,5 @@
 use Rattle.std.proofs.Common.{ℕ, length, min, max, ap, ◌∙◌}
-use Rattle.shadow_memory.proofs.Passing.{changed_within}
+use Rattle.shadow_memory.proofs.RangeChanges.{changed_within}
 use Rattle.shadow_memory.proofs.ranges.change_range.Goals as goal
 
 pub returns-clause-cells : goal.returns-clause-cells

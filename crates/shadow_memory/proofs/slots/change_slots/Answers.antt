@@ -1,5 +1,5 @@
 use Rattle.std.proofs.Common.{arith}
-use Rattle.shadow_memory.proofs.Stepping.{stepped, slot_ends}
+use Rattle.shadow_memory.proofs.StepsByPlace.{stepped, slot_ends}
 use Rattle.shadow_memory.proofs.slots.change_slots.Goals as goal
 
 pub change-requires : goal.change-requires

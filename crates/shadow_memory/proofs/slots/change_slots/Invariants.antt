@@ -1,7 +1,7 @@
 use Rattle.std.proofs.Common.{◌≡◌, ℕ, ◌<◌, ◌≤◌, get_or}
 use Rattle.shadow_memory.specs.Left.{LeftSlot}
 use Rattle.shadow_memory.specs.Inside.{within}
-use Rattle.shadow_memory.proofs.Stepping.{IsStepped}
+use Rattle.shadow_memory.proofs.StepsByPlace.{IsStepped}
 use Rattle.shadow_memory.proofs.slots.change_slots.Given as goal
 
 abbrev pub invariant-loop-slot : goal.invariant-loop-slot

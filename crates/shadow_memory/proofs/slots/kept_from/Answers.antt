@@ -2,7 +2,7 @@ use Rattle.std.proofs.Common.{◌≡◌, ℕ, ◌-◌, ◌*◌, ◌/◌, sym, ap
 use Rattle.std.proofs.lemmas.Nat.{one_shl}
 use Rattle.model_core.specs.Machine.{slot_of}
 use Rattle.shadow_memory.specs.Left.{slot_places}
-use Rattle.shadow_memory.proofs.Stepping.{kept_behind}
+use Rattle.shadow_memory.proofs.StepsByPlace.{kept_behind}
 use Rattle.shadow_memory.proofs.slots.kept_from.Goals as goal
 
 pub returns-then-from-slot : goal.returns-then-from-slot

@@ -9,10 +9,10 @@ use Rattle.slab_tables.specs.Changes.{with_outside}
 use Rattle.machine_changes.specs.Records.{is_set}
 use Rattle.machine_changes.specs.Shows.{is_live}
 use Rattle.slab_core.specs.Objects.{found_in, IsTurned}
-use Rattle.slab_core.proofs.GiveKept.{window_same}
-use Rattle.slab_core.proofs.ObjectSlabs.{machine_frame_within, slab_cache}
-use Rattle.slab_core.proofs.MarkTurned.{live_small, live_large, turned_record, turned_outside}
-use Rattle.slab_core.proofs.TakeNext.{record_home, record_read}
+use Rattle.slab_core.proofs.BytesRewritten.{window_same}
+use Rattle.slab_core.proofs.SlabFacts.{machine_frame_within, slab_cache}
+use Rattle.slab_core.proofs.RecordBitTurned.{live_small, live_large, turned_record, turned_outside}
+use Rattle.slab_core.proofs.FirstFreeObject.{record_home, record_read}
 use Rattle.slab_core.proofs.Slabs.clear_bit.Goals as goal
 use Rattle.slab_core.proofs.Slabs.clear_bit.Goals.{After-record_place-place, After-lower_in_record, After-is_bit_set}
 

@@ -5,7 +5,7 @@ use Rattle.buddy_core.specs.Content as buddies
 use Rattle.slab_tables.specs.Content.{IsTenant}
 use Rattle.machine_changes.specs.Shows.{ShowsMachine, Agree}
 use Rattle.slab_core.proofs.Slabs.create.Goals as goal
-use Rattle.slab_core.proofs.BuildCreate.{IsCreated, created_as, created_agrees}
+use Rattle.slab_core.proofs.CreateStep.{IsCreated, created_as, created_agrees}
 
 made : (c : goal.After-create) (r : spaces.Content) (b : buddies.Content) (m : Machine) (h : ShowsMachine r b c.args.self.now c.args.t m)
     → IsCreated c.self.inside.tables c.args.t c.args.layout c.args.pattern c.laws.ensures.slabs

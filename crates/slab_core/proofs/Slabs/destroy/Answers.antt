@@ -10,9 +10,9 @@ use Rattle.machine_changes.specs.Shows.{ShowsMachine, Agree}
 use Rattle.machine_changes.specs.Keeps.{Spares}
 use Rattle.slab_core.proofs.Slabs.destroy.Goals as goal
 use Rattle.slab_core.proofs.Slabs.destroy.Goals.{In-Some, Then-in_use, After-give_back_empty}
-use Rattle.slab_core.proofs.BuildCache.{cache_agrees}
-use Rattle.slab_core.proofs.ReturnMany.{spares_twice}
-use Rattle.slab_core.proofs.ReturnCache.{unplaced, no_cache_step, used_step, IsDestroyed, destroyed_as, spares_entry, IsLeft, left_of}
+use Rattle.slab_core.proofs.BareCache.{cache_agrees}
+use Rattle.slab_core.proofs.ReturnEmptySlabs.{spares_twice}
+use Rattle.slab_core.proofs.DestroyCache.{unplaced, no_cache_step, used_step, IsDestroyed, destroyed_as, spares_entry, IsLeft, left_of}
 
 vacant : (c : goal.In_default) → cache_at c.args.self.now c.args.t c.args.c ≡ None
 vacant c = subst (λ s. cache_at s c.args.t c.args.c ≡ None) c.self.view_is (sym c.cache.ensures ∙ sym c.copied.ensures ∙ c.in_default.is)

@@ -3,7 +3,7 @@ use Rattle.slab_tables.specs.Content.{cache_at}
 use Rattle.std.specs.Prelude.{flat_map}
 use Rattle.model_core.specs.Slabs.{empty_blocks}
 use Rattle.model_core.specs.CacheOperations.{frames_of}
-use Rattle.slab_core.proofs.ReturnFrames.{below, frames_first, frames_next, below_all, numbers_below}
+use Rattle.slab_core.proofs.EmptySlabFrames.{below, frames_first, frames_next, below_all, numbers_below}
 use Rattle.slab_core.proofs.Slabs.empty_frames.Goals as goal
 
 pub loop-c-init : goal.loop-c-init

@@ -7,7 +7,7 @@ use Rattle.space_core.specs.Content as spaces
 use Rattle.buddy_core.specs.Content as buddies
 use Rattle.machine_changes.specs.Shows.{ShowsMachine, Agree}
 use Rattle.machine_changes.specs.Steady.{IsSteady}
-use Rattle.slab_core.proofs.ReturnFrames.{below}
+use Rattle.slab_core.proofs.EmptySlabFrames.{below}
 use Rattle.slab_core.proofs.Slabs.empty_frames.Given as goal
 
 abbrev pub invariant-loop-c : goal.invariant-loop-c

@@ -3,13 +3,13 @@ use Rattle.std.specs.Prelude.{option_map}
 use Rattle.std.proofs.lemmas.List.Sums.{count_by-le-length}
 use Rattle.model_core.specs.Layouts.{IsLayout}
 use Rattle.klist_core.specs.Places.{is_in}
-use Rattle.klist_core.proofs.Listing.{lists_count_places}
+use Rattle.klist_core.proofs.KeyNodePairs.{lists_count_places}
 use Rattle.slab_tables.specs.Content.{head_of, cache_at, layout_numbers}
 use Rattle.machine_changes.specs.Shows.{ShowsMachine, Agree}
 use Rattle.machine_changes.specs.Steady.{IsSteady}
-use Rattle.slab_core.proofs.ObjectSlabs.{in_tables}
+use Rattle.slab_core.proofs.SlabFacts.{in_tables}
 use Rattle.slab_core.proofs.Slabs.empty_frames_of.Goals as goal
-use Rattle.slab_core.proofs.ReturnFrames.{frames_few, frames_counted}
+use Rattle.slab_core.proofs.EmptySlabFrames.{frames_few, frames_counted}
 
 cached : (c : goal.After-order) → cache_at c.self.inside.tables c.args.t c.args.c ≡ Some c.in-Some.cache.now
 cached c = sym c.cache.ensures ∙ ap (option_map (λ x. x.now)) c.in-Some.is

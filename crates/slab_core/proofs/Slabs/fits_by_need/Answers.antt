@@ -2,7 +2,7 @@ use Rattle.std.proofs.Common.{◌≡◌, true, subst}
 use Rattle.std.specs.Prelude.{◌↔◌}
 use Rattle.machine_changes.specs.Fitting.{WouldFit}
 use Rattle.slab_core.specs.Fitting.{WouldFitInSlabs}
-use Rattle.slab_core.proofs.FittingAround.{fits_by_slabs, fits_answers}
+use Rattle.slab_core.proofs.FitsAfterReaping.{fits_by_slabs, fits_answers}
 use Rattle.slab_core.proofs.Slabs.fits_by_need.Goals as goal
 use Rattle.slab_core.proofs.Slabs.fits_by_need.Goals.{After-would_fit_in_slabs}
 

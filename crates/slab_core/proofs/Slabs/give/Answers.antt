@@ -12,11 +12,11 @@ use Rattle.machine_changes.specs.Objects.{IsLiveObject, IsNoObject}
 use Rattle.machine_changes.specs.Laws.{GivesObject}
 use Rattle.slab_core.specs.Objects.{found_in, IsToCount, IsRecounted}
 use Rattle.slab_core.specs.Giving.{BeginsAt}
-use Rattle.slab_core.proofs.GrowNeed.{unmoved}
-use Rattle.slab_core.proofs.ObjectGiven.{give_refused}
-use Rattle.slab_core.proofs.ReturnMany.{spares_none}
-use Rattle.machine_changes.proofs.Marked.{marked_shows}
-use Rattle.machine_changes.proofs.Objects.{found_gives, not_found_refuses}
+use Rattle.slab_core.proofs.GrowByNeed.{unmoved}
+use Rattle.slab_core.proofs.GiveWithoutCache.{give_refused}
+use Rattle.slab_core.proofs.ReturnEmptySlabs.{spares_none}
+use Rattle.machine_changes.proofs.ObjectMarked.{marked_shows}
+use Rattle.machine_changes.proofs.LiveObjects.{found_gives, not_found_refuses}
 use Rattle.slab_core.proofs.Slabs.give.Goals as goal
 use Rattle.slab_core.proofs.Slabs.give.Goals.{After-from_residual, In_ok-kept, After-from_residual-in_err-object, After-clear_bit, After-recount}
 

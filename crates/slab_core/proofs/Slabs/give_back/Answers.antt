@@ -3,7 +3,7 @@ use Rattle.space_core.specs.Windows.{home_of}
 use Rattle.slab_tables.specs.Content.{layout_numbers}
 use Rattle.slab_tables.specs.Changes.{without_slab}
 use Rattle.slab_core.proofs.Slabs.give_back.Goals as goal
-use Rattle.slab_core.proofs.ReturnOne.{len_is, slab_held, IsGivenBack, given_back}
+use Rattle.slab_core.proofs.ReturnOneSlab.{len_is, slab_held, IsGivenBack, given_back}
 
 pub zero-requires-clause-in_reach : goal.zero-requires-clause-in_reach
 zero-requires-clause-in_reach c =

@@ -1,7 +1,7 @@
 use Rattle.std.proofs.Common.{◌≡◌, Some, None, sym, ◌∙◌, subst, ⊎_elim, arith}
 use Rattle.std.proofs.lemmas.Bool.{cases_lt}
 use Rattle.slab_tables.specs.Content.{cache_at}
-use Rattle.slab_core.proofs.ReturnMany.{giving_none, giving_all, still_apart, none_any, no_cache, below_same, below_next, below_none}
+use Rattle.slab_core.proofs.ReturnEmptySlabs.{giving_none, giving_all, still_apart, none_any, no_cache, below_same, below_next, below_none}
 use Rattle.slab_core.proofs.Slabs.give_back_all.Goals as goal
 use Rattle.slab_core.proofs.Slabs.give_back_all.Goals.{in-Some, in_default}
 

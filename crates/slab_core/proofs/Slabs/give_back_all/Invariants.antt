@@ -1,4 +1,4 @@
-use Rattle.slab_core.proofs.ReturnMany.{IsGivingBelow}
+use Rattle.slab_core.proofs.ReturnEmptySlabs.{IsGivingBelow}
 use Rattle.slab_core.proofs.Slabs.give_back_all.Given as goal
 
 abbrev pub invariant-loop-c : goal.invariant-loop-c

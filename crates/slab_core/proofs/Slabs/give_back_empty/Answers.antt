@@ -1,11 +1,11 @@
 use Rattle.std.proofs.Common.{sym, ◌∙◌, subst, arith}
 use Rattle.klist_core.specs.Places.{IsEmpty, IsFirst}
-use Rattle.klist_core.proofs.Tables.{placed_within, count_removed}
+use Rattle.klist_core.proofs.PlacesChanged.{placed_within, count_removed}
 use Rattle.slab_tables.specs.Content.{IsSlabs, head_of}
-use Rattle.slab_tables.proofs.Keeping.{slabs_without}
-use Rattle.machine_changes.proofs.Steady.{in_table}
-use Rattle.slab_core.proofs.ObjectSlabs.{machine_frame_within}
-use Rattle.slab_core.proofs.ReturnMany.{giving_none, giving_more, still_apart, giving_all, IsEmptySlab, listed_empty, one_idle, none_idle, empty_without}
+use Rattle.slab_tables.proofs.InvariantKept.{slabs_without}
+use Rattle.machine_changes.proofs.SteadyParts.{in_table}
+use Rattle.slab_core.proofs.SlabFacts.{machine_frame_within}
+use Rattle.slab_core.proofs.ReturnEmptySlabs.{giving_none, giving_more, still_apart, giving_all, IsEmptySlab, listed_empty, one_idle, none_idle, empty_without}
 use Rattle.slab_core.proofs.Slabs.give_back_empty.Goals as goal
 use Rattle.slab_core.proofs.Slabs.give_back_empty.Goals.{In-Some}
 

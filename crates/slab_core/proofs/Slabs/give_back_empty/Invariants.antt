@@ -2,7 +2,7 @@ use Rattle.std.proofs.Common.{ℕ}
 use Rattle.std.specs.Prelude.{count_by}
 use Rattle.klist_core.specs.Places.{is_in, IsEmpty}
 use Rattle.slab_tables.specs.Content.{head_of}
-use Rattle.slab_core.proofs.ReturnMany.{IsGiving, this}
+use Rattle.slab_core.proofs.ReturnEmptySlabs.{IsGiving, this}
 use Rattle.slab_core.proofs.Slabs.give_back_empty.Given as goal
 
 abbrev pub invariant-loop-first : goal.invariant-loop-first

@@ -9,9 +9,9 @@ use Rattle.machine_changes.specs.Fitting.{WouldFit}
 use Rattle.machine_changes.specs.Changes.{IsReturned}
 use Rattle.slab_core.specs.Calls.{idle_at}
 use Rattle.slab_core.specs.Fitting.{HasFreeBlock}
-use Rattle.slab_core.proofs.GrowNeed.{choice_above, need_none, unmoved, grown_by_need, chosen_by_need, grown_at_once}
+use Rattle.slab_core.proofs.GrowByNeed.{choice_above, need_none, unmoved, grown_by_need, chosen_by_need, grown_at_once}
 use Rattle.slab_core.proofs.ReserveByNeed.{found_choice, next_choice, fits_free, is_there}
-use Rattle.slab_core.proofs.ReturnMany.{spares_twice}
+use Rattle.slab_core.proofs.ReturnEmptySlabs.{spares_twice}
 use Rattle.slab_core.proofs.Slabs.grow.Goals as goal
 use Rattle.slab_core.proofs.Slabs.grow.Goals.{then-order-via-then-order, then-order-via-else-order+then-not-fits_by_need}
 

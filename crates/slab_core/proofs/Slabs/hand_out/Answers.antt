@@ -10,10 +10,10 @@ use Rattle.slab_tables.specs.Content.{Content, kept_at, layout_numbers}
 use Rattle.machine_changes.specs.Shows.{live_of, ShowsMachine}
 use Rattle.machine_changes.specs.Changes.{Found, found}
 use Rattle.slab_core.specs.Objects.{IsToCount, IsRecounted}
-use Rattle.slab_core.proofs.ObjectSlabs.{machine_frame_within}
-use Rattle.slab_core.proofs.TakeHand.{IsLeastFree, object_below, not_live, first_few, offset_few, home_is, next_is, answered}
-use Rattle.machine_changes.proofs.Marked.{marked_shows}
-use Rattle.slab_core.proofs.ObjectTaken.{marked_object}
+use Rattle.slab_core.proofs.SlabFacts.{machine_frame_within}
+use Rattle.slab_core.proofs.TakeFirstFree.{IsLeastFree, object_below, not_live, first_few, offset_few, home_is, next_is, answered}
+use Rattle.machine_changes.proofs.ObjectMarked.{marked_shows}
+use Rattle.slab_core.proofs.HandedOutIsLive.{marked_object}
 use Rattle.slab_core.proofs.Slabs.hand_out.Goals as goal
 use Rattle.slab_core.proofs.Slabs.hand_out.Goals.{After-mark_least_free-index, After-from-colour, After-offset}
 

@@ -3,7 +3,7 @@ use Rattle.std.specs.Prelude.{◌↔◌, nat_lt}
 use Rattle.std.proofs.lemmas.Bool.{ltb-false, le-ltb}
 use Rattle.klist_core.specs.Places.{IsEmpty}
 use Rattle.klist_core.specs.Lists.{keys_of}
-use Rattle.klist_core.proofs.Listing.{no_keys}
+use Rattle.klist_core.proofs.KeyNodePairs.{no_keys}
 use Rattle.slab_tables.specs.Content.{Content, head_of}
 use Rattle.slab_core.specs.Calls.{IsUnused}
 use Rattle.slab_core.proofs.Slabs.in_use.Goals as goal

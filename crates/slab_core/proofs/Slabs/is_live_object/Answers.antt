@@ -1,6 +1,6 @@
 use Rattle.std.proofs.Common.{sym, ◌∙◌, arith}
-use Rattle.slab_core.proofs.ObjectPlaces.{object_under}
-use Rattle.slab_core.proofs.ObjectSlabs.{machine_frame_within, slab_cache}
+use Rattle.slab_core.proofs.SlabPlaces.{object_under}
+use Rattle.slab_core.proofs.SlabFacts.{machine_frame_within, slab_cache}
 use Rattle.slab_core.proofs.Slabs.is_live_object.Goals as goal
 
 pub superblock-superblock-requires-clause-machine_frame : goal.superblock-superblock-requires-clause-machine_frame

@@ -1,6 +1,6 @@
 use Rattle.std.proofs.Common.{subst}
 use Rattle.slab_tables.specs.Content.{IsSlabs}
-use Rattle.machine_changes.proofs.Steady.{agree_steady}
+use Rattle.machine_changes.proofs.SteadyParts.{agree_steady}
 use Rattle.slab_core.proofs.Slabs.laws_with.Goals as goal
 
 pub returns-clause-parts : goal.returns-clause-parts

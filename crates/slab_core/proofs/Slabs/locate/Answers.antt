@@ -3,8 +3,8 @@ use Rattle.model_core.specs.Blocks.{around}
 use Rattle.layout_core.specs.Objects.{Begins, IsOnly}
 use Rattle.slab_tables.specs.declared.cache.Kept.{Kept}
 use Rattle.slab_tables.specs.Content.{Content, kept_at, layout_numbers}
-use Rattle.slab_core.proofs.ObjectSlabs.{in_tables}
-use Rattle.slab_core.proofs.ObjectFinding.{no_machine_frame, no_slab, none_begins, not_live}
+use Rattle.slab_core.proofs.SlabFacts.{in_tables}
+use Rattle.slab_core.proofs.SlabOfObject.{no_machine_frame, no_slab, none_begins, not_live}
 use Rattle.slab_core.proofs.Slabs.locate.Goals as goal
 use Rattle.slab_core.proofs.Slabs.locate.Goals.{After-block_around-first, After-from-colour}
 

@@ -10,7 +10,7 @@ use Rattle.slab_core.specs.declared.objects.Slab.{Slab}
 use Rattle.slab_core.specs.Calls.{IsConstructed}
 use Rattle.slab_core.proofs.Slabs.make_slab.Goals as goal
 use Rattle.slab_core.proofs.Slabs.make_slab.Goals.{Then-order, In_err-first, In-Some, After-kept_of-colour, After-construct}
-use Rattle.slab_core.proofs.GrowOne.{has_machine_frame, choice_some, choice_none, choice_large, none_large, chosen_for, none_free, some_free, IsChosen, cut, in_reach, few, vacant, fresh, machine_frame_within, kept_now, IsMade, made}
+use Rattle.slab_core.proofs.GrowOnFreeBlock.{has_machine_frame, choice_some, choice_none, choice_large, none_large, chosen_for, none_free, some_free, IsChosen, cut, in_reach, few, vacant, fresh, machine_frame_within, kept_now, IsMade, made}
 
 -- A slot is smaller than the block
 

@@ -8,10 +8,10 @@ use Rattle.slab_tables.specs.Content.{Content, layout_numbers, kept_at}
 use Rattle.slab_tables.specs.Changes.{with_outside}
 use Rattle.machine_changes.specs.Changes.{found}
 use Rattle.slab_core.specs.Objects.{IsTurned}
-use Rattle.slab_core.proofs.ObjectSlabs.{machine_frame_within, slab_cache}
-use Rattle.slab_core.proofs.MarkTurned.{turned_window, turned_outside}
-use Rattle.slab_core.proofs.TakeBits.{IsClear, clear_half}
-use Rattle.slab_core.proofs.TakeNext.{record_home, has_clear, claimed_inside, claimed_outside}
+use Rattle.slab_core.proofs.SlabFacts.{machine_frame_within, slab_cache}
+use Rattle.slab_core.proofs.RecordBitTurned.{turned_window, turned_outside}
+use Rattle.slab_core.proofs.FirstClearBit.{IsClear, clear_half}
+use Rattle.slab_core.proofs.FirstFreeObject.{record_home, has_clear, claimed_inside, claimed_outside}
 use Rattle.slab_core.proofs.Slabs.mark_least_free.Goals as goal
 use Rattle.slab_core.proofs.Slabs.mark_least_free.Goals.{After-record_place, After-trailing_ones-index}
 

@@ -7,7 +7,7 @@ use Rattle.slab_tables.specs.declared.cache.Kept.{Kept}
 use Rattle.slab_tables.specs.Content.{Content, kept_at, cache_at, layout_numbers}
 use Rattle.machine_changes.specs.Shows.{has_slab, IsSlab}
 use Rattle.machine_changes.proofs.Lookups.{some_same}
-use Rattle.slab_core.proofs.ObjectReach.{no_slab, none_holds, not_live, is_around}
+use Rattle.slab_core.proofs.ObjectsInRange.{no_slab, none_holds, not_live, is_around}
 use Rattle.slab_core.proofs.Slabs.object_around.Goals as goal
 use Rattle.slab_core.proofs.Slabs.object_around.Goals.{After-from-colour, After-offset}
 

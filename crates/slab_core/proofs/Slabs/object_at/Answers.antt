@@ -1,6 +1,6 @@
 use Rattle.std.proofs.Common.{sym, ap}
 use Rattle.machine_changes.specs.Shows.{has_slab}
-use Rattle.slab_core.proofs.ObjectReach.{nowhere, no_block, no_slab}
+use Rattle.slab_core.proofs.ObjectsInRange.{nowhere, no_block, no_slab}
 use Rattle.slab_core.proofs.Slabs.object_at.Goals as goal
 
 pub returns-in_default : goal.returns-in_default

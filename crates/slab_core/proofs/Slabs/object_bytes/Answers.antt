@@ -1,9 +1,9 @@
 use Rattle.std.proofs.Common.{◌≡◌, Some, sym, ap, ◌∙◌}
 use Rattle.std.specs.Prelude.{option_map}
 use Rattle.slab_tables.specs.Content.{Content, cache_at}
-use Rattle.machine_changes.proofs.Objects.{not_found_refuses}
+use Rattle.machine_changes.proofs.LiveObjects.{not_found_refuses}
 use Rattle.slab_core.proofs.ObjectBytes.{has_object, has_range}
-use Rattle.slab_core.proofs.ObjectGiven.{give_refused}
+use Rattle.slab_core.proofs.GiveWithoutCache.{give_refused}
 use Rattle.slab_core.proofs.Slabs.object_bytes.Goals as goal
 use Rattle.slab_core.proofs.Slabs.object_bytes.Goals.{In-Some}
 

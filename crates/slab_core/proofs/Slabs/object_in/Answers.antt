@@ -1,4 +1,4 @@
-use Rattle.slab_core.proofs.ObjectReach.{is_found}
+use Rattle.slab_core.proofs.ObjectsInRange.{is_found}
 use Rattle.slab_core.proofs.Slabs.object_in.Goals as goal
 
 pub returns : goal.returns

@@ -1,7 +1,7 @@
 use Rattle.std.proofs.Common.{true}
 use Rattle.model_core.specs.CacheOperations.{reap_step}
 use Rattle.slab_core.specs.Calls.{idle_at}
-use Rattle.slab_core.proofs.ReturnMany.{idle_empty}
+use Rattle.slab_core.proofs.ReturnEmptySlabs.{idle_empty}
 use Rattle.machine_changes.proofs.Reaped.{reaped_shows}
 use Rattle.slab_core.proofs.Slabs.reap.Goals as goal
 

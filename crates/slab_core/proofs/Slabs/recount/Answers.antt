@@ -4,8 +4,8 @@ use Rattle.slab_tables.specs.declared.cache.Kept.{Kept}
 use Rattle.slab_tables.specs.Content.{Content, IsPlacedIn, kept_at}
 use Rattle.slab_tables.specs.Changes.{with_count}
 use Rattle.slab_core.specs.Objects.{found_in, IsRecounted}
-use Rattle.slab_core.proofs.MarkAgreed.{IsCountOf}
-use Rattle.slab_core.proofs.MarkCount.{some_now, placed_now, alone_now, below_now, counted_now}
+use Rattle.slab_core.proofs.ObjectMarked.{IsCountOf}
+use Rattle.slab_core.proofs.SlabRecounted.{some_now, placed_now, alone_now, below_now, counted_now}
 use Rattle.slab_core.proofs.Slabs.recount.Goals as goal
 use Rattle.slab_core.proofs.Slabs.recount.Goals.{then-live, else-live, After-from-before, After-set_count}
 

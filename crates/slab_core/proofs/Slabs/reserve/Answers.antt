@@ -1,5 +1,5 @@
 use Rattle.slab_core.proofs.Slabs.reserve.Goals as goal
-use Rattle.slab_core.proofs.ReserveOne.{IsServed, is_served}
+use Rattle.slab_core.proofs.ReserveBesideSlabs.{IsServed, is_served}
 
 served : (c : goal.After-reserve) → IsServed c.args.space.now c.args.buddy.now c.args.self.now c.args.t c.args.k
     c.requires.agree c.laws_with.ensures.parts.buddy c.requires.tenant c.reserve.new.self c.reserve.result

@@ -10,7 +10,7 @@ use Rattle.machine_changes.specs.Changes.{IsReturned}
 use Rattle.machine_changes.specs.Fitting.{WouldFit}
 use Rattle.slab_core.specs.Calls.{idle_at}
 use Rattle.slab_core.specs.Fitting.{HasFreeBlock}
-use Rattle.slab_core.proofs.ReturnMany.{spares_twice}
+use Rattle.slab_core.proofs.ReturnEmptySlabs.{spares_twice}
 use Rattle.slab_core.proofs.ReserveByNeed.{found_choice, found_step, free_fits, next_choice, no_choice, refused_step, is_there, IsServedThen, served_then}
 use Rattle.slab_core.proofs.Slabs.reserve_by_need.Goals as goal
 

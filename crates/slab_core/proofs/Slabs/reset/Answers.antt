@@ -7,7 +7,7 @@ use Rattle.slab_tables.specs.Content.{Content, kept_at, cache_in}
 use Rattle.slab_tables.specs.Changes.{IsReset}
 use Rattle.machine_changes.specs.Records.{count_true}
 use Rattle.machine_changes.specs.Shows.{machine_frame_of, is_live, live_of, Agree}
-use Rattle.machine_changes.proofs.SlotEmptied.{unless_some}
+use Rattle.machine_changes.proofs.TenantEmptied.{unless_some}
 use Rattle.slab_core.proofs.Slabs.reset.Goals as goal
 
 agrees : (r : spaces.Content) (b : buddies.Content) (s s' : Content) (t : ℕ) → IsReset s s' t → Agree r b s → Agree r b s'

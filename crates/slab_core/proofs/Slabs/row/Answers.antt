@@ -2,9 +2,9 @@ use Rattle.std.proofs.Common.{◌≡◌, ℕ, ◌<◌, Some, length, get_or, sym
 use Rattle.klist_core.specs.Places.{ArePlaces}
 use Rattle.klist_core.specs.Lists.{keys_of}
 use Rattle.slab_tables.specs.Content.{Content, IsSlabs, cache_at, index_of_cache, head_of}
-use Rattle.machine_changes.proofs.Facts.{cache_shown}
+use Rattle.machine_changes.proofs.SlabFacts.{cache_shown}
 use Rattle.machine_changes.proofs.KindLists.{kinds_hold}
-use Rattle.slab_core.proofs.ObjectRows.{row_is}
+use Rattle.slab_core.proofs.ReportOneCache.{row_is}
 use Rattle.slab_core.proofs.Slabs.row.Goals as goal
 
 pub returns : goal.returns

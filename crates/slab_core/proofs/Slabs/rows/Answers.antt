@@ -3,7 +3,7 @@ use Rattle.slab_tables.specs.Content.{cache_at}
 use Rattle.model_core.specs.Machine.{Cache}
 use Rattle.model_core.specs.Slabs.{cache_of}
 use Rattle.model_core.specs.Reports.{row_of_cache}
-use Rattle.slab_core.proofs.ObjectReport.{below, none_below, below_more, pushed, not_pushed, all_caches}
+use Rattle.slab_core.proofs.ReportAllCaches.{below, none_below, below_more, pushed, not_pushed, all_caches}
 use Rattle.slab_core.proofs.Slabs.rows.Goals as goal
 use Rattle.slab_core.proofs.Slabs.rows.Goals.{in-Some, in_default}
 

@@ -6,7 +6,7 @@ use Rattle.buddy_core.specs.Content as buddies
 use Rattle.machine_changes.specs.Shows.{Agree, ShowsMachine}
 use Rattle.machine_changes.specs.Steady.{IsSteady}
 use Rattle.model_core.specs.Reports.{row_of_cache}
-use Rattle.slab_core.proofs.ObjectReport.{below}
+use Rattle.slab_core.proofs.ReportAllCaches.{below}
 use Rattle.slab_core.proofs.Slabs.rows.Given as goal
 
 abbrev pub invariant-loop-c : goal.invariant-loop-c

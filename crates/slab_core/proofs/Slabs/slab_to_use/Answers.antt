@@ -1,7 +1,7 @@
 use Rattle.std.proofs.Common.{subst, arith}
 use Rattle.klist_core.specs.Places.{IsEmpty, IsFirst}
 use Rattle.slab_tables.specs.Content.{Content, head_of}
-use Rattle.slab_core.proofs.TakeSlab.{use_partial, use_empty, free_in_list}
+use Rattle.slab_core.proofs.SlabForTake.{use_partial, use_empty, free_in_list}
 use Rattle.slab_core.proofs.Slabs.slab_to_use.Goals as goal
 use Rattle.slab_core.proofs.Slabs.slab_to_use.Goals.{In-Some, In_ok-first}
 

@@ -11,10 +11,10 @@ use Rattle.slab_tables.specs.Content.{Content, kept_at, cache_at, layout_numbers
 use Rattle.machine_changes.specs.Shows.{ShowsMachine}
 use Rattle.machine_changes.proofs.Lookups.{some_same}
 use Rattle.slab_core.specs.Calls.{IsNew}
-use Rattle.slab_core.proofs.ObjectSlabs.{in_tables}
-use Rattle.slab_core.proofs.GrowNeed.{unmoved}
-use Rattle.slab_core.proofs.ReturnMany.{spares_twice}
-use Rattle.slab_core.proofs.TakeStep.{no_cache_step, no_frames_step, IsMade, made}
+use Rattle.slab_core.proofs.SlabFacts.{in_tables}
+use Rattle.slab_core.proofs.GrowByNeed.{unmoved}
+use Rattle.slab_core.proofs.ReturnEmptySlabs.{spares_twice}
+use Rattle.slab_core.proofs.TakeStepCases.{no_cache_step, no_frames_step, IsMade, made}
 use Rattle.slab_core.proofs.Slabs.take_new.Goals as goal
 use Rattle.slab_core.proofs.Slabs.take_new.Goals.{After-from_residual, In_ok-before, After-from_residual-in_err-slab, After-hand_out}
 

@@ -7,7 +7,7 @@ use Rattle.model_core.specs.declared.refusals.TakeRefusal.TheVariants.{NoCache}
 use Rattle.slab_tables.specs.Content.{Content, cache_at}
 use Rattle.machine_changes.specs.Shows.{ShowsMachine}
 use Rattle.slab_core.specs.Objects.{standing}
-use Rattle.slab_core.proofs.TakeStep.{no_cache_step, IsUsed, used}
+use Rattle.slab_core.proofs.TakeStepCases.{no_cache_step, IsUsed, used}
 use Rattle.slab_core.proofs.Slabs.take_object.Goals as goal
 use Rattle.slab_core.proofs.Slabs.take_object.Goals.{After-from_residual, In_ok-kept, After-hand_out}
 

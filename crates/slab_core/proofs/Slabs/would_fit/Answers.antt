@@ -3,7 +3,7 @@ use Rattle.std.specs.Prelude.{◌↔◌}
 use Rattle.std.proofs.lemmas.Bool.{false≢true}
 use Rattle.machine_changes.specs.Fitting.{WouldFit}
 use Rattle.slab_core.specs.Fitting.{WouldFitInSlabs}
-use Rattle.slab_core.proofs.FittingAround.{fits_by_free, fits_by_slabs, fits_answers}
+use Rattle.slab_core.proofs.FitsAfterReaping.{fits_by_free, fits_by_slabs, fits_answers}
 use Rattle.slab_core.proofs.Slabs.would_fit.Goals as goal
 use Rattle.slab_core.proofs.Slabs.would_fit.Goals.{Then-has_free, After-would_fit_in_slabs}
 

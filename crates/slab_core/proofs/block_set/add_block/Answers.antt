@@ -1,5 +1,5 @@
 use Rattle.std.proofs.Common.{◌/◌, ◌<◌, length, arith}
-use Rattle.slab_core.proofs.FittingSets.{one_more}
+use Rattle.slab_core.proofs.BitSets.{one_more}
 use Rattle.slab_core.proofs.block_set.add_block.Goals as goal
 
 pub returns-clause-has : goal.returns-clause-has

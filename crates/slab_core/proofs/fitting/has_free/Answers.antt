@@ -1,6 +1,6 @@
 use Rattle.std.proofs.Common.{◌+◌, refl, arith}
 use Rattle.std.proofs.lemmas.Bool.{false≢true}
-use Rattle.slab_core.proofs.FittingFree.{free_of_count, none_to_next, none_free}
+use Rattle.slab_core.proofs.LargeFreeBlocks.{free_of_count, none_to_next, none_free}
 use Rattle.slab_core.proofs.fitting.has_free.Goals as goal
 
 pub loop-order-init : goal.loop-order-init

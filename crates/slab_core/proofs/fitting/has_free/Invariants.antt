@@ -1,4 +1,4 @@
-use Rattle.slab_core.proofs.FittingFree.{IsNoneTo}
+use Rattle.slab_core.proofs.LargeFreeBlocks.{IsNoneTo}
 use Rattle.slab_core.proofs.fitting.has_free.Given as goal
 
 abbrev pub invariant-loop-order : goal.invariant-loop-order

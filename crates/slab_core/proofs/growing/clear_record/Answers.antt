@@ -1,6 +1,6 @@
 use Rattle.std.proofs.Common.{sym, ◌∙◌}
 use Rattle.slab_core.proofs.growing.clear_record.Goals as goal
-use Rattle.slab_core.proofs.Building.{record_held, begun, cleared}
+use Rattle.slab_core.proofs.ConstructedObjects.{record_held, begun, cleared}
 
 pub zero-requires-clause-in_reach : goal.zero-requires-clause-in_reach
 zero-requires-clause-in_reach c =

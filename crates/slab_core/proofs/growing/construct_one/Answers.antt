@@ -1,6 +1,6 @@
 use Rattle.std.proofs.Common.{ℕ, ◌+◌, ◌*◌, ap, refl}
 use Rattle.slab_core.proofs.growing.construct_one.Goals as goal
-use Rattle.slab_core.proofs.Building.{one_more, object_held}
+use Rattle.slab_core.proofs.ConstructedObjects.{one_more, object_held}
 
 pub fill-requires-clause-in_reach : goal.fill-requires-clause-in_reach
 fill-requires-clause-in_reach c =

@@ -1,5 +1,5 @@
 use Rattle.std.proofs.Common.{◌≡◌, ◌*◌, ◌<◌, length, sym, subst, arith, rules}
-use Rattle.slab_core.proofs.TakeBits.{IsClear, AreOnes, clear_word, ones_more, ones_full, clear_there, full_by_ones}
+use Rattle.slab_core.proofs.FirstClearBit.{IsClear, AreOnes, clear_word, ones_more, ones_full, clear_there, full_by_ones}
 use Rattle.slab_core.proofs.taking.first_clear.Goals as goal
 use Rattle.slab_core.proofs.taking.first_clear.Goals.{After-trailing_ones}
 

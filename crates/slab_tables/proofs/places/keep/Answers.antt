@@ -1,5 +1,5 @@
 use Rattle.klist_core.specs.Places.{IsPlacedByKey}
-use Rattle.slab_tables.proofs.Standing.{first_there, after_there}
+use Rattle.slab_tables.proofs.KeyedListWalk.{first_there, after_there}
 use Rattle.slab_tables.proofs.places.keep.Goals as goal
 
 pub loop-init : goal.loop-init

@@ -1,4 +1,4 @@
-use Rattle.slab_tables.proofs.Standing.{IsThere}
+use Rattle.slab_tables.proofs.KeyedListWalk.{IsThere}
 use Rattle.slab_tables.proofs.places.keep.Given as goal
 
 abbrev pub invariant-loop : goal.invariant-loop

@@ -4,7 +4,7 @@ use Rattle.std.proofs.lemmas.List.{nil_from_length}
 use Rattle.space_core.specs.Storage.{or_zeros}
 use Rattle.space_core.specs.contracts.Space.{the_view}
 use Rattle.space_core.proofs.TableLemmas.{lists_of, get_or-lists_of, length-lists_of}
-use Rattle.space_core.proofs.Stored.{full-from_length, length-shown, bank-shown, shown-read, length-shown_read}
+use Rattle.space_core.proofs.StoredBytes.{full-from_length, length-shown, bank-shown, shown-read, length-shown_read}
 use Rattle.space_core.proofs.Space.bytes.Goals as goal
 
 pub returns-then-is_empty-clause-value : goal.returns-then-is_empty-clause-value

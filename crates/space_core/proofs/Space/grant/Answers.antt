@@ -3,9 +3,9 @@ use Rattle.std.proofs.lemmas.List.{get_or-set_same}
 use Rattle.space_core.specs.Storage.{shown_banks}
 use Rattle.space_core.specs.Tables.{stored_bytes}
 use Rattle.space_core.specs.contracts.Space.{the_view}
-use Rattle.space_core.proofs.Changed.{granted-IsSpace}
-use Rattle.space_core.proofs.Stored.{shown-set}
-use Rattle.space_core.proofs.Vacancy.{unowned-from_position}
+use Rattle.space_core.proofs.InvariantKept.{granted-IsSpace}
+use Rattle.space_core.proofs.StoredBytes.{shown-set}
+use Rattle.space_core.proofs.VacantSlots.{unowned-from_position}
 use Rattle.space_core.proofs.Space.grant.Goals as goal
 
 pub invariant_of-self : goal.invariant_of-self

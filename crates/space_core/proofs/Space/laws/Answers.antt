@@ -1,4 +1,4 @@
-use Rattle.space_core.proofs.Laws.{laws_of}
+use Rattle.space_core.proofs.SpaceLaws.{laws_of}
 use Rattle.space_core.proofs.Space.laws.Goals as goal
 
 pub returns : goal.returns

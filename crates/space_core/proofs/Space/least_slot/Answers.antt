@@ -1,5 +1,5 @@
 use Rattle.std.proofs.Common.{IsSome, sym, ◌∙◌, subst, arith}
-use Rattle.space_core.proofs.Vacancy.{has_vacant_slot, least_from_position, slot-lt}
+use Rattle.space_core.proofs.VacantSlots.{has_vacant_slot, least_from_position, slot-lt}
 use Rattle.space_core.proofs.Space.least_slot.Goals as goal
 
 pub unwrap-requires : goal.unwrap-requires

@@ -9,10 +9,10 @@ use Rattle.space_core.specs.Storage.{shown_banks}
 use Rattle.space_core.specs.contracts.Space.{the_view}
 use Rattle.space_core.proofs.TableLemmas.{lists_of}
 use Rattle.space_core.proofs.Mapping.{superblock-lt}
-use Rattle.space_core.proofs.Reading.{not_unowned}
-use Rattle.space_core.proofs.Changed.{moved-IsSpace}
-use Rattle.space_core.proofs.Stored.{length-shown, shown-copied, stored-short}
-use Rattle.space_core.proofs.Vacancy.{unowned-from_position}
+use Rattle.space_core.proofs.BytesUnderSlots.{not_unowned}
+use Rattle.space_core.proofs.InvariantKept.{moved-IsSpace}
+use Rattle.space_core.proofs.StoredBytes.{length-shown, shown-copied, stored-short}
+use Rattle.space_core.proofs.VacantSlots.{unowned-from_position}
 use Rattle.space_core.proofs.Space.move_slot.Goals as goal
 
 pub copy_bank-requires-clause-apart : goal.copy_bank-requires-clause-apart

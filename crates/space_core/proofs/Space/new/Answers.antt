@@ -3,8 +3,8 @@ use Rattle.std.proofs.Math.Nat.{pow-le-pow_right}
 use Rattle.std.proofs.lemmas.Nat.{pow_pos, pow-add}
 use Rattle.model_core.specs.declared.limits.TheConstants.{MOST_ORDER}
 use Rattle.space_core.specs.Storage.{shown_banks}
-use Rattle.space_core.proofs.Empty.{empty_space-IsSpace}
-use Rattle.space_core.proofs.Stored.{shown-none}
+use Rattle.space_core.proofs.EmptySpace.{empty_space-IsSpace}
+use Rattle.space_core.proofs.StoredBytes.{shown-none}
 use Rattle.space_core.proofs.Space.new.Goals as goal
 
 pub invariant_of-result : goal.invariant_of-result

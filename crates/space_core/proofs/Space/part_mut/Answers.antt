@@ -8,7 +8,7 @@ use Rattle.space_core.specs.Windows.{put_within}
 use Rattle.space_core.specs.contracts.Space.{the_view}
 use Rattle.space_core.proofs.TableLemmas.{lists_of, lists_of-set, length-lists_of}
 use Rattle.space_core.proofs.BankLemmas.{with_banks, with_bank-IsSpace, items-with_items_from, length-put_within}
-use Rattle.space_core.proofs.Stored.{shown-read, length-shown, length-shown_read, shown-set, or_zeros-full, full-from_length, shown-written_out, written_out-full}
+use Rattle.space_core.proofs.StoredBytes.{shown-read, length-shown, length-shown_read, shown-set, or_zeros-full, full-from_length, shown-written_out, written_out-full}
 use Rattle.std.proofs.lemmas.List.Elements.{All-set}
 use Rattle.space_core.proofs.Space.part_mut.Goals as goal
 

@@ -8,7 +8,7 @@ use Rattle.space_core.specs.contracts.Space.{the_view}
 use Rattle.space_core.proofs.TableLemmas.{lists_of, length-lists_of}
 use Rattle.space_core.proofs.Mapping.{superblock-lt}
 use Rattle.space_core.proofs.BankLemmas.{with_banks, with_bank-IsSpace}
-use Rattle.space_core.proofs.Stored.{length-shown, bank-shown_full, shown-set_byte, shown-written_out, written_out-full}
+use Rattle.space_core.proofs.StoredBytes.{length-shown, bank-shown_full, shown-set_byte, shown-written_out, written_out-full}
 use Rattle.space_core.proofs.Space.set_byte_in.Goals as goal
 
 pub invariant_of-self : goal.invariant_of-self

@@ -1,5 +1,5 @@
 use Rattle.std.proofs.Common.{sym, ◌∙◌}
-use Rattle.space_core.proofs.Changed.{taken_back-IsSpace}
+use Rattle.space_core.proofs.InvariantKept.{taken_back-IsSpace}
 use Rattle.space_core.proofs.Space.take_back.Goals as goal
 
 pub invariant_of-self : goal.invariant_of-self

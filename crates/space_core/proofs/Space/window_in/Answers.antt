@@ -1,6 +1,6 @@
 use Rattle.std.proofs.Common.{◌/◌, arith}
 use Rattle.space_core.proofs.Mapping.{superblock-lt}
-use Rattle.space_core.proofs.Own.{home_is}
+use Rattle.space_core.proofs.OwnBytes.{home_is}
 use Rattle.space_core.proofs.Space.window_in.Goals as goal
 
 pub part_mut-requires-clause-in_bounds : goal.part_mut-requires-clause-in_bounds

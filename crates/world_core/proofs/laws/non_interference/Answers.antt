@@ -1,5 +1,5 @@
 use Rattle.world_core.proofs.laws.non_interference.Goals as goal
-use Rattle.world_core.proofs.Runs.{same_replies, same_texts}
+use Rattle.world_core.proofs.OwnListRuns.{same_replies, same_texts}
 use Rattle.world_core.proofs.TenantLines.{same_lines}
 
 pub returns : goal.returns

@@ -1,4 +1,4 @@
-use Rattle.world_core.proofs.Asked as asked
+use Rattle.world_core.proofs.AskableCommands as asked
 use Rattle.world_core.proofs.laws.own_lists_are_requests.Goals as goal
 
 pub returns : goal.returns

@@ -1,4 +1,4 @@
-use Rattle.world_core.proofs.Showing.{all_shown, own_shown, own_lines_shown}
+use Rattle.world_core.proofs.ShownReplies.{all_shown, own_shown, own_lines_shown}
 use Rattle.world_core.proofs.laws.own_shown.Goals as goal
 
 pub returns : goal.returns

@@ -1,4 +1,4 @@
-use Rattle.world_core.proofs.Reached.{reached_well_formed, reached_sound, reached_free_once, reached_splits, reached_joins}
+use Rattle.world_core.proofs.ReachedMachines.{reached_well_formed, reached_sound, reached_free_once, reached_splits, reached_joins}
 use Rattle.world_core.proofs.laws.reached_machines.Goals as goal
 
 pub returns : goal.returns

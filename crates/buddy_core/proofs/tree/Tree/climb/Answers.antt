@@ -6,7 +6,7 @@ use Rattle.buddy_core.specs.Stored.{StoredTree}
 use Rattle.model_core.specs.Numbered.{number_at}
 use Rattle.buddy_core.specs.Tree.{Shows, Mended, IsConfined, IsNode}
 use Rattle.buddy_core.proofs.TreeNumbers.{number_whole}
-use Rattle.buddy_core.proofs.TreeMends.{shows_mended}
+use Rattle.buddy_core.proofs.TreeClimb.{shows_mended}
 use Rattle.buddy_core.proofs.TreeNodes.{tree_is, written_back}
 use Rattle.buddy_core.proofs.TreeSteps.{node_is, node_up, step_climb}
 use Rattle.buddy_core.proofs.tree.Tree.climb.Goals as goal

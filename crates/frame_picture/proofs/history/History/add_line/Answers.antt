@@ -2,8 +2,8 @@ use Rattle.std.proofs.Common.{◌≡◌, ℕ, ◌+◌, ◌%◌, ◌^◌, ◌≤�
 use Rattle.frame_picture.specs.declared.history.Column.{Column}
 use Rattle.frame_picture.specs.Columns.{IsColumnAfter}
 use Rattle.frame_picture.specs.Histories.{columns_of, width_of, line_count, refusals_of, most_columns_of}
-use Rattle.frame_picture.proofs.Even.{waits, keeps, moved}
-use Rattle.frame_picture.proofs.Filling.{old_or_new}
+use Rattle.frame_picture.proofs.ColumnLines.{waits, keeps, moved}
+use Rattle.frame_picture.proofs.ListFilled.{old_or_new}
 use Rattle.frame_picture.proofs.history.History.add_line.Goals as goal
 
 pub returns-then-line-self-eq0-clause-even : goal.returns-then-line-self-eq0-clause-even

@@ -5,8 +5,8 @@ use Rattle.frame_picture.specs.declared.history.Column.{Column}
 use Rattle.frame_picture.specs.declared.history.History.{History}
 use Rattle.frame_picture.specs.Columns.{IsColumnAfter}
 use Rattle.frame_picture.specs.Histories.{columns_of, most_columns_of, width_of, line_count, refusals_of}
-use Rattle.frame_picture.proofs.Even.{ends_even, ends_after, ends_halved, completed}
-use Rattle.frame_picture.proofs.Filling.{old_or_new}
+use Rattle.frame_picture.proofs.ColumnLines.{ends_even, ends_after, ends_halved, completed}
+use Rattle.frame_picture.proofs.ListFilled.{old_or_new}
 use Rattle.frame_picture.proofs.history.History.end.Goals as goal
 use Rattle.frame_picture.proofs.history.History.end.Goals.{then-self-len, else-self-len}
 

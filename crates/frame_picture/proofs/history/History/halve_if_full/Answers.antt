@@ -1,6 +1,6 @@
 use Rattle.std.proofs.Common.{◌≡◌, ℕ, ◌+◌, ◌*◌, ◌%◌, ◌^◌, ◌<◌, length, subst, arith}
 use Rattle.frame_picture.specs.Histories.{columns_of, width_of, line_count}
-use Rattle.frame_picture.proofs.Even.{halves, moved, next_multiple}
+use Rattle.frame_picture.proofs.ColumnLines.{halves, moved, next_multiple}
 use Rattle.frame_picture.proofs.history.History.halve_if_full.Goals as goal
 
 pub returns-then-self-len-clause-even : goal.returns-then-self-len-clause-even

@@ -6,9 +6,9 @@ use Rattle.judge.specs.Judged.{failing, IsJudged, verdict_on}
 use Rattle.promise_core.specs.Promises.{is_for, allowed}
 use Rattle.promise_core.specs.State.{opening_state}
 use Rattle.judge.specs.KnownMachine.{SeenMachine, known_of}
-use Rattle.judge.proofs.Bridging.{unnamed, pool_astray, pool_judged}
-use Rattle.judge.proofs.Verdicts.{formless}
-use Rattle.judge.proofs.Misfits.{no_pool_table}
+use Rattle.judge.proofs.ReplyVerdicts.{unnamed, pool_astray, pool_judged}
+use Rattle.judge.proofs.UnchangedVerdicts.{formless}
+use Rattle.judge.proofs.MisfitAnswers.{no_pool_table}
 use Rattle.judge.proofs.known_machine.KnownMachine.judge_owners.Goals as goal
 
 pub returns-then-not-is_for : goal.returns-then-not-is_for

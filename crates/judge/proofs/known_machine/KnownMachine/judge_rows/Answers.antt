@@ -6,9 +6,9 @@ use Rattle.promise_core.specs.State.{owners_after}
 use Rattle.judge.specs.Judged.{broken, failing, AreOwnersAfter, IsJudged, IsVerdictFor}
 use Rattle.judge.specs.Seen.{Seen}
 use Rattle.judge.specs.KnownMachine.{SeenMachine, known_of}
-use Rattle.judge.proofs.Bridging.{stranger, misled, misjudged, with_tenant, still_fits, tenant_judged, order_kept}
-use Rattle.judge.proofs.Misfits.{no_row, no_table}
-use Rattle.judge.proofs.Owning.{owners_kept, are_kept}
+use Rattle.judge.proofs.ReplyVerdicts.{stranger, misled, misjudged, with_tenant, still_fits, tenant_judged, order_kept}
+use Rattle.judge.proofs.MisfitAnswers.{no_row, no_table}
+use Rattle.judge.proofs.KnownAfterAdmin.{owners_kept, are_kept}
 use Rattle.judge.proofs.known_machine.KnownMachine.judge_rows.Goals as goal
 
 pub returns-then-t-len : goal.returns-then-t-len

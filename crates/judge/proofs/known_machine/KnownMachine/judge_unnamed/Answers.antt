@@ -8,9 +8,9 @@ use Rattle.judge.specs.KnownMachine.{known_of}
 use Rattle.judge.specs.Seen.{state_of}
 use Rattle.judge.specs.Judged.{IsJudged, IsVerdictFor}
 use Rattle.judge.specs.declared.verdict.Failure.TheVariants as Of
-use Rattle.judge.proofs.Bridging.{unnamed, pool_astray, pool_answered}
-use Rattle.judge.proofs.Verdicts.{refused, misfit}
-use Rattle.judge.proofs.Misfits.{unfit}
+use Rattle.judge.proofs.ReplyVerdicts.{unnamed, pool_astray, pool_answered}
+use Rattle.judge.proofs.UnchangedVerdicts.{refused, misfit}
+use Rattle.judge.proofs.MisfitAnswers.{unfit}
 use Rattle.judge.proofs.known_machine.KnownMachine.judge_unnamed.Goals as goal
 
 pub returns-then-not-is_for : goal.returns-then-not-is_for

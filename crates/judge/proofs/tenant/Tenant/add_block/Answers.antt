@@ -6,8 +6,8 @@ use Rattle.std.specs.Prelude.{Option}
 use Rattle.words_core.specs.declared.report.Report.{Report}
 use Rattle.judge.specs.Judged.{IsFollowed}
 use Rattle.judge.specs.Seen.{Seen}
-use Rattle.judge.proofs.Keeping.{sound_in, followed, same_slots}
-use Rattle.judge.proofs.Following.{nothing, changed, allocated}
+use Rattle.judge.proofs.SoundVerdicts.{sound_in, followed, same_slots}
+use Rattle.judge.proofs.KnownAfterCommand.{nothing, changed, allocated}
 use Rattle.judge.proofs.tenant.Tenant.add_block.Goals as goal
 
 pub invariant_of-self-2 : goal.invariant_of-self-2

@@ -4,9 +4,9 @@ use Rattle.words_core.specs.declared.event.Command.TheVariants as Command
 use Rattle.words_core.specs.declared.reply.Body.TheVariants as Say
 use Rattle.promise_core.specs.Holdings.{known_cache, has_slot}
 use Rattle.judge.specs.Seen.{Seen}
-use Rattle.judge.proofs.Keeping.{sound_in, followed}
-use Rattle.judge.proofs.Layouts.{cut_where_allowed, new_where_allowed}
-use Rattle.judge.proofs.Following.{nothing, changed, made}
+use Rattle.judge.proofs.SoundVerdicts.{sound_in, followed}
+use Rattle.judge.proofs.NewCacheLayout.{cut_where_allowed, new_where_allowed}
+use Rattle.judge.proofs.KnownAfterCommand.{nothing, changed, made}
 use Rattle.judge.proofs.tenant.Tenant.add_cache.Goals as goal
 
 pub invariant_of-self-2 : goal.invariant_of-self-2

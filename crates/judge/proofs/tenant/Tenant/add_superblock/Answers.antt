@@ -13,10 +13,10 @@ use Rattle.promise_core.specs.Promises.{due}
 use Rattle.promise_core.specs.State.{State, Known, state_after}
 use Rattle.judge.specs.Judged.{broken, known_at, tenant_verdict}
 use Rattle.judge.specs.Seen.{Seen, state_of, LieInSlots}
-use Rattle.judge.proofs.Keeping.{sound_in, followed, kept_in, if_kept}
-use Rattle.judge.proofs.Following.{nothing, changed}
-use Rattle.judge.proofs.Owning.{granted, new_slot, IsNewSlot, slots_granted, granted_back, owner_granted}
-use Rattle.judge.proofs.Verdicts.{broken_off, failed_by}
+use Rattle.judge.proofs.SoundVerdicts.{sound_in, followed, kept_in, if_kept}
+use Rattle.judge.proofs.KnownAfterCommand.{nothing, changed}
+use Rattle.judge.proofs.KnownAfterAdmin.{granted, new_slot, IsNewSlot, slots_granted, granted_back, owner_granted}
+use Rattle.judge.proofs.UnchangedVerdicts.{broken_off, failed_by}
 use Rattle.judge.proofs.tenant.Tenant.add_superblock.Goals as goal
 
 -- the judged tests give the verdict on the grant

@@ -7,8 +7,8 @@ use Rattle.promise_core.specs.declared.promise.Promise.{Promise}
 use Rattle.promise_core.specs.Holdings.{known_cache, can_be_taken}
 use Rattle.judge.specs.Judged.{broken, tenant_verdict}
 use Rattle.judge.specs.Seen.{Seen}
-use Rattle.judge.proofs.Deciding.{taken_if}
-use Rattle.judge_core.proofs.ByNumber.{none_of}
+use Rattle.judge.proofs.AnswerVerdicts.{taken_if}
+use Rattle.judge_core.proofs.CachesByNumber.{none_of}
 use Rattle.judge.proofs.tenant.Tenant.cache_with.Goals as goal
 
 pub returns-in_default-clause-judged : goal.returns-in_default-clause-judged

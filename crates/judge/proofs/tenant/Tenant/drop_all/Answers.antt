@@ -5,12 +5,12 @@ use Rattle.words_core.specs.declared.reply.Body.TheVariants as Say
 use Rattle.promise_core.specs.declared.promise.Promise.{Promise}
 use Rattle.promise_core.specs.State.{state_after}
 use Rattle.judge.specs.Judged.{broken}
-use Rattle.judge.proofs.Verdicts.{broken_off}
+use Rattle.judge.proofs.UnchangedVerdicts.{broken_off}
 use Rattle.promise_core.specs.Promises.{due}
 use Rattle.judge.specs.Seen.{Seen}
-use Rattle.judge.proofs.Keeping.{followed}
-use Rattle.judge_core.proofs.Lists.{same_at}
-use Rattle.judge.proofs.Owning.{emptied, owners_emptied}
+use Rattle.judge.proofs.SoundVerdicts.{followed}
+use Rattle.judge_core.proofs.ComputedTests.{same_at}
+use Rattle.judge.proofs.KnownAfterAdmin.{emptied, owners_emptied}
 use Rattle.judge.proofs.tenant.Tenant.drop_all.Goals as goal
 
 pub returns-in_err-on_answer-clause-judged : goal.returns-in_err-on_answer-clause-judged

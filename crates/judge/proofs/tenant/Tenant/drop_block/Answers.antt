@@ -6,8 +6,8 @@ use Rattle.std.specs.Prelude.{Option}
 use Rattle.words_core.specs.declared.report.Report.{Report}
 use Rattle.judge.specs.Judged.{IsFollowed}
 use Rattle.judge.specs.Seen.{Seen}
-use Rattle.judge.proofs.Keeping.{sound_in, followed, same_slots}
-use Rattle.judge.proofs.Following.{nothing, changed, freed}
+use Rattle.judge.proofs.SoundVerdicts.{sound_in, followed, same_slots}
+use Rattle.judge.proofs.KnownAfterCommand.{nothing, changed, freed}
 use Rattle.judge.proofs.tenant.Tenant.drop_block.Goals as goal
 
 pub invariant_of-self : goal.invariant_of-self

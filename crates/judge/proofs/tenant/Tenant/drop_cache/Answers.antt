@@ -5,11 +5,11 @@ use Rattle.words_core.specs.declared.reply.Body.TheVariants as Say
 use Rattle.promise_core.specs.declared.promise.Promise.{Promise}
 use Rattle.promise_core.specs.State.{state_after}
 use Rattle.judge.specs.Judged.{broken}
-use Rattle.judge.proofs.Verdicts.{broken_off}
+use Rattle.judge.proofs.UnchangedVerdicts.{broken_off}
 use Rattle.std.specs.Prelude.{is_none}
 use Rattle.judge.specs.Seen.{Seen}
-use Rattle.judge.proofs.Keeping.{sound_in, followed, same_slots}
-use Rattle.judge.proofs.Following.{nothing, destroyed}
+use Rattle.judge.proofs.SoundVerdicts.{sound_in, followed, same_slots}
+use Rattle.judge.proofs.KnownAfterCommand.{nothing, destroyed}
 use Rattle.judge.proofs.tenant.Tenant.drop_cache.Goals as goal
 
 pub returns-in_err-on_still_answer : goal.returns-in_err-on_still_answer

@@ -5,11 +5,11 @@ use Rattle.words_core.specs.declared.reply.Body.TheVariants as Say
 use Rattle.promise_core.specs.declared.promise.Promise.{Promise}
 use Rattle.promise_core.specs.State.{state_after}
 use Rattle.judge.specs.Judged.{broken}
-use Rattle.judge.proofs.Verdicts.{broken_off}
+use Rattle.judge.proofs.UnchangedVerdicts.{broken_off}
 use Rattle.promise_core.specs.Promises.{due, can_come_back}
 use Rattle.judge.specs.Seen.{state_of, Seen}
-use Rattle.judge.proofs.Following.{all_pass, nothing, reaped}
-use Rattle.judge.proofs.Keeping.{sound_in, followed, same_slots}
+use Rattle.judge.proofs.KnownAfterCommand.{all_pass, nothing, reaped}
+use Rattle.judge.proofs.SoundVerdicts.{sound_in, followed, same_slots}
 use Rattle.judge.proofs.tenant.Tenant.drop_empty_slabs.Goals as goal
 
 pub returns-in_err-on_still_answer : goal.returns-in_err-on_still_answer

@@ -5,12 +5,12 @@ use Rattle.words_core.specs.declared.reply.Body.TheVariants as Say
 use Rattle.promise_core.specs.declared.promise.Promise.{Promise}
 use Rattle.promise_core.specs.State.{state_after}
 use Rattle.judge.specs.Judged.{IsFollowed, broken}
-use Rattle.judge.proofs.Verdicts.{broken_off}
+use Rattle.judge.proofs.UnchangedVerdicts.{broken_off}
 use Rattle.std.specs.Prelude.{Option, is_none}
 use Rattle.words_core.specs.declared.report.Report.{Report}
 use Rattle.judge.specs.Seen.{Seen}
-use Rattle.judge.proofs.Keeping.{sound_in, followed, same_slots}
-use Rattle.judge.proofs.Following.{nothing, changed, given}
+use Rattle.judge.proofs.SoundVerdicts.{sound_in, followed, same_slots}
+use Rattle.judge.proofs.KnownAfterCommand.{nothing, changed, given}
 use Rattle.judge.proofs.tenant.Tenant.drop_object.Goals as goal
 
 pub returns-in_err-on_answer : goal.returns-in_err-on_answer

@@ -5,12 +5,12 @@ use Rattle.words_core.specs.declared.reply.Body.TheVariants as Say
 use Rattle.promise_core.specs.declared.promise.Promise.{Promise}
 use Rattle.promise_core.specs.State.{state_after}
 use Rattle.judge.specs.Judged.{broken}
-use Rattle.judge.proofs.Verdicts.{broken_off}
+use Rattle.judge.proofs.UnchangedVerdicts.{broken_off}
 use Rattle.std.specs.Prelude.{is_none}
 use Rattle.judge.specs.Seen.{Seen}
-use Rattle.judge.proofs.Keeping.{sound_in, followed}
-use Rattle.judge.proofs.Following.{nothing, changed}
-use Rattle.judge.proofs.Owning.{taken_back, slots_taken, owners_dropped}
+use Rattle.judge.proofs.SoundVerdicts.{sound_in, followed}
+use Rattle.judge.proofs.KnownAfterCommand.{nothing, changed}
+use Rattle.judge.proofs.KnownAfterAdmin.{taken_back, slots_taken, owners_dropped}
 use Rattle.judge.proofs.tenant.Tenant.drop_superblock.Goals as goal
 
 pub returns-in_err-on_answer-clause-judged : goal.returns-in_err-on_answer-clause-judged

@@ -6,7 +6,7 @@ use Rattle.promise_core.specs.Holdings.{is_slot_busy}
 use Rattle.promise_core.specs.Promises.{due, first_due}
 use Rattle.judge.specs.Seen.{Seen, state_of}
 use Rattle.judge.specs.Judged.{known_at}
-use Rattle.judge.proofs.Deciding.{due_of_slot}
+use Rattle.judge.proofs.AnswerVerdicts.{due_of_slot}
 use Rattle.judge.proofs.tenant.Tenant.due_of_take_back.Goals as goal
 
 pub returns-in-Some : goal.returns-in-Some

@@ -13,11 +13,11 @@ use Rattle.judge_core.specs.Holders.{shown_holder}
 use Rattle.shadow_memory.specs.Left.{left_at}
 use Rattle.judge.specs.Judged.{broken, tenant_verdict}
 use Rattle.judge.specs.Seen.{Seen}
-use Rattle.judge.proofs.Deciding.{read_if}
-use Rattle.judge.proofs.Reading.{places_held}
-use Rattle.judge_core.proofs.ByNumber.{none_of}
+use Rattle.judge.proofs.AnswerVerdicts.{read_if}
+use Rattle.judge.proofs.HeldBytes.{places_held}
+use Rattle.judge_core.proofs.CachesByNumber.{none_of}
 use Rattle.std.proofs.lemmas.Bool.{ne_eqb, eq-eqb}
-use Rattle.judge.proofs.Deciding.{unread}
+use Rattle.judge.proofs.AnswerVerdicts.{unread}
 use Rattle.judge.proofs.tenant.Tenant.holder_read.Goals as goal
 
 pub returns-in_default-clause-judged : goal.returns-in_default-clause-judged

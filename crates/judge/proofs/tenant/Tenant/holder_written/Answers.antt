@@ -8,8 +8,8 @@ use Rattle.promise_core.specs.Bytes.{Holder, holder_of}
 use Rattle.judge_core.specs.Holders.{shown_holder}
 use Rattle.judge.specs.Judged.{broken, tenant_verdict}
 use Rattle.judge.specs.Seen.{Seen}
-use Rattle.judge.proofs.Deciding.{written_if}
-use Rattle.judge_core.proofs.ByNumber.{none_of}
+use Rattle.judge.proofs.AnswerVerdicts.{written_if}
+use Rattle.judge_core.proofs.CachesByNumber.{none_of}
 use Rattle.std.proofs.lemmas.Bool.{ne_eqb, eq-eqb}
 use Rattle.judge.proofs.tenant.Tenant.holder_written.Goals as goal
 

@@ -1,5 +1,5 @@
 use Rattle.words_core.specs.declared.event.Event.TheVariants as On
-use Rattle.judge.proofs.Misfits.{unfit}
+use Rattle.judge.proofs.MisfitAnswers.{unfit}
 use Rattle.judge.proofs.tenant.Tenant.judge.Goals as goal
 use Rattle.judge.proofs.tenant.Tenant.judge.Goals.{in_default-via-in-Alloc+in_default, in_default-via-in-Free+in_default, in_default-via-in-Read+in_default, in_default-via-in-Write+in_default, in_default-via-in-Cache+in_default, in_default-via-in-Destroy+in_default, in_default-via-in-Take+in_default, in_default-via-in-Give+in_default, in_default-via-in-Reap+in_default, in_default-via-in_default}
 

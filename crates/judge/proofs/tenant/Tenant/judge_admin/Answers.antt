@@ -1,5 +1,5 @@
 use Rattle.words_core.specs.declared.event.Event.TheVariants as On
-use Rattle.judge.proofs.Misfits.{unfit}
+use Rattle.judge.proofs.MisfitAnswers.{unfit}
 use Rattle.judge.proofs.tenant.Tenant.judge_admin.Goals as goal
 use Rattle.judge.proofs.tenant.Tenant.judge_admin.Goals.{in_default-via-in-Grant+in_default, in_default-via-in-TakeBack+in_default, in_default-via-in-Reset+in_default, in_default-via-in-Move+in_default, in_default-via-in_default}
 

@@ -4,8 +4,8 @@ use Rattle.words_core.specs.declared.event.Event.TheVariants as On
 use Rattle.promise_core.specs.Promises.{due}
 use Rattle.judge.specs.Seen.{state_of}
 use Rattle.judge.specs.Judged.{known_at}
-use Rattle.judge.proofs.Verdicts.{refused, misfit, admin_refused}
-use Rattle.judge.proofs.Owning.{owners_refused}
+use Rattle.judge.proofs.UnchangedVerdicts.{refused, misfit, admin_refused}
+use Rattle.judge.proofs.KnownAfterAdmin.{owners_refused}
 use Rattle.words_core.specs.declared.event.AdminCommand.TheVariants as Do
 use Rattle.judge.proofs.tenant.Tenant.judge_admin_refusal.Goals as goal
 

@@ -8,7 +8,7 @@ use Rattle.promise_core.specs.State.{State, Known}
 use Rattle.promise_core.specs.Promises.{room, busy}
 use Rattle.judge.specs.Seen.{state_of}
 use Rattle.judge.specs.Judged.{failing, known_at}
-use Rattle.judge.proofs.Verdicts.{IsPlain, full_or_due, plain_due, refused, misfit}
+use Rattle.judge.proofs.UnchangedVerdicts.{IsPlain, full_or_due, plain_due, refused, misfit}
 use Rattle.judge.proofs.tenant.Tenant.judge_refusal.Goals as goal
 
 pub returns-in_default : goal.returns-in_default

@@ -13,8 +13,8 @@ use Rattle.promise_core.specs.Promises.{due, report}
 use Rattle.promise_core.specs.State.{Known, state_after}
 use Rattle.judge.specs.Judged.{broken, failing, IsFollowed, IsVerdictFor, tenant_verdict}
 use Rattle.judge.specs.Seen.{Seen, state_of}
-use Rattle.judge.proofs.Keeping.{followed}
-use Rattle.judge.proofs.Following.{reported}
+use Rattle.judge.proofs.SoundVerdicts.{followed}
+use Rattle.judge.proofs.KnownAfterCommand.{reported}
 use Rattle.judge.proofs.tenant.Tenant.judge_report.Goals as goal
 
 told_off : (event : Event) (body : Body) (w : Known) (x : Seen) (promise : Promise) (v : Result (Unit {0}) Promise) → IsErrAnd v (λ e. e ≡ promise)

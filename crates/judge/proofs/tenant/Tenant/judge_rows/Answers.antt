@@ -1,8 +1,8 @@
 use Rattle.words_core.specs.declared.event.Event.TheVariants as On
 use Rattle.words_core.specs.declared.reply.Body.TheVariants as Say
 use Rattle.judge.specs.Seen.{state_of}
-use Rattle.judge.proofs.Verdicts.{misfit}
-use Rattle.judge.proofs.Misfits.{no_report_asked}
+use Rattle.judge.proofs.UnchangedVerdicts.{misfit}
+use Rattle.judge.proofs.MisfitAnswers.{no_report_asked}
 use Rattle.judge.proofs.tenant.Tenant.judge_rows.Goals as goal
 
 pub returns-in-Report : goal.returns-in-Report

@@ -9,8 +9,8 @@ use Rattle.promise_core.specs.Holdings.{is_slot_busy}
 use Rattle.promise_core.specs.Promises.{due, first_due}
 use Rattle.judge.specs.Seen.{Seen}
 use Rattle.judge.specs.Judged.{failing, IsVerdictFor}
-use Rattle.judge.proofs.Verdicts.{refused, late_busy}
-use Rattle.judge.proofs.Deciding.{due_of_slot}
+use Rattle.judge.proofs.UnchangedVerdicts.{refused, late_busy}
+use Rattle.judge.proofs.AnswerVerdicts.{due_of_slot}
 use Rattle.judge.proofs.tenant.Tenant.judge_slot_kept.Goals as goal
 
 pub returns-in-Some : goal.returns-in-Some

@@ -8,8 +8,8 @@ use Rattle.words_core.specs.declared.reply.Body.TheVariants as Say
 use Rattle.promise_core.specs.declared.promise.Promise.{Promise}
 use Rattle.judge.specs.Judged.{broken, tenant_verdict}
 use Rattle.judge.specs.Seen.{Seen}
-use Rattle.judge.proofs.Deciding.{freed_if}
-use Rattle.judge_core.proofs.ByNumber.{none_of}
+use Rattle.judge.proofs.AnswerVerdicts.{freed_if}
+use Rattle.judge_core.proofs.CachesByNumber.{none_of}
 use Rattle.std.proofs.lemmas.Bool.{ne_eqb, eq-eqb, eqb-true}
 use Rattle.model_core.proofs.Lists.{find_in}
 use Rattle.model_core.specs.Elements.{IsIn}

@@ -1,8 +1,8 @@
 use Rattle.std.proofs.Common.{None, replicate, false, refl, ap}
 use Rattle.shadow_memory.specs.Left.{Left}
 use Rattle.judge.specs.Seen.{Seen}
-use Rattle.judge_core.proofs.Lists.{same_at}
-use Rattle.judge.proofs.Owning.{opened}
+use Rattle.judge_core.proofs.ComputedTests.{same_at}
+use Rattle.judge.proofs.KnownAfterAdmin.{opened}
 use Rattle.judge.proofs.tenant.Tenant.new.Goals as goal
 
 pub returns : goal.returns

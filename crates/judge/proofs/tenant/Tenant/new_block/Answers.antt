@@ -7,7 +7,7 @@ use Rattle.promise_core.specs.declared.promise.Promise.{Promise}
 use Rattle.promise_core.specs.Holdings.{can_stand}
 use Rattle.judge.specs.Seen.{Seen}
 use Rattle.judge.specs.Judged.{tenant_verdict}
-use Rattle.judge.proofs.Deciding.{too_large, stands}
+use Rattle.judge.proofs.AnswerVerdicts.{too_large, stands}
 use Rattle.judge.proofs.tenant.Tenant.new_block.Goals as goal
 
 pub returns-then-k-from-clause-judged : goal.returns-then-k-from-clause-judged

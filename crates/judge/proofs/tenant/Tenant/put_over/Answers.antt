@@ -2,13 +2,13 @@ use Rattle.std.proofs.Common.{◌&&◌, [], ◌∷◌, Some, ap, sym, ◌∙◌,
 use Rattle.promise_core.specs.declared.promise.Promise.{Promise}
 use Rattle.promise_core.specs.State.{state_after}
 use Rattle.judge.specs.Judged.{broken}
-use Rattle.judge.proofs.Verdicts.{broken_off}
+use Rattle.judge.proofs.UnchangedVerdicts.{broken_off}
 use Rattle.std.specs.Prelude.{is_none}
 use Rattle.words_core.specs.declared.event.Event.TheVariants as On
 use Rattle.words_core.specs.declared.event.AdminCommand.TheVariants as Do
 use Rattle.words_core.specs.declared.reply.Body.TheVariants as Say
-use Rattle.judge.proofs.Following.{nothing}
-use Rattle.judge.proofs.Owning.{owner_moved, moved}
+use Rattle.judge.proofs.KnownAfterCommand.{nothing}
+use Rattle.judge.proofs.KnownAfterAdmin.{owner_moved, moved}
 use Rattle.model_core.specs.Owners.{owned_by}
 use Rattle.judge.proofs.tenant.Tenant.put_over.Goals as goal
 

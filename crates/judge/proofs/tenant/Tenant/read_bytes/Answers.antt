@@ -6,9 +6,9 @@ use Rattle.promise_core.specs.Bytes.{holder_of}
 use Rattle.judge_core.specs.Holders.{shown_holder}
 use Rattle.shadow_memory.proofs.ReadBytes.{begins}
 use Rattle.judge.specs.Seen.{Seen}
-use Rattle.judge.proofs.Keeping.{sound_in, followed, same_slots}
-use Rattle.judge.proofs.Reading.{places_held}
-use Rattle.judge.proofs.Following.{nothing, read}
+use Rattle.judge.proofs.SoundVerdicts.{sound_in, followed, same_slots}
+use Rattle.judge.proofs.HeldBytes.{places_held}
+use Rattle.judge.proofs.KnownAfterCommand.{nothing, read}
 use Rattle.judge.proofs.tenant.Tenant.read_bytes.Goals as goal
 
 pub invariant_of-self : goal.invariant_of-self

@@ -7,9 +7,9 @@ use Rattle.judge_core.specs.Holders.{shown_holder}
 use Rattle.shadow_memory.specs.Left.{left_slots, Becomes}
 use Rattle.shadow_memory.proofs.ReadBytes.{begins}
 use Rattle.judge.specs.Seen.{Seen}
-use Rattle.judge.proofs.Keeping.{sound_in, followed, same_slots}
-use Rattle.judge.proofs.Reading.{places_held}
-use Rattle.judge.proofs.Following.{nothing, written}
+use Rattle.judge.proofs.SoundVerdicts.{sound_in, followed, same_slots}
+use Rattle.judge.proofs.HeldBytes.{places_held}
+use Rattle.judge.proofs.KnownAfterCommand.{nothing, written}
 use Rattle.judge.proofs.tenant.Tenant.write_bytes.Goals as goal
 
 pub invariant_of-self : goal.invariant_of-self

@@ -1,8 +1,8 @@
 use Rattle.std.proofs.Common.{◌≡◌, ◌+◌, ◌*◌, ◌^◌, filter, ap, ◌∙◌}
 use Rattle.model_core.specs.Blocks.{Block}
 use Rattle.promise_core.specs.Holdings.{KnownCache, slab_around}
-use Rattle.judge_core.proofs.Keys.{is_within}
-use Rattle.judge_core.proofs.Slabs.{in_slab}
+use Rattle.judge_core.proofs.RisingKeys.{is_within}
+use Rattle.judge_core.proofs.SlabPlaces.{in_slab}
 use Rattle.judge_core.proofs.cache.HeldCache.beside.Goals as goal
 
 pub returns : goal.returns

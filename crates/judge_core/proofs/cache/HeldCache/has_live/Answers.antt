@@ -2,7 +2,7 @@ use Rattle.std.proofs.Common.{◌≡◌, ◌==◌, ℕ, Bor, Option, Some, None,
 use Rattle.std.specs.Prelude.{find}
 use Rattle.std.specs.Option.{is_some, option_copied}
 use Rattle.promise_core.specs.Holdings.{KnownCache}
-use Rattle.judge_core.proofs.Keys.{any_found}
+use Rattle.judge_core.proofs.RisingKeys.{any_found}
 use Rattle.judge_core.proofs.cache.HeldCache.has_live.Goals as goal
 
 copied : (o : Option (Bor ℕ)) → is_some o ≡ is_some (option_copied o)

@@ -5,7 +5,7 @@ use Rattle.std.specs.List.Sorted.{IsNonDecreasing}
 use Rattle.model_core.specs.Blocks.{Block, around}
 use Rattle.model_core.specs.Operations.{overlaps}
 use Rattle.promise_core.specs.Holdings.{KnownCache, slab_around}
-use Rattle.judge_core.proofs.Slabs.{over_first}
+use Rattle.judge_core.proofs.SlabPlaces.{over_first}
 use Rattle.judge_core.proofs.cache.HeldCache.has_slab_over.Goals as goal
 
 pub returns-in-Some : goal.returns-in-Some

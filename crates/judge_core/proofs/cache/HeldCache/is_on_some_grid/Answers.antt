@@ -2,7 +2,7 @@ use Rattle.std.proofs.Common.{◌≡◌, ℕ, ◌*◌, ◌-◌, ◌&&◌, nat_le
 use Rattle.std.proofs.lemmas.Bool.{cases_eq}
 use Rattle.model_core.proofs.BlocksByNumber.{any_below_is}
 use Rattle.promise_core.specs.Holdings.{slab_around, is_grid}
-use Rattle.judge_core.proofs.Slabs.{on_no_grid}
+use Rattle.judge_core.proofs.SlabPlaces.{on_no_grid}
 use Rattle.judge_core.proofs.cache.HeldCache.is_on_some_grid.Goals as goal
 
 pub loop-i-init : goal.loop-i-init

@@ -7,7 +7,7 @@ use Rattle.std.proofs.lemmas.List.Sorted.{IsNonDecreasingBy-drop}
 use Rattle.model_core.specs.Blocks.{Block}
 use Rattle.promise_core.specs.Holdings.{KnownCache, slab_around}
 use Rattle.std.proofs.Math.Bool.{or-false}
-use Rattle.judge_core.proofs.Marks.{has_over, has_over_block, any_from, slab_passed, goes_on, none_behind}
+use Rattle.judge_core.proofs.SlabMarks.{has_over, has_over_block, any_from, slab_passed, goes_on, none_behind}
 use Rattle.judge_core.proofs.cache.HeldCache.mark_slabs.Goals as goal
 
 pub slabs-init : goal.slabs-init

@@ -2,7 +2,7 @@ use Rattle.std.proofs.Common.{◌≡◌, ℕ, ◌+◌, ◌^◌, ◌<◌, false, 
 use Rattle.std.specs.Prelude.{◌||◌}
 use Rattle.std.specs.List.{list_any}
 use Rattle.std.specs.List.Sorted.{IsNonDecreasing}
-use Rattle.judge_core.proofs.Marks.{has_over}
+use Rattle.judge_core.proofs.SlabMarks.{has_over}
 use Rattle.judge_core.proofs.cache.HeldCache.mark_slabs.Given as goal
 
 -- the frames marked so far and those of the remaining slabs are all frames to mark

@@ -1,8 +1,8 @@
 use Rattle.std.proofs.Common.{◌≡◌, ◌+◌, ◌-◌, ap, ◌∙◌, arith}
 use Rattle.std.specs.Prelude.{find}
 use Rattle.promise_core.specs.Holdings.{KnownCache}
-use Rattle.judge_core.proofs.Keys.{is_within}
-use Rattle.judge_core.proofs.Slabs.{has_range}
+use Rattle.judge_core.proofs.RisingKeys.{is_within}
+use Rattle.judge_core.proofs.SlabPlaces.{has_range}
 use Rattle.judge_core.proofs.cache.HeldCache.object_with.Goals as goal
 
 pub returns : goal.returns

@@ -3,7 +3,7 @@ use Rattle.std.proofs.lemmas.Grind.{common_steps}
 use Rattle.std.proofs.lemmas.Nat.{one_shl}
 use Rattle.std.proofs.Math.Pow.{pow_mono}
 use Rattle.promise_core.specs.Holdings.{is_vacant, blocks_of_slot}
-use Rattle.judge_core.proofs.Clear.{pairs_of, joined, clear_are}
+use Rattle.judge_core.proofs.VacantBlockMarks.{pairs_of, joined, clear_are}
 use Rattle.judge_core.proofs.held.Held.add_vacant.Goals as goal
 
 pub loop-k-preserved : goal.loop-k-preserved

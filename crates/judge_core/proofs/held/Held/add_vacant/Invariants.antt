@@ -1,6 +1,6 @@
 use Rattle.std.proofs.Common.{◌≡◌, ℕ, ◌+◌, ◌<◌, ◌≤◌, length, filter, slice_index}
 use Rattle.promise_core.specs.Holdings.{is_vacant, blocks_of_slot}
-use Rattle.judge_core.proofs.Clear.{AreMarks}
+use Rattle.judge_core.proofs.VacantBlockMarks.{AreMarks}
 use Rattle.judge_core.proofs.held.Held.add_vacant.Given as goal
 
 -- the counts of the orders so far are done, and the marks are those of the next order

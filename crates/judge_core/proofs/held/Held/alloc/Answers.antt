@@ -1,6 +1,6 @@
 use Rattle.std.proofs.Common.{◌≡◌, ℕ, ◌≤◌, max, sym, ap, ◌∙◌, subst, arith}
 use Rattle.judge_core.specs.Inside.{ArePages}
-use Rattle.judge_core.proofs.Pages.{pages_put}
+use Rattle.judge_core.proofs.PageBlocks.{pages_put}
 use Rattle.judge_core.proofs.held.Held.alloc.Goals as goal
 
 pub returns-clause-taken : goal.returns-clause-taken

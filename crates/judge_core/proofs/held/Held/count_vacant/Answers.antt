@@ -1,6 +1,6 @@
 use Rattle.std.proofs.Common.{arith}
 use Rattle.std.proofs.lemmas.Grind.{common_steps}
-use Rattle.judge_core.proofs.Lists.{vacant_sum}
+use Rattle.judge_core.proofs.ComputedTests.{vacant_sum}
 use Rattle.judge_core.proofs.held.Held.count_vacant.Goals as goal
 
 pub returns : goal.returns

@@ -1,6 +1,6 @@
 use Rattle.std.proofs.Common.{sym, ap, ◌∙◌, arith}
 use Rattle.promise_core.specs.Holdings.{is_vacant}
-use Rattle.judge_core.proofs.Lists.{more_vacant, more_taken}
+use Rattle.judge_core.proofs.ComputedTests.{more_vacant, more_taken}
 use Rattle.judge_core.proofs.held.Held.count_vacant_from.Goals as goal
 use Rattle.judge_core.proofs.held.Held.count_vacant_from.Goals.{then-is_vacant, else-is_vacant}
 

@@ -1,5 +1,5 @@
 use Rattle.std.proofs.Common.{◌≡◌, ◌≤◌}
-use Rattle.judge_core.proofs.Lists.{vacant_from}
+use Rattle.judge_core.proofs.ComputedTests.{vacant_from}
 use Rattle.judge_core.proofs.held.Held.count_vacant_from.Given as goal
 
 abbrev pub invariant-loop-i : goal.invariant-loop-i

@@ -3,8 +3,8 @@ use Rattle.std.proofs.lemmas.Nat.{one_shl}
 use Rattle.std.proofs.Math.Pow.{pow_mono}
 use Rattle.model_core.specs.Blocks.{Block, block}
 use Rattle.promise_core.specs.Holdings.{is_vacant}
-use Rattle.judge_core.proofs.Lists.{vacant_from}
-use Rattle.judge_core.proofs.Clear.{clear_are}
+use Rattle.judge_core.proofs.ComputedTests.{vacant_from}
+use Rattle.judge_core.proofs.VacantBlockMarks.{clear_are}
 use Rattle.judge_core.proofs.held.Held.count_vacant_in.Goals as goal
 
 pub returns-clause-value : goal.returns-clause-value

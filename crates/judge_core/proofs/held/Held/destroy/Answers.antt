@@ -2,7 +2,7 @@ use Rattle.std.proofs.Common.{◌==◌, not, map, sym, subst}
 use Rattle.model_core.proofs.Lists.{filter_rises}
 use Rattle.model_core.specs.WellFormed.{RisesFrom}
 use Rattle.promise_core.specs.Holdings.{KnownCache}
-use Rattle.judge_core.proofs.Keys.{rising_from}
+use Rattle.judge_core.proofs.RisingKeys.{rising_from}
 use Rattle.judge_core.proofs.held.Held.destroy.Goals as goal
 
 pub returns : goal.returns

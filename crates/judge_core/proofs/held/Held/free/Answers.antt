@@ -1,7 +1,7 @@
 use Rattle.std.proofs.Common.{not, eqb, sym, subst}
 use Rattle.model_core.specs.Blocks.{Block}
 use Rattle.judge_core.specs.Inside.{ArePages}
-use Rattle.judge_core.proofs.Pages.{pages_less}
+use Rattle.judge_core.proofs.PageBlocks.{pages_less}
 use Rattle.judge_core.proofs.held.Held.free.Goals as goal
 
 pub invariant_of-self : goal.invariant_of-self

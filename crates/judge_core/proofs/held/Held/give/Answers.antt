@@ -3,7 +3,7 @@ use Rattle.std.proofs.Math.Seq.{map-set_same}
 use Rattle.std.specs.Prelude.{position, slice_set, if◌then◌else◌}
 use Rattle.model_core.specs.WellFormed.{RisesFrom}
 use Rattle.promise_core.specs.Holdings.{KnownCache}
-use Rattle.judge_core.proofs.ByNumber.{changed_at, changed_none, none_of}
+use Rattle.judge_core.proofs.CachesByNumber.{changed_at, changed_none, none_of}
 use Rattle.judge_core.proofs.held.Held.give.Goals as goal
 
 pub invariant_of-self : goal.invariant_of-self

@@ -1,4 +1,4 @@
-use Rattle.judge_core.proofs.Lists.{match_found}
+use Rattle.judge_core.proofs.ComputedTests.{match_found}
 use Rattle.judge_core.proofs.held.Held.held_slot.Goals as goal
 
 pub returns : goal.returns

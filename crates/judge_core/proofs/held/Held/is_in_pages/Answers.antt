@@ -3,8 +3,8 @@ use Rattle.std.specs.Slice.Iter.{iter_rest}
 use Rattle.std.proofs.lemmas.Iterator.Adapters.{YieldsList-from_rev_slice}
 use Rattle.std.proofs.lemmas.Iterator.Search.{any_from_yields_List}
 use Rattle.model_core.specs.Operations.{overlaps}
-use Rattle.judge_core.proofs.Lists.{any_reversed}
-use Rattle.judge_core.proofs.Pages.{overlap_near}
+use Rattle.judge_core.proofs.ComputedTests.{any_reversed}
+use Rattle.judge_core.proofs.PageBlocks.{overlap_near}
 use Rattle.judge_core.proofs.held.Held.is_in_pages.Goals as goal
 
 pub returns : goal.returns

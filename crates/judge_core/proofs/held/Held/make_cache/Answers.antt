@@ -3,8 +3,8 @@ use Rattle.std.specs.Prelude.{find}
 use Rattle.model_core.proofs.Lists.{put_rises}
 use Rattle.model_core.specs.WellFormed.{RisesFrom}
 use Rattle.promise_core.specs.Holdings.{KnownCache, Holdings, known_cache}
-use Rattle.judge_core.proofs.ByNumber.{all_other}
-use Rattle.judge_core.proofs.Keys.{rising_from}
+use Rattle.judge_core.proofs.CachesByNumber.{all_other}
+use Rattle.judge_core.proofs.RisingKeys.{rising_from}
 use Rattle.judge_core.proofs.held.Held.make_cache.Goals as goal
 
 pub put-requires : goal.put-requires

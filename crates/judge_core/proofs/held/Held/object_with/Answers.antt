@@ -1,6 +1,6 @@
 use Rattle.std.proofs.Common.{arith, sym, ap, ◌∙◌}
 use Rattle.promise_core.specs.Holdings.{Holdings}
-use Rattle.judge_core.proofs.Lists.{next_object}
+use Rattle.judge_core.proofs.ComputedTests.{next_object}
 use Rattle.judge_core.proofs.held.Held.object_with.Goals as goal
 
 pub returns-in-Some : goal.returns-in-Some

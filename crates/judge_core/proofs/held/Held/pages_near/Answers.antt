@@ -3,8 +3,8 @@ use Rattle.std.specs.List.{list_any}
 use Rattle.std.proofs.lemmas.Nat.{pow_pos, one_shl}
 use Rattle.model_core.specs.Blocks.{Block}
 use Rattle.promise_core.specs.Holdings.{Holdings}
-use Rattle.judge_core.proofs.Keys.{is_within}
-use Rattle.judge_core.proofs.Pages.{near_part}
+use Rattle.judge_core.proofs.RisingKeys.{is_within}
+use Rattle.judge_core.proofs.PageBlocks.{near_part}
 use Rattle.judge_core.proofs.held.Held.pages_near.Goals as goal
 
 pub returns : goal.returns

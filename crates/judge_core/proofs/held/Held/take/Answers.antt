@@ -4,7 +4,7 @@ use Rattle.std.specs.Prelude.{position, slice_set, if◌then◌else◌}
 use Rattle.model_core.specs.Machine.{put_rising}
 use Rattle.model_core.specs.WellFormed.{RisesFrom}
 use Rattle.promise_core.specs.Holdings.{KnownCache, Holdings, with_live_places}
-use Rattle.judge_core.proofs.ByNumber.{changed_at, changed_none, number_stays}
+use Rattle.judge_core.proofs.CachesByNumber.{changed_at, changed_none, number_stays}
 use Rattle.std.proofs.lemmas.Result.{IfOk-weaker}
 use Rattle.judge_core.proofs.held.Held.take.Goals as goal
 

@@ -5,8 +5,8 @@ use Rattle.std.proofs.Math.Bool.{not-not}
 use Rattle.model_core.specs.Blocks.{block}
 use Rattle.model_core.specs.Operations.{overlaps}
 use Rattle.promise_core.specs.Holdings.{Holdings, KnownCache, slab_around}
-use Rattle.judge_core.proofs.Lists.{same_at, vacant_is}
-use Rattle.judge_core.proofs.Pages.{overlap_near}
+use Rattle.judge_core.proofs.ComputedTests.{same_at, vacant_is}
+use Rattle.judge_core.proofs.PageBlocks.{overlap_near}
 use Rattle.judge_core.proofs.held.Held.taken_in.Goals as goal
 
 pub returns-clause-taken : goal.returns-clause-taken

@@ -9,7 +9,7 @@ use Rattle.kernel_core.specs.Lending.{reply_for}
 use Rattle.space_core.specs.Content.{superblock_at}
 use Rattle.slab_core.specs.Lending.{IsPageAt}
 use Rattle.kernel_core.specs.Content.{KernelContent}
-use Rattle.kernel_core.proofs.Changing.{opened, known}
+use Rattle.kernel_core.proofs.CallEffects.{opened, known}
 use Rattle.kernel_core.proofs.PageCalls.{IsRequested}
 use Rattle.kernel_core.proofs.LendSpans.{page_few, page_held, page_live, page_span, reply_unknown, reply_known, reply_refused}
 use Rattle.kernel_core.proofs.kernel.Kernel.alloc_span.Goals as goal

@@ -1,7 +1,7 @@
 use Rattle.std.proofs.Common.{refl, ap, arith}
 use Rattle.words_core.specs.Requests.{command_of}
 use Rattle.kernel_core.specs.Content.{KernelContent}
-use Rattle.kernel_core.proofs.Worlds.{unknown_tenant}
+use Rattle.kernel_core.proofs.KernelToWorld.{unknown_tenant}
 use Rattle.kernel_core.proofs.kernel.Kernel.ask.Goals as goal
 
 pub returns-then-tenant-from : goal.returns-then-tenant-from

@@ -1,6 +1,6 @@
 use Rattle.std.proofs.Common.{refl}
 use Rattle.words_core.specs.Requests.{command_of}
-use Rattle.kernel_core.proofs.Worlds.{steps_asked}
+use Rattle.kernel_core.proofs.KernelToWorld.{steps_asked}
 use Rattle.kernel_core.proofs.kernel.Kernel.ask_known.Goals as goal
 
 pub returns : goal.returns

@@ -9,7 +9,7 @@ use Rattle.space_core.specs.Content.{superblock_at}
 use Rattle.machine_changes.specs.Shows.{machine_frame_of, has_slab}
 use Rattle.kernel_core.specs.Content as content
 use Rattle.kernel_core.specs.Content.{KernelContent}
-use Rattle.kernel_core.proofs.Changing.{steady, opened, known}
+use Rattle.kernel_core.proofs.CallEffects.{steady, opened, known}
 use Rattle.kernel_core.proofs.PageCalls.{block_slot, IsRequested}
 use Rattle.kernel_core.proofs.LendSpans.{refused_for, unheld_no_page, free_no_page, slab_no_page, few, block_live, has_block}
 use Rattle.kernel_core.proofs.kernel.Kernel.block_span.Goals as goal

@@ -6,7 +6,7 @@ use Rattle.words_core.specs.declared.reply.Body.TheVariants.{Destroyed}
 use Rattle.world_core.specs.PrivateStep.{command_step, destroy_body}
 use Rattle.kernel_core.specs.Content.{content_of}
 use Rattle.kernel_core.specs.Steps.{StepsMachine}
-use Rattle.kernel_core.proofs.Commanding.{called, by_err, passed}
+use Rattle.kernel_core.proofs.CallsAsCommands.{called, by_err, passed}
 use Rattle.kernel_core.proofs.kernel.Kernel.destroy.Goals as goal
 use Rattle.kernel_core.proofs.kernel.Kernel.destroy.Goals.{After-destroy}
 

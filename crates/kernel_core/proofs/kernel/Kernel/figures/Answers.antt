@@ -6,12 +6,12 @@ use Rattle.machine_changes.specs.Figures.{HasFigures, AreWithin}
 use Rattle.machine_changes.specs.Shows as showing
 use Rattle.machine_changes.specs.Steady.{IsSteady}
 use Rattle.world_core.specs.PrivateStep.{figures_of}
-use Rattle.kernel_core.proofs.Changing.{steady}
+use Rattle.kernel_core.proofs.CallEffects.{steady}
 use Rattle.kernel_core.proofs.ReportFigures.{within, meet, live_below, frames_read, top_none, top_some, figures_are}
 use Rattle.words_core.specs.declared.event.Command.TheVariants as Command
 use Rattle.kernel_core.specs.Shows.{Shows}
-use Rattle.kernel_core.proofs.Commanding.{reported}
-use Rattle.kernel_core.proofs.Worlds.{steps_asked}
+use Rattle.kernel_core.proofs.CallsAsCommands.{reported}
+use Rattle.kernel_core.proofs.KernelToWorld.{steps_asked}
 use Rattle.kernel_core.proofs.kernel.Kernel.figures.Goals as goal
 
 pub orders_of-blocks-requires-clause-fit : goal.orders_of-blocks-requires-clause-fit

@@ -4,7 +4,7 @@ use Rattle.machine_changes.specs.Shows.{machine_frame_of, has_slab}
 use Rattle.words_core.specs.declared.reply.Body.TheVariants.{Freed}
 use Rattle.kernel_core.specs.Content.{KernelContent}
 use Rattle.kernel_core.specs.Steps.{body_of}
-use Rattle.kernel_core.proofs.Changing.{steady, opened, known}
+use Rattle.kernel_core.proofs.CallEffects.{steady, opened, known}
 use Rattle.kernel_core.proofs.PageCalls.{free_unheld, free_slab, free_agrees, free_done}
 use Rattle.kernel_core.proofs.kernel.Kernel.free.Goals as goal
 use Rattle.kernel_core.proofs.kernel.Kernel.free.Goals.{After-is_slab_in}

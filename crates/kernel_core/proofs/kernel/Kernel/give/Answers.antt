@@ -6,7 +6,7 @@ use Rattle.words_core.specs.declared.reply.Body.TheVariants.{Given}
 use Rattle.world_core.specs.PrivateStep.{command_step, give_body}
 use Rattle.kernel_core.specs.Content.{content_of}
 use Rattle.kernel_core.specs.Steps.{StepsMachine}
-use Rattle.kernel_core.proofs.Commanding.{called, by_err, passed}
+use Rattle.kernel_core.proofs.CallsAsCommands.{called, by_err, passed}
 use Rattle.kernel_core.proofs.kernel.Kernel.give.Goals as goal
 use Rattle.kernel_core.proofs.kernel.Kernel.give.Goals.{After-give}
 

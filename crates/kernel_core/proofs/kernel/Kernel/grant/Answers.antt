@@ -1,4 +1,4 @@
-use Rattle.kernel_core.proofs.Changing.{opened, known}
+use Rattle.kernel_core.proofs.CallEffects.{opened, known}
 use Rattle.kernel_core.proofs.Granting.{IsGrantable, free_is_spare, changes, does_granted, steps_granted, grant_without_tenant, grant_without_superblock}
 use Rattle.kernel_core.proofs.kernel.Kernel.grant.Goals as goal
 

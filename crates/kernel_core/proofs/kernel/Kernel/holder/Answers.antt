@@ -1,4 +1,4 @@
-use Rattle.kernel_core.proofs.LiveBytes.{known_for, holder_for, beyond_for}
+use Rattle.kernel_core.proofs.ByteHolders.{known_for, holder_for, beyond_for}
 use Rattle.kernel_core.proofs.kernel.Kernel.holder.Goals as goal
 
 pub returns-clause-tenant : goal.returns-clause-tenant

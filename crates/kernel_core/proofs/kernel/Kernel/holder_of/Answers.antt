@@ -3,10 +3,10 @@ use Rattle.space_core.specs.Content.{superblock_at}
 use Rattle.machine_changes.specs.Shows.{machine_frame_of, has_slab}
 use Rattle.kernel_core.specs.Content as content
 use Rattle.kernel_core.specs.Content.{KernelContent}
-use Rattle.kernel_core.proofs.Changing.{steady, opened, known}
+use Rattle.kernel_core.proofs.CallEffects.{steady, opened, known}
 use Rattle.kernel_core.proofs.PageCalls.{block_slot, IsRequested}
 use Rattle.kernel_core.proofs.LendSpans.{few, has_block}
-use Rattle.kernel_core.proofs.LiveBytes.{unheld_beyond, free_beyond, dead_beyond, object_around}
+use Rattle.kernel_core.proofs.ByteHolders.{unheld_beyond, free_beyond, dead_beyond, object_around}
 use Rattle.kernel_core.proofs.kernel.Kernel.holder_of.Goals as goal
 use Rattle.kernel_core.proofs.kernel.Kernel.holder_of.Goals.{After-machine_of, After-is_slab_in}
 

@@ -1,11 +1,11 @@
 use Rattle.std.proofs.Common.{◌≡◌, ◌⊎◌, ◌*◌, ◌^◌, ◌<◌, ◌≤◌, ◌%◌, inl, inr, sym, ap, ◌∙◌, subst, ◌/◌, arith}
 use Rattle.std.proofs.lemmas.Bool.{false≢true, le-leb, leb-true}
 use Rattle.machine_changes.specs.Steady.{IsSteady}
-use Rattle.slab_core.proofs.ObjectReach.{no_block, no_slab}
-use Rattle.machine_changes.proofs.PageBlocks.{block_decides, no_block_decides}
+use Rattle.slab_core.proofs.ObjectsInRange.{no_block, no_slab}
+use Rattle.machine_changes.proofs.PageReachByBlock.{block_decides, no_block_decides}
 use Rattle.machine_changes.specs.Shows.{machine_frame_of, has_slab}
 use Rattle.kernel_core.specs.Content.{KernelContent, superblock_at}
-use Rattle.kernel_core.proofs.Changing.{steady, opened, known}
+use Rattle.kernel_core.proofs.CallEffects.{steady, opened, known}
 use Rattle.kernel_core.proofs.PageCalls.{block_slot}
 use Rattle.kernel_core.proofs.FrameKinds.{small_shift}
 use Rattle.kernel_core.proofs.kernel.Kernel.is_in_reach.Goals as goal

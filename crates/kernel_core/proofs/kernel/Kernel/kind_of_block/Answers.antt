@@ -1,6 +1,6 @@
 use Rattle.std.proofs.Common.{refl}
 use Rattle.kernel_core.proofs.FrameKinds.{slab_told, kind_small}
-use Rattle.kernel_core.proofs.Changing.{with_space}
+use Rattle.kernel_core.proofs.CallEffects.{with_space}
 use Rattle.kernel_core.proofs.kernel.Kernel.kind_of_block.Goals as goal
 
 pub returns-in-Some : goal.returns-in-Some

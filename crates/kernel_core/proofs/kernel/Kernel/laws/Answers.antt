@@ -2,8 +2,8 @@ use Rattle.std.proofs.Common.{subst}
 use Rattle.machine_changes.specs.Slots.{HoldTogether}
 use Rattle.kernel_core.specs.Content.{KernelContent, PartsAgree, content_of}
 use Rattle.kernel_core.specs.Records.{RecordsStand}
-use Rattle.kernel_core.proofs.Changing.{parts_agree}
-use Rattle.kernel_core.proofs.Records.{records_stand}
+use Rattle.kernel_core.proofs.CallEffects.{parts_agree}
+use Rattle.kernel_core.proofs.ControlRecords.{records_stand}
 use Rattle.kernel_core.proofs.kernel.Kernel.laws.Goals as goal
 
 holds : (c : goal.After-laws-3) → HoldTogether c.self.inside.space c.self.inside.buddy c.self.inside.slabs

@@ -1,6 +1,6 @@
 use Rattle.std.proofs.Common.{refl}
 use Rattle.machine_changes.specs.Pages.{IsInReach}
-use Rattle.kernel_core.proofs.Changing.{known}
+use Rattle.kernel_core.proofs.CallEffects.{known}
 use Rattle.kernel_core.proofs.PageCalls.{IsRequested, reach_opened}
 use Rattle.kernel_core.proofs.LendBytes.{lent_agrees, lent_left, lent_is}
 use Rattle.kernel_core.proofs.kernel.Kernel.lend.Goals as goal

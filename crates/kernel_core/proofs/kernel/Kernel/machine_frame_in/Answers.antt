@@ -1,5 +1,5 @@
 use Rattle.std.proofs.Common.{◌<◌, ◌/◌, ◌^◌, length, rules}
-use Rattle.kernel_core.proofs.Changing.{superblock_there}
+use Rattle.kernel_core.proofs.CallEffects.{superblock_there}
 use Rattle.kernel_core.proofs.kernel.Kernel.machine_frame_in.Goals as goal
 
 pub returns-clause-below : goal.returns-clause-below

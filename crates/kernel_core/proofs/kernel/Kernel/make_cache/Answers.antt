@@ -5,7 +5,7 @@ use Rattle.world_core.specs.PrivateStep.{cache_body}
 use Rattle.kernel_core.specs.Content.{content_of}
 use Rattle.kernel_core.specs.Steps.{StepsMachine}
 use Rattle.kernel_core.proofs.CacheCalls.{cut_is, cache_refused, created}
-use Rattle.kernel_core.proofs.Commanding.{made}
+use Rattle.kernel_core.proofs.CallsAsCommands.{made}
 use Rattle.kernel_core.proofs.kernel.Kernel.make_cache.Goals as goal
 use Rattle.kernel_core.proofs.kernel.Kernel.make_cache.Goals.{After-create}
 

@@ -1,5 +1,5 @@
 use Rattle.std.proofs.Common.{Err, ap}
-use Rattle.kernel_core.proofs.Changing.{opened, known}
+use Rattle.kernel_core.proofs.CallEffects.{opened, known}
 use Rattle.kernel_core.proofs.Granting.{free_is_spare}
 use Rattle.kernel_core.proofs.Moving.{IsMovable, changes, moves, steps_moved, move_without_tenant, move_without_slot, move_without_superblock}
 use Rattle.kernel_core.proofs.kernel.Kernel.move_slot.Goals as goal

@@ -2,7 +2,7 @@ use Rattle.std.proofs.Common.{◌≡◌, ◌/◌, ◌^◌, refl, sym, ap, ◌∙
 use Rattle.std.specs.Prelude.{IsSome}
 use Rattle.space_core.specs.Content.{superblock_at}
 use Rattle.kernel_core.specs.Content.{KernelContent}
-use Rattle.kernel_core.proofs.Changing.{opened, known}
+use Rattle.kernel_core.proofs.CallEffects.{opened, known}
 use Rattle.kernel_core.proofs.PageCalls.{IsRequested}
 use Rattle.kernel_core.proofs.LendSpans.{object_live, object_held}
 use Rattle.kernel_core.proofs.kernel.Kernel.object_span.Goals as goal

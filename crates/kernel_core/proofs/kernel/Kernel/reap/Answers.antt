@@ -4,7 +4,7 @@ use Rattle.model_core.specs.CacheOperations.{reap_step}
 use Rattle.words_core.specs.declared.event.Command.TheVariants as Command
 use Rattle.words_core.specs.declared.reply.Body.TheVariants.{Reaped}
 use Rattle.world_core.specs.PrivateStep.{command_step}
-use Rattle.kernel_core.proofs.Commanding.{called}
+use Rattle.kernel_core.proofs.CallsAsCommands.{called}
 use Rattle.kernel_core.proofs.kernel.Kernel.reap.Goals as goal
 
 pub returns : goal.returns

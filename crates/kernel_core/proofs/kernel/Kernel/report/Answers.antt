@@ -1,7 +1,7 @@
 use Rattle.words_core.specs.declared.event.Command.TheVariants as Command
 use Rattle.kernel_core.specs.Shows.{Shows}
-use Rattle.kernel_core.proofs.Commanding.{reported}
-use Rattle.kernel_core.proofs.Worlds.{unknown_tenant, steps_asked}
+use Rattle.kernel_core.proofs.CallsAsCommands.{reported}
+use Rattle.kernel_core.proofs.KernelToWorld.{unknown_tenant, steps_asked}
 use Rattle.kernel_core.proofs.kernel.Kernel.report.Goals as goal
 
 pub returns-in_default : goal.returns-in_default

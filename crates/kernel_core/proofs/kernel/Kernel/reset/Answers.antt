@@ -1,4 +1,4 @@
-use Rattle.kernel_core.proofs.Changing.{opened, known}
+use Rattle.kernel_core.proofs.CallEffects.{opened, known}
 use Rattle.kernel_core.proofs.Resetting.{IsEmptying, changes, does_reset, steps_reset, reset_without_tenant}
 use Rattle.kernel_core.proofs.kernel.Kernel.reset.Goals as goal
 

@@ -4,7 +4,7 @@ use Rattle.buddy_core.specs.Content.{holding_of, taken_of}
 use Rattle.kernel_core.specs.Frames.{IsFrame}
 use Rattle.kernel_core.specs.declared.frames.FrameKind.TheVariants.{Free}
 use Rattle.kernel_core.proofs.FrameKinds.{free_told, free_here, block_next, small_shift}
-use Rattle.kernel_core.proofs.Changing.{with_space}
+use Rattle.kernel_core.proofs.CallEffects.{with_space}
 use Rattle.kernel_core.proofs.kernel.Kernel.run_at.Goals as goal
 
 pub overflow_shl-result : goal.overflow_shl-result

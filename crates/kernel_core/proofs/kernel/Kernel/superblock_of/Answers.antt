@@ -1,6 +1,6 @@
 use Rattle.std.proofs.Common.{◌∙◌, sym, arith}
 use Rattle.machine_changes.proofs.Lookups.{some_none}
-use Rattle.kernel_core.proofs.Changing.{opened, no_row}
+use Rattle.kernel_core.proofs.CallEffects.{opened, no_row}
 use Rattle.kernel_core.proofs.kernel.Kernel.superblock_of.Goals as goal
 
 pub returns-then-t-tenants-clause-value : goal.returns-then-t-tenants-clause-value

@@ -6,7 +6,7 @@ use Rattle.world_core.specs.PrivateStep.{take_body}
 use Rattle.kernel_core.specs.Content.{content_of}
 use Rattle.kernel_core.specs.Steps.{StepsMachine}
 use Rattle.kernel_core.proofs.CacheCalls.{taken}
-use Rattle.kernel_core.proofs.Commanding.{passed}
+use Rattle.kernel_core.proofs.CallsAsCommands.{passed}
 use Rattle.kernel_core.proofs.kernel.Kernel.take.Goals as goal
 use Rattle.kernel_core.proofs.kernel.Kernel.take.Goals.{After-take}
 

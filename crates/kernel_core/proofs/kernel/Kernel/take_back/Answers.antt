@@ -1,7 +1,7 @@
 use Rattle.std.proofs.Common.{◌≡◌, sym, ◌∙◌}
 use Rattle.model_core.specs.declared.refusals.TakeBackRefusal.{TakeBackRefusal}
 use Rattle.machine_changes.proofs.Lookups.{some_same}
-use Rattle.kernel_core.proofs.Changing.{opened, known}
+use Rattle.kernel_core.proofs.CallEffects.{opened, known}
 use Rattle.kernel_core.proofs.TakingBack.{IsIdle, take_without_slot, take_busy, changes, does_taken, steps_taken, take_without_tenant, take_refused}
 use Rattle.kernel_core.proofs.kernel.Kernel.take_back.Goals as goal
 use Rattle.kernel_core.proofs.kernel.Kernel.take_back.Goals.{In-Ok-take_back}

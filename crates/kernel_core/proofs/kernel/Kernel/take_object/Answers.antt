@@ -7,7 +7,7 @@ use Rattle.slab_core.specs.Taking.{place_taken}
 use Rattle.kernel_core.specs.Content.{content_of}
 use Rattle.kernel_core.specs.Steps.{StepsMachine}
 use Rattle.kernel_core.proofs.CacheCalls.{taken, untaken}
-use Rattle.kernel_core.proofs.Commanding.{passed}
+use Rattle.kernel_core.proofs.CallsAsCommands.{passed}
 use Rattle.kernel_core.proofs.kernel.Kernel.take_object.Goals as goal
 use Rattle.kernel_core.proofs.kernel.Kernel.take_object.Goals.{After-take_object}
 

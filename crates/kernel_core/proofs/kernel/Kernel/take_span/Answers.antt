@@ -10,7 +10,7 @@ use Rattle.machine_changes.specs.Steady.{IsSteady}
 use Rattle.slab_core.specs.Lending.{HasObject}
 use Rattle.slab_core.proofs.ObjectBytes.{has_object, has_range}
 use Rattle.kernel_core.specs.Shows.{ShowsMachine}
-use Rattle.kernel_core.proofs.Changing.{steady}
+use Rattle.kernel_core.proofs.CallEffects.{steady}
 use Rattle.kernel_core.proofs.LendSpans.{reply_unknown, reply_known, reply_refused}
 use Rattle.kernel_core.proofs.kernel.Kernel.take_span.Goals as goal
 use Rattle.kernel_core.proofs.kernel.Kernel.take_span.Goals.{After-laws-2}

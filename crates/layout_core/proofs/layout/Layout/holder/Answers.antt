@@ -1,5 +1,5 @@
 use Rattle.std.proofs.Common.{arith}
-use Rattle.layout_core.proofs.Objects.{chunk_below, holds_at, holds_only, holds_within}
+use Rattle.layout_core.proofs.ObjectByChunk.{chunk_below, holds_at, holds_only, holds_within}
 use Rattle.layout_core.proofs.layout.Layout.holder.Goals as goal
 
 pub returns-in_err-index : goal.returns-in_err-index

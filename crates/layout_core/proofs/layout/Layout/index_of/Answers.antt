@@ -1,5 +1,5 @@
 use Rattle.std.proofs.Common.{arith}
-use Rattle.layout_core.proofs.Objects.{begins_at, begins_only, begins_whole, chunk_below}
+use Rattle.layout_core.proofs.ObjectByChunk.{begins_at, begins_only, begins_whole, chunk_below}
 use Rattle.layout_core.proofs.layout.Layout.index_of.Goals as goal
 
 pub returns-in_err-index : goal.returns-in_err-index

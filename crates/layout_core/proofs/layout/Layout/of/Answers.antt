@@ -1,5 +1,5 @@
 use Rattle.std.proofs.Common.{rules}
-use Rattle.layout_core.proofs.Fits.{is_cut}
+use Rattle.layout_core.proofs.ObjectsFit.{is_cut}
 use Rattle.layout_core.proofs.layout.Layout.of.Goals as goal
 
 pub invariant_of-result : goal.invariant_of-result

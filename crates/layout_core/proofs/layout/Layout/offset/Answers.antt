@@ -1,5 +1,5 @@
 use Rattle.std.proofs.Common.{arith}
-use Rattle.layout_core.proofs.Fits.{ends_within}
+use Rattle.layout_core.proofs.ObjectsFit.{ends_within}
 use Rattle.layout_core.proofs.layout.Layout.offset.Goals as goal
 
 pub overflow_mul-result : goal.overflow_mul-result

@@ -1,7 +1,7 @@
 use Rattle.std.proofs.Common.{ℕ, ◌++◌, List, length, drop, subst, sym, arith, rules}
 use Rattle.std.specs.Prelude.{replicate}
 use Rattle.layout_core.specs.Inside.{IsHeld}
-use Rattle.layout_core.proofs.Bytes.{is_held}
+use Rattle.layout_core.proofs.PatternBytes.{is_held}
 use Rattle.layout_core.proofs.pattern.Pattern.new.Goals as goal
 
 pub invariant_of-result : goal.invariant_of-result

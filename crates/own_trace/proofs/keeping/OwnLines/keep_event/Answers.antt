@@ -1,5 +1,5 @@
 use Rattle.std.proofs.Common.{◌≡◌, true, false, rules}
-use Rattle.own_trace.proofs.Lines.{event_run, not_kept, kept}
+use Rattle.own_trace.proofs.OneMoreLine.{event_run, not_kept, kept}
 use Rattle.own_trace.proofs.keeping.OwnLines.keep_event.Goals as goal
 
 pub returns-then-not-is_own-clause-done : goal.returns-then-not-is_own-clause-done

@@ -1,5 +1,5 @@
 use Rattle.std.proofs.Common.{refl, false}
-use Rattle.own_trace.proofs.Lines.{nothing_run, not_kept}
+use Rattle.own_trace.proofs.OneMoreLine.{nothing_run, not_kept}
 use Rattle.own_trace.proofs.keeping.OwnLinesSink.blank.Goals as goal
 
 pub returns-clause-done : goal.returns-clause-done

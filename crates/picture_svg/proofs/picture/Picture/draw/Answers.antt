@@ -13,7 +13,7 @@ use Rattle.picture_svg.specs.Pictures.{bottom_of, drawn_tenants, most_columns_in
 use Rattle.picture_svg.specs.Sizes.{band_height, lower}
 use Rattle.picture_svg.specs.Texts.{opening_text, title_text}
 use Rattle.picture_svg.proofs.PictureLemmas.{bands_push, bottom_push, grids_of_bands, grids_push, in_front, same_heights}
-use Rattle.picture_svg.proofs.Writing.{and_text, both, flushed}
+use Rattle.picture_svg.proofs.JoinedTexts.{and_text, both, flushed}
 use Rattle.picture_svg.proofs.picture.Picture.draw.Goals as goal
 
 pub loop-t-preserved : goal.loop-t-preserved

@@ -1,6 +1,6 @@
 use Rattle.std.proofs.Common.{◌+◌, arith}
 use Rattle.shadow_memory.specs.Inside.{removed_of}
-use Rattle.shadow_memory.proofs.Passing.{changed_more}
+use Rattle.shadow_memory.proofs.RangeChanges.{changed_more}
 use Rattle.shadow_memory.proofs.change.RemoveChange.change_places.Goals as goal
 
 pub loop-k-preserved : goal.loop-k-preserved

@@ -2,7 +2,7 @@ use Rattle.std.proofs.Common.{List, length, sym, ap, subst, arith}
 use Rattle.std.proofs.lemmas.List.{with_items_is}
 use Rattle.shadow_memory.specs.Left.{LeftSlot}
 use Rattle.shadow_memory.specs.Inside.{AreSlots, AreStepped, within}
-use Rattle.shadow_memory.proofs.Stepping.{slots_after, near_within}
+use Rattle.shadow_memory.proofs.StepsByPlace.{slots_after, near_within}
 use Rattle.shadow_memory.proofs.left.ShadowMemory.change.Goals as goal
 
 pub invariant_of-self : goal.invariant_of-self

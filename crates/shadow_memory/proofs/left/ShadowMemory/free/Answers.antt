@@ -2,8 +2,8 @@ use Rattle.shadow_memory.specs.Left.{left_at}
 use Rattle.std.proofs.Common.{◌&&◌}
 use Rattle.model_core.specs.Machine.{in_block}
 use Rattle.promise_core.specs.Bytes.{Holder, is_same}
-use Rattle.shadow_memory.proofs.Stepping.{becomes}
-use Rattle.shadow_memory.proofs.Changes.{near_doubted, doubted_none, doubted_in}
+use Rattle.shadow_memory.proofs.StepsByPlace.{becomes}
+use Rattle.shadow_memory.proofs.ReplyChanges.{near_doubted, doubted_none, doubted_in}
 use Rattle.shadow_memory.proofs.left.ShadowMemory.free.Goals as goal
 
 pub change-requires : goal.change-requires

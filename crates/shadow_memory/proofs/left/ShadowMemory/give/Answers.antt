@@ -3,7 +3,7 @@ use Rattle.std.proofs.Common.{◌+◌, ◌-◌, ◌^◌, min}
 use Rattle.promise_core.specs.Bytes.{Holder, is_same}
 use Rattle.shadow_memory.specs.Left.{Left}
 use Rattle.shadow_memory.specs.Inside.{AreSlots}
-use Rattle.shadow_memory.proofs.Changes.{near_doubted, given}
+use Rattle.shadow_memory.proofs.ReplyChanges.{near_doubted, given}
 use Rattle.shadow_memory.proofs.left.ShadowMemory.give.Goals as goal
 
 pub change-requires : goal.change-requires

@@ -1,4 +1,4 @@
-use Rattle.shadow_memory.proofs.Stepping.{low_place}
+use Rattle.shadow_memory.proofs.StepsByPlace.{low_place}
 use Rattle.shadow_memory.proofs.left.ShadowMemory.places_are_low.Goals as goal
 
 pub returns : goal.returns

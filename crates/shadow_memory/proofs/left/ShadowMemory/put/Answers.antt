@@ -5,8 +5,8 @@ use Rattle.promise_core.specs.Bytes.{with_bytes}
 use Rattle.judge_core.specs.Holders.{shown_holder}
 use Rattle.shadow_memory.specs.Left.{LeftSlot, Left, left_slots, has_place, Becomes}
 use Rattle.shadow_memory.specs.Inside.{AreSlots, AreStepped, within}
-use Rattle.shadow_memory.proofs.Stepping.{slots_after}
-use Rattle.shadow_memory.proofs.Changes.{near_put, put}
+use Rattle.shadow_memory.proofs.StepsByPlace.{slots_after}
+use Rattle.shadow_memory.proofs.ReplyChanges.{near_put, put}
 use Rattle.shadow_memory.proofs.left.ShadowMemory.put.Goals as goal
 
 pub invariant_of-self : goal.invariant_of-self

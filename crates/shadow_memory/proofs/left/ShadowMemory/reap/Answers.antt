@@ -1,8 +1,8 @@
 use Rattle.shadow_memory.specs.Left.{left_at}
 use Rattle.promise_core.specs.Bytes.{is_object}
 use Rattle.promise_core.specs.State.{is_in_no_slab}
-use Rattle.shadow_memory.proofs.Stepping.{becomes}
-use Rattle.shadow_memory.proofs.Changes.{near_removed, without_none, removed_all}
+use Rattle.shadow_memory.proofs.StepsByPlace.{becomes}
+use Rattle.shadow_memory.proofs.ReplyChanges.{near_removed, without_none, removed_all}
 use Rattle.shadow_memory.proofs.left.ShadowMemory.reap.Goals as goal
 
 pub change-requires : goal.change-requires

@@ -2,8 +2,8 @@ use Rattle.std.proofs.Common.{◌≡◌, ℕ, ◌+◌, ◌-◌, ◌^◌, min, ma
 use Rattle.std.specs.Prelude.{slice_index}
 use Rattle.shadow_memory.specs.Left.{Left, left_at}
 use Rattle.shadow_memory.specs.Inside.{AreSlots, AreStepped, within, removed_of}
-use Rattle.shadow_memory.proofs.Stepping.{becomes, stepped_twice}
-use Rattle.shadow_memory.proofs.Changes.{near_removed, object_none, not_beside, elsewhere, taken_twice}
+use Rattle.shadow_memory.proofs.StepsByPlace.{becomes, stepped_twice}
+use Rattle.shadow_memory.proofs.ReplyChanges.{near_removed, object_none, not_beside, elsewhere, taken_twice}
 use Rattle.shadow_memory.proofs.left.ShadowMemory.take.Goals as goal
 
 pub change-requires : goal.change-requires

@@ -2,7 +2,7 @@ use Rattle.std.proofs.Common.{List, get_or, sym, ap, ◌∙◌}
 use Rattle.shadow_memory.specs.declared.kept.KeptByte.{KeptByte}
 use Rattle.shadow_memory.specs.declared.kept.KeptByte.TheVariants as Kept
 use Rattle.shadow_memory.specs.Inside.{shown_kept}
-use Rattle.shadow_memory.proofs.Padding.{shown_at}
+use Rattle.shadow_memory.proofs.UnstoredPlaces.{shown_at}
 use Rattle.shadow_memory.proofs.slot.SlotBytes.at.Goals as goal
 
 pub returns : goal.returns

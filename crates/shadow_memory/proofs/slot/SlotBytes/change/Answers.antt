@@ -6,7 +6,7 @@ use Rattle.shadow_memory.specs.declared.summary.Summary.{Summary}
 use Rattle.shadow_memory.specs.Left.{LeftSlot}
 use Rattle.shadow_memory.specs.Inside.{padded, shown_kept, within}
 use Rattle.shadow_memory.specs.Summaries.{IsSummarizedBy, any_summary, cell_in}
-use Rattle.shadow_memory.proofs.Padding.{changed_all, shown_at, shown_len}
+use Rattle.shadow_memory.proofs.UnstoredPlaces.{changed_all, shown_at, shown_len}
 use Rattle.shadow_memory.proofs.slot.SlotBytes.change.Goals as goal
 
 pub change_range-requires-clause-chunks : goal.change_range-requires-clause-chunks

@@ -1,6 +1,6 @@
 use Rattle.std.proofs.Common.{refl, ⊎_elim, arith}
 use Rattle.std.proofs.lemmas.Bool.{cases_lt}
-use Rattle.slab_core.proofs.ReturnMany.{no_cache}
+use Rattle.slab_core.proofs.ReturnEmptySlabs.{no_cache}
 use Rattle.slab_core.proofs.fitting.View.has_empty_slab.Goals as goal
 
 pub returns : goal.returns

@@ -2,7 +2,7 @@ use Rattle.std.proofs.Common.{◌≡◌, ◌*◌, ◌/◌, ◌%◌, ◌^◌, ◌
 use Rattle.model_core.specs.Numbered.{number_at}
 use Rattle.model_core.proofs.BlocksByNumber.{number_of_frame, same_slot}
 use Rattle.buddy_core.proofs.ContentShown.{size_is}
-use Rattle.slab_core.proofs.FittingFrames.{small_size}
+use Rattle.slab_core.proofs.IdleFrames.{small_size}
 use Rattle.slab_core.proofs.fitting.View.is_unused_block.Goals as goal
 
 pub past_unused-requires-clause-begins : goal.past_unused-requires-clause-begins

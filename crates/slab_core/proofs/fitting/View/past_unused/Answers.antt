@@ -1,7 +1,7 @@
 use Rattle.std.proofs.Common.{ℕ, ◌+◌, ◌≤◌, sym, ◌∙◌, subst, arith}
 use Rattle.slab_core.specs.Fitting.{IsUnusedTo}
 use Rattle.buddy_core.proofs.ContentShown.{size_is}
-use Rattle.slab_core.proofs.FittingFrames.{small_size, order_small, unused_to, not_unused}
+use Rattle.slab_core.proofs.IdleFrames.{small_size, order_small, unused_to, not_unused}
 use Rattle.slab_core.proofs.fitting.View.past_unused.Goals as goal
 
 pub overflow_add-result-then-is_idle : goal.overflow_add-result-then-is_idle

@@ -6,9 +6,9 @@ use Rattle.std.proofs.lemmas.Grind.{div_ceil_times}
 use Rattle.std.proofs.lemmas.Nat.{pow_pos}
 use Rattle.std.proofs.lemmas.Bool.{false≢true, cases_lt}
 use Rattle.slab_core.specs.Fitting.{has_number}
-use Rattle.slab_core.proofs.ReturnMany.{no_cache}
-use Rattle.slab_core.proofs.FittingFrames.{small_size}
-use Rattle.slab_core.proofs.FittingSets.{none_yet, few_words}
+use Rattle.slab_core.proofs.ReturnEmptySlabs.{no_cache}
+use Rattle.slab_core.proofs.IdleFrames.{small_size}
+use Rattle.slab_core.proofs.BitSets.{none_yet, few_words}
 use Rattle.slab_core.proofs.fitting.View.would_fit_around.Goals as goal
 
 pub loop-c-init : goal.loop-c-init

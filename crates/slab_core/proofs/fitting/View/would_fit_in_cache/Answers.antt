@@ -6,8 +6,8 @@ use Rattle.model_core.specs.Blocks.{around}
 use Rattle.klist_core.specs.Places.{IsPlacedByKey}
 use Rattle.slab_tables.specs.Content.{head_of}
 use Rattle.slab_core.specs.Fitting.{IsWhole, IsUnusedBlock, has_number}
-use Rattle.slab_core.proofs.FittingFrames.{listed_taken}
-use Rattle.slab_core.proofs.FittingWhole.{whole_around}
+use Rattle.slab_core.proofs.IdleFrames.{listed_taken}
+use Rattle.slab_core.proofs.NoLargerTakenBlock.{whole_around}
 use Rattle.slab_core.proofs.FittingCache.{IsNextSlab, left, next_is, slab_small, slab_within, first_small, after_is, left_less, goes_on, refused_more}
 use Rattle.slab_core.proofs.fitting.View.would_fit_in_cache.Goals as goal
 use Rattle.slab_core.proofs.fitting.View.would_fit_in_cache.Goals.{In-Some, then-not-has_block+else-is_unused_block, else-not-has_block}

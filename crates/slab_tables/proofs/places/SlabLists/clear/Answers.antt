@@ -1,8 +1,8 @@
 use Rattle.std.proofs.Common.{subst, sym, arith}
 use Rattle.klist_core.specs.Places.{Placed, place_at}
-use Rattle.klist_core.proofs.Behind.{in_placed}
-use Rattle.klist_core.proofs.Tables.{placed_within, count_removed}
-use Rattle.slab_tables.proofs.Emptying.{IsEmptying, emptying_none, emptying_more, emptying_all}
+use Rattle.klist_core.proofs.WalkToKey.{in_placed}
+use Rattle.klist_core.proofs.PlacesChanged.{placed_within, count_removed}
+use Rattle.slab_tables.proofs.ListEmptied.{IsEmptying, emptying_none, emptying_more, emptying_all}
 use Rattle.slab_tables.proofs.places.SlabLists.clear.Goals as goal
 
 pub loop-machine_frame-init : goal.loop-machine_frame-init

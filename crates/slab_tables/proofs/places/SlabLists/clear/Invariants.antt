@@ -1,6 +1,6 @@
 use Rattle.std.specs.Prelude.{count_by}
 use Rattle.klist_core.specs.Places.{is_in}
-use Rattle.slab_tables.proofs.Emptying.{IsEmptying}
+use Rattle.slab_tables.proofs.ListEmptied.{IsEmptying}
 use Rattle.slab_tables.proofs.places.SlabLists.clear.Given as goal
 
 abbrev pub invariant-loop-machine_frame : goal.invariant-loop-machine_frame

@@ -1,9 +1,9 @@
 use Rattle.std.proofs.Common.{◌+◌, ◌<◌, Some, arith, rules}
 use Rattle.slab_tables.specs.Content.{index_of_cache}
 use Rattle.slab_tables.specs.Changes.{made_more}
-use Rattle.slab_tables.proofs.Reading.{shown, cached, cache_within}
-use Rattle.slab_tables.proofs.Below.{below_cache, below_standing}
-use Rattle.slab_tables.proofs.Keeping.{slabs_slab}
+use Rattle.slab_tables.proofs.TableReads.{shown, cached, cache_within}
+use Rattle.slab_tables.proofs.CacheNumberBound.{below_cache, below_standing}
+use Rattle.slab_tables.proofs.InvariantKept.{slabs_slab}
 use Rattle.slab_tables.proofs.tables.Tables.add_slab.Goals as goal
 
 pub nonzero_rem-made : goal.nonzero_rem-made

@@ -1,9 +1,9 @@
 use Rattle.std.proofs.Common.{◌≡◌, ◌+◌, ◌*◌, ◌∙◌, None, refl, subst, arith}
 use Rattle.slab_tables.specs.Content.{index_of_cache}
 use Rattle.slab_tables.specs.Changes.{IsEmptied}
-use Rattle.slab_tables.proofs.Reading.{shown, cache_within}
-use Rattle.slab_tables.proofs.Below.{below_cache}
-use Rattle.slab_tables.proofs.Clearing.{emptied_all, slabs_cleared}
+use Rattle.slab_tables.proofs.TableReads.{shown, cache_within}
+use Rattle.slab_tables.proofs.CacheNumberBound.{below_cache}
+use Rattle.slab_tables.proofs.CachesCleared.{emptied_all, slabs_cleared}
 use Rattle.slab_tables.proofs.tables.Tables.clear.Goals as goal
 
 pub invariant_of-self : goal.invariant_of-self

@@ -2,9 +2,9 @@ use Rattle.std.proofs.Common.{◌≡◌, ◌+◌, ◌<◌, Some, length, get_or,
 use Rattle.std.proofs.lemmas.List.{get_or_read}
 use Rattle.slab_tables.specs.Content.{IsSlabs}
 use Rattle.slab_tables.specs.Changes.{IsLeastNumber, with_cache, new_cache}
-use Rattle.slab_tables.proofs.Reading.{shown, cache_within}
-use Rattle.slab_tables.proofs.Below.{below_used, below_more}
-use Rattle.slab_tables.proofs.Keeping.{slabs_more}
+use Rattle.slab_tables.proofs.TableReads.{shown, cache_within}
+use Rattle.slab_tables.proofs.CacheNumberBound.{below_used, below_more}
+use Rattle.slab_tables.proofs.InvariantKept.{slabs_more}
 use Rattle.slab_tables.proofs.tables.Tables.create.Goals as goal
 use Rattle.slab_tables.proofs.tables.Tables.create.Goals.{In_ok-c, After-index-below}
 

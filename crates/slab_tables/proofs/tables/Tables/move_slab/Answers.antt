@@ -1,8 +1,8 @@
 use Rattle.std.proofs.Common.{arith}
 use Rattle.std.proofs.lemmas.List.{get_or_read}
 use Rattle.slab_tables.specs.Content.{blank}
-use Rattle.slab_tables.proofs.Reading.{shown}
-use Rattle.slab_tables.proofs.Moving.{slabs_moved}
+use Rattle.slab_tables.proofs.TableReads.{shown}
+use Rattle.slab_tables.proofs.SlabsMoved.{slabs_moved}
 use Rattle.slab_tables.proofs.tables.Tables.move_slab.Goals as goal
 
 pub invariant_of-self : goal.invariant_of-self

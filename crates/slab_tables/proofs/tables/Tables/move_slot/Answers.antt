@@ -1,7 +1,7 @@
 use Rattle.std.proofs.Common.{◌≡◌, ◌^◌, length, ap, sym, ◌∙◌, subst, arith}
 use Rattle.klist_core.specs.Places.{place_at}
 use Rattle.slab_tables.specs.Content.{Content}
-use Rattle.slab_tables.proofs.Moving.{IsStep, step, frames_are, apart, moving_none, moving_more, moving_all, to_stays}
+use Rattle.slab_tables.proofs.SlabsMoved.{IsStep, step, frames_are, apart, moving_none, moving_more, moving_all, to_stays}
 use Rattle.slab_tables.proofs.tables.Tables.move_slot.Goals as goal
 use Rattle.slab_tables.proofs.tables.Tables.move_slot.Goals.{After-machine_frame_at-in-loop-i}
 

@@ -1,4 +1,4 @@
-use Rattle.slab_tables.proofs.Moving.{IsMoving}
+use Rattle.slab_tables.proofs.SlabsMoved.{IsMoving}
 use Rattle.slab_tables.proofs.tables.Tables.move_slot.Given as goal
 
 abbrev pub invariant-loop-i : goal.invariant-loop-i

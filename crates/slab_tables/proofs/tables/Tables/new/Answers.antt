@@ -1,7 +1,7 @@
 use Rattle.std.proofs.Common.{◌≡◌, ◌*◌, ◌%◌, ◌^◌, ◌≤◌, rules, arith}
 use Rattle.std.proofs.Math.Nat.{pow-le-pow_right, mul-le-mul}
-use Rattle.slab_tables.proofs.Below.{below_opening}
-use Rattle.slab_tables.proofs.Keeping.{slabs_opening}
+use Rattle.slab_tables.proofs.CacheNumberBound.{below_opening}
+use Rattle.slab_tables.proofs.InvariantKept.{slabs_opening}
 use Rattle.slab_tables.proofs.tables.Tables.new.Goals as goal
 
 pub invariant_of-result : goal.invariant_of-result

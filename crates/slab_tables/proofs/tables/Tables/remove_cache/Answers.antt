@@ -1,8 +1,8 @@
 use Rattle.std.proofs.Common.{None, refl}
 use Rattle.slab_tables.specs.Content.{index_of_cache}
-use Rattle.slab_tables.proofs.Reading.{shown, cache_within, some_below}
-use Rattle.slab_tables.proofs.Below.{below_cache}
-use Rattle.slab_tables.proofs.Keeping.{slabs_less}
+use Rattle.slab_tables.proofs.TableReads.{shown, cache_within, some_below}
+use Rattle.slab_tables.proofs.CacheNumberBound.{below_cache}
+use Rattle.slab_tables.proofs.InvariantKept.{slabs_less}
 use Rattle.slab_tables.proofs.tables.Tables.remove_cache.Goals as goal
 
 pub invariant_of-self : goal.invariant_of-self

@@ -1,6 +1,6 @@
-use Rattle.klist_core.proofs.Tables.{some_within}
-use Rattle.slab_tables.proofs.Reading.{shown}
-use Rattle.slab_tables.proofs.Keeping.{slabs_without}
+use Rattle.klist_core.proofs.PlacesChanged.{some_within}
+use Rattle.slab_tables.proofs.TableReads.{shown}
+use Rattle.slab_tables.proofs.InvariantKept.{slabs_without}
 use Rattle.slab_tables.proofs.tables.Tables.remove_slab.Goals as goal
 
 pub invariant_of-self : goal.invariant_of-self

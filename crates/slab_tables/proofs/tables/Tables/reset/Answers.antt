@@ -1,7 +1,7 @@
 use Rattle.std.proofs.Common.{◌+◌, sym, subst, arith}
 use Rattle.slab_tables.specs.Content.{index_of_cache}
 use Rattle.slab_tables.specs.Changes.{IsReset}
-use Rattle.slab_tables.proofs.Clearing.{this, those_below, cleared_none, cleared_more, cleared_all, one_more}
+use Rattle.slab_tables.proofs.CachesCleared.{this, those_below, cleared_none, cleared_more, cleared_all, one_more}
 use Rattle.slab_tables.proofs.tables.Tables.reset.Goals as goal
 
 pub loop-number-init : goal.loop-number-init

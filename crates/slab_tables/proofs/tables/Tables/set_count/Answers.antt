@@ -1,7 +1,7 @@
 use Rattle.std.proofs.Common.{◌≡◌, ◌<◌, ℕ, Some, sym, ap, ◌∙◌, arith, rules}
 use Rattle.slab_tables.specs.Content.{layout_numbers, head_of, kind_of, kept_at}
-use Rattle.slab_tables.proofs.Reading.{shown, cached, cache_within, kind_below, placed_by_kind}
-use Rattle.slab_tables.proofs.Keeping.{counting, kept_read, slabs_count}
+use Rattle.slab_tables.proofs.TableReads.{shown, cached, cache_within, kind_below, placed_by_kind}
+use Rattle.slab_tables.proofs.InvariantKept.{counting, kept_read, slabs_count}
 use Rattle.slab_tables.proofs.tables.Tables.set_count.Goals as goal
 use Rattle.slab_tables.proofs.tables.Tables.set_count.Goals.{After-of-to}
 

@@ -2,8 +2,8 @@ use Rattle.std.proofs.Common.{sym, subst, set, arith}
 use Rattle.std.proofs.lemmas.List.{get_or_read}
 use Rattle.slab_tables.specs.declared.cache.Kept.{Kept}
 use Rattle.slab_tables.specs.Content.{IsSlabs, blank}
-use Rattle.slab_tables.proofs.Reading.{shown}
-use Rattle.slab_tables.proofs.Keeping.{slabs_outside}
+use Rattle.slab_tables.proofs.TableReads.{shown}
+use Rattle.slab_tables.proofs.InvariantKept.{slabs_outside}
 use Rattle.slab_tables.proofs.tables.Tables.set_outside.Goals as goal
 
 pub invariant_of-self : goal.invariant_of-self

@@ -1,0 +1,159 @@
+-- One tenant loses all that it holds.
+use Rattle.std.proofs.Common.{◌≡◌, ◌⊎◌, inl, inr, refl, sym, ◌∙◌, ap, subst, ℕ, zero, suc, ◌+◌, ◌<◌, ◌≤◌, Option, Some, None, List, length, get_or, set, arith, length-set}
+use Rattle.std.specs.Int.{bit_at}
+use Rattle.std.proofs.lemmas.List.{get_or-set_same, get_or-set_other}
+use Rattle.std.proofs.lemmas.Option.{none-some, same_Some}
+use Rattle.std.proofs.lemmas.Bool.{cases_lt, cases_eq}
+use Rattle.model_core.specs.declared.limits.TheConstants.{MOST_SUPERBLOCKS, MOST_TENANTS}
+use Rattle.model_core.proofs.Lists.{everywhere}
+use Rattle.buddy_core.specs.Content.{with_holding, nothing_held}
+use Rattle.buddy_core.specs.Stored.{StoredSuperblock, StoredTenant, bare_superblock, bare_tenant, superblock_of, stored_tenant, superblock_at, taken_by, content_shown}
+use Rattle.buddy_core.specs.Roots.{HasBit}
+use Rattle.buddy_core.specs.Summary.{AreBounded}
+use Rattle.buddy_core.specs.Kept.{IsKept, IsTenantKept}
+use Rattle.buddy_core.proofs.ContentShown.{taken_as_before, blank_of, bare_of, content_replaced, slot_within}
+use Rattle.buddy_core.proofs.SummaryBounds.{bounded_still}
+use Rattle.buddy_core.proofs.TenantChanged.{tenant_stays}
+use Rattle.buddy_core.proofs.NothingHeld.{blank_kept, blank_holding}
+
+-- the superblocks in the first n slots of the tenant are cleared, and no others
+pub record Cleared (top : ℕ) (before after : List StoredSuperblock) (tenant : StoredTenant) (n : ℕ) : Type 0 where
+  pub size : length after ≡ length before
+  pub gone : (w m : ℕ) → w < n → superblock_at tenant w ≡ Some m → superblock_of m after ≡ bare_superblock top
+  pub stays : (m : ℕ) → ((w : ℕ) → w < n → superblock_at tenant w ≡ Some m → ⊥) → superblock_of m after ≡ superblock_of m before
+
+pub cleared_none : (top : ℕ) (before : List StoredSuperblock) (tenant : StoredTenant) → Cleared top before before tenant 0
+cleared_none top before tenant = record { size = refl; gone = λ w m lt at. absurd (omega arith); stays = λ m off. refl }
+
+pub cleared_past : (top : ℕ) (before after : List StoredSuperblock) (tenant : StoredTenant) (n : ℕ) → ((m : ℕ) → superblock_at tenant n ≡ Some m → ⊥) → Cleared top before after tenant n → Cleared top before after tenant (n + 1)
+cleared_past top before after tenant n off c = record {
+  size = c.size;
+  gone = λ w m lt at. go w m lt at (cases_lt w n);
+  stays = λ m away. c.stays m (λ w lt at. away w (omega arith) at);
+}
+  where
+    go : (w m : ℕ) → w < n + 1 → superblock_at tenant w ≡ Some m → (w < n) ⊎ (n ≤ w) → superblock_of m after ≡ bare_superblock top
+    go w m lt at (inl below) = c.gone w m below at
+    go w m lt at (inr here) = absurd (off m (ap (superblock_at tenant) (let e : n ≡ w = omega arith in e) ∙ at))
+
+pub cleared_more : (top : ℕ) (before after : List StoredSuperblock) (tenant : StoredTenant) (n m : ℕ) (s : StoredSuperblock) → superblock_at tenant n ≡ Some m → m < length before → s ≡ bare_superblock top
+    → ((w v i : ℕ) → superblock_at tenant w ≡ Some i → superblock_at tenant v ≡ Some i → w ≡ v) → Cleared top before after tenant n → Cleared top before (set after m s) tenant (n + 1)
+cleared_more top before after tenant n m s at lt blank apart c = record {
+  size = length-set after m s ∙ c.size;
+  gone = λ w i w_lt there. go w i w_lt there (cases_eq i m);
+  stays = λ i away. get_or-set_other after m i s bare_of (λ e. away n (omega arith) (at ∙ ap Some (sym e))) ∙ c.stays i (λ w w_lt there. away w (omega arith) there);
+}
+  where
+    go : (w i : ℕ) → w < n + 1 → superblock_at tenant w ≡ Some i → (i ≡ m) ⊎ (i ≡ m → ⊥) → superblock_of i (set after m s) ≡ bare_superblock top
+    go w i w_lt there (inl e) = ap (λ j. superblock_of j (set after m s)) e ∙ get_or-set_same after m s bare_of (subst (λ l. m < l) (sym c.size) lt) ∙ blank
+    go w i w_lt there (inr ne) = get_or-set_other after m i s bare_of ne ∙ c.gone w i (before_n (cases_lt w n)) there
+      where
+        before_n : (w < n) ⊎ (n ≤ w) → w < n
+        before_n (inl below) = below
+        before_n (inr here) =
+            let last : w ≡ n = omega arith in
+            absurd (ne (same_Some i m (sym there ∙ ap (superblock_at tenant) last ∙ at)))
+
+-- the superblock that is cleared next is as it was
+pub next_order : (top : ℕ) (before after : List StoredSuperblock) (tenant : StoredTenant) (n m : ℕ) → superblock_at tenant n ≡ Some m → (superblock_of m before).tree.order ≡ top
+    → ((w v i : ℕ) → superblock_at tenant w ≡ Some i → superblock_at tenant v ≡ Some i → w ≡ v) → Cleared top before after tenant n → (superblock_of m after).tree.order ≡ top
+next_order top before after tenant n m at order apart c = ap (λ (z : StoredSuperblock). z.tree.order) (c.stays m (λ w lt there. let e = apart w n m there at in omega arith)) ∙ order
+
+-- some of the first n slots has the superblock, or none has
+under : (tenant : StoredTenant) (i n : ℕ) → ((w : ℕ) × (w < n) × (superblock_at tenant w ≡ Some i)) ⊎ ((w : ℕ) → w < n → superblock_at tenant w ≡ Some i → ⊥)
+under tenant i zero = inr (λ w lt at. omega arith)
+under tenant i (suc n) = go (under tenant i n) (superblock_at tenant n) refl
+  where
+    last : ((w : ℕ) → w < n → superblock_at tenant w ≡ Some i → ⊥) → (superblock_at tenant n ≡ Some i → ⊥) → (w : ℕ) → w < suc n → superblock_at tenant w ≡ Some i → ⊥
+    last none off w lt at = here (cases_lt w n)
+      where
+        here : (w < n) ⊎ (n ≤ w) → ⊥
+        here (inl below) = none w below at
+        here (inr past) = off (ap (superblock_at tenant) (let e : n ≡ w = omega arith in e) ∙ at)
+
+    go : ((w : ℕ) × (w < n) × (superblock_at tenant w ≡ Some i)) ⊎ ((w : ℕ) → w < n → superblock_at tenant w ≡ Some i → ⊥) → (o : Option ℕ) → superblock_at tenant n ≡ o
+        → ((w : ℕ) × (w < suc n) × (superblock_at tenant w ≡ Some i)) ⊎ ((w : ℕ) → w < suc n → superblock_at tenant w ≡ Some i → ⊥)
+    go (inl (w, lt, at)) o e = inl (w, omega arith, at)
+    go (inr none) None e = inr (last none (λ at. none-some i (sym e ∙ at)))
+    go (inr none) (Some j) e = by (cases_eq j i)
+      where
+        by : (j ≡ i) ⊎ (j ≡ i → ⊥) → ((w : ℕ) × (w < suc n) × (superblock_at tenant w ≡ Some i)) ⊎ ((w : ℕ) → w < suc n → superblock_at tenant w ≡ Some i → ⊥)
+        by (inl same) = inl (n, omega arith, e ∙ ap Some same)
+        by (inr ne) = inr (last none (λ at. ne (same_Some j i (sym e ∙ at))))
+
+module _ (top : ℕ) (superblocks : List StoredSuperblock) (tenants : List StoredTenant) (kept : IsKept top superblocks tenants) (t : ℕ) (listed : t < length tenants) (after : List StoredSuperblock) (n : ℕ) (all : length superblocks ≤ n)
+    (c : Cleared top superblocks after (stored_tenant t tenants) n) where
+  mine : IsTenantKept top superblocks (stored_tenant t tenants)
+  mine = kept.each t listed
+
+  slot_lt : (w m : ℕ) → superblock_at (stored_tenant t tenants) w ≡ Some m → w < n
+  slot_lt w m at = let lt = slot_within (stored_tenant t tenants).slots w m at in let size = mine.sizes.slots in omega arith
+
+  other_superblock : (v u i : ℕ) → (v ≡ t → ⊥) → superblock_at (stored_tenant v tenants) u ≡ Some i → superblock_of i after ≡ superblock_of i superblocks
+  other_superblock v u i ne at = c.stays i (λ w lt there. ne (kept.apart v u t w i at there).0)
+
+  other_taken : (v : ℕ) → (v ≡ t → ⊥) → taken_by top after (stored_tenant v tenants) ≡ taken_by top superblocks (stored_tenant v tenants)
+  other_taken v ne = taken_as_before top superblocks after (stored_tenant v tenants) (stored_tenant v tenants) (record { held = refl; same = λ u i at. (i, at, other_superblock v u i ne at) })
+
+  tenant_here : (v : ℕ) → v ≡ t → stored_tenant v (set tenants t (bare_tenant top (length superblocks))) ≡ bare_tenant top (length superblocks)
+  tenant_here v e = ap (λ i. stored_tenant i (set tenants t (bare_tenant top (length superblocks)))) e ∙ get_or-set_same tenants t (bare_tenant top (length superblocks)) blank_of listed
+
+  tenant_other : (v : ℕ) → (v ≡ t → ⊥) → stored_tenant v (set tenants t (bare_tenant top (length superblocks))) ≡ stored_tenant v tenants
+  tenant_other v ne = get_or-set_other tenants t v (bare_tenant top (length superblocks)) blank_of ne
+
+  -- the tenant has no slot afterwards
+  none_here : (v u i : ℕ) → v ≡ t → superblock_at (stored_tenant v (set tenants t (bare_tenant top (length superblocks)))) u ≡ Some i → ⊥
+  none_here v u i e at = none-some i (sym (everywhere None (length superblocks) u) ∙ sym (ap (λ r. superblock_at r u) (tenant_here v e)) ∙ at)
+
+  was : (v u i : ℕ) → superblock_at (stored_tenant v (set tenants t (bare_tenant top (length superblocks)))) u ≡ Some i → (v ≡ t) ⊎ (v ≡ t → ⊥) → superblock_at (stored_tenant v tenants) u ≡ Some i
+  was v u i at (inl e) = absurd (none_here v u i e at)
+  was v u i at (inr ne) = sym (ap (λ r. superblock_at r u) (tenant_other v ne)) ∙ at
+
+  each_kept : (v : ℕ) → v < length (set tenants t (bare_tenant top (length superblocks))) → (v ≡ t) ⊎ (v ≡ t → ⊥) → IsTenantKept top after (stored_tenant v (set tenants t (bare_tenant top (length superblocks))))
+  each_kept v lt (inl e) = subst (IsTenantKept top after) (ap (bare_tenant top) c.size ∙ sym (tenant_here v e)) (blank_kept top after)
+  each_kept v lt (inr ne) = subst (IsTenantKept top after) (sym (tenant_other v ne))
+      (tenant_stays top superblocks after (stored_tenant v tenants) c.size (λ u i at. other_superblock v u i ne at) (kept.each v (subst (λ l. v < l) (length-set tenants t (bare_tenant top (length superblocks))) lt)))
+
+  superblock_now : (i : ℕ) → ((w : ℕ) × (w < n) × (superblock_at (stored_tenant t tenants) w ≡ Some i)) ⊎ ((w : ℕ) → w < n → superblock_at (stored_tenant t tenants) w ≡ Some i → ⊥)
+      → (superblock_of i after ≡ bare_superblock top) ⊎ (superblock_of i after ≡ superblock_of i superblocks)
+  superblock_now i (inl (w, lt, at)) = inl (c.gone w i lt at)
+  superblock_now i (inr none) = inr (c.stays i none)
+
+  order_now : (i : ℕ) → i < length after → (superblock_of i after ≡ bare_superblock top) ⊎ (superblock_of i after ≡ superblock_of i superblocks) → (superblock_of i after).tree.order ≡ top
+  order_now i lt (inl e) = ap (λ (z : StoredSuperblock). z.tree.order) e
+  order_now i lt (inr e) = ap (λ (z : StoredSuperblock). z.tree.order) e ∙ kept.order i (subst (λ l. i < l) c.size lt)
+
+  bare_now : (i : ℕ) → i < length after → ((v u : ℕ) → superblock_at (stored_tenant v (set tenants t (bare_tenant top (length superblocks)))) u ≡ Some i → ⊥)
+      → ((w : ℕ) × (w < n) × (superblock_at (stored_tenant t tenants) w ≡ Some i)) ⊎ ((w : ℕ) → w < n → superblock_at (stored_tenant t tenants) w ≡ Some i → ⊥) → superblock_of i after ≡ bare_superblock top
+  bare_now i lt unused (inl (w, w_lt, at)) = c.gone w i w_lt at
+  bare_now i lt unused (inr none) = c.stays i none ∙ kept.bare i (subst (λ l. i < l) c.size lt) (λ v u at. before v u at (cases_eq v t))
+    where
+      before : (v u : ℕ) → superblock_at (stored_tenant v tenants) u ≡ Some i → (v ≡ t) ⊎ (v ≡ t → ⊥) → ⊥
+      before v u at (inl e) = let mine_at = ap (λ x. superblock_at (stored_tenant x tenants) u) (sym e) ∙ at in none u (slot_lt u i mine_at) mine_at
+      before v u at (inr ne) = unused v u (ap (λ r. superblock_at r u) (tenant_other v ne) ∙ at)
+
+  pub reset_kept : IsKept top after (set tenants t (bare_tenant top (length superblocks)))
+  reset_kept = record {
+    small = kept.small;
+    few = subst (λ l. l ≤ MOST_SUPERBLOCKS) (sym c.size) kept.few;
+    few_tenants = subst (λ l. l ≤ MOST_TENANTS) (sym (length-set tenants t (bare_tenant top (length superblocks)))) kept.few_tenants;
+    order = λ i lt. order_now i lt (superblock_now i (under (stored_tenant t tenants) i n));
+    each = λ v lt. each_kept v lt (cases_eq v t);
+    apart = λ v u z w i a b. kept.apart v u z w i (was v u i a (cases_eq v t)) (was z w i b (cases_eq z t));
+    bare = λ i lt unused. bare_now i lt unused (under (stored_tenant t tenants) i n);
+  }
+
+  pub reset_shown : content_shown top after (set tenants t (bare_tenant top (length superblocks))) ≡ with_holding t (nothing_held top (length superblocks)) (content_shown top superblocks tenants)
+  reset_shown = content_replaced top superblocks tenants t after (bare_tenant top (length superblocks)) (nothing_held top (length superblocks)) c.size
+      (λ v ne lt. other_taken v ne) (blank_holding top after (length superblocks))
+
+  -- no slot has an order that it did not have
+  pub reset_bounded : (summaries : List (List ℕ)) → AreBounded superblocks tenants summaries → AreBounded after (set tenants t (bare_tenant top (length superblocks))) summaries
+  reset_bounded summaries bounded = bounded_still bounded after (set tenants t (bare_tenant top (length superblocks))) (length-set tenants t (bare_tenant top (length superblocks))) (λ v u i j at bit. go v u i j at bit (cases_eq v t))
+    where
+      go : (v u i j : ℕ) → superblock_at (stored_tenant v (set tenants t (bare_tenant top (length superblocks)))) u ≡ Some i → HasBit after i j → (v ≡ t) ⊎ (v ≡ t → ⊥)
+          → (was : ℕ) × (superblock_at (stored_tenant v tenants) u ≡ Some was) × HasBit superblocks was j
+      go v u i j at bit (inl e) = absurd (none_here v u i e at)
+      go v u i j at bit (inr ne) =
+          let before = ap (λ r. superblock_at r u) (sym (tenant_other v ne)) ∙ at in
+          (i, before, ap (λ (z : StoredSuperblock). bit_at (get_or z.tree.words 0 0) j) (sym (other_superblock v u i ne before)) ∙ bit)
