@@ -1,8 +1,8 @@
 # Completions of partmem, framemap and partcheck for fish.
 for program in partmem framemap partcheck
     complete -c $program -l order -x -a '3 4 5 6 7 8' -d 'A superblock has 2^S frames'
-    complete -c $program -l superblocks -x -d 'How many there are, 1 to 256'
-    complete -c $program -l tenants -x -d 'How many share the machine, 1 to 64'
+    complete -c $program -l superblocks -x -d 'Number of superblocks, 1 to 256'
+    complete -c $program -l tenants -x -d 'Number of tenants, 1 to 64'
     complete -c $program -s h -l help -d 'Print help'
     complete -c $program -s V -l version -d 'Print the version'
 end
@@ -11,5 +11,5 @@ for program in partmem framemap
 end
 complete -c partmem -l own -x -d 'The own list of this tenant, instead of replies'
 complete -c partmem -l tally -d 'Print on standard error what was done, refused and faulty'
-complete -c framemap -l columns -x -d 'Columns of the picture at most, 1 to 4096'
+complete -c framemap -l columns -x -d 'Largest number of columns, 1 to 4096'
 complete -c framemap -l figures -d 'A table of the figures, instead of the picture'

@@ -66,10 +66,10 @@ pub fn sizes_command<'a>(alloc: Global, program: Program<'a>) -> Result<Command<
         )
         .help("A superblock has 2^S frames of 4096 bytes: 3 to 8"))?
         .arg(number(alloc, "superblocks", "N", 1, u32::from(MOST_SUPERBLOCKS)).help(
-            "How many there are: 1 to 256",
+            "Number of superblocks: 1 to 256",
         ))?
         .arg(number(alloc, "tenants", "T", 1, u32::from(MOST_TENANTS)).help(
-            "How many share the machine: 1 to 64",
+            "Number of tenants: 1 to 64",
         ))
 }
 

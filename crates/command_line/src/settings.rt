@@ -46,9 +46,9 @@ NUMBER NAME, and one of a number that is no tenant !> refused 12 NoTenant. A fau
 answered !> fault NAME: any line of more than 255 bytes, a comment too, is !> fault Long.
 Other comments, which begin with #, and blank lines have no reply.
 
-With --own T no reply is written, but those lines of the trace that tenant T's own list is,
-as they stand: T's commands, what was granted to T or taken back and not refused, and resets
-of T. Replayed with the same sizes they write the same replies to T.
+With --own T no replies are written. Instead, the lines of the trace that make up tenant T's own
+list are copied: T's commands, grants and take-backs of T's slots that were not refused, and
+resets of T. Replayed with the same sizes, they write the same replies to T.
 
 Exit status:
   0  the trace is done; or --help or --version

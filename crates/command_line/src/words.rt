@@ -16,7 +16,7 @@ use clap::{Arg, ArgAction, ArgMatches, Command};
 use std::alloc::{AllocError, Global};
 
 /// What `--help` prints beside `--only`.
-const ONLY: &str = "Writes the lines of this tenant alone, a number below the tenants";
+const ONLY: &str = "Writes only the lines of this tenant, a number below --tenants";
 
 /// Reads the words of a command line, without the program's name.
 ///
@@ -87,7 +87,7 @@ fn command<'a>(alloc: Global) -> Result<Command<'a>, AllocError>
         .arg(
             Arg::new(alloc, "tally")
                 .long("tally")
-                .help("Tells on standard error what was done, refused and faulty")
+                .help("Prints a tally of what was done, refused and faulty on standard error")
                 .action(ArgAction::SetTrue),
         )?
         .arg(positional(alloc, "FILE", "The trace [default: standard input]"))

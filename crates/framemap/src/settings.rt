@@ -18,7 +18,7 @@ pub const PROGRAM: Program<'static> = Program {
 };
 
 /// What `--help` prints about `--only`.
-const ONLY: &str = "Draws this tenant alone, a number below the tenants";
+const ONLY: &str = "Draws only this tenant, a number below --tenants";
 
 /// What `--help` prints below the arguments.
 const AFTER_HELP: &str = "\
@@ -66,7 +66,7 @@ fn command<'a>(alloc: Global) -> Result<Command<'a>, AllocError> {
     command_line::command(alloc, PROGRAM, ONLY)?
         .arg(
             number(alloc, "columns", "C", 1, MOST_COLUMNS)
-                .help("Columns of the picture, at most: 1 to 4096 [default: 600]")
+                .help("Largest number of columns: 1 to 4096 [default: 600]")
                 .required(false),
         )?
         .arg(

@@ -25,7 +25,7 @@ pub const REPLIES_PROGRAM: Program<'static> = Program {
 /// What `--help` prints below the arguments.
 const AFTER_HELP: &str = "\
 The sizes are those of the machine that ran the trace. Lines of both files are those of partmem
---help; which frames, objects and superblocks are handed out is open. What is found is a line
+--help; any choice of frames, objects and superblocks is allowed. What is found is a line
 on standard output, as
   kept: 218508 lines, 6 tenants
   line 391, reply 402: 0 alloc 0, answered 0> frame 12: Blocks: frame 12 lies in the block of order 1 at frame 12
