@@ -106,7 +106,7 @@ module _ {r r' r'' : spaces.Content} {b b' b'' : buddies.Content} {s s' s'' : Co
   keeps_twice : (u : ℕ) → Keeps r r' b b' s s' u → Keeps r' r'' b' b'' s' s'' u → Keeps r r'' b b'' s s'' u
   keeps_twice u k k' =
       let under : (f n : ℕ) → machine_frame_of s.top r.slots u f ≡ Some n → machine_frame_of s'.top r'.slots u f ≡ Some n =
-      λ f n e. Untouched.machine_frame_same r r' b b' s s' u k f ∙ e in
+      λ f n e. UntouchedTenant.machine_frame_same r r' b b' s s' u k f ∙ e in
       record {
         space = same_twice u r r' r'' k.space k'.space;
         buddy = k'.buddy ∙ k.buddy;
