@@ -15,27 +15,15 @@ known c =
 pub unlink_node-requires : goal.unlink_node-requires
 unlink_node-requires c =
     let k = known (goal.at.unlink_node-requires c).In-Some in
-    let heads = ap (λ (hs : List Head). length hs) c.deref_mut-heads.ensures.value in
-    let nodes = ap (λ (ns : List Node). length ns) c.deref_mut-nodes.ensures.value in
-    record {
-      head = omega (arith, heads, k.in_heads);
-      node = omega (arith, nodes, k.in_nodes);
-      nodes = omega (arith, nodes, k.small);
-      previous = λ i e. omega (arith, nodes, k.left.below i (sym c.get-previous.ensures ∙ e));
-      next = λ i e. omega (arith, nodes, k.right.below i (sym c.get-next.ensures ∙ e));
-      some = rw c.deref_mut-heads.ensures.value k.some;
-    }
+    rw (c.deref_mut-heads.ensures.value, c.deref_mut-nodes.ensures.value, c.get-previous.ensures, c.get-next.ensures)
+    (record { head = k.in_heads; node = k.in_nodes; nodes = k.small; previous = k.left.below; next = k.right.below; some = k.some })
 
 -- the tables without the node
 heads_freed : (c : After-unlink_node) → c.unlink_node.new.heads ≡ heads_unlinked c.self.inside.heads.items c.in-Some.head c.index-nodes-node.result.previous c.index-nodes-node.result.next
-heads_freed c =
-    c.unlink_node.ensures.heads ∙ ap (λ (hs : List Head). heads_unlinked hs c.in-Some.head c.get-previous.result c.get-next.result) c.deref_mut-heads.ensures.value
-    ∙ ap₂ (λ p q. heads_unlinked c.self.inside.heads.items c.in-Some.head p q) c.get-previous.ensures c.get-next.ensures
+heads_freed c = cc
 
 nodes_freed : (c : After-unlink_node) → c.unlink_node.new.nodes ≡ nodes_unlinked c.self.inside.nodes.items c.args.node c.index-nodes-node.result.previous c.index-nodes-node.result.next
-nodes_freed c =
-    c.unlink_node.ensures.nodes ∙ ap (λ (ns : List Node). nodes_unlinked ns c.args.node c.get-previous.result c.get-next.result) c.deref_mut-nodes.ensures.value
-    ∙ ap₂ (λ p q. nodes_unlinked c.self.inside.nodes.items c.args.node p q) c.get-previous.ensures c.get-next.ensures
+nodes_freed c = cc
 
 -- the number of nodes stays
 nodes_kept : (c : After-unlink_node) → length c.unlink_node.new.nodes ≡ length c.self.inside.nodes.items
