@@ -25,25 +25,26 @@ module _ (rank : ℕ → ℕ) (place : ℕ → Option (ℕ × ℕ)) (h bound : �
   pub way_placed : (j : ℕ) → IsOnWay rank place h bound (Some j) → IsSome (place j)
   way_placed j v = let p : IsNotPast rank place h bound j v.is.0 = v.is.1 in ap is_some p.here
 
-  -- the key that was read of the node
-  pub way_key : (j r : ℕ) (v : IsOnWay rank place h bound (Some j)) → IfSome (place j) (λ p. r ≡ p.1) → r ≡ v.is.0
-  way_key j r v read = let p : IsNotPast rank place h bound j v.is.0 = v.is.1 in rw p.here at read
+  -- the walk stands at a node whose key was read as k
+  pub way_read : (o : Option ℕ) (j k : ℕ) → o ≡ Some j → IsOnWay rank place h bound o → IfSome (place j) (λ p. k ≡ p.1) → IsNotPast rank place h bound j k
+  way_read o j k at v read =
+      let w = rw at at v in
+      let p : IsNotPast rank place h bound j w.is.0 = w.is.1 in
+      let key : k ≡ w.is.0 = rw p.here at read in
+      rw key p
 
   pub way_gone_on : (j k : ℕ) (o : Option ℕ) → rank k < bound → IsNearest rank place h (rank k + 1) o → IsOnWay rank place h bound o
   way_gone_on j k None lt v = record { is = λ i k' e. let u = v.is i k' e in omega arith }
   way_gone_on j k (Some i) lt v = let l : IsLeastFrom rank place h (rank k + 1) i v.is.0 = v.is.1 in record { is = (v.is.0, record { here = l.here; least = λ x k' e le. l.least x k' e (omega arith) }) }
 
-  pub way_ended : (j : ℕ) (v : IsOnWay rank place h bound (Some j)) → bound ≤ rank v.is.0 → IsNearest rank place h bound (Some j)
-  way_ended j v le = let p : IsNotPast rank place h bound j v.is.0 = v.is.1 in record { is = (v.is.0, record { here = p.here; from = le; least = p.least }) }
+  pub way_ended : (j k : ℕ) → IsNotPast rank place h bound j k → bound ≤ rank k → IsNearest rank place h bound (Some j)
+  way_ended j k p le = record { is = (k, record { here = p.here; from = le; least = p.least }) }
 
   pub way_exhausted : IsOnWay rank place h bound None → IsNearest rank place h bound None
   way_exhausted v = record { is = v.is }
 
-  pub way_shortened : (j : ℕ) (o : Option ℕ) (v : IsOnWay rank place h bound (Some j)) → rank v.is.0 ≤ 2 ^ 32 → IsNearest rank place h (rank v.is.0 + 1) o → way_left rank place o < way_left rank place (Some j)
-  way_shortened j None v le n =
-      let p : IsNotPast rank place h bound j v.is.0 = v.is.1 in
-      rw p.here (omega arith)
-  way_shortened j (Some i) v le n =
-      let p : IsNotPast rank place h bound j v.is.0 = v.is.1 in
-      let l : IsLeastFrom rank place h (rank v.is.0 + 1) i n.is.0 = n.is.1 in
+  pub way_shortened : (j k : ℕ) (o : Option ℕ) → IsNotPast rank place h bound j k → rank k ≤ 2 ^ 32 → IsNearest rank place h (rank k + 1) o → way_left rank place o < way_left rank place (Some j)
+  way_shortened j k None p le n = rw p.here (omega arith)
+  way_shortened j k (Some i) p le n =
+      let l : IsLeastFrom rank place h (rank k + 1) i n.is.0 = n.is.1 in
       rw (p.here, l.here) (omega (arith, l.from))
