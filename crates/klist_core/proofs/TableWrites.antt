@@ -67,40 +67,39 @@ len_before : (o : Option ℕ) (h : ℕ) (to : Option ℕ) (heads : List Head) (g
 len_before None h to heads g = unseen (λ (x : Head). x.len) heads h g (record (head_at heads h) { last = to }) (head_at [] 0) refl
 len_before (Some i) h to heads g = refl
 
--- what they change, each in its own direction
+-- what they change in one direction, in which f reads the end of a list and g the link of a node: list h gets the end x
+ends_relinked : (f : Head → Option ℕ) (g : Node → Option ℕ) (h n : ℕ) (to : Option ℕ) (ends links : ℕ → Option ℕ) (heads : List Head) (nodes : List Node) (x : Head) → h < length heads → f x ≡ to
+    → ((i : ℕ) → f (head_at heads i) ≡ ends i) → ((i : ℕ) → i ≢ n → g (node_at nodes i) ≡ links i)
+    → IsRelinked ends links (λ i. f (head_at (set heads h x) i)) (λ i. g (node_at nodes i)) h n None to
+ends_relinked f g h n to ends links heads nodes x lt is e l = record {
+  begin = λ _. ap f (get_or-set_same heads h x (head_at [] 0) lt) ∙ is;
+  other_begin = λ i ne. ap f (get_or-set_other heads h i x (head_at [] 0) (λ q. ne q refl)) ∙ e i;
+  link = λ i q. cc;
+  other_link = λ i ne _. l i ne;
+}
+
+-- node j becomes y, with another link in that direction
+links_relinked : (f : Head → Option ℕ) (g : Node → Option ℕ) (h n j : ℕ) (to : Option ℕ) (ends links : ℕ → Option ℕ) (heads : List Head) (nodes : List Node) (y : Node) → j < length nodes → g y ≡ to
+    → ((i : ℕ) → f (head_at heads i) ≡ ends i) → ((i : ℕ) → i ≢ n → g (node_at nodes i) ≡ links i)
+    → IsRelinked ends links (λ i. f (head_at heads i)) (λ i. g (node_at (set nodes j y) i)) h n (Some j) to
+links_relinked f g h n j to ends links heads nodes y lt is e l = record {
+  begin = λ q. cc;
+  other_begin = λ i ne. e i;
+  link = λ i q. let same : j ≡ i = cc in subst (λ k. g (node_at (set nodes j y) k) ≡ to) same (ap g (get_or-set_same nodes j y (node_at [] 0) lt) ∙ is);
+  other_link = λ i ne q. ap g (get_or-set_other nodes j i y (node_at [] 0) (λ same. q (ap Some (sym same)))) ∙ l i ne;
+}
+
 after_relinks : (o : Option ℕ) (h n : ℕ) (to : Option ℕ) (ends links : ℕ → Option ℕ) (heads : List Head) (nodes : List Node) → h < length heads → IsWithin o (length nodes)
     → ((g : ℕ) → (head_at heads g).first ≡ ends g) → ((i : ℕ) → i ≢ n → (node_at nodes i).next ≡ links i)
     → IsRelinked ends links (λ g. (head_at (heads_linked_after o h to heads) g).first) (λ i. (node_at (nodes_linked_after o to nodes) i).next) h n o to
-after_relinks None h n to ends links heads nodes lt w e f = record {
-  begin = λ _. ap (λ (x : Head). x.first) (get_or-set_same heads h (record (head_at heads h) { first = to }) (head_at [] 0) lt);
-  other_begin = λ g ne. ap (λ (x : Head). x.first) (get_or-set_other heads h g (record (head_at heads h) { first = to }) (head_at [] 0) (λ q. ne q refl)) ∙ e g;
-  link = λ i q. cc;
-  other_link = λ i ne _. f i ne;
-}
-after_relinks (Some j) h n to ends links heads nodes lt w e f = record {
-  begin = λ q. cc;
-  other_begin = λ g ne. e g;
-  link = λ i q. let same : j ≡ i = cc in subst (λ x. (node_at (set nodes j (record (node_at nodes j) { next = to })) x).next ≡ to) same
-      (ap (λ (x : Node). x.next) (get_or-set_same nodes j (record (node_at nodes j) { next = to }) (node_at [] 0) (w.below j refl)));
-  other_link = λ i ne q. ap (λ (x : Node). x.next) (get_or-set_other nodes j i (record (node_at nodes j) { next = to }) (node_at [] 0) (λ same. q (ap Some (sym same)))) ∙ f i ne;
-}
+after_relinks None h n to ends links heads nodes lt w e f = ends_relinked (λ (x : Head). x.first) (λ (x : Node). x.next) h n to ends links heads nodes _ lt refl e f
+after_relinks (Some j) h n to ends links heads nodes lt w e f = links_relinked (λ (x : Head). x.first) (λ (x : Node). x.next) h n j to ends links heads nodes _ (w.below j refl) refl e f
 
 before_relinks : (o : Option ℕ) (h n : ℕ) (to : Option ℕ) (ends links : ℕ → Option ℕ) (heads : List Head) (nodes : List Node) → h < length heads → IsWithin o (length nodes)
     → ((g : ℕ) → (head_at heads g).last ≡ ends g) → ((i : ℕ) → i ≢ n → (node_at nodes i).previous ≡ links i)
     → IsRelinked ends links (λ g. (head_at (heads_linked_before o h to heads) g).last) (λ i. (node_at (nodes_linked_before o to nodes) i).previous) h n o to
-before_relinks None h n to ends links heads nodes lt w e f = record {
-  begin = λ _. ap (λ (x : Head). x.last) (get_or-set_same heads h (record (head_at heads h) { last = to }) (head_at [] 0) lt);
-  other_begin = λ g ne. ap (λ (x : Head). x.last) (get_or-set_other heads h g (record (head_at heads h) { last = to }) (head_at [] 0) (λ q. ne q refl)) ∙ e g;
-  link = λ i q. cc;
-  other_link = λ i ne _. f i ne;
-}
-before_relinks (Some j) h n to ends links heads nodes lt w e f = record {
-  begin = λ q. cc;
-  other_begin = λ g ne. e g;
-  link = λ i q. let same : j ≡ i = cc in subst (λ x. (node_at (set nodes j (record (node_at nodes j) { previous = to })) x).previous ≡ to) same
-      (ap (λ (x : Node). x.previous) (get_or-set_same nodes j (record (node_at nodes j) { previous = to }) (node_at [] 0) (w.below j refl)));
-  other_link = λ i ne q. ap (λ (x : Node). x.previous) (get_or-set_other nodes j i (record (node_at nodes j) { previous = to }) (node_at [] 0) (λ same. q (ap Some (sym same)))) ∙ f i ne;
-}
+before_relinks None h n to ends links heads nodes lt w e f = ends_relinked (λ (x : Head). x.last) (λ (x : Node). x.previous) h n to ends links heads nodes _ lt refl e f
+before_relinks (Some j) h n to ends links heads nodes lt w e f = links_relinked (λ (x : Head). x.last) (λ (x : Node). x.previous) h n j to ends links heads nodes _ (w.below j refl) refl e f
 
 -- the same links, read from other tables
 relinked_same : (ends links e e' l l' : ℕ → Option ℕ) (h n : ℕ) (o to : Option ℕ) → IsRelinked ends links e l h n o to → ((g : ℕ) → e' g ≡ e g) → ((i : ℕ) → l' i ≡ l i)
