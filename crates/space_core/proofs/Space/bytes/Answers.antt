@@ -21,20 +21,8 @@ returns-then-is_empty-clause-value c =
     c.as_slice.ensures.value ∙ (c.self.invariant.1.blank ∙ sym (bank-shown s.unit (lists_of banks) c.args.m there ∙ ap (or_zeros s.unit) (get_or-lists_of banks c.args.m read short c.index.ensures ∙ none)))
     )
 
-pub returns-else-is_empty-clause-value : goal.returns-else-is_empty-clause-value
-returns-else-is_empty-clause-value c =
-    let within = rw (← c.self.view_is) at c.requires in
-    let s = the_view c.self.inside in
-    let facts = c.self.invariant.0 in
-    let banks = c.self.inside.banks.items in
-    let read = c.index.result.now in
-    let short : c.args.m < length banks = omega (arith, facts.paired, length-shown s.unit (lists_of banks), length-lists_of banks) in
-    let some : 0 < length c.as_slice-stored.result.now = grind (arith, nat_tests) in
-    let full : get_or (lists_of banks) c.args.m [] ≢ [] = subst (λ xs. xs ≢ []) (sym (get_or-lists_of banks c.args.m read short c.index.ensures)) (full-from_length read.items (omega (arith, ap length c.as_slice-stored.ensures.value))) in
-    rw (← c.self.view_is) (c.as_slice-stored.ensures.value ∙ sym (shown-read s.unit banks c.args.m read short c.index.ensures full))
-
-pub returns-else-is_empty-clause-len : goal.returns-else-is_empty-clause-len
-returns-else-is_empty-clause-len c =
+pub returns-else-is_empty : goal.returns-else-is_empty
+returns-else-is_empty c =
     let within = rw (← c.self.view_is) at c.requires in
     let s = the_view c.self.inside in
     let facts = c.self.invariant.0 in
@@ -44,4 +32,7 @@ returns-else-is_empty-clause-len c =
     let some : 0 < length c.as_slice-stored.result.now = grind (arith, nat_tests) in
     let full : get_or (lists_of banks) c.args.m [] ≢ [] = subst (λ xs. xs ≢ []) (sym (get_or-lists_of banks c.args.m read short c.index.ensures)) (full-from_length read.items (omega (arith, ap length c.as_slice-stored.ensures.value))) in
     let here = shown-read s.unit banks c.args.m read short c.index.ensures full in
-    rw (← c.self.view_is) (ap length c.as_slice-stored.ensures.value ∙ length-shown_read facts banks refl c.args.m read within here)
+    rw (← c.self.view_is) (record {
+      value = c.as_slice-stored.ensures.value ∙ sym here;
+      len = ap length c.as_slice-stored.ensures.value ∙ length-shown_read facts banks refl c.args.m read within here;
+    })
