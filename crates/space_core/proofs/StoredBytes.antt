@@ -76,6 +76,18 @@ written_out-full unit stored m some lt =
     full-from_length (get_or (set stored m (or_zeros unit (get_or stored m []))) m [])
     (omega (arith, ap length (get_or-set_same stored m (or_zeros unit (get_or stored m [])) [] lt), length-or_zeros unit (get_or stored m []) some))
 
+-- the bytes of superblock m are stored, and each superblock shows the same as before
+pub record IsStored (s : Content) (stored : List (List ℕ)) (m : ℕ) : Type 0 where
+  pub whole : shown_banks s.unit stored ≡ s.banks
+  pub full : get_or stored m [] ≢ []
+
+pub stored_out : {s : Content} → IsSpace s → (before stored : List (List ℕ)) (m : ℕ) → s.banks ≡ shown_banks s.unit before → stored ≡ set before m (or_zeros s.unit (get_or before m [])) → m < length s.owners
+    → IsStored s stored m
+stored_out {s} facts before stored m same written within = record {
+  whole = ap (shown_banks s.unit) written ∙ (shown-written_out s.unit before m ∙ sym same);
+  full = subst (λ (xs : List (List ℕ)). get_or xs m [] ≢ []) (sym written) (written_out-full s.unit before m facts.some (omega (arith, facts.paired, ap length same, length-shown s.unit before)));
+}
+
 -- one byte is written to a superblock that has stored bytes
 pub shown-set_byte : (unit : ℕ) (stored : List (List ℕ)) (m i byte : ℕ) → get_or stored m [] ≢ [] → shown_banks unit (set stored m (set (get_or stored m []) i byte)) ≡ set (shown_banks unit stored) m (set (get_or (shown_banks unit stored) m []) i byte)
 shown-set_byte unit stored m i byte full =

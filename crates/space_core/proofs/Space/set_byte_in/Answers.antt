@@ -1,4 +1,4 @@
-use Rattle.std.proofs.Common.{◌≡◌, ◌≢◌, ℕ, ◌%◌, ◌/◌, ◌<◌, List, Option, Some, None, [], length, get_or, ap, sym, subst, ◌∙◌, arith}
+use Rattle.std.proofs.Common.{◌≡◌, ◌≢◌, ℕ, ◌%◌, ◌/◌, List, Option, Some, None, [], length, get_or, ap, refl, sym, subst, ◌∙◌, arith}
 use Rattle.std.proofs.Math.ListN.{set}
 use Rattle.std.proofs.lemmas.List.{length-set}
 use Rattle.space_core.specs.Content.{Content, IsSpace, owner_at}
@@ -8,8 +8,18 @@ use Rattle.space_core.specs.contracts.Space.{the_view}
 use Rattle.space_core.proofs.TableLemmas.{lists_of, length-lists_of}
 use Rattle.space_core.proofs.Mapping.{superblock-lt}
 use Rattle.space_core.proofs.BankLemmas.{with_banks, with_bank-IsSpace}
-use Rattle.space_core.proofs.StoredBytes.{length-shown, bank-shown_full, shown-set_byte, shown-written_out, written_out-full}
+use Rattle.space_core.proofs.StoredBytes.{length-shown, bank-shown_full, shown-set_byte, IsStored, stored_out}
 use Rattle.space_core.proofs.Space.set_byte_in.Goals as goal
+use Rattle.space_core.proofs.Space.set_byte_in.Goals.{After-write_out}
+
+-- the bytes of the superblock are stored before one is written
+in_store : (c : After-write_out) → IsStored (the_view c.self.inside) (lists_of c.write_out.new.banks.items) c.from-m.result
+in_store c =
+    let s = the_view c.self.inside in
+    let facts = c.self.invariant.0 in
+    let m : ℕ = c.from-m.result in
+    let under = rw (← c.self.view_is) at c.requires ∙ ap Some (sym c.from-m.ensures) in
+    stored_out facts (lists_of c.self.inside.banks.items) (lists_of c.write_out.new.banks.items) m refl c.write_out.ensures.banks (superblock-lt facts c.args.t (c.args.place / s.unit) m under)
 
 pub invariant_of-self : goal.invariant_of-self
 invariant_of-self c =
@@ -17,16 +27,13 @@ invariant_of-self c =
     let facts = c.self.invariant.0 in
     let m : ℕ = c.from-m.result in
     let i : ℕ = c.within-at.result in
-    let before = lists_of c.self.inside.banks.items in
     let stored = lists_of c.write_out.new.banks.items in
     let under = rw (← c.self.view_is) at c.requires ∙ ap Some (sym c.from-m.ensures) in
     let within = superblock-lt facts c.args.t (c.args.place / s.unit) m under in
     let owned = (facts.agree c.args.t (c.args.place / s.unit) m).0 under in
     let has_owner : owner_at s.owners m ≢ None = λ none. cc in
-    let there : m < length before = omega (arith, facts.paired, length-shown s.unit before) in
-    let full = subst (λ (banks : List (List ℕ)). get_or banks m [] ≢ []) (sym c.write_out.ensures.banks) (written_out-full s.unit before m facts.some there) in
-    let whole : shown_banks s.unit stored ≡ s.banks = ap (shown_banks s.unit) c.write_out.ensures.banks ∙ shown-written_out s.unit before m in
-    let written = shown-set_byte s.unit stored m i c.args.byte full ∙ ap (λ (banks : List (List ℕ)). set banks m (set (get_or banks m []) i c.args.byte)) whole in
+    let kept = in_store (goal.at.invariant_of-self c).After-write_out in
+    let written = shown-set_byte s.unit stored m i c.args.byte kept.full ∙ ap (λ (banks : List (List ℕ)). set banks m (set (get_or banks m []) i c.args.byte)) kept.whole in
     let size : length (set (get_or s.banks m []) i c.args.byte) ≡ s.unit = length-set (get_or s.banks m []) i c.args.byte ∙ facts.sized m (omega (arith, facts.paired)) in
     let same = ap (shown_banks s.unit) c.set_byte_at.ensures.bytes ∙ written in (
       subst (λ bs. IsSpace (with_banks s bs)) (sym same) (with_bank-IsSpace facts m has_owner within (set (get_or s.banks m []) i c.args.byte) size),
@@ -39,14 +46,10 @@ returns c =
     let facts = c.self.invariant.0 in
     let m : ℕ = c.from-m.result in
     let i : ℕ = c.within-at.result in
-    let before = lists_of c.self.inside.banks.items in
     let stored = lists_of c.write_out.new.banks.items in
     let under = rw (← c.self.view_is) at c.requires ∙ ap Some (sym c.from-m.ensures) in
-    let within = superblock-lt facts c.args.t (c.args.place / s.unit) m under in
-    let there : m < length before = omega (arith, within, facts.paired, length-shown s.unit before) in
-    let full = subst (λ (banks : List (List ℕ)). get_or banks m [] ≢ []) (sym c.write_out.ensures.banks) (written_out-full s.unit before m facts.some there) in
-    let whole : shown_banks s.unit stored ≡ s.banks = ap (shown_banks s.unit) c.write_out.ensures.banks ∙ shown-written_out s.unit before m in
-    let written = shown-set_byte s.unit stored m i c.args.byte full ∙ ap (λ (banks : List (List ℕ)). set banks m (set (get_or banks m []) i c.args.byte)) whole in
+    let kept = in_store (goal.at.returns c).After-write_out in
+    let written = shown-set_byte s.unit stored m i c.args.byte kept.full ∙ ap (λ (banks : List (List ℕ)). set banks m (set (get_or banks m []) i c.args.byte)) kept.whole in
     let same = ap (shown_banks s.unit) c.set_byte_at.ensures.bytes ∙ written in
     let place = c.within-at.ensures ∙ ap (λ (x : Content). c.args.place % x.unit) (sym c.self.view_is) in
     rw (← c.self.view_is) (ap (with_banks s) same ∙ ap (λ (o : Option ℕ). with_banks s (banks_with_byte s.banks i c.args.byte o)) (sym under) ∙ ap (λ n. with_banks s (banks_with_byte s.banks n c.args.byte (get_or (get_or s.slots c.args.t []) (c.args.place / s.unit) None))) place)
@@ -56,14 +59,11 @@ set_byte_at-requires-clause-byte c =
     let s = the_view c.self.inside in
     let facts = c.self.invariant.0 in
     let m : ℕ = c.from-m.result in
-    let before = lists_of c.self.inside.banks.items in
     let stored = lists_of c.write_out.new.banks.items in
     let under = rw (← c.self.view_is) at c.requires ∙ ap Some (sym c.from-m.ensures) in
     let within = superblock-lt facts c.args.t (c.args.place / s.unit) m under in
-    let there : m < length before = omega (arith, within, facts.paired, length-shown s.unit before) in
-    let full = subst (λ (banks : List (List ℕ)). get_or banks m [] ≢ []) (sym c.write_out.ensures.banks) (written_out-full s.unit before m facts.some there) in
-    let whole : shown_banks s.unit stored ≡ s.banks = ap (shown_banks s.unit) c.write_out.ensures.banks ∙ shown-written_out s.unit before m in
-    let size : length (get_or stored m []) ≡ s.unit = ap length (sym (bank-shown_full s.unit stored m full) ∙ ap (λ (banks : List (List ℕ)). get_or banks m []) whole) ∙ facts.sized m (omega (arith, within, facts.paired)) in
+    let kept = in_store (goal.at.set_byte_at-requires-clause-byte c).After-write_out in
+    let size : length (get_or stored m []) ≡ s.unit = ap length (sym (bank-shown_full s.unit stored m kept.full) ∙ ap (λ (banks : List (List ℕ)). get_or banks m []) kept.whole) ∙ facts.sized m (omega (arith, within, facts.paired)) in
     let place = c.within-at.ensures ∙ ap (λ (x : Content). c.args.place % x.unit) (sym c.self.view_is) in
     omega (arith, size, place, facts.some)
 
@@ -79,8 +79,7 @@ pub set_byte_at-requires-clause-bank : goal.set_byte_at-requires-clause-bank
 set_byte_at-requires-clause-bank c =
     let s = the_view c.self.inside in
     let facts = c.self.invariant.0 in
-    let before = c.self.inside.banks in
     let after = c.write_out.new.banks in
     let below = superblock-lt facts c.args.t (c.args.place / s.unit) c.args.m (rw (← c.self.view_is) at c.requires) in
-    let stored = ap length (ap (shown_banks s.unit) c.write_out.ensures.banks ∙ shown-written_out s.unit (lists_of before.items) c.from-m.result) in
+    let stored = ap length (in_store (goal.at.set_byte_at-requires-clause-bank c).After-write_out).whole in
     omega (arith, below, c.from-m.ensures, facts.paired, stored, length-shown s.unit (lists_of after.items), length-lists_of after.items, after.ok.0)
