@@ -91,8 +91,11 @@ at_depth ok top j d k q n e a b s l =
 below_top : (top d : ℕ) → d < top → top - d ≡ suc (top - suc d)
 below_top top d h = omega arith
 
-pub reached_low : (top j d n m e : ℕ) (words : List ℕ) → d + j < top → e ≡ d + 1 → m ≡ n * 2 → bit_at (slice_index words (m - 1)) j ≡ 1 → Reached top j d n words → Reached top j e m words
-reached_low top j d n m e words h a s bit r =
+-- a step down to node m + x, the lower or the upper half, if that half leads on
+stepped_down : (top j d n m e x : ℕ) (words : List ℕ) → x < 2 → d + j < top → e ≡ d + 1 → m ≡ n * 2
+    → ((ok : ℕ → Bool) (k q : ℕ) → j ≤ k → k < top → Leads ok top j (suc k) q → slice_index words (m - 1) ≡ orders ok k (2 * q) → Leads ok top j k (2 * q + x))
+    → Reached top j d n words → Reached top j e (m + x) words
+stepped_down top j d n m e x words half h a s on r =
     let k = top - suc d in
     let q = n - 2 ^ d in
     let least = r.least in
@@ -105,26 +108,17 @@ reached_low top j d n m e words h a s bit r =
           let l = subst (λ i. Leads ok top j i q) (below_top top d (omega arith)) (r.leads ok shows root) in
           let same : slice_index words (m - 1) ≡ orders ok k (2 * q) =
           ap (λ i. get_or words (i - 1) 0) (let t : m ≡ 2 * n = omega arith in t) ∙ low_word ok top j k q d words shows (omega arith) (omega arith) (omega arith) l n (omega arith) in
-          at_depth ok top j d k (2 * q) m e a refl (omega (arith, pow-suc 2 d)) (leads_low ok top j k q (omega arith) l (subst (λ i. bit_at i j ≡ 1) same bit));
+          at_depth ok top j d k (2 * q + x) (m + x) e a refl (omega (arith, pow-suc 2 d)) (on ok k q (omega arith) (omega arith) l same);
     }
+
+pub reached_low : (top j d n m e : ℕ) (words : List ℕ) → d + j < top → e ≡ d + 1 → m ≡ n * 2 → bit_at (slice_index words (m - 1)) j ≡ 1 → Reached top j d n words → Reached top j e m words
+reached_low top j d n m e words h a s bit r =
+    subst (λ i. Reached top j e i words) (let low : m + 0 ≡ m = omega arith in low) (stepped_down top j d n m e 0 words (omega arith) h a s
+    (λ ok k q le lt l same. subst (λ i. Leads ok top j k i) (let low : 2 * q ≡ 2 * q + 0 = omega arith in low) (leads_low ok top j k q le l (subst (λ i. bit_at i j ≡ 1) same bit))) r)
 
 pub reached_high : (top j d n m e : ℕ) (words : List ℕ) → d + j < top → e ≡ d + 1 → m ≡ n * 2 → (bit_at (slice_index words (m - 1)) j ≡ 1 → ⊥) → Reached top j d n words → Reached top j e (m + 1) words
 reached_high top j d n m e words h a s off r =
-    let k = top - suc d in
-    let q = n - 2 ^ d in
-    let least = r.least in
-    let depth = r.depth in
-    let wide : 2 ^ e ≡ 2 ^ d * 2 = ap (λ i. 2 ^ i) (let e1 : e ≡ suc d = omega arith in e1) ∙ pow-suc 2 d in
-    record {
-      least = omega arith;
-      depth = omega arith;
-      leads = λ ok shows root.
-          let l = subst (λ i. Leads ok top j i q) (below_top top d (omega arith)) (r.leads ok shows root) in
-          let same : slice_index words (m - 1) ≡ orders ok k (2 * q) =
-          ap (λ i. get_or words (i - 1) 0) (let t : m ≡ 2 * n = omega arith in t) ∙ low_word ok top j k q d words shows (omega arith) (omega arith) (omega arith) l n (omega arith) in
-          at_depth ok top j d k (2 * q + 1) (m + 1) e a refl (omega (arith, pow-suc 2 d))
-          (leads_high ok top j k q (omega arith) (omega arith) l (λ b. off (subst (λ i. bit_at i j ≡ 1) (sym same) b)));
-    }
+    stepped_down top j d n m e 1 words (omega arith) h a s (λ ok k q le lt l same. leads_high ok top j k q le lt l (λ b. off (subst (λ i. bit_at i j ≡ 1) (sym same) b))) r
 
 -- a node on the way has a stored lower half
 pub reached_stored : (top j d n : ℕ) (words : List ℕ) → length words + 1 ≡ 2 ^ (top + 1) → d < top → Reached top j d n words → 2 * n + 1 ≤ length words
