@@ -1,4 +1,4 @@
-ghost use Rattle.std.specs.Prelude.{◌≡◌, ◌≤◌, ◌-◌, nat_le, true, false, [], ◌++◌, length, take, drop, ◌==◌};
+ghost use Rattle.std.specs.Prelude.{◌≡◌, ◌≤◌, ◌+◌, ◌-◌, nat_le, true, false, [], ◌++◌, length, take, drop, ◌==◌, vec_capacity};
 
 use crate::drain::{TEXT_BYTES, Text};
 use std::marker::Model;
@@ -25,7 +25,8 @@ impl Model for Held {
 impl Held {
     /// Makes an empty `Held` with the capacity of `buffer`. Allocates nothing.
     pub fn new(buffer: Vec<u8>) -> Self
-        ensures { result.bytes ≡ [] }
+        ensures bytes { result.bytes ≡ [] }
+        ensures free { result.free ≡ vec_capacity buffer }
     {
         let mut bytes = buffer;
         bytes.resize(bytes.capacity(), 0).unwrap();
@@ -35,7 +36,9 @@ impl Held {
     /// Appends bytes if they fit. Returns true if they did.
     #[inline(always)]
     pub fn append(&mut self, more: &[u8]) -> bool
+        ensures fits { result ≡ nat_le (length more.now) self.old.free }
         ensures appended { result ≡ true → self.new.bytes ≡ self.old.bytes ++ more.now }
+        ensures free { result ≡ true → self.new.free ≡ self.old.free - length more.now }
         ensures refused { result ≡ false → self.new ≡ self.old }
     {
         if more.len() > self.bytes.len() - self.len {
@@ -60,6 +63,7 @@ impl Held {
     pub fn append_text<T: Text>(&mut self, text: T) -> usize
         requires { TEXT_BYTES ≤ self.old.free }
         ensures appended { self.new.bytes ≡ self.old.bytes ++ T.bytes text }
+        ensures free { self.new.free ≡ self.old.free - result }
         ensures len { result ≡ length (T.bytes text) }
         ensures short { result ≤ TEXT_BYTES }
     {
@@ -93,7 +97,8 @@ impl Held {
     /// Removes the first `count` bytes and moves the others to the front.
     pub fn remove_front(&mut self, count: usize)
         requires { count ≤ length self.old.bytes }
-        ensures { self.new.bytes ≡ drop count self.old.bytes }
+        ensures bytes { self.new.bytes ≡ drop count self.old.bytes }
+        ensures free { self.new.free ≡ self.old.free + count }
     {
         self.bytes.as_mut_slice().copy_within(count..self.len, 0);
         self.len -= count;

@@ -1,6 +1,8 @@
 //! A limit on the lines of a trace.
 
-ghost use Rattle.std.specs.Prelude.{◌≡◌, false, ◌==◌, count_by, length};
+ghost use Rattle.std.specs.Prelude.{◌≡◌, ◌+◌, ◌-◌, ◌<◌, ◌≤◌, true, false, ◌==◌, count_by, length, take, IfOk, OnErr, is_err};
+ghost use Rattle.std.specs.Io.KnownBytes.{ReadConsumes};
+ghost use Rattle.streams.specs.Moves.{moved_count};
 
 use crate::feed::{Feed, Stopped};
 use std::simd::prelude::*;
@@ -9,9 +11,8 @@ use std::simd::prelude::*;
 #[derive(Debug, Drop)]
 pub struct LineLimit<F: Feed> {
     feed: F,
-    limit: u64,
-    /// The number of line feeds that it has given.
-    lines: u64,
+    /// The number of line feeds until the limit: 0 beyond it too.
+    left: u64,
     failed: bool,
     ghost fine: { failed ≡ false → F.has_failed feed ≡ false },
 }
@@ -21,12 +22,14 @@ impl<F: Feed> LineLimit<F> {
     pub fn new(feed: F, limit: u64) -> Self
         requires { F.has_failed feed ≡ false }
         ensures remaining { ⟦<LineLimit<F> as Feed>⟧.remaining result ≡ F.remaining feed }
+        ensures room { ⟦<LineLimit<F> as Feed>⟧.room_left result ≡ F.room_left feed }
+        ensures ended { ⟦<LineLimit<F> as Feed>⟧.has_ended result ≡ F.has_ended feed }
         ensures fine { ⟦<LineLimit<F> as Feed>⟧.has_failed result ≡ false }
+        ensures left { result.left ≡ limit }
     {
         LineLimit {
             feed,
-            limit,
-            lines: 0,
+            left: limit,
             failed: false,
         }
     }
@@ -41,8 +44,23 @@ impl<F: Feed> Feed for LineLimit<F> {
 
     ghost has_failed = { λ s. s.failed };
 
-    fn pull(&mut self, into: &mut [u8]) -> Result<usize, Stopped> {
-        if self.lines >= self.limit && !self.feed.ended() {
+    fn pull(&mut self, into: &mut [u8]) -> Result<usize, Stopped>
+        requires space { 0 < length into.old }
+        requires fine { ⟦<LineLimit<F> as Feed>⟧.has_failed self.old ≡ false }
+        ensures count { moved_count result ≤ length into.new }
+        ensures room { ⟦<LineLimit<F> as Feed>⟧.room_left self.new + moved_count result ≡ ⟦<LineLimit<F> as Feed>⟧.room_left self.old }
+        ensures bytes { ReadConsumes (⟦<LineLimit<F> as Feed>⟧.remaining self.old) (⟦<LineLimit<F> as Feed>⟧.remaining self.new) result into.new }
+        ensures ended { IfOk result (λ n. ⟦<LineLimit<F> as Feed>⟧.has_ended self.new ≡ (n == 0)) }
+        ensures stays { ⟦<LineLimit<F> as Feed>⟧.has_ended self.old ≡ true → result ≡ Ok 0 }
+        ensures not_yet { OnErr result (⟦<LineLimit<F> as Feed>⟧.has_ended self.new ≡ ⟦<LineLimit<F> as Feed>⟧.has_ended self.old) }
+        ensures failed { ⟦<LineLimit<F> as Feed>⟧.has_failed self.new ≡ is_err result }
+        // What is given is counted.
+        ensures left { self.new.left ≡ self.old.left - count_by (λ b. b == 10) (take (moved_count result) into.new) }
+        // At the limit it fails unless the feed has ended. Below it fails only if the feed does.
+        ensures at_limit { self.old.left ≡ 0 → ⟦<LineLimit<F> as Feed>⟧.has_ended self.old ≡ false → is_err result ≡ true }
+        ensures below { 0 < self.old.left → F.has_failed self.new.feed ≡ is_err result }
+    {
+        if self.left == 0 && !self.feed.ended() {
             self.failed = true;
             return Err(Stopped);
         }
@@ -50,7 +68,8 @@ impl<F: Feed> Feed for LineLimit<F> {
             self.failed = true;
             return Err(Stopped);
         };
-        self.lines = self.lines.saturating_add(line_feeds(&into[..count]) as u64);
+        let given = line_feeds(&into[..count]) as u64;
+        self.left = self.left.saturating_sub(given);
         Ok(count)
     }
 

@@ -1,4 +1,4 @@
-ghost use Rattle.std.specs.Prelude.{◌≡◌, ℕ, ◌<◌, ◌≤◌, true, false, not, ◌&&◌, [], length, take, OnOk, IfOk, is_err, vec_len};
+ghost use Rattle.std.specs.Prelude.{◌≡◌, ℕ, ◌<◌, ◌≤◌, true, false, not, ◌&&◌, [], length, take, OnOk, IfOk, is_err, vec_capacity, vec_len};
 ghost use Rattle.std.specs.Io.KnownBytes.{Appends, Keeps, WriteAppends, append_known};
 ghost use Rattle.streams.specs.Held.{held_bytes, has_space};
 
@@ -32,6 +32,7 @@ impl<W: Write> WriterDrain<W> {
         ensures empty { ⟦<WriterDrain<W> as Drain>⟧.held_back result ≡ [] }
         ensures fine { ⟦<WriterDrain<W> as Drain>⟧.has_failed result ≡ false }
         ensures sends { ⟦<WriterDrain<W> as Drain>⟧.has_failed_to_send result ≡ false }
+        ensures unbuffered { result.held ≡ None }
     {
         WriterDrain {
             writer,
@@ -49,6 +50,7 @@ impl<W: Write> WriterDrain<W> {
         ensures empty { ⟦<WriterDrain<W> as Drain>⟧.held_back result ≡ [] }
         ensures fine { ⟦<WriterDrain<W> as Drain>⟧.has_failed result ≡ false }
         ensures sends { ⟦<WriterDrain<W> as Drain>⟧.has_failed_to_send result ≡ false }
+        ensures buffered { result.held ≡ Some (record { bytes = []; free = vec_capacity buffer }) }
     {
         WriterDrain {
             writer,

@@ -6,8 +6,8 @@ use Rattle.std.proofs.lemmas.Slice.{between_is}
 use Rattle.streams.specs.Held.{HeldBytes}
 use Rattle.streams.proofs.held.Held.remove_front.Goals as goal
 
-pub returns : goal.returns
-returns c =
+pub returns-clause-bytes : goal.returns-clause-bytes
+returns-clause-bytes c =
     let buffer = c.as_mut_slice.result.now in
     let len = c.self.inside.len in
     let left = len - c.args.count in
