@@ -1,6 +1,6 @@
 //! The kinds of slabs.
 
-ghost use Rattle.std.specs.Prelude.{◌≡◌};
+ghost use Rattle.std.specs.Prelude.{◌≡◌, true};
 
 /// The kinds of slabs. Each cache has one list for each kind.
 #[derive(Clone, Copy, Debug, PartialEq, Eq)]
@@ -37,6 +37,33 @@ impl Kind {
             Kind::Full => 0,
             Kind::Partial => 1,
             Kind::Empty => 2,
+        }
+    }
+}
+
+/// The number of objects of a slab, and how many of them are live before and after a change.
+#[derive(Clone, Copy)]
+pub(crate) struct Counts {
+    pub(crate) total: u32,
+    pub(crate) before: u32,
+    pub(crate) after: u32,
+}
+
+impl Counts {
+    ghost use Rattle.slab_tables.specs.Content.{kind_of};
+
+    /// Returns true if the slab is partial before and after the change.
+    ///
+    /// A take adds 1 and a give subtracts 1, so the compiler knows which count is the lesser, and compares only what is left.
+    #[inline(always)]
+    pub(crate) fn stay_partial(self) -> bool
+        ensures before { result ≡ true → kind_of self.total self.before ≡ 1 }
+        ensures after { result ≡ true → kind_of self.total self.after ≡ 1 }
+    {
+        if self.before < self.after {
+            0 < self.before && self.after < self.total
+        } else {
+            0 < self.after && self.before < self.total
         }
     }
 }

@@ -3,10 +3,12 @@
 ghost use Rattle.std.specs.Prelude.{◌≡◌, ◌≢◌, ℕ, ◌+◌, ◌*◌, ◌^◌, ◌<◌, ◌≤◌, true, Some, None, length, replicate, IsSome, IfSome, IfOk, MatchOption};
 ghost use Rattle.model_core.specs.declared.limits.TheConstants.{MOST_ORDER, MOST_SUPERBLOCKS, MOST_TENANTS, MOST_CACHES};
 ghost use Rattle.klist_core.specs.Places.{IsByKey, IsPlacedByKey, IsEmpty, place_at, is_in, inserted, removed, replaced};
-ghost use Rattle.slab_tables.specs.Content.{index_of_cache};
+ghost use Rattle.slab_tables.specs.Content.{index_of_cache, head_of, kind_of};
 ghost use Rattle.slab_tables.specs.Changes.{IsEmptied};
 
 use crate::groups::Groups;
+use crate::kind::{Counts, Kind};
+use crate::list::ListId;
 use klist_core::{Lists, is_loose};
 use model_core::limits::MOST_CACHES;
 use std::alloc::{AllocError, Global};
@@ -179,20 +181,35 @@ impl SlabLists {
         }
     }
 
-    /// Moves the slab from the list `from` to the list `to` under the same key. Does nothing if the lists are the same.
+    /// Moves the slab of cache `c` of tenant `t` from the list of its kind before to the list of its kind after, under the same
+    /// key.
+    ///
+    /// Most slabs stay partial, and then nothing is done. The counts alone show it, so no list is computed for them.
     ///
     /// `slab` is its order. Only the cost depends on it.
     #[inline(always)]
-    pub(crate) fn relist(&mut self, from: u32, to: u32, machine_frame: u32, key: u32, slab: u8)
-        requires to { to < self.old.heads }
+    pub(crate) fn relist(
+        &mut self,
+        t: u8,
+        c: u32,
+        counts: Counts,
+        machine_frame: u32,
+        key: u32,
+        slab: u8,
+    )
+        requires cache { c < MOST_CACHES }
+        requires to { head_of t c (kind_of counts.total counts.after) < self.old.heads }
         requires slab { slab ≤ 3 }
-        requires placed { place_at self.old.places machine_frame ≡ Some (from, key) }
-        requires alone { (i : ℕ) → place_at self.old.places i ≡ Some (to, key) → i ≡ machine_frame }
-        ensures { self.new ≡ inserted self.old to machine_frame key }
+        requires placed { place_at self.old.places machine_frame ≡ Some (head_of t c (kind_of counts.total counts.before), key) }
+        requires alone { (i : ℕ) → place_at self.old.places i ≡ Some (head_of t c (kind_of counts.total counts.after), key)
+            → i ≡ machine_frame }
+        ensures { self.new ≡ inserted self.old (head_of t c (kind_of counts.total counts.after)) machine_frame key }
     {
-        if from != to {
-            self.move_to(to, machine_frame, key, slab);
+        if counts.stay_partial() {
+            return;
         }
+        let to = ListId::of(t, c, Kind::of(counts.total, counts.after));
+        self.move_to(to.number, machine_frame, key, slab);
     }
 
     /// Moves the slab from its list to the list `head` under the same key.

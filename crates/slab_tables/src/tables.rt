@@ -8,7 +8,7 @@ ghost use Rattle.slab_tables.specs.Content.{IsSlabs, IsTenant, IsPlacedIn, empty
 ghost use Rattle.slab_tables.specs.Changes.{with_new_slab, with_count, with_outside, without_slab, with_cache, new_cache, IsLeastNumber, IsAllUsed, IsCleared, IsReset, IsMoved, with_slab_moved};
 
 use crate::cache::{Cache, Kept};
-use crate::kind::Kind;
+use crate::kind::{Counts, Kind};
 use crate::list::ListId;
 use crate::places::{SlabLists, index_of, machine_frame_at};
 use klist_core::Lists;
@@ -264,11 +264,13 @@ impl Tables {
         cache.layout.laws();
         let total = cache.layout.count();
         let before = u32::from(self.kept[machine_frame as usize].live);
-        let from = ListId::of(t, c, Kind::of(total, before));
-        let to = ListId::of(t, c, Kind::of(total, count));
+        let counts = Counts {
+            total,
+            before,
+            after: count,
+        };
         let slab = cache.layout.order();
-        self.lists
-            .relist(from.number, to.number, machine_frame, first, slab);
+        self.lists.relist(t, c, counts, machine_frame, first, slab);
         let kept = &mut self.kept[machine_frame as usize];
         kept.live = count as u16;
         let i = index_of(t, c);
