@@ -37,12 +37,14 @@ impl ListId {
     }
 
     /// Returns true if it is one of the lists of cache `c` of tenant `t`.
+    ///
+    /// One subtraction shows that it is none of the lists before them or after them.
     #[inline(always)]
     pub fn is_of(self, t: u8, c: u32) -> bool
         requires { c < MOST_CACHES }
         ensures { result ≡ (self.number / 3 == index_of_cache t c) }
     {
-        self.number / 3 == index_of(t, c) as u32
+        self.number.wrapping_sub(3 * index_of(t, c) as u32) < 3
     }
 
     /// Returns the kind of its slabs.
