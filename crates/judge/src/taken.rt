@@ -31,7 +31,7 @@ fn count_pages(pages: &[FrameBlock], k: u8) -> usize
 }
 
 /// Returns the number of slabs of `2^k` frames in the rows.
-#[tactic(auto, using(crate::proofs::Sums::one_more_pair))]
+#[tactic(auto, using(crate::proofs::RowSums::one_more_pair))]
 fn count_slabs(caches: &[HeldCache], rows: &[CacheRow], k: u8) -> u64
     requires { length rows.now ≤ CACHES }
     ensures { result ≡ sum_by (λ p. if p.0.order == k then p.1.full + p.1.partial + p.1.empty else 0) (zip caches.now rows.now) }
@@ -63,7 +63,7 @@ pub(crate) fn empty_frames(held: &Held, report: &Report, only: Option<u32>) -> u
     sum_empty(held.caches(), report.caches.as_slice(), only)
 }
 
-#[tactic(auto, using(crate::proofs::Sums::one_more_pair))]
+#[tactic(auto, using(crate::proofs::RowSums::one_more_pair))]
 fn sum_empty(caches: &[HeldCache], rows: &[CacheRow], only: Option<u32>) -> u64
     requires { length rows.now ≤ CACHES }
     ensures { result ≡ sum_by

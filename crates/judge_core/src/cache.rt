@@ -233,7 +233,7 @@ impl HeldCache {
     }
 
     /// Returns whether a slab with its first object at `origin` can have these live objects.
-    #[tactic(auto, using(crate::proofs::Lists::inside_slab))]
+    #[tactic(auto, using(crate::proofs::ComputedTests::inside_slab))]
     fn is_grid(&self, place: u32, origin: u32, beside: &[u32]) -> bool
         ensures { result ≡ is_grid self.now (slab_around self.now place) origin beside.now }
     {

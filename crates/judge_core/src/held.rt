@@ -97,7 +97,7 @@ impl Held {
     }
 
     /// Returns the order of the live page block that begins at the frame, if one does.
-    #[tactic(auto, using(crate::proofs::Lists::order_found))]
+    #[tactic(auto, using(crate::proofs::ComputedTests::order_found))]
     pub fn order_at(&self, frame: u32) -> Option<u8>
         ensures { result ≡ order_in self.now.pages frame }
     {
@@ -131,7 +131,7 @@ impl Held {
     }
 
     /// Returns whether no frame of the block is taken.
-    #[tactic(auto, using(crate::proofs::Lists::vacant_is))]
+    #[tactic(auto, using(crate::proofs::ComputedTests::vacant_is))]
     pub fn is_vacant(&self, block: &FrameBlock) -> bool
         ensures { result ≡ is_vacant self.now block.now }
     {
