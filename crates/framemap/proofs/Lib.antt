@@ -1,2 +1,3 @@
 pub mod WatchingLemmas
 pub mod TableLemmas
+pub mod DrawnTenants

@@ -1,9 +1,11 @@
 //! Runs a trace on a new machine, and writes its picture or its figures.
 
-ghost use Rattle.std.specs.Prelude.{◌≡◌, ℕ, List, Some, false, length, OnOk};
+ghost use Rattle.std.specs.Prelude.{◌≡◌, ◌⊎◌, ℕ, List, Some, false, length, OnOk};
 ghost use Rattle.command_line.specs.declared.outcome.Outcome.TheVariants as Outcome;
 ghost use Rattle.words_core.specs.Cutting.{lines_of_trace};
 ghost use Rattle.world_core.specs.Output.{events_of};
+ghost use Rattle.picture_svg.specs.Texts.{AppendsText, WritesText};
+ghost use Rattle.framemap.specs.Drawing.{IsDrawing, IsDrawnText};
 ghost use Rattle.framemap.specs.Watching.{HasWatched};
 
 use crate::figures::write_figures;
@@ -54,8 +56,11 @@ pub fn run<F: Feed + Drop, W: Write>(
     writer: &mut W,
 ) -> Drawn
     requires { F.has_failed feed ≡ false }
-    ensures { (trace : List ℕ) → F.remaining feed ≡ Some trace → result.outcome ≡ Outcome.Done
+    ensures events { (trace : List ℕ) → F.remaining feed ≡ Some trace → result.outcome ≡ Outcome.Done
         → result.events ≡ length (events_of (lines_of_trace trace)) }
+    ensures drawn { result.outcome ≡ Outcome.Done
+        → AppendsText (W.contents writer.old) (W.contents writer.new) (IsDrawing settings.now (F.remaining feed)) }
+    ensures nothing { (result.outcome ≡ Outcome.Unreadable) ⊎ (result.outcome ≡ Outcome.NoMemory) → writer.new ≡ writer.old }
 {
     let Ok(mut kernel) = Kernel::boot(alloc, settings.machine.config) else {
         return Drawn::at_once(Outcome::NoMemory);
@@ -87,7 +92,9 @@ fn write<W: Write>(
     history: &History,
     picture: &mut Picture,
     writer: &mut W,
-) -> io::Result<()> {
+) -> io::Result<()>
+    ensures { WritesText result (W.contents writer.old) (W.contents writer.new) (IsDrawnText settings.now history.now picture.old) }
+{
     if settings.figures {
         let (first, end) = match settings.machine.only {
             Some(t) => (t, t.saturating_add(1)),

@@ -1,0 +1,17 @@
+-- The tenants that are drawn.
+use Rattle.std.proofs.Common.{◌≡◌, ℕ, ◌+◌, ◌<◌, ◌≤◌, min, Option, Some, None, IfSome, IfNone, refl, arith}
+use Rattle.std.specs.Option.{ForSome}
+use Rattle.kernel_core.specs.Content.{opening_content}
+use Rattle.framemap.specs.Drawing.{end_drawn, first_drawn}
+
+-- the requested tenant, or all
+pub drawn_is : (only : Option ℕ) (first end tenants : ℕ) → IfSome only (λ t. (first ≡ t) × (end ≡ min (t + 1) 255))
+    → IfNone only ((first ≡ 0) × (end ≡ tenants)) → ForSome only (λ t. t < tenants) → tenants ≤ 64
+    → (first ≡ first_drawn only) × (end ≡ end_drawn tenants only)
+drawn_is None first end tenants one all below few = all
+drawn_is (Some t) first end tenants one all below few =
+    let within : t < tenants = below t refl in (one.0, omega (arith, one.1))
+
+pub opening_tenants : (order superblocks tenants : ℕ) → (opening_content order superblocks tenants).tenants ≡ tenants
+unfolding opening_content
+opening_tenants order superblocks tenants = refl

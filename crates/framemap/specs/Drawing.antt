@@ -1,0 +1,41 @@
+-- What is written of a run: the picture of a history, or the table of its figures.
+use Rattle.std.specs.Prelude.{◌≡◌, ℕ, ◌+◌, ◌^◌, ◌<◌, List, Option, Some, None, MatchBool, length}
+use Rattle.words_core.specs.Cutting.{lines_of_trace}
+use Rattle.frame_picture.specs.declared.history.History.{History}
+use Rattle.frame_picture.specs.Histories.{line_count, tenants_of}
+use Rattle.picture_svg.specs.declared.picture.Picture.{Picture}
+use Rattle.picture_svg.specs.Pictures.{IsPictureOf, end_of_tenants, first_tenant, label_gap_of, most_columns_in}
+use Rattle.framemap.specs.declared.run.TheConstants.{LABEL_GAP}
+use Rattle.framemap.specs.declared.settings.Settings.{Settings}
+use Rattle.framemap.specs.Tables.{table_text}
+
+-- the tenants that are drawn, the requested one or all: the first, and the number above the last one's
+abbrev pub first_drawn : Option ℕ → ℕ
+first_drawn None = 0
+first_drawn (Some t) = t
+
+abbrev pub end_drawn : ℕ → Option ℕ → ℕ
+end_drawn tenants None = tenants
+end_drawn tenants (Some t) = t + 1
+
+-- the picture is one of the requested tenants, with the requested number of columns
+pub record IsRequestedPicture (settings : Settings) (picture : Picture) : Type 0 where
+  pub first : first_tenant picture ≡ first_drawn settings.machine.only
+  pub end : end_of_tenants picture ≡ end_drawn settings.machine.config.tenants settings.machine.only
+  pub columns : most_columns_in picture ≡ settings.columns
+  pub gap : label_gap_of picture ≡ LABEL_GAP
+
+-- with `--figures` the text is the table of this history, and otherwise its picture; the name in its title is open
+abbrev pub IsDrawnText : Settings → History → Picture → List ℕ → Type 0
+IsDrawnText settings history picture text = MatchBool settings.figures
+    (text ≡ table_text history (first_drawn settings.machine.only) (end_drawn (tenants_of history) settings.machine.only))
+    ((name : Option (List ℕ)) × IsPictureOf picture history name text)
+
+-- the text shows a history of all lines of a trace, if its bytes are known
+pub record IsDrawing (settings : Settings) (known : Option (List ℕ)) (text : List ℕ) : Type 0 where
+  pub history : History
+  pub picture : Picture
+  pub lines : (trace : List ℕ) → known ≡ Some trace → length (lines_of_trace trace) < 2 ^ 32
+      → line_count history ≡ length (lines_of_trace trace)
+  pub requested : IsRequestedPicture settings picture
+  pub drawn : IsDrawnText settings history picture text
