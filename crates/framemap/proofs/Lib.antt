@@ -1,3 +1,4 @@
 pub mod WatchingLemmas
 pub mod TableLemmas
 pub mod DrawnTenants
+pub mod SettingsRead

@@ -1,5 +1,10 @@
 //! The command line.
 
+ghost use Rattle.std.specs.Prelude.{◌≡◌, IfErr, IfOk, map};
+ghost use Rattle.clap.specs.Words.{app_of};
+ghost use Rattle.framemap.specs.Settings.{IsMapInOrder, IsMapRefusedFor, IsMapRequestedBy, map_command_line};
+ghost use Rattle.framemap.specs.declared.settings.Settings.{Settings};
+
 use clap::{Arg, ArgAction, Command};
 use command_line::{MachineOptions, Outcome, Program, number, parse, path_of, positional};
 use frame_picture::history::MOST_COLUMNS;
@@ -50,7 +55,14 @@ pub struct Settings {
 }
 
 /// Reads the words of a command line, without the program's name.
-pub fn read_words<'a>(alloc: Global, words: &'a [&'a str]) -> Result<Settings, Outcome> {
+pub fn read_words<'a>(alloc: Global, words: &'a [&'a str]) -> Result<Settings, Outcome>
+    // Clap's model says which word belongs to which name.
+    ensures asked { IfOk result (IsMapRequestedBy (map (λ word. word.now) words.entry.now)) }
+    ensures refused { IfErr result (IsMapRefusedFor (map (λ word. word.now) words.entry.now)) }
+    // Words that request settings are refused only if memory runs out.
+    ensures given { IfErr result (λ outcome. IsMapInOrder (map (λ word. word.now) words.entry.now)
+        → (settings : Settings) → IsMapRequestedBy (map (λ word. word.now) words.entry.now) settings → outcome ≡ Outcome.NoMemory) }
+{
     let matches = parse(alloc, command(alloc)?, words)?;
     let columns = matches.get_one::<u32>("columns").unwrap_or(DEFAULT_COLUMNS);
     Ok(Settings {
@@ -62,7 +74,9 @@ pub fn read_words<'a>(alloc: Global, words: &'a [&'a str]) -> Result<Settings, O
 }
 
 /// Returns the program's command line: its arguments, with their ranges.
-fn command<'a>(alloc: Global) -> Result<Command<'a>, AllocError> {
+fn command<'a>(alloc: Global) -> Result<Command<'a>, AllocError>
+    ensures { IfOk result (λ command. app_of command ≡ map_command_line) }
+{
     command_line::command(alloc, PROGRAM, ONLY)?
         .arg(
             number(alloc, "columns", "C", 1, MOST_COLUMNS)
