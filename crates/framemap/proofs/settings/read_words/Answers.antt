@@ -1,4 +1,4 @@
-use Rattle.std.proofs.Common.{◌≡◌, List, Result, Ok, Err, IfErr, IsErrAnd, ap, inl, inr, max, min, subst, sym, map, rules, codes}
+use Rattle.std.proofs.Common.{◌≡◌, ◌∙◌, List, Result, Ok, Err, IfErr, IsErrAnd, ap, inl, inr, max, min, subst, sym, map, rules, codes}
 use Rattle.clap.specs.Words.{Text, found_of, matches_of, one_text}
 use Rattle.frame_picture.specs.declared.history.TheConstants.{MOST_COLUMNS}
 use Rattle.command_line.specs.Settings.{IsFlag}
