@@ -6,9 +6,11 @@ ghost use Rattle.machine_changes.specs.Changes.{Found};
 ghost use Rattle.machine_changes.specs.Objects.{IsLiveObject};
 ghost use Rattle.slab_core.specs.Taking.{IsTakenObject};
 ghost use Rattle.words_core.specs.Requests.{body_of_answer, HasFewBytes, has_bytes};
+ghost use Rattle.words_core.specs.declared.event.Event.TheVariants as On;
 ghost use Rattle.words_core.specs.declared.event.Command.TheVariants as Command;
 ghost use Rattle.words_core.specs.declared.reply.Body.TheVariants.{Destroyed, Object, Given, Reaped};
-ghost use Rattle.kernel_core.specs.Steps.{StepsMachine, body_of};
+ghost use Rattle.kernel_core.specs.Steps.{Steps, StepsMachine, body_of};
+ghost use Rattle.kernel_core.specs.Lending.{reply_for};
 
 use crate::Kernel;
 use layout_core::{Layout, LayoutRefusal, Pattern};
@@ -89,6 +91,8 @@ impl Kernel {
     }
 
     /// Gives an object back to its cache.
+    // Always inlined, so that a give of an object is one call, and its result is kept in registers.
+    #[inline(always)]
     pub(crate) fn give(&mut self, t: u8, cache: u32, place: u32) -> Result<(), Refusal>
         requires { t < self.old.tenants }
         ensures { StepsMachine self.old t (Command.Give cache place) self.new (body_of (λ done. Given) result) }
@@ -97,6 +101,23 @@ impl Kernel {
             self.slabs
                 .give(&mut self.space, &self.buddy, t, cache, place)?,
         )
+    }
+
+    /// Gives an object of a tenant back to its cache.
+    ///
+    /// Refuses with `NoTenant`, then as a `give` does.
+    #[inline(always)]
+    pub fn give_object(&mut self, tenant: u32, cache: u32, place: u32) -> Result<(), Refusal>
+        ensures { Steps self.old (On.Tenant tenant (Command.Give cache place)) self.new
+            (reply_for self.old tenant (body_of (λ done. Given) result)) }
+    {
+        let Some(t) = self.tenant(tenant) else {
+            return Err(Refusal::NoTenant);
+        };
+        self.laws();
+        self.give(t, cache, place)?;
+        self.laws();
+        Ok(())
     }
 
     /// Frees all empty slabs and returns the number of their frames.
