@@ -1,7 +1,8 @@
 //! The commands of caches and objects as direct calls.
 
-ghost use Rattle.std.specs.Prelude.{◌≡◌, true, false, None, IfSome};
+ghost use Rattle.std.specs.Prelude.{◌≡◌, true, false, None, IfSome, IfOk, IfErr};
 ghost use Rattle.model_core.specs.Layouts.{is_pattern};
+ghost use Rattle.words_core.specs.Texts.{number_of_refusal};
 ghost use Rattle.words_core.specs.declared.event.Event.TheVariants.{Tenant};
 ghost use Rattle.words_core.specs.declared.event.Command.TheVariants.{Cache, Destroy, Take, Give, Reap};
 ghost use Rattle.partmem_c.specs.Calls.{RunsCall, IsNoEvent, numbers_in_reply, call_status, made_cache, reaped_frames};
@@ -12,7 +13,7 @@ use crate::events::status_of_none;
 use crate::kinds::{MADE, REAPED};
 use crate::lends::{Lent, lent_of, put_lent};
 use crate::machine_storage::MachineStorage;
-use crate::status::NO_MACHINE;
+use crate::status::{DONE, NO_MACHINE};
 use crate::telling::ReplyNumbers;
 use kernel_core::Kernel;
 use model_core::limits::MOST_PATTERN;
@@ -137,7 +138,25 @@ pub extern "C" fn partmem_give(
     ensures { RunsCall machine.old.slot.held (Tenant tenant (Give cache place)) machine.new.slot.held
         (λ reply. result ≡ call_status (numbers_in_reply reply)) }
 {
-    call_status(run_command(alloc, machine, tenant, Request::Give { cache, place }))
+    if !machine.is_booted() {
+        return NO_MACHINE;
+    }
+    let mut kernel = machine.take_out(alloc);
+    let outcome = kernel.give_object(tenant, cache, place);
+    machine.put_in(kernel);
+    status_of(outcome)
+}
+
+/// Returns the status of a call that returns nothing else: that of the refusal, if it is one.
+#[inline(always)]
+fn status_of(outcome: Result<(), Refusal>) -> u32
+    ensures done { IfOk outcome (λ given. result ≡ DONE) }
+    ensures refused { IfErr outcome (λ refusal. result ≡ number_of_refusal refusal) }
+{
+    match outcome {
+        Ok(()) => DONE,
+        Err(refusal) => u32::from(refusal.number()),
+    }
 }
 
 /// Frees the empty slabs of all caches of the tenant, and returns the number of their frames.
