@@ -5,6 +5,7 @@ pub mod Owners
 pub mod Laws
 pub mod Actions
 pub mod Booting
+pub mod Borrowing
 pub mod Calls
 pub mod Finding
 pub mod Figures

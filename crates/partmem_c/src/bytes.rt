@@ -32,13 +32,11 @@ pub extern "C" fn partmem_read(
     ensures few { drop MOST_BYTES to.new ≡ drop MOST_BYTES to.old }
     ensures not_done { result ≢ DONE → to.new ≡ to.old }
 {
-    if !machine.is_booted() {
+    let Some(kernel) = machine.kernel() else {
         return call_status(None);
-    }
+    };
     let len = length_of(to);
-    let mut kernel = machine.take_out(alloc);
-    let numbers = read(&mut kernel, tenant, place, len, to);
-    machine.put_in(kernel);
+    let numbers = read(kernel, tenant, place, len, to);
     call_status(Some(numbers))
 }
 

@@ -28,12 +28,10 @@ pub(crate) fn run_command(
     ensures { RunsCall machine.old.slot.held (Tenant tenant (command_of request.entry)) machine.new.slot.held
         (λ reply. result ≡ numbers_in_reply reply) }
 {
-    if !machine.is_booted() {
+    let Some(kernel) = machine.kernel() else {
         return None;
-    }
-    let mut kernel = machine.take_out(alloc);
-    let numbers = run(&mut kernel, tenant, request);
-    machine.put_in(kernel);
+    };
+    let numbers = run(kernel, tenant, request);
     Some(numbers)
 }
 
@@ -46,12 +44,10 @@ pub(crate) fn run_admin_command(
     requires { command ≢ Pool }
     ensures { RunsCall machine.old.slot.held (Admin command) machine.new.slot.held (λ reply. result ≡ numbers_in_reply reply) }
 {
-    if !machine.is_booted() {
+    let Some(kernel) = machine.kernel() else {
         return None;
-    }
-    let mut kernel = machine.take_out(alloc);
+    };
     let numbers = numbers_of_answer(kernel.administer(&command).unwrap());
-    machine.put_in(kernel);
     Some(numbers)
 }
 

@@ -286,12 +286,10 @@ fn ask(
         → RunsEvent machine.old.slot.held machine.new.slot.held request bytes reply.new buffer buffer }
     ensures not_done { result ≢ DONE → IsNothingDone machine.old.slot.held machine.new.slot.held reply.old reply.new }
 {
-    if !machine.is_booted() {
+    let Some(kernel) = machine.kernel() else {
         return NO_MACHINE;
-    }
-    let mut kernel = machine.take_out(alloc);
-    *reply = run(&mut kernel, tenant, command);
-    machine.put_in(kernel);
+    };
+    *reply = run(kernel, tenant, command);
     DONE
 }
 
@@ -365,16 +363,14 @@ fn read_event(
     ensures not_done { result ≢ DONE
         → ChangesNothing machine.old.slot.held machine.new.slot.held reply.old reply.new buffer.old buffer.new }
 {
-    if !machine.is_booted() {
+    let Some(kernel) = machine.kernel() else {
         return NO_MACHINE;
-    }
-    let mut kernel = machine.take_out(alloc);
+    };
     let command = Request::Read {
         place: request.first,
         len: request.second,
     };
-    *reply = run_over(&mut kernel, request.tenant, command, buffer);
-    machine.put_in(kernel);
+    *reply = run_over(kernel, request.tenant, command, buffer);
     DONE
 }
 
@@ -460,15 +456,13 @@ fn rare_event(
     ensures not_done { result ≢ DONE
         → ChangesNothing machine.old.slot.held machine.new.slot.held reply.old reply.new buffer.old buffer.new }
 {
-    if !machine.is_booted() {
+    let Some(kernel) = machine.kernel() else {
         return NO_MACHINE;
-    }
+    };
     let Some(event) = event_of(request, bytes) else {
         return NOT_AN_EVENT;
     };
-    let mut kernel = machine.take_out(alloc);
-    *reply = step(&mut kernel, &event, buffer);
-    machine.put_in(kernel);
+    *reply = step(kernel, &event, buffer);
     DONE
 }
 

@@ -95,13 +95,10 @@ pub extern "C" fn partmem_report(
         (λ reply. (result ≡ call_status (numbers_in_reply reply)) × (figures.new ≡ reported_figures reply)) }
 {
     *figures = Figures::zeroes();
-    if !machine.is_booted() {
+    let Some(kernel) = machine.kernel() else {
         return NO_MACHINE;
-    }
-    let kernel = machine.take_out(alloc);
-    let status = put_figures(&kernel, tenant, figures);
-    machine.put_in(kernel);
-    status
+    };
+    put_figures(kernel, tenant, figures)
 }
 
 /// Fills in the figures of a tenant, which were all zeros, and returns the status. If there is no such tenant, they stay zeros.

@@ -45,12 +45,10 @@ pub extern "C" fn partmem_find_object(
     ensures kept { machine.new.slot.held ≡ machine.old.slot.held }
 {
     *found = NO_HOLDER;
-    if !machine.is_booted() {
+    let Some(kernel) = machine.kernel() else {
         return NO_MACHINE;
-    }
-    let kernel = machine.take_out(alloc);
-    let outcome = holder_at(&kernel, tenant, place);
-    machine.put_in(kernel);
+    };
+    let outcome = holder_at(kernel, tenant, place);
     put(outcome, found)
 }
 

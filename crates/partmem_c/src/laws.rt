@@ -41,12 +41,10 @@ pub fn is_kernel(alloc: Global, machine: &mut MachineStorage)
     ensures kernel { IfSome machine.old.slot.held (λ k. IsKernel k) }
     ensures same { machine.new.slot.held ≡ machine.old.slot.held }
 {
-    if !machine.is_booted() {
+    let Some(kernel) = machine.kernel() else {
         return;
-    }
-    let kernel = machine.take_out(alloc);
-    kernel_core::laws::is_kernel(&kernel);
-    machine.put_in(kernel);
+    };
+    kernel_core::laws::is_kernel(kernel);
 }
 
 /// The machine that C holds between two calls may be passed to another thread. The caller must make one call at a time.

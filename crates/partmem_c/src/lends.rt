@@ -110,13 +110,11 @@ pub extern "C" fn partmem_lend(
     ensures lends { LooksUp no_lent machine.old.slot.held (λ k outcome. FindsRange k tenant place bytes outcome) result lent.new }
     ensures kept { machine.new.slot.held ≡ machine.old.slot.held }
 {
-    if !machine.is_booted() {
+    let Some(kernel) = machine.kernel() else {
         *lent = Lent::none();
         return NO_MACHINE;
-    }
-    let mut kernel = machine.take_out(alloc);
-    let outcome = lend(&mut kernel, tenant, place, bytes);
-    machine.put_in(kernel);
+    };
+    let outcome = lend(kernel, tenant, place, bytes);
     put_lent(outcome, lent)
 }
 
@@ -143,13 +141,11 @@ pub extern "C" fn partmem_lend_block(
     ensures lends { LooksUp no_lent machine.old.slot.held (λ k outcome. FindsWholeBlock k tenant place outcome) result block.new }
     ensures kept { machine.new.slot.held ≡ machine.old.slot.held }
 {
-    if !machine.is_booted() {
+    let Some(kernel) = machine.kernel() else {
         *block = Lent::none();
         return NO_MACHINE;
-    }
-    let mut kernel = machine.take_out(alloc);
-    let outcome = lend_block(&mut kernel, tenant, place);
-    machine.put_in(kernel);
+    };
+    let outcome = lend_block(kernel, tenant, place);
     put_lent(outcome, block)
 }
 
@@ -178,13 +174,11 @@ pub extern "C" fn partmem_lend_object(
         result object.new }
     ensures kept { machine.new.slot.held ≡ machine.old.slot.held }
 {
-    if !machine.is_booted() {
+    let Some(kernel) = machine.kernel() else {
         *object = Lent::none();
         return NO_MACHINE;
-    }
-    let mut kernel = machine.take_out(alloc);
-    let outcome = lend_object(&mut kernel, tenant, cache, place);
-    machine.put_in(kernel);
+    };
+    let outcome = lend_object(kernel, tenant, cache, place);
     put_lent(outcome, object)
 }
 

@@ -52,16 +52,13 @@ pub extern "C" fn partmem_line(
         → (machine.new.slot.held ≡ machine.old.slot.held) × (buffer.new ≡ buffer.old) × (written.new ≡ 0) }
 {
     *written = 0;
-    if !machine.is_booted() {
+    let Some(kernel) = machine.kernel() else {
         return NO_MACHINE;
-    }
+    };
     if buffer.len() < MOST_TEXT_BYTES {
         return status_without_buffer(line);
     }
-    let mut kernel = machine.take_out(alloc);
-    let answered = run_line(&mut kernel, line, buffer);
-    machine.put_in(kernel);
-    let Some(count) = answered else {
+    let Some(count) = run_line(kernel, line, buffer) else {
         return NOT_A_LINE;
     };
     *written = count;

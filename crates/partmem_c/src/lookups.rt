@@ -58,12 +58,10 @@ pub extern "C" fn partmem_find_slot(
     ensures kept { machine.new.slot.held ≡ machine.old.slot.held }
 {
     *found = NO_SLOT;
-    if !machine.is_booted() {
+    let Some(kernel) = machine.kernel() else {
         return NO_MACHINE;
-    }
-    let kernel = machine.take_out(alloc);
-    let outcome = slot_at(&kernel, tenant, slot);
-    machine.put_in(kernel);
+    };
+    let outcome = slot_at(kernel, tenant, slot);
     put(outcome, found)
 }
 
@@ -97,12 +95,10 @@ pub extern "C" fn partmem_find_block(
     ensures kept { machine.new.slot.held ≡ machine.old.slot.held }
 {
     *found = NO_BLOCK;
-    if !machine.is_booted() {
+    let Some(kernel) = machine.kernel() else {
         return NO_MACHINE;
-    }
-    let kernel = machine.take_out(alloc);
-    let outcome = block_at(&kernel, tenant, place);
-    machine.put_in(kernel);
+    };
+    let outcome = block_at(kernel, tenant, place);
     put(outcome, found)
 }
 

@@ -1,6 +1,6 @@
 //! The machine as C keeps it.
 
-ghost use Rattle.std.specs.Prelude.{◌≡◌, is_some, IsSome, Some, None};
+ghost use Rattle.std.specs.Prelude.{◌≡◌, is_some, IsSome, IfSome, Some, None};
 
 use crate::raw_box::RawBox;
 use crate::slot::Slot;
@@ -17,11 +17,27 @@ pub struct MachineStorage {
 }
 
 impl MachineStorage {
+    ghost use Rattle.std.specs.Borrow.{sem};
+    ghost use Rattle.partmem_c.specs.Borrowing.{LendsKernel};
+
     /// Returns whether the place holds a machine.
     pub fn is_booted(&self) -> bool
         ensures { result ≡ is_some self.now.slot.held }
     {
         self.is_booted
+    }
+
+    /// Borrows the kernel where it lies, or returns `None` if the place is empty.
+    #[inline(always)]
+    pub fn kernel(&mut self) -> Option<&mut Kernel>
+        ensures* writes_back { sem 𝓛 (LendsKernel self.entry result) }
+        ensures none { result ≡ None → self.old.slot.held ≡ None }
+        ensures value { IfSome result (λ k. self.old.slot.held ≡ Some k.now) }
+    {
+        if !self.is_booted {
+            return None;
+        }
+        Some(self.slot.kernel())
     }
 
     /// Stores a kernel in an empty place.

@@ -106,13 +106,11 @@ pub extern "C" fn partmem_take(
         (λ reply. (result ≡ call_status (numbers_in_reply reply)) × IsObjectLent (numbers_in_reply reply) object.new) }
     ensures object { IfSome machine.new.slot.held (λ k. IsObjectOf k tenant cache object.new) }
 {
-    if !machine.is_booted() {
+    let Some(kernel) = machine.kernel() else {
         *object = Lent::none();
         return NO_MACHINE;
-    }
-    let mut kernel = machine.take_out(alloc);
-    let outcome = take_object(&mut kernel, tenant, cache);
-    machine.put_in(kernel);
+    };
+    let outcome = take_object(kernel, tenant, cache);
     put_lent(outcome, object)
 }
 

@@ -32,13 +32,10 @@ pub extern "C" fn partmem_superblock_bytes(alloc: Global, machine: &mut MachineS
     ensures bytes { result ≡ size_of_superblock machine.old.slot.held }
     ensures kept { machine.new.slot.held ≡ machine.old.slot.held }
 {
-    if !machine.is_booted() {
+    let Some(kernel) = machine.kernel() else {
         return 0;
-    }
-    let kernel = machine.take_out(alloc);
-    let bytes = superblock_bytes(&kernel);
-    machine.put_in(kernel);
-    bytes
+    };
+    superblock_bytes(kernel)
 }
 
 fn superblock_bytes(kernel: &Kernel) -> u32
@@ -65,13 +62,10 @@ pub extern "C" fn partmem_find_superblock(
     ensures kept { machine.new.slot.held ≡ machine.old.slot.held }
 {
     *owner = NO_OWNER;
-    if !machine.is_booted() {
+    let Some(kernel) = machine.kernel() else {
         return NO_MACHINE;
-    }
-    let kernel = machine.take_out(alloc);
-    let found = owner_reported(&kernel, superblock);
-    machine.put_in(kernel);
-    let Some(found) = found else {
+    };
+    let Some(found) = owner_reported(kernel, superblock) else {
         return NO_SUPERBLOCK;
     };
     *owner = found;

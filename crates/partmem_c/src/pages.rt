@@ -32,13 +32,11 @@ pub extern "C" fn partmem_alloc(
     ensures { RunsCall machine.old.slot.held (Tenant tenant (Alloc order)) machine.new.slot.held
         (λ reply. (result ≡ call_status (numbers_in_reply reply)) × IsBlockLent order (numbers_in_reply reply) block.new) }
 {
-    if !machine.is_booted() {
+    let Some(kernel) = machine.kernel() else {
         *block = Lent::none();
         return NO_MACHINE;
-    }
-    let mut kernel = machine.take_out(alloc);
-    let outcome = alloc_block(&mut kernel, tenant, order);
-    machine.put_in(kernel);
+    };
+    let outcome = alloc_block(kernel, tenant, order);
     put_lent(outcome, block)
 }
 

@@ -29,6 +29,9 @@ impl Model for Slot {
 unsafe impl Send for Slot {}
 
 impl Slot {
+    ghost use Rattle.std.specs.Borrow.{sem};
+    ghost use Rattle.partmem_c.specs.Borrowing.{LendsHeld};
+
     /// Returns a place without a machine.
     pub fn vacant() -> Slot
         ensures { result.held ≡ None }
@@ -54,6 +57,16 @@ impl Slot {
             at: at as *mut Kernel,
             alloc,
         }
+    }
+
+    /// Borrows the kernel where it lies, so a call neither moves nor writes the pointer.
+    #[inline(always)]
+    pub fn kernel(&mut self) -> &mut Kernel
+        requires { IsSome self.old.held }
+        ensures* writes_back { sem 𝓛 (LendsHeld self.entry result) }
+        ensures value { self.old.held ≡ Some result.now }
+    {
+        unsafe { &mut *(self.at as *mut Kernel) }
     }
 
     /// Consumes a place without a machine.
