@@ -1,4 +1,4 @@
-//! Reads replies of one line, behind the addressee at their front.
+//! Reads the part of a one-line reply that follows the addressee.
 
 ghost use Rattle.std.specs.Prelude.{◌≡◌, ◌≤◌, ◌==◌, length, not, take_while};
 ghost use Rattle.words_core.specs.Requests.{body_of_answer};
@@ -149,7 +149,7 @@ fn refused_at(text: &[u8]) -> Option<(Answer<'_>, &[u8])>
     Some((Answer::Refused(refusal), rest))
 }
 
-/// Returns the length of the first line in bytes, without its line feed.
+/// Returns the number of bytes in the first line, without its line feed.
 fn line_len(text: &[u8]) -> usize
     ensures value { result ≡ length (take_while (λ b. not (b == 10)) text.now) }
     ensures fits { result ≤ length text.now }
@@ -217,7 +217,7 @@ fn moved_at(text: &[u8]) -> Option<(Answer<'_>, &[u8])>
     Some((answer, rest))
 }
 
-/// Returns this fault and the text that follows it, if the text begins with the fault.
+/// If the text begins with this fault, returns the fault and the rest of the text.
 #[tactic(auto, unfolding(crate::specs::Replies::fault_at))]
 fn fault_at(fault: LineFault, text: &[u8]) -> Option<(Answer<'_>, &[u8])>
     ensures { Gives (λ found. (body_of_answer found.0, found.1.now)) result (fault_at fault text.now) }

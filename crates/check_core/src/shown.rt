@@ -10,10 +10,10 @@ use crate::taken::{TakenFrame, taken_frame};
 use judge::KnownMachine;
 use model_core::limits::MOST_BYTES;
 
-/// The largest number of bytes of a line of a trace: 255, a carriage return and a line feed.
+/// The largest number of bytes in a line of a trace: 255, plus a carriage return and a line feed.
 pub const MOST_PART_BYTES: usize = 257;
 
-/// The largest number of bytes of a reply: 257 lines of 256 bytes.
+/// The largest number of bytes in a reply: 257 lines of 256 bytes.
 pub const MOST_TEXT_BYTES: usize = 65_792;
 
 /// The last line that was read, and the lines that were read as its reply.
@@ -28,7 +28,7 @@ pub struct Shown {
 impl Shown {
     ghost use Rattle.check_core.specs.Taken.{IsNoted};
 
-    /// Returns an empty value, without a line.
+    /// Returns a value with an empty line, an empty reply and no taken page block.
     pub fn new() -> Self
         ensures line { Gathers MOST_PART_BYTES [] result.line }
         ensures reply { Gathers MOST_TEXT_BYTES [] result.reply }
@@ -41,7 +41,8 @@ impl Shown {
         }
     }
 
-    /// Searches the machine that judged the line for a live page block that overlaps the page block of the reply.
+    /// Searches for a live page block that overlaps the page block of the reply, among the page blocks of the machine that judged
+    /// the line.
     pub fn look_for_taken(&mut self, machine: &KnownMachine)
         ensures line { self.new.line ≡ self.old.line }
         ensures reply { self.new.reply ≡ self.old.reply }

@@ -1,11 +1,11 @@
--- The arguments that the programs share, in the terms of clap's model.
+-- The arguments that the programs share, in terms of clap's model.
 use Rattle.std.specs.Prelude.{◌-◌, ◌^◌, ℕ, true, false, Some, pos, codes}
 use Rattle.clap.specs.Words.{App, Rule, Text, new_app, new_rule, with_rule}
 use Rattle.clap.specs.declared.builder.action.ArgAction.TheVariants.{Set}
 use Rattle.clap.specs.declared.builder.value_parser.ValueParser.TheVariants.{Signed}
 use Rattle.model_core.specs.declared.limits.TheConstants.{LEAST_ORDER, MOST_ORDER, MOST_SUPERBLOCKS, MOST_TENANTS}
 
--- `--name NUMBER`, a required argument, a number from `least` to `most`
+-- the required argument `--name NUMBER`, whose value is a number from `least` to `most`
 abbrev pub number_rule : Text → ℕ → ℕ → Rule
 number_rule name least most = record (new_rule name) {
   long = Some name;
@@ -19,7 +19,7 @@ number_rule name least most = record (new_rule name) {
 abbrev pub positional_rule : Text → Rule
 positional_rule name = record (new_rule name) { action = Some Set }
 
--- a command that has a version and whose words do not include the program's name
+-- a command that has a version and parses words without the program's name in front
 abbrev pub bare_command : Text → App
 bare_command name = record (new_app name) { top = record (new_app name).top { no_binary_name = true; has_version = true } }
 
@@ -30,6 +30,6 @@ sizes_command name = with_rule (with_rule (with_rule (bare_command name)
     (number_rule (codes "superblocks") 1 MOST_SUPERBLOCKS))
     (number_rule (codes "tenants") 1 MOST_TENANTS)
 
--- the same with `--only`
+-- the same command with an optional argument `--only NUMBER`
 abbrev pub machine_command : Text → App
 machine_command name = with_rule (sizes_command name) (record (number_rule (codes "only") 0 (2 ^ 32 - 1)) { required = false })

@@ -12,7 +12,7 @@ use crate::telling::ReplyNumbers;
 use std::alloc::Global;
 use words_core::AdminCommand;
 
-/// A slot of a tenant and its superblock.
+/// A slot of a tenant, and the superblock in it.
 #[repr(C)]
 #[derive(Clone, Copy, Debug)]
 pub struct HeldSlot {
@@ -20,7 +20,7 @@ pub struct HeldSlot {
     pub superblock: u32,
 }
 
-/// Grants the tenant the superblock with the lowest number that has no owner, as the lowest slot that it does not hold.
+/// Grants the tenant the lowest-numbered superblock that has no owner, in the lowest slot that the tenant does not hold.
 ///
 /// Returns `NO_MACHINE`, `NO_TENANT` or `POOL_EMPTY`.
 #[unsafe(no_mangle)]
@@ -38,7 +38,7 @@ pub extern "C" fn partmem_grant(
     call_status(reply)
 }
 
-/// Takes back a slot in which no frame is taken by a page block or a slab.
+/// Takes back a slot, if none of its frames is in a page block or a slab.
 ///
 /// Returns `NO_MACHINE`, `NO_TENANT`, `NO_SLOT` or `SLOT_BUSY`.
 #[unsafe(no_mangle)]
@@ -54,7 +54,7 @@ pub extern "C" fn partmem_take_back(
     call_status(run_admin_command(alloc, machine, AdminCommand::TakeBack { tenant, slot }))
 }
 
-/// Replaces the superblock in a slot by the one with the lowest number that has no owner. All bytes are copied.
+/// Replaces the superblock in a slot with the lowest-numbered superblock that has no owner, and keeps all bytes of the slot.
 ///
 /// Returns `NO_MACHINE`, `NO_TENANT`, `NO_SLOT` or `POOL_EMPTY`.
 #[unsafe(no_mangle)]
@@ -73,7 +73,7 @@ pub extern "C" fn partmem_move(
     call_status(reply)
 }
 
-/// Takes everything that the tenant has: its page blocks, caches and slots.
+/// Takes back everything that the tenant has: its page blocks, caches and slots.
 ///
 /// Returns `NO_MACHINE` or `NO_TENANT`.
 #[unsafe(no_mangle)]
@@ -84,7 +84,7 @@ pub extern "C" fn partmem_reset(alloc: Global, machine: &mut MachineStorage, ten
     call_status(run_admin_command(alloc, machine, AdminCommand::Reset { tenant }))
 }
 
-/// Returns the slot and the superblock of a reply of this kind.
+/// Returns the slot and the superblock in a reply of this kind. Both are 0 if there is no reply, or one of another kind.
 fn returned_slot(kind: u32, reply: Option<ReplyNumbers>) -> HeldSlot
     ensures { result ≡ returned_slot kind reply }
 {

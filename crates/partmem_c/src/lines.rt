@@ -27,16 +27,16 @@ use words_core::{
     write_answer_to,
 };
 
-/// An upper bound of the bytes of a reply to a line. The longest reply is the table of owners.
+/// An upper bound on the number of bytes in the reply to a line. The longest reply is the table of owners.
 pub const MOST_TEXT_BYTES: usize = MOST_ROWS * MOST_REPLY_BYTES;
 
-/// Runs a line of a trace, and writes its reply lines to the front of `buffer`. `written` is the number of their bytes, 0 if the
-/// status is not `DONE`.
+/// Runs a line of a trace, and writes its reply lines to the front of `buffer`. Sets `written` to the number of bytes in these
+/// lines, or to 0 if the status is not `DONE`.
 ///
 /// The line is passed without its line feed. The reply to a faulty line names the fault. A buffer of `MOST_TEXT_BYTES` bytes is
 /// large enough for any line.
 ///
-/// Returns `NO_MACHINE`, `NOT_A_LINE` or `BUFFER_TOO_SMALL`. The buffer is then unchanged.
+/// If the status is not `DONE`, it is `NO_MACHINE`, `NOT_A_LINE` or `BUFFER_TOO_SMALL`, and the buffer is unchanged.
 #[unsafe(no_mangle)]
 pub extern "C" fn partmem_line(
     alloc: Global,
@@ -84,7 +84,7 @@ const MOST_SHORT_LINE: usize = 160;
 /// Runs a line on the kernel, writes the answer to the front of `buffer`, and returns the number of the answer's bytes. Returns
 /// `None` and does nothing if the line has a line feed.
 ///
-/// If a quick request is the whole line, the line has no line feed, and is not searched for one.
+/// A line that is read as one quick request has no line feed, so it is not searched for one.
 #[inline(always)]
 fn run_line(kernel: &mut Kernel, line: &[u8], buffer: &mut [u8]) -> Option<usize>
     requires { IsWide buffer.old }
@@ -107,8 +107,8 @@ fn run_line(kernel: &mut Kernel, line: &[u8], buffer: &mut [u8]) -> Option<usize
     run_any(kernel, line, buffer)
 }
 
-/// [`run_line`] for a longer quick request, such as a write. Returns `None` and does nothing if the line may be no quick request.
-/// Kept out of line, since it needs more stack than most quick requests.
+/// [`run_line`] for a longer quick request, such as a write. Returns `None` and does nothing if the line is too long or is not
+/// read as one quick request. Not inlined, since it needs more stack than most quick requests.
 #[inline(never)]
 fn run_long(kernel: &mut Kernel, line: &[u8], buffer: &mut [u8]) -> Option<usize>
     requires { IsWide buffer.old }
@@ -128,7 +128,7 @@ fn run_long(kernel: &mut Kernel, line: &[u8], buffer: &mut [u8]) -> Option<usize
     Some(answer_apart(read.tenant, read.request, kernel, buffer))
 }
 
-/// [`run_line`] for any line, by its event. Kept out of line, since it clears the memory of an event.
+/// [`run_line`] for any line, which is read as an event. Not inlined, since it clears the memory for an event.
 #[cold]
 #[inline(never)]
 fn run_any(kernel: &mut Kernel, line: &[u8], buffer: &mut [u8]) -> Option<usize>
@@ -141,7 +141,7 @@ fn run_any(kernel: &mut Kernel, line: &[u8], buffer: &mut [u8]) -> Option<usize>
     Some(answer(read(line), kernel, buffer))
 }
 
-/// Reads a line. Kept out of line, so that its stack is free again before the line is answered.
+/// Reads a line. Not inlined, so that the stack that reading needs is free again before the line is answered.
 #[inline(never)]
 fn read(line: &[u8]) -> Result<Option<Event>, LineFault>
     ensures exact { result ≡ reading_of line.now }
@@ -150,7 +150,7 @@ fn read(line: &[u8]) -> Result<Option<Event>, LineFault>
     read_line(line)
 }
 
-/// Copies a line to the front of `out`, with a line feed behind it.
+/// Copies a line, followed by a line feed, to the front of `out`.
 #[inline(always)]
 fn put_ended(line: &[u8], out: &mut [u8])
     requires { length line.now < length out.old }
@@ -173,10 +173,10 @@ const READ: usize = 4;
 
 const WRITE: usize = 5;
 
-/// The number of all other commands.
+/// The number that all other commands share.
 const RARE: usize = 6;
 
-/// Runs a request, writes its answer to the front of `buffer`, and returns the number of its bytes.
+/// Runs a request, writes its answer to the front of `buffer`, and returns the number of bytes written.
 #[inline(always)]
 fn answer_request(
     tenant: u32,
@@ -213,7 +213,7 @@ fn answer_request(
 }
 
 /// [`answer_request`] for the command with the number `COMMAND`. Each command has its own instance with one caller. A function
-/// with one caller is always inlined, so the possible answers are known at the place that writes them.
+/// with one caller is always inlined, so the compiler knows which answers are possible where they are written.
 #[inline]
 fn answer_as<const COMMAND: usize>(
     tenant: u32,
@@ -232,7 +232,7 @@ fn answer_as<const COMMAND: usize>(
     }
 }
 
-/// [`answer_as`] for a rare command.
+/// [`answer_as`] with the number `RARE`, for any command. Not inlined.
 #[inline(never)]
 fn answer_apart(tenant: u32, request: Request<'_>, kernel: &mut Kernel, buffer: &mut [u8]) -> usize
     requires askable { IsAskable request }
@@ -243,8 +243,8 @@ fn answer_apart(tenant: u32, request: Request<'_>, kernel: &mut Kernel, buffer: 
     answer_as::<RARE>(tenant, request, kernel, buffer)
 }
 
-/// Writes an answer to a tenant to the front of `buffer`, and returns the number of its bytes. The other functions here do the
-/// same.
+/// Writes an answer for a tenant to the front of `buffer`, and returns the number of bytes written. The functions below that
+/// return a `usize` do the same for other replies.
 #[inline(always)]
 fn put_answer(tenant: u8, answer: Answer<'_>, buffer: &mut [u8]) -> usize
     requires few { HasFewBytes answer }
@@ -260,7 +260,8 @@ fn put_answer(tenant: u8, answer: Answer<'_>, buffer: &mut [u8]) -> usize
     len
 }
 
-/// [`put_answer`] for a longer text, or for any addressee. Kept out of line, so that only it pays for its buffer.
+/// [`put_answer`] for a longer text, or for any addressee. Not inlined, so that [`put_answer`] does not pay for the larger
+/// buffer.
 #[inline(never)]
 fn put_long_answer(addressee: Addressee, answer: Answer<'_>, buffer: &mut [u8]) -> usize
     requires few { HasFewBytes answer }
@@ -307,7 +308,7 @@ fn answer(
     }
 }
 
-/// Writes the report of a tenant. Kept out of line, so that no other line pays for the memory of a report.
+/// Writes the report of a tenant. Not inlined, so that no other line pays for the memory of a report.
 #[cold]
 #[inline(never)]
 fn put_report(tenant: u32, kernel: &Kernel, buffer: &mut [u8]) -> usize
@@ -367,7 +368,7 @@ fn put_table(table: Table<'_>, buffer: &mut [u8]) -> usize
     written
 }
 
-/// Copies bytes into the buffer, from index `at` on.
+/// Copies bytes to the part of the buffer that begins at index `at`.
 #[inline(always)]
 pub(crate) fn put(bytes: &[u8], buffer: &mut [u8], at: usize)
     requires { at + length bytes.now ≤ length buffer.old }
@@ -376,8 +377,8 @@ pub(crate) fn put(bytes: &[u8], buffer: &mut [u8], at: usize)
     buffer[at..at + bytes.len()].copy_from_slice(bytes);
 }
 
-/// Copies bytes to the front of the buffer. For 8 to 32 bytes it makes two overlapping copies of a fixed size, since a copy of
-/// variable size is a call.
+/// Copies bytes to the front of the buffer. 8 to 32 bytes are copied with two copies of a fixed size that may overlap, since a
+/// copy of variable size is a function call.
 #[inline(always)]
 fn put_short(bytes: &[u8], buffer: &mut [u8])
     requires { length bytes.now ≤ length buffer.old }

@@ -46,7 +46,7 @@ pub record WouldFitAround (r : spaces.Content) (b : buddies.Content) (s : Conten
   pub empty : place_at s.lists.places machine_frame ≡ Some (head_of t c 2, first)
   pub unused : IsUnusedBlock r b s t (around first k).first k
 
--- the same of some cache of tenant t
+-- the same holds for some cache of tenant t
 abbrev pub WouldFitInSlabs : spaces.Content → buddies.Content → Content → ℕ → ℕ → Type 0
 WouldFitInSlabs r b s t k = (c : ℕ) × (c < MOST_CACHES) × WouldFitAround r b s t c k
 
@@ -54,6 +54,6 @@ WouldFitInSlabs r b s t k = (c : ℕ) × (c < MOST_CACHES) × WouldFitAround r b
 abbrev pub AreRefused : spaces.Content → buddies.Content → Content → ℕ → ℕ → (ℕ → Bool) → Type 0
 AreRefused r b s t k these = (n : ℕ) → these n ≡ true → IsUnusedBlock r b s t (n * 2 ^ k) k → ⊥
 
--- the words have one bit for each number, 1 for those in the set
+-- the number is in the set that these words store: one bit for each number, which is 1 if the number is in the set
 abbrev pub has_number : List ℕ → ℕ → Bool
 has_number words n = bit_at (slice_index words (n / 64)) (n % 64) == 1

@@ -1,4 +1,4 @@
-//! Finds the live object that begins at a place, for a caller that lends its bytes.
+//! Finds the live object that begins at a place, for a caller that lends the object's bytes.
 
 ghost use Rattle.std.specs.Prelude.{◌≡◌, ◌<◌, length, Err, IsSome, IfSome, IfOk, IfErr};
 ghost use Rattle.model_core.specs.Machine.{Machine};
