@@ -1,4 +1,4 @@
--- Verdicts on the replies to the lines of a trace, one line at a time; how a check ends, and when memory can run out.
+-- The verdict on the reply to each line of a trace, how a check ends, and when memory may run out.
 use Rattle.std.specs.Prelude.{◌≡◌, ℕ, suc, Bool, true, false, List, [], ◌∷◌, ◌++◌, Option, Some, None, Result, Ok, Err, ◌⊎◌}
 use Rattle.promise_core.specs.declared.promise.Promise.{Promise}
 use Rattle.words_core.specs.declared.event.Event.{Event}
@@ -21,28 +21,28 @@ pub record HasGathered (lines : ℕ) (came : List ℕ) (text : Gathered MOST_TEX
   pub are : lines_at lines came ≡ Some (came, [])
   pub gathers : Gathers MOST_TEXT_BYTES came text
 
--- The verdict on the reply to a line with this reading, after `part` of the replies was read; it holds whatever follows `part`.
--- If the reply is allowed, the verdict is the number of its lines, `part` is exactly these lines, and the machine shows what is
--- known after the reply. Otherwise the verdict is the first promise that the reply breaks.
+-- The verdict on the reply to a line with this reading, if `part` is what was read of the replies. It does not depend on what
+-- follows. If the reply is allowed, its lines are `part`, the verdict is their number, and the machine shows what is known after
+-- the reply. Otherwise the verdict is the first promise that the reply breaks.
 abbrev pub IsLineVerdict : Result ℕ Promise → Result (Option Event) LineFault → List ℕ → Known → SeenMachine → Source → Type 0
 IsLineVerdict (Ok lines) reading part w new replies = (lines ≡ lines_to reading w) × ((after : Known) × ShowsKnown new after
     × ((more : List ℕ) → (verdict_at reading (part ++ more) w ≡ Ok after) × (after_lines lines (part ++ more) ≡ more)))
 IsLineVerdict (Err promise) reading part w new replies =
     (more : List ℕ) → MayFollow replies more → verdict_at reading (part ++ more) w ≡ Err promise
 
--- The verdict on the text that was gathered as the reply. If the text is not a reply, there is no verdict, and the machine still
--- shows what was known before.
+-- The verdict on what was gathered as the reply. It is None if that is not a reply, and then the machine still shows what was
+-- known before.
 abbrev pub IsTextVerdict : Option (Result (Unit {0}) Promise) → Event → Option Reply → Known → SeenMachine → Type 0
 IsTextVerdict (Some verdict) event found w new = (reply : Reply) × (found ≡ Some reply) × IsVerdict verdict (allowed event reply w) new
 IsTextVerdict None event found w new = (found ≡ None) × ShowsKnown new w
 
--- a finding is `Kept` only if the trace and the replies have both ended
+-- the finding is `Kept` only if the trace and the replies have ended
 abbrev pub IsKeptAtEnd : Finding → (trace replies : Source) → Type 0
 IsKeptAtEnd (Finding.Kept lines) trace replies = HasEnded trace × HasEnded replies
 IsKeptAtEnd (Finding.Broken breach) trace replies = Unit {0}
 
--- Why there is no finding: only the reader of the trace failed, only the reader of the replies failed, or memory ran out. In the
--- last case neither reader failed, and `short` says what the memory was needed for.
+-- Why there is no finding: the reader of the trace failed (`unread` is true), the reader of the replies failed (`untold` is
+-- true), or neither failed, but memory ran out, and `short` holds.
 abbrev pub IsStoppedBy : Unchecked → (unread untold : Bool) → (short : Type 0) → Type 0
 IsStoppedBy Unchecked.Trace unread untold short = (unread ≡ true) × (untold ≡ false)
 IsStoppedBy Unchecked.Replies unread untold short = (unread ≡ false) × (untold ≡ true)
@@ -60,7 +60,7 @@ AddsAt (Ok (Some event)) bytes w = (reply : Reply) × (after : Known) × (reply_
 AddsAt (Ok None) bytes w = ⊥
 AddsAt (Err fault) bytes w = ⊥
 
--- the reply to one of these lines is allowed and adds something to the state, and all replies before it are allowed
+-- the reply to one of these lines adds something, and all replies up to that one are allowed
 abbrev pub ComesToAdd : List (Result (Option Event) LineFault) → List ℕ → Known → Type 0
 ComesToAdd [] bytes w = ⊥
 ComesToAdd (reading ∷ readings) bytes w = AddsAt reading bytes w

@@ -19,7 +19,7 @@ const PIECE_BYTES: usize = 65_536;
 #[derive(Debug, Drop)]
 pub struct LineReader<F: Feed> {
     feed: F,
-    // The bytes from `start` to `end` were pulled and are not yet read.
+    // The bytes from `start` to `end` have been pulled but not yet read.
     piece: [u8; PIECE_BYTES],
     start: usize,
     end: usize,
@@ -39,7 +39,7 @@ impl<F: Feed> Model for LineReader<F> {
       failed = F.has_failed a.feed;
     } };
 
-    // After the feed's end, no bytes are left in the piece.
+    // Once the feed has ended, no bytes are left in the piece.
     ghost invariant = { λ a. (a.start ≤ a.end) × (a.end ≤ length a.piece) × (F.has_ended a.feed ≡ true → a.start ≡ a.end) };
 }
 
@@ -59,7 +59,7 @@ impl<F: Feed> LineReader<F> {
         }
     }
 
-    /// Returns an upper bound of the number of bytes that are left.
+    /// Returns an upper bound on the number of bytes that are left.
     pub fn room(&self) -> u128
         ensures value { result ≡ self.now.room }
         ensures most { result < 2 ^ 65 }
@@ -67,8 +67,8 @@ impl<F: Feed> LineReader<F> {
         (self.end - self.start) as u128 + u128::from(self.feed.room())
     }
 
-    /// Reads the next line and adds it to what was gathered, with its LF if it has one. Returns whether it has one. The text
-    /// behind the last LF has none. It is read whole, and may be empty. Returns `Err` if the feed fails.
+    /// Reads the next line, with its LF if it has one, and adds it to what was gathered. Returns whether it has an LF. The text
+    /// after the last LF is read as a line without one, up to its end, and may be empty. Returns `Err` if the feed fails.
     pub fn next<const N: usize>(&mut self, into: &mut Gathered<N>) -> Result<bool, Stopped>
         requires fine { self.old.failed ≡ false }
         // The part that was read.
@@ -95,7 +95,7 @@ impl<F: Feed> LineReader<F> {
     }
 
     /// Reads the next line of a trace, adds it to what was gathered, and returns its event. Returns `None` and reads nothing if
-    /// the line is not a quick request, or is not yet pulled as a whole.
+    /// the line is not a quick request, or if too few bytes have been pulled to read it as one.
     #[inline(always)]
     pub fn next_event<const N: usize>(&mut self, into: &mut Gathered<N>) -> Option<Event>
         ensures reading { IfSome result (λ event. (part : List ℕ) × HasGiven self.old self.new part

@@ -1,4 +1,4 @@
-//! Reads the part of a one-line reply that follows the addressee.
+//! Reads the part of a one-line reply that follows its addressee.
 
 ghost use Rattle.std.specs.Prelude.{◌≡◌, ◌≤◌, ◌==◌, length, not, take_while};
 ghost use Rattle.words_core.specs.Requests.{body_of_answer};
@@ -10,7 +10,8 @@ use crate::hexed::bytes_of;
 use model_core::limits::MOST_BYTES;
 use words_core::{Answer, LineFault, REFUSALS, Refusal};
 
-/// Returns the answer at the front of the text, and the text that follows it. The bytes of a read are stored in `buffer`.
+/// Returns the answer at the front of the text, and the text that follows it. The bytes in an answer to a `read` are stored in
+/// `buffer`.
 #[tactic(auto, unfolding(crate::specs::Replies::said_at))]
 pub fn said_at<'a>(
     text: &'a [u8],
@@ -128,7 +129,7 @@ fn reaped_at(text: &[u8]) -> Option<(Answer<'_>, &[u8])>
     Some((Answer::Reaped(frames), rest))
 }
 
-/// Returns the refusal of this number, if there is one.
+/// Returns the refusal with this number, if there is one.
 fn refusal_of(number: u32) -> Option<Refusal>
     ensures { result ≡ refusal_of number }
 {
@@ -149,7 +150,7 @@ fn refused_at(text: &[u8]) -> Option<(Answer<'_>, &[u8])>
     Some((Answer::Refused(refusal), rest))
 }
 
-/// Returns the number of bytes in the first line, without its line feed.
+/// Returns the length in bytes of the first line, without its line feed.
 fn line_len(text: &[u8]) -> usize
     ensures value { result ≡ length (take_while (λ b. not (b == 10)) text.now) }
     ensures fits { result ≤ length text.now }

@@ -10,7 +10,7 @@ use crate::taken::{TakenFrame, taken_frame};
 use judge::KnownMachine;
 use model_core::limits::MOST_BYTES;
 
-/// The largest number of bytes in a line of a trace: 255, plus a carriage return and a line feed.
+/// The largest number of bytes that a line of a trace may have: 255, plus a carriage return and a line feed.
 pub const MOST_PART_BYTES: usize = 257;
 
 /// The largest number of bytes in a reply: 257 lines of 256 bytes.
@@ -28,7 +28,7 @@ pub struct Shown {
 impl Shown {
     ghost use Rattle.check_core.specs.Taken.{IsNoted};
 
-    /// Returns a value with an empty line, an empty reply and no taken page block.
+    /// Returns a value with no line and no reply.
     pub fn new() -> Self
         ensures line { Gathers MOST_PART_BYTES [] result.line }
         ensures reply { Gathers MOST_TEXT_BYTES [] result.reply }
@@ -41,8 +41,8 @@ impl Shown {
         }
     }
 
-    /// Searches for a live page block that overlaps the page block of the reply, among the page blocks of the machine that judged
-    /// the line.
+    /// Looks for a live page block that overlaps the page block of the reply, in the machine that judged the line, and stores the
+    /// result in `taken`.
     pub fn look_for_taken(&mut self, machine: &KnownMachine)
         ensures line { self.new.line ≡ self.old.line }
         ensures reply { self.new.reply ≡ self.old.reply }

@@ -27,7 +27,7 @@ use words_core::{
     write_answer_to,
 };
 
-/// The number of lines of an allowed reply, else the first promise that the reply breaks.
+/// The number of lines of the reply if it is allowed, or else the first promise that it breaks.
 pub(crate) type LineVerdict = Result<u128, Promise>;
 
 /// Reads the reply to a line, and judges it.
@@ -133,8 +133,8 @@ fn judge_lines<R: Feed>(
     judge_gathered(machine, event, more + 1, refused, text)
 }
 
-/// Judges the lines that were gathered as the reply to an event. If they are no reply, `refused` is the refusal in the first
-/// line, if there is one.
+/// Judges the lines that were gathered as the reply to an event. `refused` matters only if they do not form a reply: it is then
+/// the refusal in the first line, if there is one.
 #[inline(always)]
 fn judge_gathered(
     machine: &mut KnownMachine,
@@ -159,7 +159,7 @@ fn judge_gathered(
     }
 }
 
-/// Judges what was gathered as the reply to an event. Returns `None` if it is no reply.
+/// Judges what was gathered as the reply to an event. Returns `None` if that is not a reply.
 #[inline(always)]
 fn judge_text(
     machine: &mut KnownMachine,
@@ -181,7 +181,8 @@ fn judge_text(
     }
 }
 
-/// Does the same for a table. It needs a large buffer, which is cleared only here.
+/// Judges a table as the reply to an event. Returns `None` if the text is not a table. A table needs a large buffer, which is
+/// cleared when this function is entered, so the function is not inlined.
 #[cold]
 #[inline(never)]
 fn judge_table(machine: &mut KnownMachine, event: &Event, text: &[u8]) -> Option<Verdict>
@@ -191,7 +192,7 @@ fn judge_table(machine: &mut KnownMachine, event: &Event, text: &[u8]) -> Option
     Some(machine.judge_table(event, &table))
 }
 
-/// Returns the refusal that was gathered, with its addressee. Returns `None` if no refusal was.
+/// Returns the refusal and its addressee if what was gathered is a refusal, and `None` otherwise.
 fn refusal_in(text: &Gathered<MOST_TEXT_BYTES>) -> Option<(Addressee, Refusal)>
     ensures { (came : List ℕ) → Gathers MOST_TEXT_BYTES came text.now → result ≡ refusal_read (text_read came) }
 {
@@ -204,8 +205,8 @@ fn refusal_in(text: &Gathered<MOST_TEXT_BYTES>) -> Option<(Addressee, Refusal)>
     }
 }
 
-/// Returns the promise that is broken by lines that are no reply. `refused` is the refusal in the first line alone, if there is
-/// one.
+/// Returns the promise that is broken by lines that do not form a reply. `refused` is the refusal in the first of them, if there
+/// is one.
 fn broken_by(
     machine: &mut KnownMachine,
     event: &Event,
@@ -223,7 +224,7 @@ fn broken_by(
     }
 }
 
-/// Returns the number of lines behind the first in a reply to an event, if the reply is no refusal.
+/// Returns the number of lines that follow the first line of a reply to this event, if the reply is not a refusal.
 fn more_lines(machine: &KnownMachine, event: &Event) -> u128
     ensures lines { (w : Known) → ShowsKnown machine.now w → result ≡ more_lines event.now w }
     ensures most { result + 1 < 2 ^ 128 }

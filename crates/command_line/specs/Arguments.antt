@@ -15,7 +15,7 @@ number_rule name least most = record (new_rule name) {
   parser = Some (Signed (pos least) (pos most));
 }
 
--- an argument without a name, given by its position
+-- an argument that is given by its position, without `--name`
 abbrev pub positional_rule : Text → Rule
 positional_rule name = record (new_rule name) { action = Some Set }
 

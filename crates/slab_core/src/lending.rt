@@ -18,8 +18,8 @@ use space_core::Space;
 impl Slabs {
     /// Returns the size in bytes of the live object of cache `c` of tenant `t` that begins at `place`.
     ///
-    /// Refuses as [`Slabs::give`] does: `NoCache` if the tenant has no such cache, then `NotAnObject` if no live object of the
-    /// cache begins at `place`.
+    /// Refuses in the same cases as [`Slabs::give`]: with `NoCache` if the tenant has no such cache, then with `NotAnObject` if
+    /// no live object of the cache begins at `place`.
     pub fn object_bytes(
         &self,
         space: &Space,
