@@ -136,12 +136,10 @@ pub extern "C" fn partmem_give(
     ensures { RunsCall machine.old.slot.held (Tenant tenant (Give cache place)) machine.new.slot.held
         (λ reply. result ≡ call_status (numbers_in_reply reply)) }
 {
-    if !machine.is_booted() {
+    let Some(kernel) = machine.kernel() else {
         return NO_MACHINE;
-    }
-    let mut kernel = machine.take_out(alloc);
+    };
     let outcome = kernel.give_object(tenant, cache, place);
-    machine.put_in(kernel);
     status_of(outcome)
 }
 

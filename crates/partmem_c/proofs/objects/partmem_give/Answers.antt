@@ -1,13 +1,11 @@
-use Rattle.std.proofs.Common.{◌≡◌, ℕ, Some, Result, Ok, Err, IfOk, IfErr, subst}
+use Rattle.std.proofs.Common.{◌≡◌, ℕ, Some, Result, Ok, Err, IfOk, IfErr, refl}
 use Rattle.words_core.specs.Texts.{number_of_refusal}
-use Rattle.words_core.specs.declared.event.Event.TheVariants.{Tenant}
-use Rattle.words_core.specs.declared.event.Command.TheVariants.{Give}
 use Rattle.words_core.specs.declared.reply.Body.TheVariants.{Given}
 use Rattle.words_core.specs.declared.reply.Refusal.{Refusal}
 use Rattle.words_core.specs.declared.reply.Reply.{Reply}
 use Rattle.kernel_core.specs.Content.{KernelContent}
 use Rattle.kernel_core.specs.Lending.{reply_for}
-use Rattle.kernel_core.specs.Steps.{Steps, body_of}
+use Rattle.kernel_core.specs.Steps.{body_of}
 use Rattle.partmem_c.specs.declared.status.TheConstants.{DONE}
 use Rattle.partmem_c.specs.Calls.{numbers_in_reply, call_status}
 use Rattle.partmem_c.proofs.objects.partmem_give.Goals as goal
@@ -22,15 +20,15 @@ given_returned k t (Err refusal) status done refused = refused
 
 pub returns : goal.returns
 returns c =
-    let old = c.deref_mut.result.now in let new = c.give_object-outcome.new.self in let t = c.args.tenant in
+    let old = c.in-Some.kernel.now in let new = c.give_object-outcome.new.self in let t = c.args.tenant in
     let outcome = c.give_object-outcome.result in let reply = give_reply old t outcome in record {
       reply = Some reply;
       replies = record {
-        before = c.take_out-kernel.result.value;
+        before = old;
         after = new;
-        was = c.take_out-kernel.ensures.held;
-        is = c.put_in.ensures;
-        steps = subst (λ (k : KernelContent). Steps k (Tenant t (Give c.args.cache c.args.place)) new reply) c.deref_mut.ensures.value c.give_object-outcome.ensures;
+        was = c.in-Some.ensures.value;
+        is = refl;
+        steps = c.give_object-outcome.ensures;
       };
       returns = given_returned old t outcome c.status_of.result c.status_of.ensures.done c.status_of.ensures.refused;
     }
