@@ -7,9 +7,11 @@ PROGRAMS := partmem framemap partcheck
 #   nothing that was built; refused-growths and pasted-first build without proofs:
 FROM_SOURCES := structure documents diagrams pages witnesses helps refused-growths pasted-first
 #   the programs that `rt ci` left:
-OVER_PROGRAMS := hostile-bytes refused-memory instructions yours plain-machine pictures browser machines command-lines partcheck examples
+OVER_PROGRAMS := hostile-bytes refused-memory instructions conformance plain-machine pictures browser machines \
+    command-lines partcheck examples
 #   the library for C, and some the programs too:
-OVER_LIBRARY := same-path kernel-archives objtool in-place heap watched cpp use-from-c pasted kernel linux rust costs stack install
+OVER_LIBRARY := same-path kernel-archives objtool in-place heap watched cpp use-from-c pasted demo-kernel linux rust \
+    costs stack install
 CHECKS := $(addprefix check-,$(FROM_SOURCES) $(OVER_PROGRAMS) $(OVER_LIBRARY))
 .PHONY: list try unproved prove test check tools proved library install uninstall release bench soak $(CHECKS)
 

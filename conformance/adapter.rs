@@ -1,0 +1,334 @@
+//! An allocator of your own in Rust behind the lines of docs/traces.md: implement [`Allocator`], and call [`run`] in `main`.
+//!
+//! ```sh
+//! rustc -O -o mine mine.rs && conformance/check --pages ./mine
+//! ```
+//!
+//! with `#[path = "conformance/adapter.rs"] mod adapter;` in `mine.rs`. A superblock has `2^order` frames of [`FRAME_BYTES`]
+//! bytes. Slot `u` has the tenant's frames from `u * 2^order` on, and frame `f` its places from `f * FRAME_BYTES` on, all below
+//! 2^32; which slot a grant takes is yours to choose. A tenant that is passed exists; slots, frames, places and numbers of caches
+//! are any that a line may have. A function that refuses changes nothing and returns the first refusal that applies, in the order
+//! named with it.
+#![allow(dead_code)]
+
+use std::io::{self, BufRead, Write};
+use std::process::ExitCode;
+
+pub const FRAME_BYTES: u32 = 4096;
+pub const MOST_BYTES: u32 = 64;
+const MOST_LINE: usize = 255;
+const MOST_PATTERN: usize = 16;
+
+#[derive(Clone, Copy, Debug, PartialEq, Eq)]
+pub enum Refusal {
+    NoFrames = 1,
+    BadOrder,
+    NotABlock,
+    OutOfReach,
+    BadLength,
+    BadSize,
+    BadAlign,
+    NoCacheSlot,
+    NoCache,
+    CacheInUse,
+    NotAnObject,
+    NoTenant,
+    PoolEmpty,
+    NoSlot,
+    SlotBusy,
+}
+
+/// A machine: superblocks of `2^order` frames that nobody owns, and tenants that have nothing.
+#[derive(Clone, Copy, Debug, Default)]
+pub struct Sizes {
+    pub order: u32,
+    pub superblocks: u32,
+    pub tenants: u32,
+}
+
+pub trait Allocator {
+    /// Puts a superblock that nobody owns under a slot that the tenant does not hold; it reads as zero. Returns the slot and the
+    /// superblock: PoolEmpty.
+    fn grant(&mut self, tenant: u32) -> Result<(u32, u32), Refusal>;
+    /// Gives up a slot without taken frames. Returns the superblock that it had: NoSlot, SlotBusy.
+    fn take_back(&mut self, tenant: u32, slot: u32) -> Result<u32, Refusal>;
+    /// Gives up all that the tenant has. Returns how many superblocks it had.
+    fn reset(&mut self, tenant: u32) -> u32;
+    /// Puts another superblock under the slot, with all its bytes. Returns it: NoSlot, PoolEmpty.
+    fn relocate(&mut self, tenant: u32, slot: u32) -> Result<u32, Refusal>;
+    /// Returns the first frame of a block of `2^order` frames, of any order that a line may have: BadOrder, NoFrames.
+    fn alloc(&mut self, tenant: u32, order: u32) -> Result<u32, Refusal>;
+    /// Takes back the block that begins at the frame. Returns its order: NotABlock.
+    fn free(&mut self, tenant: u32, frame: u32) -> Result<u32, Refusal>;
+    /// Returns this many bytes, 1 to [`MOST_BYTES`], inside one block or object of the tenant: BadLength, OutOfReach.
+    fn read(&mut self, tenant: u32, place: u32, length: u32) -> Result<Vec<u8>, Refusal>;
+    /// Writes bytes in the same way: OutOfReach.
+    fn write(&mut self, tenant: u32, place: u32, bytes: &[u8]) -> Result<(), Refusal>;
+    /// Your caches; without any, their commands end the program, so test it with --pages.
+    fn caches(&mut self) -> Option<&mut dyn Caches> {
+        None
+    }
+}
+
+/// What the reply to a new cache says: its number, the bytes from one object to the next, the order of a slab, its objects and
+/// its colours.
+#[derive(Clone, Copy, Debug)]
+pub struct Layout {
+    pub number: u32,
+    pub chunk: u32,
+    pub order: u32,
+    pub objects: u32,
+    pub colours: u32,
+}
+
+/// A cache in a report: how many of its slabs are full, partial and empty, and how many objects are live.
+#[derive(Clone, Copy, Debug)]
+pub struct CacheRow {
+    pub number: u32,
+    pub full: u32,
+    pub partial: u32,
+    pub empty: u32,
+    pub live: u32,
+}
+
+/// The free and taken blocks of each order, and the caches by rising number.
+#[derive(Clone, Debug, Default)]
+pub struct Figures {
+    pub orders: Vec<(u32, u32)>,
+    pub caches: Vec<CacheRow>,
+}
+
+pub trait Caches {
+    /// BadSize, BadAlign, NoCacheSlot.
+    fn make(&mut self, tenant: u32, size: u32, align: u32, pattern: &[u8]) -> Result<Layout, Refusal>;
+    /// Returns the number of frames that are freed: NoCache, CacheInUse.
+    fn destroy(&mut self, tenant: u32, cache: u32) -> Result<u32, Refusal>;
+    /// Returns the object's first place: NoCache, NoFrames.
+    fn take(&mut self, tenant: u32, cache: u32) -> Result<u32, Refusal>;
+    /// NoCache, NotAnObject.
+    fn give(&mut self, tenant: u32, cache: u32, place: u32) -> Result<(), Refusal>;
+    /// Returns the number of frames of the empty slabs that are freed.
+    fn reap(&mut self, tenant: u32) -> u32;
+    fn report(&mut self, tenant: u32) -> Figures;
+}
+
+/// The owner of each superblock, as the replies gave it.
+type Owners = Vec<Option<(u32, u32)>>;
+
+enum Argument {
+    Number(u32),
+    Bytes(Vec<u8>),
+}
+
+struct Adapter<A> {
+    allocator: A,
+    sizes: Sizes,
+    owners: Owners,
+}
+
+/// Boots an allocator with the sizes on the command line, and answers each line of standard input before it reads the next.
+pub fn run<A: Allocator>(boot: impl FnOnce(Sizes) -> A) -> ExitCode {
+    let Some(sizes) = sizes() else {
+        eprintln!("usage: PROGRAM --order 3..8 --superblocks 1..256 --tenants 1..64 < TRACE");
+        return ExitCode::from(2);
+    };
+    let mut adapter = Adapter { allocator: boot(sizes), sizes, owners: vec![None; sizes.superblocks as usize] };
+    let (mut input, mut line) = (io::stdin().lock(), Vec::new());
+    while input.read_until(b'\n', &mut line).is_ok_and(|read| read > 0) {
+        let text = line.strip_suffix(b"\n").unwrap_or(&line);
+        let reply = adapter.answer(text.strip_suffix(b"\r").unwrap_or(text));
+        let mut output = io::stdout().lock();
+        if output.write_all(reply.as_bytes()).and_then(|()| output.flush()).is_err() {
+            return ExitCode::FAILURE;
+        }
+        line.clear();
+    }
+    ExitCode::SUCCESS
+}
+
+fn sizes() -> Option<Sizes> {
+    let words: Vec<String> = std::env::args().skip(1).collect();
+    let mut sizes = Sizes::default();
+    for pair in words.chunks_exact(2) {
+        let size = match pair[0].as_str() {
+            "--order" => &mut sizes.order,
+            "--superblocks" => &mut sizes.superblocks,
+            _ => &mut sizes.tenants,
+        };
+        *size = pair[1].parse().ok()?;
+    }
+    let fits = (3..=8).contains(&sizes.order) && (1..=256).contains(&sizes.superblocks) && (1..=64).contains(&sizes.tenants);
+    fits.then_some(sizes)
+}
+
+fn number(word: &[u8]) -> Option<u32> {
+    let is_number = (1..=10).contains(&word.len()) && word.iter().all(u8::is_ascii_digit);
+    std::str::from_utf8(word).ok().filter(|_| is_number)?.parse().ok()
+}
+
+fn hex(word: &[u8], most: usize) -> Option<Vec<u8>> {
+    let is_hex = (1..=2 * most).contains(&word.len()) && word.len() % 2 == 0 && word.iter().all(u8::is_ascii_hexdigit);
+    let text = std::str::from_utf8(word).ok().filter(|_| is_hex)?;
+    (0..text.len()).step_by(2).map(|at| u8::from_str_radix(&text[at..at + 2], 16).ok()).collect()
+}
+
+/// The forms of a command's arguments: n a number, b up to 64 bytes, p a pattern.
+fn forms(is_admin: bool, command: &[u8]) -> Option<&'static str> {
+    Some(match (is_admin, command) {
+        (true, b"grant" | b"reset") | (false, b"alloc" | b"free" | b"take" | b"destroy") => "n",
+        (true, b"takeback" | b"move") | (false, b"read" | b"give") => "nn",
+        (true, b"pool") | (false, b"reap" | b"report") => "",
+        (false, b"write") => "nb",
+        (false, b"cache") => "nnp",
+        _ => return None,
+    })
+}
+
+fn arguments(forms: &str, words: &[&[u8]]) -> Result<Vec<Argument>, &'static str> {
+    if words.len() != forms.len() {
+        return Err("Words");
+    }
+    let read = |(form, word): (char, &&[u8])| match form {
+        'n' => number(word).map(Argument::Number).ok_or("Number"),
+        _ => hex(word, if form == 'b' { MOST_BYTES as usize } else { MOST_PATTERN }).map(Argument::Bytes).ok_or("Hex"),
+    };
+    forms.chars().zip(words).map(read).collect()
+}
+
+fn told(result: Result<String, Refusal>) -> String {
+    result.unwrap_or_else(|refusal| format!("refused {} {refusal:?}", refusal as u32))
+}
+
+impl<A: Allocator> Adapter<A> {
+    /// Returns the reply to a line: the cases of docs/traces.md, in their order.
+    fn answer(&mut self, line: &[u8]) -> String {
+        if line.len() > MOST_LINE {
+            return "!> fault Long\n".into();
+        }
+        let words: Vec<&[u8]> = line.split(|byte| matches!(byte, b' ' | b'\t')).filter(|word| !word.is_empty()).collect();
+        match words.first() {
+            None | Some([b'#', ..]) => String::new(),
+            Some(first) => self.reply(first, &words[1..]).unwrap_or_else(|fault| format!("!> fault {fault}\n")),
+        }
+    }
+
+    fn reply(&mut self, first: &[u8], words: &[&[u8]]) -> Result<String, &'static str> {
+        let is_admin = first == b"admin";
+        let actor = number(first);
+        if !is_admin && actor.is_none() {
+            return Err(if first[0].is_ascii_digit() { "Number" } else { "Unknown" });
+        }
+        let (command, rest) = words.split_first().ok_or("Words")?;
+        let arguments = arguments(forms(is_admin, command).ok_or("Unknown")?, rest)?;
+        let command = std::str::from_utf8(command).map_err(|_| "Unknown")?;
+        Ok(match actor {
+            Some(tenant) if tenant >= self.sizes.tenants => format!("!> {}\n", told(Err(Refusal::NoTenant))),
+            Some(tenant) => format!("{tenant}> {}\n", told(self.command(tenant, command, &arguments))),
+            None => format!("admin> {}\n", told(self.administer(command, &arguments))),
+        })
+    }
+
+    fn administer(&mut self, command: &str, arguments: &[Argument]) -> Result<String, Refusal> {
+        match (command, arguments) {
+            ("pool", _) => Ok(self.pool()),
+            (_, [Argument::Number(tenant), ..]) if *tenant >= self.sizes.tenants => Err(Refusal::NoTenant),
+            ("grant", &[Argument::Number(tenant)]) => {
+                let (slot, superblock) = self.allocator.grant(tenant)?;
+                self.own(superblock, tenant, slot);
+                Ok(format!("granted {tenant} slot {slot} superblock {superblock}"))
+            }
+            ("takeback", &[Argument::Number(tenant), Argument::Number(slot)]) => {
+                let superblock = self.allocator.take_back(tenant, slot)?;
+                self.disown(|owner| owner == (tenant, slot));
+                Ok(format!("taken superblock {superblock}"))
+            }
+            ("move", &[Argument::Number(tenant), Argument::Number(slot)]) => {
+                let superblock = self.allocator.relocate(tenant, slot)?;
+                self.disown(|owner| owner == (tenant, slot));
+                self.own(superblock, tenant, slot);
+                Ok(format!("moved {tenant} slot {slot} superblock {superblock}"))
+            }
+            (_, &[Argument::Number(tenant), ..]) => {
+                let superblocks = self.allocator.reset(tenant);
+                self.disown(|owner| owner.0 == tenant);
+                Ok(format!("reset {tenant} superblocks {superblocks}"))
+            }
+            _ => unreachable!("the arguments have the command's forms"),
+        }
+    }
+
+    fn own(&mut self, superblock: u32, tenant: u32, slot: u32) {
+        self.owners[superblock as usize] = Some((tenant, slot));
+    }
+
+    fn disown(&mut self, is_given_up: impl Fn((u32, u32)) -> bool) {
+        self.owners.iter_mut().filter(|owner| owner.is_some_and(&is_given_up)).for_each(|owner| *owner = None);
+    }
+
+    fn pool(&self) -> String {
+        let free = self.owners.iter().filter(|owner| owner.is_none()).count();
+        let rows = self.owners.iter().enumerate().map(|(number, owner)| match owner {
+            Some((tenant, slot)) => format!("\nadmin> superblock {number} tenant {tenant} slot {slot}"),
+            None => format!("\nadmin> superblock {number} free"),
+        });
+        format!("pool free {free} of {}{}", self.owners.len(), rows.collect::<String>())
+    }
+
+    fn command(&mut self, tenant: u32, command: &str, arguments: &[Argument]) -> Result<String, Refusal> {
+        match (command, arguments) {
+            ("alloc", &[Argument::Number(order)]) => Ok(format!("frame {}", self.allocator.alloc(tenant, order)?)),
+            ("free", &[Argument::Number(frame)]) => Ok(format!("freed {}", self.allocator.free(tenant, frame)?)),
+            ("read", &[Argument::Number(place), Argument::Number(length)]) => {
+                let bytes = self.allocator.read(tenant, place, length)?;
+                Ok(format!("bytes {}", bytes.iter().map(|byte| format!("{byte:02x}")).collect::<String>()))
+            }
+            ("write", [Argument::Number(place), Argument::Bytes(bytes)]) => {
+                self.allocator.write(tenant, *place, bytes)?;
+                Ok(format!("written {}", bytes.len()))
+            }
+            ("report", _) => Ok(self.report(tenant)),
+            _ => self.of_caches(tenant, command, arguments),
+        }
+    }
+
+    fn caches(&mut self) -> &mut dyn Caches {
+        self.allocator.caches().unwrap_or_else(|| {
+            eprintln!("there are no caches");
+            std::process::exit(1)
+        })
+    }
+
+    fn of_caches(&mut self, tenant: u32, command: &str, arguments: &[Argument]) -> Result<String, Refusal> {
+        let caches = self.caches();
+        Ok(match (command, arguments) {
+            ("cache", [Argument::Number(size), Argument::Number(align), Argument::Bytes(pattern)]) => {
+                let Layout { number, chunk, order, objects, colours } = caches.make(tenant, *size, *align, pattern)?;
+                format!("cache {number} chunk {chunk} order {order} objects {objects} colours {colours}")
+            }
+            ("take", &[Argument::Number(cache)]) => format!("object {}", caches.take(tenant, cache)?),
+            ("destroy", &[Argument::Number(cache)]) => format!("destroyed {}", caches.destroy(tenant, cache)?),
+            ("give", &[Argument::Number(cache), Argument::Number(place)]) => {
+                caches.give(tenant, cache, place)?;
+                "given".into()
+            }
+            _ => format!("reaped {}", caches.reap(tenant)),
+        })
+    }
+
+    fn report(&mut self, tenant: u32) -> String {
+        let figures = self.caches().report(tenant);
+        let held = self.owners.iter().flatten().filter(|owner| owner.0 == tenant).count() << self.sizes.order;
+        let free: usize = figures.orders.iter().enumerate().map(|(order, row)| (row.0 as usize) << order).sum();
+        let greatest = figures.orders.iter().rposition(|row| row.0 > 0);
+        let split = greatest.map_or(0, |order| (1000 * (free - (1 << order))).div_ceil(free));
+        let top = greatest.map_or("none".into(), |order| order.to_string());
+        let mut text = format!("frames {held} live {} free {free} top {top} split {split}", held - free);
+        for (order, (free, taken)) in figures.orders.iter().enumerate() {
+            text += &format!("\n{tenant}> order {order} free {free} taken {taken}");
+        }
+        for CacheRow { number, full, partial, empty, live } in &figures.caches {
+            text += &format!("\n{tenant}> cache {number} full {full} partial {partial} empty {empty} live {live}");
+        }
+        text
+    }
+}

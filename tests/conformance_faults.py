@@ -1,0 +1,412 @@
+"""Faults of allocators, as changes of tests/conformance_lists.c and conformance_slabs.c, with the promises that find them."""
+from typing import NamedTuple
+
+FEW, MANY = 14, 420
+
+
+class Fault(NamedTuple):
+    kind: str
+    name: str
+    promises: str                                               # any of these finds it, or `Failed`
+    changes: list                                               # a text that occurs once, and its replacement
+    most: int = FEW                                             # lines that the shortened load may have
+
+
+LISTS = [
+    Fault('merge', 'blocks are never joined', 'Room Blocks Refusals Failed', [
+        ('    while (joined < top) {',
+         '    while (false) {')]),
+    Fault('merge', 'blocks are joined once', 'Room Blocks Refusals Failed', [
+        ('    while (joined < top) {',
+         '    for (unsigned once = joined; joined < top && joined == once;) {')]),
+    Fault('merge', 'a buddy of another order is joined', 'Blocks Failed', [
+        (' || of->pages[buddy].order != joined',
+         '')], 20),
+    Fault('merge', 'two slots are joined', 'Room Blocks Failed', [
+        ('    while (joined < top) {',
+         '    while (joined <= top) {')], 20),
+    Fault('merge', 'the joined block begins at the upper half', 'Blocks Failed', [
+        ('        frame &= ~(1u << joined);\n',
+         '')], 20),
+    Fault('split', 'the upper half is counted from the least order', 'Blocks Room Failed', [
+        ('push(of, *frame + (1u << from), from);',
+         'push(of, *frame + (1u << order), from);')], 20),
+    Fault('split', 'the last half is lost', 'Room Blocks', [
+        ('        push(of, *frame + (1u << from), from);',
+         '        if (from > 0) push(of, *frame + (1u << from), from);')], 24),
+    Fault('split', 'a frame alone is freed as two', 'Gives Refusals', [
+        ('of->pages[*frame].order = (uint8_t)order;',
+         'of->pages[*frame].order = (uint8_t)(order ? order : 1);')]),
+    Fault('bounds', 'a range may end one past the block', 'Refusals', [
+        ('length > end)',
+         'length > end + 1)')]),
+    Fault('bounds', 'a range may not end at the end', 'Refusals', [
+        ('length > end)',
+         'length >= end)')]),
+    Fault('bounds', 'no bytes are read', 'Refusals', [
+        ('length < 1 || ',
+         '')]),
+    Fault('bounds', '64 bytes are too many', 'Refusals', [
+        ('length > MOST_BYTES',
+         'length >= MOST_BYTES')]),
+    Fault('bounds', 'the order is cut to a byte', 'Refusals', [
+        ('    if (order > top)',
+         '    if ((uint8_t)order > top)')]),
+    Fault('bounds', 'the slot is cut to a byte', 'Refusals', [
+        ('enum reply take_back(unsigned tenant, uint32_t slot, unsigned *superblock) {\n',
+         'enum reply take_back(unsigned tenant, uint32_t slot, unsigned *superblock) {\n'
+         '    slot &= 0xff;\n')]),
+    Fault('bounds', 'the place of a frame is cut to 32 bits', 'Refusals', [
+        ('enum reply release(unsigned tenant, uint32_t frame, unsigned *order) {\n',
+         'enum reply release(unsigned tenant, uint32_t frame, unsigned *order) {\n'
+         '    frame &= 0xfffff;\n')]),
+    Fault('overflow', 'taken frames of a slot in a byte', 'Refusals', [
+        ('    unsigned *taken; ',
+         '    uint8_t *taken; ')], 300),
+    Fault('overflow', 'superblocks of a reset in a byte', 'Owners', [
+        ('            ++*superblocks;',
+         '            *superblocks = (uint8_t)(*superblocks + 1);')], 270),
+    Fault('overflow', 'blocks of a tenant in a byte', 'Refusals', [
+        ('static bool *owned;\n',
+         'static bool *owned;\n'
+         'static uint8_t live[64];\n'),
+        ('    *order = of->pages[frame].order;\n',
+         '    *order = of->pages[frame].order;\n'
+         '    if (live[tenant]-- == 0) return NOT_A_BLOCK;\n'),
+        ('    of->pages[*frame].kind = TAKEN;\n',
+         '    of->pages[*frame].kind = TAKEN;\n'
+         '    live[tenant]++;\n'),
+        ('    *superblocks = 0;\n',
+         '    *superblocks = 0;\n'
+         '    live[tenant] = 0;\n')], 300),
+    Fault('overflow', 'frames of a tenant in two bytes', 'Refusals', [
+        ('static bool *owned;\n',
+         'static bool *owned;\n'
+         'static uint16_t used[64];\n'),
+        ('    *order = of->pages[frame].order;\n',
+         '    *order = of->pages[frame].order;\n'
+         '    if (used[tenant] == 0) return NOT_A_BLOCK;\n'
+         '    used[tenant] -= 1u << *order;\n'),
+        ('    of->pages[*frame].kind = TAKEN;\n',
+         '    of->pages[*frame].kind = TAKEN;\n'
+         '    used[tenant] += 1u << order;\n'),
+        ('    *superblocks = 0;\n',
+         '    *superblocks = 0;\n'
+         '    used[tenant] = 0;\n')], 1600),
+    Fault('scrub', 'superblocks are not zeroed', 'Bytes', [
+        ('    memset(bytes_of(superblock), 0, size_of_superblock());\n',
+         '')]),
+    Fault('scrub', 'half of a superblock is zeroed', 'Bytes', [
+        ('memset(bytes_of(superblock), 0, size_of_superblock());',
+         'memset(bytes_of(superblock), 0, size_of_superblock() / 2);')]),
+    Fault('scrub', 'the last word of a superblock is not zeroed', 'Bytes', [
+        ('memset(bytes_of(superblock), 0, size_of_superblock());',
+         'memset(bytes_of(superblock), 0, size_of_superblock() - 8);')]),
+    Fault('move', 'half of the bytes are moved', 'Bytes Alone', [
+        ('slot]), size_of_superblock());\n'
+         '    give_up',
+         'slot]), size_of_superblock() / 2);\n'
+         '    give_up')]),
+    Fault('move', 'the superblock that was left stays owned', 'Refusals Owners', [
+        ('    give_up(of->superblocks[slot]);\n'
+         '    of->',
+         '    of->')], 30),
+    Fault('move', 'a slot that was moved is not busy', 'Refusals Busy', [
+        ('    of->superblocks[slot] = *superblock;\n',
+         '    of->superblocks[slot] = *superblock;\n'
+         '    of->taken[slot] = 0;\n')]),
+    Fault('reset', 'the free lists stay', 'Blocks Refusals Owners Failed', [
+        ('    *superblocks = 0;\n'
+         '    memset(of->first, 0xff, sizeof of->first);\n',
+         '    *superblocks = 0;\n')]),
+    Fault('reset', 'the taken frames stay', 'Busy Refusals', [
+        ('    of->taken[*slot] = 0;\n',
+         '')]),
+    Fault('reset', 'the blocks stay', 'Refusals', [
+        ('            memset(of->pages + slot * frames, 0, frames * sizeof *of->pages);\n',
+         '')]),
+    Fault('hint', 'the block that anybody freed last comes first', 'Alone', [
+        ('static bool *owned;\n',
+         'static bool *owned;\n'
+         'static uint32_t hint;\n'),
+        ('    *order = of->pages[frame].order;\n',
+         '    *order = of->pages[frame].order;\n'
+         '    hint = frame;\n'),
+        ('    unsigned from = order;\n',
+         '    unsigned from = order;\n'
+         '    struct page *page = &of->pages[hint % (count * frames)];\n'
+         '    if (order <= top && page->kind == FREE && page->order == order) {\n'
+         '        unlink_block(of, hint);\n'
+         '        push(of, hint, order);\n'
+         '    }\n')]),
+    Fault('order of lists', 'a block goes first or second by all that was freed', 'Alone', [
+        ('static bool *owned;\n',
+         'static bool *owned;\n'
+         'static unsigned turn;\n'),
+        ('    push(of, frame, joined);\n',
+         '    uint32_t one = of->first[joined];\n'
+         '    push(of, frame, joined);\n'
+         '    if (++turn % 2 && one != NONE) {\n'
+         '        unlink_block(of, one);\n'
+         '        push(of, one, joined);\n'
+         '    }\n')]),
+    Fault('order of lists', 'the slot depends on the superblock', 'Alone', [
+        ('for (*slot = 0; holds',
+         'for (*slot = *superblock % 2; holds'),
+        ('*slot); ++*slot)',
+         '*slot) && *slot < count; ++*slot)'),
+        ('        ;\n',
+         '        ;\n'
+         '    if (*slot >= count)\n'
+         '        for (*slot = 0; holds(of, *slot); ++*slot)\n'
+         '            ;\n')]),
+    Fault('slots', 'blocks are joined in slots 0 to 63', 'Room Blocks Refusals Failed', [
+        ('    while (joined < top) {',
+         '    while (joined < top && frame / frames < 64) {')], 160),
+    Fault('slots', 'slots 0 to 63 are searched', 'Owners Refusals', [
+        ('for (*slot = 0; holds(of, *slot); ++*slot)',
+         'for (*slot = 0; holds(of, *slot) && *slot < 64; ++*slot)')], 70),
+    Fault('slots', 'the slot is a bit of 64', 'Busy Refusals', [
+        ('    *order = of->pages[frame].order;\n',
+         '    *order = of->pages[frame].order;\n'
+         '    if (frame / frames >= 64) of->taken[frame / frames - 64] = 0;\n')], 160),
+    Fault('slots', 'superblock 255 is nobody', 'Owners Refusals', [
+        ('return slot < count && of->superblocks[slot] < count; }',
+         'return slot < count && of->superblocks[slot] < count && of->superblocks[slot] != 255; }')], 270),
+    Fault('tenants', 'tenants 32 apart share a hint', 'Alone', [
+        ('static bool *owned;\n',
+         'static bool *owned;\n'
+         'static uint32_t hint[32];\n'),
+        ('    *order = of->pages[frame].order;\n',
+         '    *order = of->pages[frame].order;\n'
+         '    hint[tenant % 32] = frame;\n'),
+        ('    unsigned from = order;\n',
+         '    unsigned from = order;\n'
+         '    struct page *page = &of->pages[hint[tenant % 32] % (count * frames)];\n'
+         '    if (order <= top && page->kind == FREE && page->order == order) {\n'
+         '        unlink_block(of, hint[tenant % 32]);\n'
+         '        push(of, hint[tenant % 32], order);\n'
+         '    }\n')]),
+    Fault('links', 'a free block has its link in its first bytes', 'Bytes', [
+        ('    of->first[order] = frame;\n',
+         '    of->first[order] = frame;\n'
+         '    memcpy(memory + of->superblocks[frame / frames] * size_of_superblock() + frame % frames * '
+         'FRAME_BYTES, &next, 4);\n')]),
+    Fault('leak', 'a superblock that is taken back stays owned', 'Refusals Owners', [
+        ('    of->superblocks[slot] = NONE;\n'
+         '    give_up(*superblock);\n',
+         '    of->superblocks[slot] = NONE;\n')]),
+    Fault('leak', 'an empty slot is lost', 'Room Blocks Failed', [
+        ('    push(of, frame, joined);\n',
+         '    if (joined < top)\n'
+         '        push(of, frame, joined);\n')]),
+    Fault('double free', 'a free block is freed', 'Refusals', [
+        ('of->pages[frame].kind != TAKEN',
+         'of->pages[frame].kind == INSIDE')]),
+    Fault('double free', 'the second frame of a block frees it', 'Refusals Blocks', [
+        ('enum reply release(unsigned tenant, uint32_t frame, unsigned *order) {\n',
+         'enum reply release(unsigned tenant, uint32_t frame, unsigned *order) {\n'
+         '    frame &= ~1u;\n')]),
+    Fault('late', 'no frames after 300 allocations', 'Room', [
+        ('    unsigned from = order;\n',
+         '    unsigned from = order;\n'
+         '    static int calls;\n'
+         '    if (order <= top && ++calls > 300)\n'
+         '        return NO_FRAMES;\n')], MANY),
+    Fault('late', 'no block after 1,000 frees', 'Refusals', [
+        ('    *order = of->pages[frame].order;\n',
+         '    *order = of->pages[frame].order;\n'
+         '    static int calls;\n'
+         '    if (++calls > 1000)\n'
+         '        return NOT_A_BLOCK;\n')], 3000),
+    Fault('late', 'no superblock after 300 grants', 'Refusals', [
+        ('    if (!next_superblock(superblock))\n'
+         '        return POOL_EMPTY;\n'
+         '    for',
+         '    static int calls;\n'
+         '    if (++calls > 300 || !next_superblock(superblock))\n'
+         '        return POOL_EMPTY;\n'
+         '    for')], 700),
+    Fault('late', 'no superblock after 50 moves', 'Refusals', [
+        ('    if (!next_superblock(superblock))\n'
+         '        return POOL_EMPTY;\n'
+         '    memcpy',
+         '    static int calls;\n'
+         '    if (++calls > 50 || !next_superblock(superblock))\n'
+         '        return POOL_EMPTY;\n'
+         '    memcpy')], 200),
+    Fault('late', 'it aborts at the allocation 1,000', 'Failed', [
+        ('    unsigned from = order;\n',
+         '    unsigned from = order;\n'
+         '    static int calls;\n'
+         '    if (++calls == 1000)\n'
+         '        abort();\n')], 2500),
+]
+
+SLABS = [
+    Fault('merge', 'half a block is joined', 'Blocks Report', [
+        ('left == order && right == order',
+         'left == order || right == order')]),
+    Fault('split', 'the right half is forgotten', 'Room', [
+        ('left > right ? left : right',
+         'left')]),
+    Fault('bounds', 'objects of 4,097 bytes', 'Refusals Objects', [
+        ('size > MOST_SIZE)',
+         'size > MOST_SIZE + 1)')]),
+    Fault('bounds', 'an alignment of 512', 'Refusals Layout', [
+        ('align > 256',
+         'align > 512')]),
+    Fault('bounds', '31 caches', 'Refusals', [
+        ('    if (number == MOST_CACHES)',
+         '    if (number == MOST_CACHES - 1)')], 40),
+    Fault('bounds', 'the slack behind an object is read', 'Refusals', [
+        ('length <= cache->size',
+         'length <= cache->chunk')]),
+    Fault('bounds', 'the next object is read', 'Refusals', [
+        ('offset % cache->chunk + (uint64_t)length <=',
+         '(uint64_t)length <=')]),
+    Fault('bounds', 'an object that is not live is read', 'Refusals', [
+        ('at < cache->objects && slab->taken[at] &&',
+         'at < cache->objects &&')]),
+    Fault('layout', 'chunks without alignment', 'Layout', [
+        ('.chunk = (size + align - 1) / align * align',
+         '.chunk = size < 8 ? 8 : size')]),
+    Fault('layout', 'one object too many', 'Layout', [
+        ('/ cache->chunk;\n'
+         '    *layout',
+         '/ cache->chunk + 1;\n'
+         '    *layout')]),
+    Fault('layout', 'a colour too many', 'Layout', [
+        ('cache->objects, 1};',
+         'cache->objects, (FRAME_BYTES << cache->order) % cache->chunk / align + 2};')]),
+    Fault('layout', 'the last object has no pattern', 'Bytes', [
+        ('at < cache->objects; at++)\n'
+         '        for',
+         'at + 1 < cache->objects; at++)\n'
+         '        for')], 40),
+    Fault('layout', 'the pattern goes on from object to object', 'Bytes', [
+        ('cache->pattern[byte % cache->length]',
+         'cache->pattern[(at * cache->size + byte) % cache->length]')]),
+    Fault('overflow', 'live objects of a slab in a byte', 'Refusals Report Failed Objects', [
+        ('    unsigned live;\n',
+         '    uint8_t live;\n')], 600),
+    Fault('overflow', 'live objects of a cache in a byte', 'Refusals', [
+        ('    for (unsigned at = 0; at < cache->count; at++)\n'
+         '        if (cache->slabs[at].live > 0)\n'
+         '            return CACHE_IN_USE;\n',
+         '    uint8_t live = 0;\n'
+         '    for (unsigned at = 0; at < cache->count; at++)\n'
+         '        live += cache->slabs[at].live;\n'
+         '    if (live > 0)\n'
+         '        return CACHE_IN_USE;\n')], 300),
+    Fault('overflow', 'slabs of a cache in a byte', 'Refusals Failed Bytes Objects Report Room', [
+        ('length, count;\n',
+         'length;\n'
+         '    uint8_t count;\n')], 1600),
+    Fault('slots', 'slots 0 to 63 are searched', 'Room', [
+        ('    for (uint32_t slot = 0; slot < count; slot++) {\n'
+         '        uint8_t *tree',
+         '    for (uint32_t slot = 0; slot < count && slot < 64; slot++) {\n'
+         '        uint8_t *tree')], 135),
+    Fault('slots', 'empty slabs go in slots 0 to 63', 'Room', [
+        ('        return false;\n'
+         '    drop_all_empty',
+         '        return false;\n'
+         '    bool is_low = false;\n'
+         '    for (struct cache *cache = of->caches; cache < of->caches + MOST_CACHES; cache++)\n'
+         '        for (unsigned at = 0; at < cache->count; at++)\n'
+         '            is_low = is_low || (cache->slabs[at].live == 0 && cache->slabs[at].first / frames < 64);\n'
+         '    if (!is_low)\n'
+         '        return false;\n'
+         '    drop_all_empty')], 160),
+    Fault('slots', 'an empty slab in the first slot stays', 'Room', [
+        ('            if (slab->live == 0)\n'
+         '                set_free',
+         '            if (slab->live == 0 && slab->first >= frames)\n'
+         '                set_free')]),
+    Fault('edges', 'the last object of a slab is not taken', 'Room', [
+        ('        if (slab->live < cache->objects &&',
+         '        if (slab->live + 1 < cache->objects &&')], 20),
+    Fault('edges', 'a slab has one object more', 'Objects', [
+        ('        if (slab->live < cache->objects &&',
+         '        if (slab->live <= cache->objects &&')]),
+    Fault('scrub', 'slabs are not zeroed', 'Bytes', [
+        ('    memset(bytes_at(of, first * FRAME_BYTES), 0, (size_t)FRAME_BYTES << cache->order);\n',
+         '')]),
+    Fault('scrub', 'one frame of a slab is zeroed', 'Bytes', [
+        ('0, (size_t)FRAME_BYTES << cache->order);',
+         '0, FRAME_BYTES);')]),
+    Fault('move', 'a frame is not moved', 'Bytes', [
+        ('from, size_of_superblock());',
+         'from, size_of_superblock() - FRAME_BYTES);')], 30),
+    Fault('reset', 'the caches stay', 'Refusals Layout Form Report Failed', [
+        ('        free(cache->slabs);\n'
+         '        memset(cache, 0, sizeof *cache);\n'
+         '    }\n'
+         '    return DONE;',
+         '        cache->count = 0;\n'
+         '    }\n'
+         '    return DONE;')]),
+    Fault('hint', 'the next object of all tenants', 'Alone', [
+        ('    while (slab->taken[at])\n'
+         '        at++;\n',
+         '    static unsigned hint;\n'
+         '    for (at = hint++ % cache->objects; slab->taken[at];)\n'
+         '        at = (at + 1) % cache->objects;\n')]),
+    Fault('order of lists', 'slots with an even superblock come first', 'Alone', [
+        ('    for (uint32_t slot = 0; slot < count; slot++) {\n'
+         '        uint8_t *tree',
+         '    for (uint32_t turn = 0; turn < 2 * count; turn++) {\n'
+         '        uint32_t slot = turn % count;\n'
+         '        if (holds(of, slot) && of->superblocks[slot] % 2 != turn / count)\n'
+         '            continue;\n'
+         '        uint8_t *tree')], 20),
+    Fault('leak', 'a destroyed cache keeps its slabs', 'Still Report Room Gives', [
+        ('    *freed = drop_empty(&all[tenant], cache);\n',
+         '    *freed = 0;\n')], 30),
+    Fault('leak', 'empty slabs are kept if frames are short', 'Room', [
+        ('    if (!would_fit(of, order))\n',
+         '    if (count > 0)\n')], 30),
+    Fault('reap', 'slabs go though there is no block then', 'Still', [
+        ('    if (!would_fit(of, order))\n'
+         '        return false;\n',
+         '')], 20),
+    Fault('reap', 'slabs are counted as frames', 'Still Gives', [
+        ('    return 1u << cache->order;',
+         '    return 1;')]),
+    Fault('report', 'empty slabs are partial', 'Report', [
+        ('slab->live > 0 && slab->live <',
+         'slab->live <')]),
+    Fault('report', 'slabs are not taken', 'Report', [
+        ('of->kinds[frame] != NOTHING &&',
+         'of->kinds[frame] == PAGES &&')]),
+    Fault('double free', 'an object is given back twice', 'Refusals', [
+        (' || !slab->taken[at])',
+         ')')]),
+    Fault('double free', 'a place in an object gives it back', 'Refusals', [
+        ('offset % cache->chunk != 0 || ',
+         '')]),
+    Fault('double free', 'a slab is freed as a block', 'Refusals', [
+        ('of->kinds[frame] != PAGES)',
+         'of->kinds[frame] == NOTHING)')]),
+    Fault('double free', 'a cache with one live object is destroyed', 'Refusals', [
+        ('cache->slabs[at].live > 0',
+         'cache->slabs[at].live > 1')]),
+    Fault('busy', 'a slot is busy only if it is full', 'Refusals Failed', [
+        ('of->trees[slot][1] != top + 1',
+         'of->trees[slot][1] == 0')]),
+    Fault('late', 'slabs after the first 50 have no pattern', 'Bytes', [
+        ('    best->first = first;\n',
+         '    best->first = first;\n'
+         '    static int made;\n'
+         '    if (++made > 50)\n'
+         '        return best;\n')], 400),
+]
+
+
+def changed(text, fault):
+    for old, new in fault.changes:
+        if text.count(old) != 1:
+            raise ValueError(f'{fault.name}: {old!r} is there {text.count(old)} times')
+        text = text.replace(old, new)
+    return text
