@@ -5,7 +5,7 @@ use Rattle.std.proofs.lemmas.Nat.{pow_pos}
 use Rattle.std.proofs.Math.Nat.{pow-suc}
 use Rattle.model_core.specs.Numbered.{number_at, IsOpen}
 use Rattle.buddy_core.specs.Tree.{word_at, IsLess, Mended, IsConfined, IsNode}
-use Rattle.buddy_core.proofs.TreeNumbers.{number_below}
+use Rattle.buddy_core.proofs.TreeNumbers.{number_below, node_from_frame}
 use Rattle.buddy_core.proofs.TreeNodes.{node_below}
 use Rattle.buddy_core.proofs.TreeChanges.{confined_up, climb_step, reserve_split, release_join, release_open}
 
@@ -30,6 +30,10 @@ node_is top k f node le b e =
         let below : number_at (suc k) f < 2 ^ d = number_below d (suc k) f (subst (λ j. f < 2 ^ j) (let s : top ≡ d + suc k = omega arith in s) b) in
         let high = node_below top (suc d) k (2 * number_at (suc k) f + 1) (omega arith) (omega (arith, pow-suc 2 d)) in
         (omega (arith, pow-suc 2 d, pow_pos d), omega (arith, pow-suc 2 d))
+
+-- the nodes of the blocks around a frame are shifts of the frame's own node
+pub node_shifted : (top k f leaf node : ℕ) → k ≤ top → f < 2 ^ top → leaf ≡ 2 ^ top + f → node ≡ leaf / 2 ^ k → IsNode top k f node
+node_shifted top k f leaf node le b at e = node_is top k f node le b (e ∙ node_from_frame top k f leaf le at)
 
 module _ (top k f node : ℕ) (b : f < 2 ^ top) (lt : k < top) (at : IsNode top k f node) where
   depth : ℕ

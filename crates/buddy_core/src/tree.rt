@@ -9,7 +9,7 @@ ghost use Rattle.std.specs.Int.{bit_at};
 ghost use Rattle.model_core.specs.declared.limits.TheConstants.{MOST_ORDER};
 ghost use Rattle.model_core.specs.Numbered.{number_at, IsOpen};
 ghost use Rattle.buddy_core.specs.Stored.{bare_tree};
-ghost use Rattle.buddy_core.specs.Tree.{Shows, IsLess, IsLeast, Mended, IsConfined, IsNode};
+ghost use Rattle.buddy_core.specs.Tree.{Shows, IsLess, IsLeast, Mended, IsConfined};
 
 use std::alloc::{AllocError, Global};
 use std::marker::Model;
@@ -45,6 +45,14 @@ fn sibling(node: usize) -> usize
     ensures { result + node ≡ 4 * (node / 2) + 1 }
 {
     node ^ 1
+}
+
+/// Returns the node of the block of `order` around the frame that has the node `leaf`, or 0 if the superblock is smaller than that.
+fn node_of(leaf: u32, order: u8) -> usize
+    requires { order < 32 }
+    ensures { result ≡ leaf / 2 ^ order }
+{
+    (leaf >> order) as usize
 }
 
 impl Tree {
@@ -114,8 +122,9 @@ impl Tree {
             → IsOpen large self.old.order from (number_at from first) → IsLess small large order first
             → Shows self.old.order small self.new.words }
     {
-        self.split(first, from, order);
-        self.climb(first, from);
+        let leaf = self.leaf_of(first);
+        self.split(leaf, first, from, order);
+        self.climb(leaf, first, from);
     }
 
     /// Makes the block of `order` around frame `first` available, and joins it at once with its buddy while that is one
@@ -130,36 +139,36 @@ impl Tree {
         ensures joined { (small large : ℕ → Bool) → Shows self.old.order small self.old.words → IsLess small large order first
             → (order ≤ result) × IsOpen large self.old.order result (number_at result first) }
     {
-        let joined = self.join(first, order);
-        self.climb(first, joined);
+        let leaf = self.leaf_of(first);
+        let joined = self.join(leaf, first, order);
+        self.climb(leaf, first, joined);
         joined
     }
 
-    /// Returns the node of the block of `order` around frame `first`.
-    fn node_of(&self, first: u32, order: u8) -> usize
-        requires order { order ≤ self.now.order }
-        requires first { first < 2 ^ self.now.order }
-        ensures { IsNode self.now.order order first result }
+    /// Returns the node of frame `first`. It is worked out once for each change of the tree: after a write to the words the compiler
+    /// would load the order again.
+    fn leaf_of(&self, first: u32) -> u32
+        requires { first < 2 ^ self.now.order }
+        ensures { result ≡ 2 ^ self.now.order + first }
     {
-        (((1 << self.order) + first) >> order) as usize
+        (1 << self.order) + first
     }
 
     /// Writes the words of all larger blocks that contain the block of `order` around frame `first`, each from the words of its
-    /// halves. It does not stop at a word that stays the same: the mispredicted branch would cost more than it saves.
+    /// halves. It does not stop at a word that stays the same: most changes reach the root or nearly so, and the tests at all levels
+    /// would cost more than they save.
     #[inline(always)]
-    fn climb(&mut self, first: u32, order: u8)
+    fn climb(&mut self, leaf: u32, first: u32, order: u8)
         requires order { order ≤ self.old.order }
         requires first { first < 2 ^ self.old.order }
+        requires leaf { leaf ≡ 2 ^ self.old.order + first }
         ensures order { self.new.order ≡ self.old.order }
         ensures words { (old new : ℕ → Bool) → Mended self.old.order order first old new self.old.words
             → IsConfined self.old.order order first old new → Shows self.old.order new self.new.words }
     {
         let mut level = order;
-        if level == self.order {
-            return;
-        }
-        let mut around = self.node_of(first, level + 1);
         let words: &mut [u16] = &mut self.words;
+        let mut around = node_of(leaf, level + 1);
         while around > 0 {
             words[around - 1] = words[2 * around - 1] | words[2 * around];
             around /= 2;
@@ -170,17 +179,18 @@ impl Tree {
     /// Writes the words inside the free block of order `from` around frame `first` after the block of `order` around that
     /// frame was taken out of it. One free block of each order from `order` to `from - 1` is left.
     #[inline(always)]
-    fn split(&mut self, first: u32, from: u8, order: u8)
+    fn split(&mut self, leaf: u32, first: u32, from: u8, order: u8)
         requires order { order ≤ from }
         requires from { from ≤ self.old.order }
         requires first { first < 2 ^ self.old.order }
+        requires leaf { leaf ≡ 2 ^ self.old.order + first }
         ensures order { self.new.order ≡ self.old.order }
         ensures mended { (large small : ℕ → Bool) → Shows self.old.order large self.old.words
             → IsOpen large self.old.order from (number_at from first) → IsLess small large order first
             → Mended self.old.order from first large small self.new.words }
     {
-        let mut node = self.node_of(first, order);
         let words: &mut [u16] = &mut self.words;
+        let mut node = node_of(leaf, order);
         let mut word = 0;
         words[node - 1] = 0;
         for level in order..from {
@@ -194,9 +204,10 @@ impl Tree {
     /// Joins the block of `order` around frame `first`, which becomes available, with its buddy while that is one free
     /// block, and writes the words inside the free block that results. Returns the order of that block.
     #[inline(always)]
-    fn join(&mut self, first: u32, order: u8) -> u8
+    fn join(&mut self, leaf: u32, first: u32, order: u8) -> u8
         requires order { order ≤ self.old.order }
         requires first { first < 2 ^ self.old.order }
+        requires leaf { leaf ≡ 2 ^ self.old.order + first }
         ensures order { self.new.order ≡ self.old.order }
         ensures rises { order ≤ result }
         ensures within { result ≤ self.old.order }
@@ -204,9 +215,9 @@ impl Tree {
             → Mended self.old.order result first small large self.new.words
             × IsOpen large self.old.order result (number_at result first) }
     {
-        let mut node = self.node_of(first, order);
         let top = self.order;
         let words: &mut [u16] = &mut self.words;
+        let mut node = node_of(leaf, order);
         for level in order..top {
             let buddy = sibling(node);
             if words[buddy - 1] != 1 << level {

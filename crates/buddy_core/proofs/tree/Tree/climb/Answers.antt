@@ -1,14 +1,16 @@
-use Rattle.std.proofs.Common.{◌≡◌, inl, inr, sym, ◌∙◌, ap, ap₂, refl, subst, ℕ, Bool, List, ◌+◌, ◌-◌, ◌*◌, ◌/◌, ◌%◌, ◌^◌, ◌<◌, ◌≤◌, get_or, set, length, length-set, arith}
+use Rattle.std.proofs.Common.{◌≡◌, inl, inr, sym, ◌∙◌, ap, ap₂, refl, subst, ℕ, suc, Bool, List, ◌+◌, ◌-◌, ◌*◌, ◌/◌, ◌%◌, ◌^◌, ◌<◌, ◌≤◌, get_or, set, length, length-set, arith}
 use Rattle.std.specs.Prelude.{bit_or}
 use Rattle.std.proofs.lemmas.Nat.{or_comm}
 use Rattle.std.proofs.lemmas.Bool.{cases_lt}
+use Rattle.std.proofs.Math.Nat.{div-eq_of_lt, pow-suc}
+use Rattle.std.proofs.Math.Pow.{pow_mono}
 use Rattle.buddy_core.specs.Stored.{StoredTree}
 use Rattle.model_core.specs.Numbered.{number_at}
 use Rattle.buddy_core.specs.Tree.{Shows, Mended, IsConfined, IsNode}
 use Rattle.buddy_core.proofs.TreeNumbers.{number_whole}
 use Rattle.buddy_core.proofs.TreeClimb.{shows_mended}
 use Rattle.buddy_core.proofs.TreeNodes.{tree_is, written_back}
-use Rattle.buddy_core.proofs.TreeSteps.{node_is, node_up, step_climb}
+use Rattle.buddy_core.proofs.TreeSteps.{node_is, node_up, node_shifted, step_climb}
 use Rattle.buddy_core.proofs.tree.Tree.climb.Goals as goal
 
 -- the words of both halves, in either order
@@ -68,19 +70,35 @@ rises top k around le last more = elim (cases_lt k top) [
   | inr ge ↦ absurd (let none = last (omega arith) in omega arith)
 ]
 
+-- no block is larger than the whole
+none_larger : (top k f leaf node : ℕ) → f < 2 ^ top → leaf ≡ 2 ^ top + f → node ≡ leaf / 2 ^ (k + 1) → k ≡ top → node ≡ 0
+none_larger top k f leaf node small at e same =
+    let whole = pow_mono {i = suc top} {j = top + 1} (omega arith) in
+    e ∙ ap (λ i. leaf / 2 ^ (i + 1)) same ∙ div-eq_of_lt {n = leaf} {m = 2 ^ (top + 1)} (omega (arith, pow-suc 2 top))
+
+pub overflow_add-level : goal.overflow_add-level
+overflow_add-level c =
+    let small = (tree_is _ _ _ c.self.view_is c.self.invariant).small in
+    omega arith
+
+pub node_of-around-requires : goal.node_of-around-requires
+node_of-around-requires c =
+    let small = (tree_is _ _ _ c.self.view_is c.self.invariant).small in
+    omega arith
+
 pub loop-around-init : goal.loop-around-init
 loop-around-init c =
     let top = c.args.self.now.order in
     let words = c.deref_mut-words.result.now in
     let same : words ≡ c.args.self.now.words = c.deref_mut-words.ensures.value ∙ ap (λ (t : StoredTree). t.words) c.self.view_is in
-    let order = ap (λ (t : StoredTree). t.order) c.self.view_is in
-    let next = c.node_of-around.ensures in
+    let around = c.node_of-around.result in
+    let next = λ (lt : c.args.order < top). node_shifted top (c.args.order + 1) c.args.first c.args.leaf around (omega arith) c.requires.first c.requires.leaf c.node_of-around.ensures in
     record {
       size = ap (λ (ws : List ℕ). length ws + 1) same ∙ (tree_is _ _ _ c.self.view_is c.self.invariant).size;
       within = c.requires.order;
-      next = λ lt. next;
-      room = λ lt. room_around top c.args.order c.args.first c.node_of-around.result c.requires.first lt next;
-      last = λ whole. absurd (c.if-level-self.false (whole ∙ sym order));
+      next = next;
+      room = λ lt. room_around top c.args.order c.args.first around c.requires.first lt (next lt);
+      last = λ whole. none_larger top c.args.order c.args.first c.args.leaf around c.requires.first c.requires.leaf c.node_of-around.ensures whole;
       mended = λ old new m confined. (subst (λ (ws : List ℕ). Mended top c.args.order c.args.first old new ws) (sym same) m, confined);
     }
 
@@ -100,14 +118,6 @@ loop-around-preserved c =
       last = λ same. nothing_around top (l.level + 1) c.args.first l.around c.requires.first same next;
       mended = λ old new m confined. climbed top l.level c.args.first l.around l.words old new c.requires.first lt next i.size (i.mended old new m confined);
     }
-
-pub returns-then-level-self-clause-words : goal.returns-then-level-self-clause-words
-returns-then-level-self-clause-words c = λ old new m confined.
-    let top = c.args.self.now.order in
-    let order = ap (λ (t : StoredTree). t.order) c.self.view_is in
-    let whole : c.args.order ≡ top = c.if-level-self.true ∙ order in
-    shows_mended top c.args.first old new c.args.self.now.words c.requires.first (tree_is _ _ _ c.self.view_is c.self.invariant).size
-    (subst (λ k. Mended top k c.args.first old new c.args.self.now.words) whole m)
 
 pub returns-clause-words : goal.returns-clause-words
 returns-clause-words c = λ old new m confined.

@@ -5,8 +5,13 @@ use Rattle.buddy_core.specs.Stored.{StoredTree}
 use Rattle.buddy_core.specs.Tree.{Shows, Mended}
 use Rattle.buddy_core.proofs.TreeNodes.{tree_is, written_back}
 use Rattle.buddy_core.proofs.TreeChanges.{start_release, release_whole}
-use Rattle.buddy_core.proofs.TreeSteps.{node_up, step_join, step_open}
+use Rattle.buddy_core.proofs.TreeSteps.{node_up, node_shifted, step_join, step_open}
 use Rattle.buddy_core.proofs.tree.Tree.join.Goals as goal
+
+pub node_of-node-requires : goal.node_of-node-requires
+node_of-node-requires c =
+    let small = (tree_is _ _ _ c.self.view_is c.self.invariant).small in
+    omega arith
 
 pub loop-level-init : goal.loop-level-init
 loop-level-init c =
@@ -14,7 +19,7 @@ loop-level-init c =
     let words = c.deref_mut-words.result.now in
     let is = tree_is _ _ _ c.self.view_is c.self.invariant in
     let same : words ≡ c.args.self.now.words = c.deref_mut-words.ensures.value ∙ ap (λ (t : StoredTree). t.words) c.self.view_is in
-    let node = c.node_of-node.ensures in
+    let node = node_shifted top c.args.order c.args.first c.args.leaf c.node_of-node.result (omega arith) c.requires.first c.requires.leaf c.node_of-node.ensures in
     record {
       size = ap (λ (ws : List ℕ). length ws + 1) same ∙ is.size;
       node = node;

@@ -6,8 +6,18 @@ use Rattle.buddy_core.specs.Stored.{StoredTree}
 use Rattle.buddy_core.specs.Tree.{Shows, Mended}
 use Rattle.buddy_core.proofs.TreeNodes.{tree_is, written_back}
 use Rattle.buddy_core.proofs.TreeChanges.{start_reserve}
-use Rattle.buddy_core.proofs.TreeSteps.{node_up, step_split}
+use Rattle.buddy_core.proofs.TreeSteps.{node_up, node_shifted, step_split}
 use Rattle.buddy_core.proofs.tree.Tree.split.Goals as goal
+
+pub node_of-node-requires : goal.node_of-node-requires
+node_of-node-requires c =
+    let small = (tree_is _ _ _ c.self.view_is c.self.invariant).small in
+    omega arith
+
+pub overflow_sub-words : goal.overflow_sub-words
+overflow_sub-words c =
+    let some = (node_shifted c.args.self.now.order c.args.order c.args.first c.args.leaf c.node_of-node.result (omega arith) c.requires.first c.requires.leaf c.node_of-node.ensures).some in
+    omega arith
 
 pub loop-level-init : goal.loop-level-init
 loop-level-init c =
@@ -15,7 +25,7 @@ loop-level-init c =
     let words = c.deref_mut-words.result.now in
     let is = tree_is _ _ _ c.self.view_is c.self.invariant in
     let same : words ≡ c.args.self.now.words = c.deref_mut-words.ensures.value ∙ ap (λ (t : StoredTree). t.words) c.self.view_is in
-    let node = c.node_of-node.ensures in
+    let node = node_shifted top c.args.order c.args.first c.args.leaf c.node_of-node.result (omega arith) c.requires.first c.requires.leaf c.node_of-node.ensures in
     let stored = node.stored in
     let size : length words + 1 ≡ 2 ^ (top + 1) = ap (λ (ws : List ℕ). length ws + 1) same ∙ is.size in
     record {
