@@ -240,11 +240,12 @@ impl Buddy {
         ensures refused { IfNone result (self.new ≡ self.old) }
         ensures done { OnSome result (self.new ≡ with_holding t (without_block frame (holding_of t self.old)) self.old) }
     {
+        let slot = frame >> self.order;
         let first = frame % (1 << self.order);
         let k = self.superblocks[m as usize].order_at(first)?;
         let joined = self.superblocks[m as usize].release_at(first, k);
         self.tenants[t as usize].count_released(k, joined);
-        self.summaries[t as usize].note(frame >> self.order, joined);
+        self.summaries[t as usize].note(slot, joined);
         Some(k)
     }
 
