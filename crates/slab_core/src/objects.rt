@@ -1,7 +1,7 @@
 //! Objects of slabs: which one begins at a place, and whether it is live.
 
 ghost use Rattle.std.specs.Prelude.{◌≡◌, ℕ, ◌*◌, ◌+◌, ◌/◌, ◌%◌, ◌^◌, ◌<◌, ◌≤◌, Some, length, IfSome, MatchOption, not, true, false};
-ghost use Rattle.model_core.specs.declared.limits.TheConstants.{FRAME_BYTES, RECORD_OFFSET, MOST_CACHES};
+ghost use Rattle.model_core.specs.declared.limits.TheConstants.{FRAME_BYTES, RECORD_OFFSET, MOST_CACHES, MOST_ORDER};
 ghost use Rattle.model_core.specs.Blocks.{around};
 ghost use Rattle.slab_tables.specs.Content.{Content, IsSlabs, kept_at, cache_at, index_of_cache, layout_numbers};
 ghost use Rattle.machine_changes.specs.Records.{is_set};
@@ -103,8 +103,22 @@ pub(crate) fn machine_frame_in(tables: &Tables, space: &Space, t: u8, frame: u32
 {
     tables.laws();
     let order = tables.order();
-    let m = space.machine_of(t, frame >> order)?;
-    Some((u32::from(m) << order) + frame % (1 << order))
+    let slot = frame >> order;
+    let m = space.machine_of(t, slot)?;
+    Some(machine_frame_under(frame, slot, m, order))
+}
+
+/// Returns the machine frame at a frame in a slot that this superblock of `2^order` frames is in.
+///
+/// It moves the frame by the distance of the two numbers, down or up: the difference may wrap, and the sum wraps back. That
+/// takes fewer instructions than to cut off the frame's index in the slot and to add it.
+#[inline(always)]
+fn machine_frame_under(frame: u32, slot: u32, superblock: u16, order: u8) -> u32
+    requires slot { slot ≡ frame / 2 ^ order }
+    requires order { order ≤ MOST_ORDER }
+    ensures { result ≡ superblock * 2 ^ order + frame % 2 ^ order }
+{
+    frame.wrapping_add(u32::from(superblock).wrapping_sub(slot) << order)
 }
 
 impl Slabs {
