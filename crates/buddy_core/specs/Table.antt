@@ -14,7 +14,7 @@ Lies b c = (c.first ≤ b.first) × (b.first + 2 ^ b.order ≤ c.first + 2 ^ c.o
 abbrev pub node_block : ℕ → ℕ → ℕ → ℕ → Block
 node_block top u d q = block (u * 2 ^ top + q * 2 ^ (top - d)) (top - d)
 
--- a free block of order j of tenant t lies inside block c
+-- a free block of order j of tenant t lies inside block `node`
 abbrev pub HasFree : Content → ℕ → ℕ → Block → Type 0
 HasFree c t j node = (f : ℕ) × IsFree c.top (is_held (holding_of t c)) (taken_of (holding_of t c)) (block f j) × Lies (block f j) node
 
@@ -23,5 +23,5 @@ pub record IsTable (c : Content) (m : ℕ) (words : List ℕ) : Type 0 where
   -- bit j of a node is 1 if and only if a free block of order j lies inside the node's block
   pub under : (t u : ℕ) → superblock_at (holding_of t c) u ≡ Some m → (d q j : ℕ) → d ≤ c.top → q < 2 ^ d
       → (bit_at (slice_index words (2 ^ d + q - 1)) j ≡ 1) ↔ HasFree c t j (node_block c.top u d q)
-  -- a superblock in no slot has no free block
+  -- if the superblock is in no tenant's slot, all words are 0
   pub bare : ((t u : ℕ) → superblock_at (holding_of t c) u ≡ Some m → ⊥) → All (λ w. w ≡ 0) words

@@ -1,4 +1,4 @@
--- Where a block would fit.
+-- Where a block would fit if all empty slabs were freed.
 use Rattle.std.specs.Prelude.{◌≡◌, ℕ, ◌+◌, ◌*◌, ◌/◌, ◌%◌, ◌^◌, ◌<◌, ◌≤◌, ◌==◌, Bool, true, List, Some, IsSome, slice_index}
 use Rattle.std.specs.Int.{bit_at}
 use Rattle.model_core.specs.declared.limits.TheConstants.{MOST_CACHES}
@@ -19,11 +19,11 @@ pub record HasFreeBlock (b : buddies.Content) (t k : ℕ) : Type 0 where
 abbrev pub IsUnusedFrame : spaces.Content → buddies.Content → Content → ℕ → ℕ → Type 0
 IsUnusedFrame r b s t x = IsTaken (buddies.taken_of (buddies.holding_of t b)) x → IsIdle r s t x
 
--- every taken block of tenant t that begins before frame x ends at or before x
+-- no taken block of tenant t begins before frame x and contains x
 abbrev pub IsBorder : buddies.Content → ℕ → ℕ → Type 0
 IsBorder b t x = (f k : ℕ) → buddies.taken_of (buddies.holding_of t b) f ≡ Some k → f < x → f + 2 ^ k ≤ x
 
--- `next` is above `frame`, no frame from `frame` up to `next` is taken, except by empty slabs, and `next` is a border
+-- `next` is a border above `frame`, and no frame from `frame` to `next - 1` is taken, except by empty slabs
 pub record IsUnusedTo (r : spaces.Content) (b : buddies.Content) (s : Content) (t frame next : ℕ) : Type 0 where
   pub some : frame < next
   pub unused : (x : ℕ) → frame ≤ x → x < next → IsUnusedFrame r b s t x
@@ -46,7 +46,7 @@ pub record WouldFitAround (r : spaces.Content) (b : buddies.Content) (s : Conten
   pub empty : place_at s.lists.places machine_frame ≡ Some (head_of t c 2, first)
   pub unused : IsUnusedBlock r b s t (around first k).first k
 
--- the same of some cache of tenant t
+-- the same for some cache of tenant t
 abbrev pub WouldFitInSlabs : spaces.Content → buddies.Content → Content → ℕ → ℕ → Type 0
 WouldFitInSlabs r b s t k = (c : ℕ) × (c < MOST_CACHES) × WouldFitAround r b s t c k
 
@@ -54,6 +54,6 @@ WouldFitInSlabs r b s t k = (c : ℕ) × (c < MOST_CACHES) × WouldFitAround r b
 abbrev pub AreRefused : spaces.Content → buddies.Content → Content → ℕ → ℕ → (ℕ → Bool) → Type 0
 AreRefused r b s t k these = (n : ℕ) → these n ≡ true → IsUnusedBlock r b s t (n * 2 ^ k) k → ⊥
 
--- the words have one bit for each number, 1 for those in the set
+-- number n is in the set that the words store: bit n % 64 of word n / 64 is 1
 abbrev pub has_number : List ℕ → ℕ → Bool
 has_number words n = bit_at (slice_index words (n / 64)) (n % 64) == 1

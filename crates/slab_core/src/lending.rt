@@ -1,4 +1,4 @@
-//! Finds the live object that begins at a place, for a caller that lends its bytes.
+//! Finds the live object that begins at a place, for a caller that lends the object's bytes.
 
 ghost use Rattle.std.specs.Prelude.{◌≡◌, ◌<◌, length, Err, IsSome, IfSome, IfOk, IfErr};
 ghost use Rattle.model_core.specs.Machine.{Machine};
@@ -18,8 +18,8 @@ use space_core::Space;
 impl Slabs {
     /// Returns the size in bytes of the live object of cache `c` of tenant `t` that begins at `place`.
     ///
-    /// Refuses as [`Slabs::give`] does: `NoCache` if the tenant has no such cache, then `NotAnObject` if no live object of the
-    /// cache begins at `place`.
+    /// Refuses in the same cases as [`Slabs::give`]: with `NoCache` if the tenant has no such cache, then with `NotAnObject` if
+    /// no live object of the cache begins at `place`.
     pub fn object_bytes(
         &self,
         space: &Space,
