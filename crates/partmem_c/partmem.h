@@ -15,7 +15,7 @@
  *     superblock  2^order frames of RAM: order 3 to 8, superblocks 1 to 256, tenants 1 to 64. Numbered from 0 in a machine.
  *     slot        where a tenant holds a superblock. Numbered from 0 in a tenant, who cannot tell which superblock it is.
  *     place       the number of a byte of a tenant. Slot s has the places from s * (4096 << order) on. Blocks and objects are
- *                 named by the place of their first byte. A move changes addresses, and no place.
+ *                 named by the place of their first byte. A move changes addresses, but no place.
  *     page block  2^k frames, k from 0 to order, at a place that is a multiple of its bytes
  *     cache       objects of one size, in slabs of the tenant's frames. Numbered from 0 in a tenant, the least free number
  *                 first. A new slab fills its objects with the cache's pattern. Later an object is as it was given back.
@@ -23,7 +23,7 @@
  *
  * LIFETIME. Lent bytes stay at their address until their block is freed, their object given back, their slot moved, their
  * tenant reset or their machine ended. No other call, of any tenant, moves, scrubs or writes them, except partmem_write, or a
- * write by partmem_event or partmem_line, to these bytes. Lending again returns the same address. A lend is no event: it
+ * write by partmem_event or partmem_line, to these bytes. Lending again returns the same address. A lend is not an event: it
  * changes nothing that a tenant can see, it may be done any number of times, and nothing has to be returned. So a caller keeps
  * addresses for speed, or only places, which stay through moves, and lends before each use.
  *
@@ -38,13 +38,13 @@
  *     partmem_give(client, sessions.cache, object.place)
  *
  * partmem_heap.h has malloc by size and free by address for a tenant, over these calls. partmem.hpp has both for C++17.
- * partmem_watched.h has AddressSanitizer and valgrind see most of what breaks duties 4 and 5 below, and leaks.
+ * With partmem_watched.h AddressSanitizer and valgrind see most of what breaks duties 4 and 5 below, and leaks.
  *
  * MEMORY. A machine uses the memory that partmem_boot_in is given: RAM, at most 256 MiB, and tables, whose sizes are constants.
  * No call but a boot allocates. For more memory or more tenants boot several machines: client c is then the tenant
- * {&machines[c / 64], c % 64}. Of the C library memcpy, memmove and memset are used, and nothing else: no system call, no thread,
- * no clock. (An unproved library also has write, for its notice.) partmem_boot gets the memory from aligned_alloc and malloc, and
- * partmem_end frees it. A program that does not call partmem_boot is linked without these.
+ * {&machines[c / 64], c % 64}. The library uses memcpy, memmove and memset of the C library, and nothing else: no system call, no
+ * thread, no clock. (An unproved library also uses write, for its notice.) partmem_boot gets the memory from aligned_alloc and
+ * malloc, and partmem_end frees it. A program that does not call partmem_boot is linked without these functions.
  *
  *     static _Alignas(4096) unsigned char ram[PARTMEM_RAM_BYTES(4, 16)];
  *     static _Alignas(16) unsigned char tables[PARTMEM_TABLE_BYTES(4, 16, 8)];
@@ -78,7 +78,7 @@
 #ifndef PARTMEM_H
 #define PARTMEM_H
 
-#ifdef __KERNEL__ /* Linux, which has neither of the others */
+#ifdef __KERNEL__ /* Linux, which has neither of the other headers */
 #include <linux/types.h>
 #else
 #include <stddef.h>
@@ -183,7 +183,7 @@ typedef struct partmem_tenant {
     uint32_t number; /* from 0 */
 } partmem_tenant;
 
-/* Lent bytes: their address, the place of the first, and how many there are, of an object its size. */
+/* Lent bytes: their address, the place of the first, and how many there are; for an object, its size. */
 typedef struct partmem_lent {
     void *at;
     uint32_t place;
@@ -199,7 +199,7 @@ typedef struct partmem_config {
 
 /* The memory of a machine. Its bytes before boot do not matter. It may be an array of char, as above, as far as the library is
  * concerned. What the caller stores in lent bytes is another matter: by the letter of C an array of char holds nothing but char.
- * A compiler that goes by it is given memory without a declared type, or -fno-strict-aliasing, as kernels are compiled. */
+ * If the compiler goes by it, use memory without a declared type, or compile with -fno-strict-aliasing, as kernels are. */
 typedef struct partmem_memory {
     void *ram;    /* PARTMEM_RAM_BYTES, at a multiple of 4096 */
     void *tables; /* PARTMEM_TABLE_BYTES, at a multiple of 16 */
@@ -221,9 +221,9 @@ typedef struct partmem_memory {
          : 64)
 
 /* Boots a machine in which no superblock has an owner, in memory that is the library's until partmem_end. *config and *memory
- * are read in the call alone. Superblock m lies at ram + m * PARTMEM_RAM_BYTES(order, 1), and is not touched before it is under a
- * slot. Returns HAS_MACHINE, BAD_CONFIG, BAD_MEMORY, and NO_MEMORY if PARTMEM_TABLE_BYTES says too little: it says enough for
- * each of 7671 sizes that tests boot, of 98304 that there are. */
+ * are read only during the call. Superblock m lies at ram + m * PARTMEM_RAM_BYTES(order, 1), and is not touched before it is
+ * put under a slot. Returns HAS_MACHINE, BAD_CONFIG, BAD_MEMORY, and NO_MEMORY if PARTMEM_TABLE_BYTES is too small: it is enough
+ * for each of 7671 sizes that tests boot, of the 98304 that there are. */
 PARTMEM_CHECKED partmem_status partmem_boot_in(partmem_machine *machine, const partmem_config *config,
                                                const partmem_memory *memory);
 
@@ -253,8 +253,9 @@ PARTMEM_CHECKED partmem_status partmem_grant(partmem_tenant tenant, partmem_slot
  * partmem_reap, partmem_destroy_cache or on demand. Returns NO_SLOT, SLOT_BUSY. */
 PARTMEM_CHECKED partmem_status partmem_take_back(partmem_tenant tenant, uint32_t slot);
 
-/* Replaces the superblock of a slot by the first one without an owner, and copies all its bytes, if one was lent, written or in a
- * slab since the grant. The tenant is not notified; what was lent in the slot has to be lent again. Returns NO_SLOT, POOL_EMPTY. */
+/* Replaces the superblock of a slot by the first one without an owner, and copies all its bytes, if any was lent, written or in a
+ * slab since the grant. The tenant is not notified; what was lent in the slot has to be lent again. Returns NO_SLOT,
+ * POOL_EMPTY. */
 PARTMEM_CHECKED partmem_status partmem_move(partmem_tenant tenant, uint32_t slot, partmem_slot *moved);
 
 /* Takes back all that the tenant has: page blocks, objects, caches and slots. */
@@ -279,15 +280,15 @@ void *partmem_superblock_address(const partmem_machine *machine, uint32_t superb
 
 /* ---- Page blocks --------------------------------------------------------------------------------------------------------- */
 
-/* Allocates 2^order frames, and lends them. A frame has what the tenant left there in a page block since the grant; if it was in
- * none since then, or in a slab after that, it has zeroes. The first lend, write or new slab in a slot since its grant clears
- * the whole superblock under it. Returns BAD_ORDER, NO_FRAMES. */
+/* Allocates 2^order frames, and lends them. A frame has what the tenant left there in a page block since the grant. If it was in
+ * no page block since the grant, or has been in a slab since its last page block, it has zeroes. The first lend, write or new
+ * slab in a slot since its grant clears the whole superblock under it. Returns BAD_ORDER, NO_FRAMES. */
 PARTMEM_CHECKED partmem_status partmem_alloc(partmem_tenant tenant, uint32_t order, partmem_lent *block);
 
 /* Frees the page block that begins at the place. Returns NOT_A_BLOCK. */
 PARTMEM_CHECKED partmem_status partmem_free(partmem_tenant tenant, uint32_t place);
 
-/* Returns the place of a frame's first byte, for a number from anywhere: PARTMEM_NO_PLACE if it is too large for a frame. */
+/* Returns the place of a frame's first byte, for any number: PARTMEM_NO_PLACE if it is too large for a frame. */
 PARTMEM_INLINE uint32_t partmem_place_of(uint32_t frame)
 {
     return frame <= 0xfffffu ? frame * PARTMEM_FRAME_BYTES : PARTMEM_NO_PLACE;
@@ -332,8 +333,8 @@ PARTMEM_CHECKED partmem_status partmem_lend(partmem_tenant tenant, uint32_t plac
 PARTMEM_CHECKED partmem_status partmem_lend_object(partmem_tenant tenant, uint32_t cache, uint32_t place, partmem_lent *object);
 
 /* Lends the whole live page block around a place: with partmem_alloc the only source of frames to map (duty 11), and before a
- * free the way to learn what to unmap (duty 12). partmem_lend is none: its bytes may be an object's, whose frame later belongs to
- * another tenant. Returns OUT_OF_REACH, of an object's place too. */
+ * free the way to learn what to unmap (duty 12). partmem_lend is no such source: its bytes may be an object's, whose frame later
+ * belongs to another tenant. Returns OUT_OF_REACH, for an object's place too. */
 PARTMEM_CHECKED partmem_status partmem_lend_block(partmem_tenant tenant, uint32_t place, partmem_lent *block);
 
 /* Returns the address of bytes that partmem_lend lends, or NULL. */
@@ -358,8 +359,8 @@ PARTMEM_CHECKED partmem_status partmem_read(partmem_tenant tenant, uint32_t plac
  * NO_TENANT), OUT_OF_REACH. */
 PARTMEM_CHECKED partmem_status partmem_write(partmem_tenant tenant, uint32_t place, const void *from, size_t bytes);
 
-/* Finds the place of the byte at an address, any at all, that lies in a superblock of the tenant. It says nothing of what is live
- * there. Returns NOT_HELD. */
+/* Finds the place of the byte at an address, which may be any, if it lies in a superblock of the tenant. It says nothing of what
+ * is live there. Returns NOT_HELD. */
 PARTMEM_CHECKED partmem_status partmem_find_place(partmem_tenant tenant, const void *at, uint32_t *place);
 
 /* ---- What a tenant has --------------------------------------------------------------------------------------------------- */
@@ -380,20 +381,20 @@ typedef struct partmem_block {
     uint32_t bytes;
 } partmem_block;
 
-/* Finds what a place lies in. The next begins at found->place + found->bytes, which is 0 behind the last of 2^32 places. */
+/* Finds what a place lies in. The next begins at found->place + found->bytes, which is 0 after the last of 2^32 places. */
 PARTMEM_CHECKED partmem_status partmem_find_block(partmem_tenant tenant, uint32_t place, partmem_block *found);
 
 #define PARTMEM_OF_NO_CACHE 0xffffffffu /* the number of no cache */
 
 /* A live object or a live page block: `bytes` bytes from `place` on. */
 typedef struct partmem_object {
-    uint32_t cache; /* the number of the object's cache, PARTMEM_OF_NO_CACHE of a page block */
+    uint32_t cache; /* the number of the object's cache, PARTMEM_OF_NO_CACHE for a page block */
     uint32_t place;
     uint32_t bytes;
 } partmem_object;
 
 /* Finds the live object or the live page block that the byte at a place lies in, with the place from which it can be given back
- * or freed. Returns OUT_OF_REACH if the byte is in none: in a free frame or object, or behind the last byte of an object. */
+ * or freed. Returns OUT_OF_REACH if the byte is in none: in a free frame or object, or past the last byte of an object. */
 PARTMEM_CHECKED partmem_status partmem_find_object(partmem_tenant tenant, uint32_t place, partmem_object *found);
 
 /* How many blocks of an order are free, and how many are page blocks or slabs. */
@@ -418,7 +419,7 @@ typedef struct partmem_figures {
     uint32_t free;     /* of these, the others */
     uint32_t greatest; /* bytes of a largest free block, 0 without one */
     uint32_t split;    /* thousandths of the free frames that are outside one largest free block, rounded up */
-    uint32_t orders;   /* how many rows of order[] are used: the order of a superblock and 1 */
+    uint32_t orders;   /* how many rows of order[] are used: the order of a superblock plus 1 */
     uint32_t caches;   /* how many rows of cache[] are used */
     partmem_order_row order[PARTMEM_MOST_ORDER + 1];
     partmem_cache_row cache[PARTMEM_MOST_CACHES];
@@ -433,7 +434,7 @@ PARTMEM_CHECKED partmem_status partmem_report(partmem_tenant tenant, partmem_fig
 
 /* The kinds of a partmem_request, with its numbers. */
 enum {
-    PARTMEM_GRANT = 1,     /* by the administrator, as the four that follow */
+    PARTMEM_GRANT = 1,     /* by the administrator, like the four that follow */
     PARTMEM_TAKE_BACK = 2, /* slot */
     PARTMEM_RESET = 3,
     PARTMEM_MOVE = 4,     /* slot */
@@ -471,7 +472,7 @@ enum {
     PARTMEM_FIGURES = 16 /* frames, live, free, order of a largest free block plus 1 (0 without one), split */
 };
 
-/* An event: its kind, the tenant that it is by or (of the administrator) about, and its numbers. */
+/* An event: its kind, the tenant that makes it or (for the administrator's) that it is about, and its numbers. */
 typedef struct partmem_request {
     uint32_t kind;
     uint32_t tenant;
@@ -495,8 +496,9 @@ PARTMEM_CHECKED partmem_status partmem_event(partmem_machine *machine, const par
                                              size_t bytes_len, partmem_reply *reply, void *buffer, size_t buffer_len);
 
 /* Runs a line of a trace, without its line feed. Writes its reply lines, each with a line feed, to the beginning of the buffer,
- * and their bytes to `*written`; the reply to a faulty line says what is wrong. The buffer has at least PARTMEM_MOST_TEXT_BYTES
- * bytes. Returns NO_MACHINE, NOT_A_LINE, BUFFER_TOO_SMALL; `*written` is then 0, and the buffer unchanged. */
+ * and how many bytes these are to `*written`; the reply to a faulty line says what is wrong. The buffer has at least
+ * PARTMEM_MOST_TEXT_BYTES bytes. Returns NO_MACHINE, NOT_A_LINE, BUFFER_TOO_SMALL; `*written` is then 0, and the buffer
+ * unchanged. */
 PARTMEM_CHECKED partmem_status partmem_line(partmem_machine *machine, const char *line, size_t line_len, char *buffer,
                                             size_t buffer_len, size_t *written);
 
@@ -505,18 +507,18 @@ PARTMEM_CHECKED partmem_status partmem_line(partmem_machine *machine, const char
  *  1. Machine. A partmem_machine starts as zeroes. The caller never reads, writes, copies or moves it, and its memory ends only
  *     while there is no machine in it. [Two copies use and free one machine.]
  *  2. Arguments. Each pointer leads to a live object of its type, or to as many bytes as its length says. None is NULL, not
- *     even for 0 bytes, and no tenant's machine is. The objects of one call do not overlap, and NONE LIES IN THE MACHINE'S
- *     MEMORY, not even in lent bytes: copy them out first. Only the address for partmem_find_place may be any. [A result is
+ *     even for 0 bytes, nor is a tenant's machine. The objects of one call do not overlap, and NONE LIES IN THE MACHINE'S MEMORY,
+ *     not even in lent bytes: copy them out first. Only the address for partmem_find_place may have any value. [A result is
  *     written into memory that the call is changing, or has just moved away.]
  *  3. Memory. RAM and tables have the sizes of their macros, can be loaded and stored, and do not overlap. From boot to end they
- *     stay where they are, and nobody else touches them: the caller uses lent bytes alone. aligned_alloc, malloc and free are one
+ *     stay where they are, and nobody else touches them: the caller uses only lent bytes. aligned_alloc, malloc and free are one
  *     allocator. [Anything.]
  *  4. Bounds. A load or store stays inside the lent bytes. An object ends at its size, not where the next begins. [It hits
  *     another object or block, the record of which objects are live, or, past a superblock, another tenant's memory or yours.]
  *  5. Endings. Nobody uses lent bytes after the call that ends their lifetime; after a move they are lent again. [A tenant
  *     stores into memory that belongs to another by now.]
  *  6. Flows. What was loaded for one tenant is not stored for another, or shown to it. No address is stored in lent bytes or
- *     shown to a tenant: a move changes it, and which it is says what the others did. Links are places. [Tenants learn of each
+ *     shown to a tenant: a move changes it, and its value shows what the others did. Links are places. [Tenants learn of each
  *     other by the caller's own doing. No memory is damaged.] A program that calls malloc cannot keep to places: partmem_heap.h
  *     says what is lost and what stays if a tenant stores its own addresses.
  *  7. Users. Whoever keeps objects of its own in the caches of a tenant lets the tenant's user neither lend, read, write, give
@@ -532,7 +534,7 @@ PARTMEM_CHECKED partmem_status partmem_line(partmem_machine *machine, const char
  *     only the direction flag and the stack. Interrupts may use the same stack, if it has space for both.
  * 10. After the end. Whoever uses the memory after partmem_end, or after a crash, clears it first. [It reads the tenants'
  *     bytes.]
- * 11. Mapping. Page tables map page blocks alone, as partmem_alloc and partmem_lend_block return them. [An object of 4096 bytes
+ * 11. Mapping. Page tables map only page blocks, as partmem_alloc and partmem_lend_block return them. [An object of 4096 bytes
  *     fills a frame. Nothing unmaps it at the give, and the user keeps a frame that later belongs to another tenant.]
  * 12. Unmapping. Before a free, reset, move or end, not after it, pages are unmapped and flushed on every processor, and devices
  *     stopped. [In between, the tenant uses memory of another.]
@@ -541,16 +543,16 @@ PARTMEM_CHECKED partmem_status partmem_line(partmem_machine *machine, const char
  * 14. Booting. One partmem_boot or partmem_boot_in at a time in a program, on any thread. [One variable of the library says which
  *     machine boots: two machines get the same memory.]
  *
- * PROVED of the library's source in Rattle: what each call returns and does, of the machine and of each tenant, except for the
- * functions in C; that a store in lent bytes is the write of these bytes, and that a loaded byte is the private machine's at its
- * place; that over any list of commands (by calls, lines or events), loads and stores since boot a tenant gets and loads what a
- * private machine gives to it. What a lend or a lookup returns is said by its own contract. Of addresses: that the library takes
- * the address of the first of the bytes that the kernel lends. That the call returns this address is read in the source, since
- * the loan has ended by then and no clause can name it. TESTED: that the returned address is that of these bytes and stays, and
- * that nothing is left there from before the grant or move; where superblocks, blocks and objects lie; that only a boot
+ * PROVED of the library's source in Rattle: what each call returns, and what it does to the machine and to each tenant, except
+ * for the functions in C; that a store in lent bytes is the write of these bytes, and that a loaded byte is the private machine's
+ * at its place; that over any list of commands (by calls, lines or events), loads and stores since boot a tenant gets and loads
+ * what a private machine gives to it. What a lend or a lookup returns is in its own contract. Of addresses: that the library
+ * takes the address of the first of the bytes that the kernel lends. That the call returns this address is read in the source,
+ * since the loan has ended by then and no clause can name it. TESTED: that the returned address is that of these bytes and stays,
+ * and that nothing is left there from before the grant or move; where superblocks, blocks and objects lie; that only a boot
  * allocates, and no more than the sizes of the macros; the functions in C, which are named in the first comment; loads and stores
  * beside calls on other threads; the stack of each function in libpartmem.a and in the archives for kernels; this file against
- * the library. NEITHER: the duties; hardware, page tables and devices; time and processor caches, and what they tell. */
+ * the library. NEITHER: the duties; hardware, page tables and devices; time and processor caches, and what they reveal. */
 
 #ifdef __cplusplus
 }

@@ -6,8 +6,8 @@
  *     text = partmem_heap_realloc(&heap, text, 5000);   NULL in that case, and the old text stays
  *     partmem_heap_free(&heap, text)                    refuses an address at which nothing of its own begins
  *
- * What a heap has allocated and not freed is called a piece. What it cannot distinguish from its pieces counts as one (DIRECT
- * CALLS).
+ * What a heap has allocated and not freed is called a piece. Anything that the heap cannot distinguish from its pieces counts as
+ * one (DIRECT CALLS).
  *
  * COMMANDS. Each call runs commands of this tenant, by direct calls of partmem.h:
  *
@@ -20,20 +20,20 @@
  *     init, usable_size, place                none: they look things up
  *
  * If a take finds too few frames for a slab, which has up to 8, a page block of one frame is allocated instead. If the tenant
- * has 32 caches, a request whose class has none gets an object of the next class that has one, or else a page block. So, but for
- * whether partmem_heap_init accepts the slots of a heap with runs (RUNS), the commands follow from the earlier calls of the heap,
- * the tenant's other commands, and its grants, take-backs and resets: a tenant gets the same places, sizes and refusals whatever
- * other tenants do. No object has a header, and nothing is kept for each frame: the library finds what is live at a place
- * (partmem_find_object).
+ * has 32 caches, a request whose class has none gets an object of the next class that has one, or else a page block. So the
+ * commands follow from the earlier calls of the heap, the tenant's other commands, and its grants, take-backs and resets, except
+ * for whether partmem_heap_init accepts the slots of a heap with runs (RUNS). A tenant gets the same places, sizes and refusals
+ * whatever other tenants do. No object has a header, and nothing is kept for each frame: the library finds what is live at a
+ * place (partmem_find_object).
  *
- * DIRECT CALLS. A tenant may use direct calls beside its heap. They have 8 of its 32 caches, or more if the heap has fewer
- * classes. Do not free by the heap what a direct call allocated, nor the other way round. The heap refuses an object of a
- * cache with a number that it never used, or of another size than its class of that number. It cannot distinguish a page block,
- * or any other object, of a direct call from its own. A direct call may reap, and destroy caches of the heap that have no live
- * object. If it makes another cache of that number, the heap takes an object of the wrong size or alignment, notices that, gives
- * it back, and makes itself a new cache.
+ * DIRECT CALLS. A tenant may use direct calls beside its heap. They can use 8 of its 32 caches, or more if the heap has fewer
+ * classes. Do not free with the heap what a direct call allocated, nor the other way round. The heap refuses an object of a cache
+ * with a number that it never used, or of another size than its class of that number. It cannot distinguish a page block, or any
+ * other object, of a direct call from its own. A direct call may reap, and destroy caches of the heap that have no live object.
+ * If it makes another cache of that number, the heap takes an object of the wrong size or alignment, notices that, gives it back,
+ * and makes a new cache for itself.
  *
- * RUNS. Without them nothing in the heap depends on superblocks or addresses. With them (has_runs) a request larger than a
+ * RUNS. Without runs nothing in the heap depends on superblocks or addresses. With runs (has_runs) a request larger than a
  * superblock takes superblocks, from the first free one on, until enough lie in a row; the others are freed again. So the slots
  * of the tenant have to lie one after another in RAM. They do if all are granted in a row at the start. partmem_heap_init refuses
  * other slots. Slots that are granted later become part of no run. From then on move no slot of the tenant, and take none back.
@@ -48,7 +48,7 @@
  * The rest of that duty stays, and so does everything else: which bytes are whose, places, sizes, refusals, and every result that
  * does not follow from the numbers in addresses. A place may be stored and shown (partmem_heap_place).
  *
- * NOT COVERED: stores outside of a piece, which hit others of this tenant, the record of which objects are live, or, past a
+ * NOT COVERED: stores outside of a piece, which hit other pieces of this tenant, the record of which objects are live, or, past a
  * superblock, another tenant (duty 4); addresses that are used after their free (duty 5); a second free after the address was
  * allocated again; and time. With partmem_watched.h AddressSanitizer and valgrind see most of the first two.
  *
@@ -83,7 +83,7 @@ typedef struct partmem_heap_config {
  * free of NULL returns DONE. */
 typedef struct partmem_heap {
     partmem_tenant tenant;
-    unsigned char *base; /* with runs, the address of place 0, and below it the number of slots in sequence; else NULL and 0 */
+    unsigned char *base; /* with runs, the address of place 0, and in `slots` the number of slots in sequence; else NULL and 0 */
     uint32_t slots;
     uint32_t order; /* of a superblock */
     uint32_t classes;
@@ -101,7 +101,7 @@ typedef struct partmem_heap {
 PARTMEM_CHECKED partmem_status partmem_heap_init(partmem_heap *heap, partmem_tenant tenant, const partmem_heap_config *config);
 
 /* Allocates at least `bytes` bytes, and at least 1, at a multiple of 16. They have any values. Returns NULL if no free block is
- * large enough (with runs: no row of free superblocks), also after all empty slabs were given back, for a request that is too
+ * large enough (with runs: no row of free superblocks), even after all empty slabs were given back, for a request that is too
  * large, and for a heap that is all 0. A refused request may have made the cache of its class, and with runs it may have given
  * back the tenant's empty slabs. */
 void *partmem_heap_malloc(partmem_heap *heap, size_t bytes);
@@ -117,7 +117,7 @@ void *partmem_heap_aligned_alloc(partmem_heap *heap, size_t align, size_t bytes)
  * piece begins at `old`; then `old` and its bytes are as before. */
 void *partmem_heap_realloc(partmem_heap *heap, void *old, size_t bytes);
 
-/* Frees the piece that begins at an address. Of NULL it frees nothing. If it returns another status than DONE, nothing has
+/* Frees the piece that begins at an address. For NULL it frees nothing. If it returns another status than DONE, nothing has
  * changed. Returns NOT_HELD outside of the tenant's slots, OUT_OF_REACH if nothing is live there, and NOT_AN_OBJECT or
  * NOT_A_BLOCK inside of a piece, and for an object that it can distinguish from its own. It frees page blocks of direct calls,
  * and objects of direct calls that it cannot distinguish from its own (DIRECT CALLS). */

@@ -1,32 +1,32 @@
-/* partmem_watched.h: has AddressSanitizer and valgrind see mistakes in memory of partmem.
+/* partmem_watched.h: makes AddressSanitizer and valgrind see mistakes in memory of partmem.
  *
  * Without it both take all RAM of a machine for memory that a program may use. With it, bytes that are not lent are poison: a
  * load or store there is reported. Include it before any other header of partmem, in every file that includes one:
  *
  *     cc -g -fsanitize=address -include partmem_watched.h program.c -lpartmem_watched
- *     cc -g -DPARTMEM_VALGRIND -include partmem_watched.h program.c -lpartmem          and run it by valgrind
+ *     cc -g -DPARTMEM_VALGRIND -include partmem_watched.h program.c -lpartmem          and run it under valgrind
  *
- * It then replaces each function that lends bytes, ends their lifetime or uses RAM by one of its own. Without these words it only
- * includes partmem_heap.h.
+ * It then replaces each function that lends bytes, ends their lifetime or uses RAM by one of its own. Without these options it
+ * only includes partmem_heap.h.
  *
  * SEEN, at the load or store, with the line of the program:
- * - behind the last byte of an object, a page block or a piece of a heap, up to the next one that is lent. A piece of a heap ends
+ * - past the last byte of an object, a page block or a piece of a heap, up to the next one that is lent. A piece of a heap ends
  *   after the bytes that were requested, and partmem_heap_usable_size returns that number.
- * - after a give, free, take-back, move, reset or end, in what was lent before. In what a move has moved, too, until it is lent
- *   again at its new address.
+ * - after a give, free, take-back, move, reset or end, in what was lent before. After a move also at the new address, until the
+ *   bytes are lent again.
  * - at an address of RAM that no call has returned: free frames, the record of which objects are live. So the program's own loads
  *   and stores through partmem_superblock_address, for example for a dump, are reported.
  *
  * LEAKS. If the environment has PARTMEM_LEAKS, with any value, and something is still live, partmem_end prints it on standard
  * error (at most 100 lines, and how many blocks and objects there are), and then calls abort.
  *
- * NOT SEEN: a load or store in bytes that are lent to somebody else; a stale one in what has been lent again; one by a device; by
- * AddressSanitizer, one from code that is not compiled for it, except functions such as memcpy; duty 6 (flows). After the end of
- * a machine in memory of the caller's, all of that memory may be used. A machine's tables are not watched.
+ * NOT SEEN: a load or store in bytes that are lent to somebody else, a stale one in what has been lent again, or one by a device;
+ * with AddressSanitizer, one from code that is not compiled for it, except functions such as memcpy; breaches of duty 6 (flows).
+ * After the end of a machine in memory of the caller's, all of that memory may be used. A machine's tables are not watched.
  *
  * ARCHIVE. AddressSanitizer checks the arguments of memcpy, memmove and memset, whoever calls them. So libpartmem_watched.a is
  * the code of libpartmem.a with three such functions of its own. valgrind sees each access of the library; its reports are off
- * during calls. It works with either archive. */
+ * during calls. valgrind works with either archive. */
 #ifndef PARTMEM_WATCHED_H
 #define PARTMEM_WATCHED_H
 
@@ -100,14 +100,14 @@ PARTMEM_INLINE void partmem_watched_lend(unsigned char *at, size_t bytes)
     __asan_unpoison_memory_region(at, bytes);
 }
 
-/* Lends a piece that was allocated just now, whose first `kept` bytes have values. */
+/* Lends a piece that has just been allocated, whose first `kept` bytes have values. */
 PARTMEM_INLINE void partmem_watched_begin(partmem_watched_piece piece, size_t kept)
 {
     (void)kept;
     __asan_unpoison_memory_region(piece.at, piece.bytes);
 }
 
-/* Marks bytes outside of the RAM, which a call has stored there, as having values. */
+/* Marks bytes that a call has stored outside of the RAM as having values. */
 PARTMEM_INLINE void partmem_watched_stored(void *at, size_t bytes)
 {
     (void)at;
@@ -167,13 +167,13 @@ PARTMEM_INLINE void partmem_watched_begin(partmem_watched_piece piece, size_t ke
     (void)VALGRIND_MAKE_MEM_DEFINED(piece.at, kept);
 }
 
-/* valgrind takes bytes for undefined that were loaded together with poison. */
+/* valgrind takes bytes that were loaded together with poison for undefined. */
 PARTMEM_INLINE void partmem_watched_stored(void *at, size_t bytes)
 {
     (void)VALGRIND_MAKE_MEM_DEFINED(at, bytes);
 }
 
-/* valgrind knows nothing of a piece that has been moved, or was allocated by an event: then it has nothing to forget. */
+/* If a piece was moved, or allocated by an event, valgrind does not know it, and has nothing to forget. */
 PARTMEM_INLINE void partmem_watched_finish(partmem_watched_piece piece)
 {
     partmem_watched_enter();
@@ -219,8 +219,8 @@ PARTMEM_INLINE void partmem_watched_print_leak(uint32_t tenant, const partmem_ob
     else fprintf(stderr, ", an object of cache %u\n", (unsigned)object->cache);
 }
 
-/* Prints what is live in a slot, if `pieces` that were found before are few. Returns how many are found then. Objects begin at
- * multiples of 8. */
+/* Prints what is live in a slot, unless `pieces`, the number found before, has reached 100. Returns how many have then been
+ * found. Objects begin at multiples of 8. */
 PARTMEM_INLINE uint32_t partmem_watched_print_slot(partmem_tenant tenant, uint32_t slot, uint32_t slot_bytes, uint32_t pieces)
 {
     enum { MOST_LINES = 100 };
