@@ -1,4 +1,4 @@
-//! Lent bytes are used on other threads, without a lock, while this one calls the machine. Then threads share it.
+//! Lent bytes are used on other threads, without a lock, while this one calls the machine. Then threads share the machine.
 use partmem::{Config, Error, Machine, Tenant};
 use std::sync::Mutex;
 use std::thread::scope;

@@ -35,7 +35,7 @@ impl<T> SpinLock<T> {
     }
 }
 
-/// Releases a lock when it is dropped, also if the work panics.
+/// Releases a lock when it is dropped, even if the work panics.
 struct Held<'l>(&'l AtomicBool);
 
 impl Drop for Held<'_> {
@@ -50,7 +50,7 @@ impl<T> Lock<T> for SpinLock<T> {
             hint::spin_loop();
         }
         let _held = Held(&self.is_held);
-        // SAFETY: nobody else has the value until `_held` is dropped, behind the work.
+        // SAFETY: nobody else has the value until `_held` is dropped, after the work.
         work(unsafe { &mut *self.value.get() })
     }
 }
@@ -126,7 +126,7 @@ impl LazyHeap {
 pub struct Global<L>(L);
 
 impl<L> Global<L> {
-    /// Returns an allocator behind a lock around a heap.
+    /// Returns an allocator for the heap behind this lock.
     pub const fn new(lock: L) -> Global<L> {
         Global(lock)
     }
@@ -156,7 +156,7 @@ impl<L: Lock<LazyHeap>> Global<L> {
     }
 }
 
-/// An allocator may not unwind: a panic while this is dropped by another one ends the program.
+/// An allocator may not unwind: if a panic drops this value, the second panic in its `drop` ends the program.
 struct AbortsIfUnwound;
 
 impl Drop for AbortsIfUnwound {

@@ -14,7 +14,7 @@ const STEP: usize = 16;
 pub(crate) struct RawHeap(UnsafeCell<sys::Heap>);
 
 impl RawHeap {
-    /// Without sizes it has the default classes.
+    /// Returns the functions of a new heap. Without sizes the heap has the default classes.
     pub(crate) fn new(tenant: sys::Tenant, sizes: &[u16], has_runs: bool) -> Result<RawHeap, Error> {
         // A copy, since the sizes may lie in lent bytes.
         let mut copy = [0; sys::MOST_CLASSES];
@@ -35,7 +35,7 @@ impl RawHeap {
     /// # Safety
     /// The piece is from this heap, and is not used again.
     pub(crate) unsafe fn free(&self, at: *mut u8) {
-        // SAFETY: as said above. Of another address the heap frees nothing.
+        // SAFETY: as said above. At another address the heap frees nothing.
         let status = unsafe { sys::partmem_heap_free(self.0.get(), at) };
         debug_assert_eq!(status, 0, "no piece of the heap begins there");
     }
@@ -77,16 +77,16 @@ impl RawHeap {
 /// The heap of a tenant. With the feature `allocator_api`, which needs a nightly compiler, `&Heap` is an `Allocator`:
 /// `Vec::new_in(&heap)`. On any compiler [`Heap::boxed`], [`Heap::copied`] and [`Heap::text`] put values, slices and texts in it.
 ///
-/// It borrows the [`Client`], and what it allocates borrows the heap. So they have to be dropped before a reset or a move of this
-/// tenant. Dropping it destroys its caches. The tenant's values may hold addresses of each other. `partmem_heap.h` says what is
-/// lost if a program computes from the numbers in them.
+/// It borrows the [`Client`], and what it allocates borrows the heap. So both have to be dropped before a reset or a move of this
+/// tenant. Dropping the heap destroys its caches. The tenant's values may hold addresses of each other. `partmem_heap.h` says
+/// what is lost if a program computes from the numbers in them.
 ///
 /// # Runs
-/// With them a request larger than a superblock gets superblocks that lie in a row. The tenant's slots have to be 0, 1, 2 ..,
-/// and to lie in RAM one behind another, as grants at the start make them.
+/// With runs a request larger than a superblock gets superblocks that lie in a row. The tenant's slots have to be 0, 1, 2 .., and
+/// to lie in RAM one after another, as they do after grants at the start.
 pub struct Heap<'c> {
     raw: RawHeap,
-    /// A second client of the tenant. Its user no longer has the first one, or only borrows it. It is not public.
+    /// A second client of the tenant. The user of the heap no longer has the first one, or only borrows it. It is not public.
     client: Client<'c>,
 }
 
@@ -208,7 +208,7 @@ impl<T> Boxed<'_, T> {
 
 impl<T: ?Sized> Drop for Boxed<'_, T> {
     fn drop(&mut self) {
-        // Frees the memory after the value's end, also if that panics.
+        // Frees the memory after the value is dropped, even if that panics.
         let _piece = Piece { at: self.at.as_ptr().cast(), heap: self.heap };
         // SAFETY: the value is alive, and this is its only owner.
         unsafe { ptr::drop_in_place(self.at.as_ptr()) };

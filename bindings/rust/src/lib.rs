@@ -3,8 +3,8 @@
 //! A [`Machine`] has RAM in superblocks, which are granted to tenants. Whatever the others do, a tenant gets the same results and
 //! finds the same bytes as if it were alone with the same grants, take-backs and resets. The header `partmem.h` describes the
 //! calls, and what is proved of them. Left out are events, lines, `read`, `write` and the `find` functions. `PARTMEM_DIR` (an
-//! absolute path of the installation or of its `lib`) or pkg-config names the folder of `libpartmem.a`; without either it is what
-//! the repository's `make test` has built, or else, with a warning, `make unproved`.
+//! absolute path of the installation or of its `lib`) or pkg-config names the folder of `libpartmem.a`; without either, the
+//! library is the one that the repository's `make test` has built, or else, with a warning, that `make unproved` has built.
 //!
 //! | You want | Use |
 //! |---|---|
@@ -16,15 +16,15 @@
 //!
 //! # Features
 //!
-//! - `std`, a default one: [`Machine::boot`], `std::error::Error`, `std::sync::Mutex` as a [`Lock`]. Without it the crate uses
-//!   `core` alone, and its user provides `memcpy`, `memmove` and `memset`, as the crate `compiler_builtins` does.
+//! - `std`, on by default: [`Machine::boot`], `std::error::Error`, `std::sync::Mutex` as a [`Lock`]. Without it the crate uses
+//!   only `core`, and its user provides `memcpy`, `memmove` and `memset`, as the crate `compiler_builtins` does.
 //! - `allocator_api`: `&Heap` is an `Allocator`. That needs a nightly compiler. The crate `allocator-api2` is not used, since this
 //!   crate depends on no other.
 //! - `kernel`: the library is `libpartmem_kernel.a`, which has no red zone and no vector registers.
 //!
 //! # Bytes
 //!
-//! Store numbers in lent bytes by `to_le_bytes` and the like.
+//! Store numbers in lent bytes with `to_le_bytes` and the like.
 //!
 //! ```
 //! use partmem::{Config, Machine, Refusal, Tenant};
@@ -49,12 +49,13 @@
 //! [`Machine::alloc`] and [`Machine::take`] return a handle, which is the only name of its bytes. A lend borrows the machine and
 //! the handle. It is a plain `&[u8]` or `&mut [u8]`.
 //!
-//! - Any number of handles may be lent at once, beside `alloc`, `take`, `lend` and `report`, which need `&Machine`.
-//! - `free` and `give` consume their handle, so nobody has its bytes. Others may be lent.
+//! - Any number of handles may be lent at once, also during `alloc`, `take`, `lend` and `report`, which need only `&Machine`.
+//! - `free` and `give` consume their handle, so nobody has its bytes. Other handles may be lent meanwhile.
 //! - `move_slot`, `reset` and the drop of the machine require that nothing is lent. Handles stay through a move, and can be lent
 //!   again. A lend compares two numbers. It calls the library after a move, until a `lend_mut` has found the new address.
-//! - Handles can lie beside the machine in one struct. Typed values and what a heap allocates borrow their [`Client`], and cannot.
-//! - A handle that is dropped leaves its bytes allocated until a reset. After a reset and on another machine it is
+//! - Handles can lie beside the machine in one struct. Typed values and what a heap allocates borrow their [`Client`], so they
+//!   cannot.
+//! - A handle that is dropped leaves its bytes allocated until a reset. After a reset, or on another machine, a handle is
 //!   [`Error::Stale`].
 //! - Links between objects are numbers of places in lent bytes. [`Machine::lend_at`] follows them. It needs `&mut Machine`, since
 //!   a handle of the same bytes may be lent.
@@ -141,10 +142,10 @@
 //! - *Flows.* Do not store for one tenant what was loaded for another, and do not show it to that tenant. Do not store an
 //!   address, such as the `as_ptr` of a lend, in lent bytes, or show it to a tenant. Values with references, and collections, are
 //!   full of addresses: such a tenant may learn of others, as `partmem_heap.h` says.
-//! - *Users.* Whoever has the machine acts for any tenant, and `lend_at` reaches every live object. Give them to no tenant's
-//!   user. A [`Client`] acts for its tenant alone.
+//! - *Users.* Whoever has the machine acts for any tenant, and `lend_at` reaches every live object. Do not give them to a
+//!   tenant's user. A [`Client`] acts only for its tenant.
 //! - *After the end.* The memory goes back to the allocator with the tenants' bytes in it. Overwrite secrets before.
-//! - *Booting.* The crate boots one machine at a time. C code in the same program must not boot another beside it.
+//! - *Booting.* The crate boots one machine at a time. C code in the same program must not boot another at the same time.
 //! - *Other code.* Make no call from a signal handler, nor from the forked child of a process with threads. The compiler sees no
 //!   page tables and no devices: unmap and stop them before a free, reset, move or end.
 #![no_std]

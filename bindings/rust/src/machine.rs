@@ -78,20 +78,20 @@ pub struct Cache {
 
 /// A machine. Dropping it ends it, and frees the memory that [`Machine::boot`] has allocated.
 pub struct Machine {
-    /// The machine, in the tables behind the library's part. It is booted.
+    /// The machine, in the tables after the library's part. It is booted.
     raw: NonNull<sys::Machine>,
     config: Config,
     /// The memory that [`Machine::boot`] has allocated.
     #[cfg(feature = "std")]
     owned: Option<Region>,
-    /// A number of each tenant. A reset takes a new one, so that older handles are refused.
+    /// A number for each tenant. A reset takes a new one, so that older handles are refused.
     stamps: [Cell<u64>; MOST_TENANTS],
-    /// The number of moves so far. Addresses in handles of the same number are right.
+    /// The number of moves so far. Addresses in handles with the same number are right.
     moves: Cell<u64>,
 }
 
 // SAFETY: calls may come from any thread, one at a time. They need a reference, and a machine is not `Sync`. Its memory is reached
-// through it alone.
+// only through it.
 unsafe impl Send for Machine {}
 
 impl Machine {
@@ -126,7 +126,7 @@ impl Machine {
         // SAFETY: it only returns a number.
         assert_eq!(unsafe { sys::partmem_version() } / 10_000, 2, "the version of the library partmem");
         let memory = sys::Memory { ram: region.ram.as_ptr(), tables: region.tables.as_ptr() };
-        // SAFETY: the tables have space for the machine behind the library's part, whose end is a multiple of 16. All zeroes is
+        // SAFETY: the tables have space for the machine after the library's part, whose end is a multiple of 16. All zeroes means
         // no machine.
         let raw = unsafe {
             let raw = region.tables.as_ptr().add(config.machine_offset()).cast::<sys::Machine>();
@@ -234,8 +234,8 @@ impl Machine {
         Handle { stamp: self.stamps[tenant.0 as usize].get(), moves: self.moves.get(), at, tenant, place, bytes, kind }
     }
 
-    /// Allocates 2^order frames. A frame has what the tenant left there in a page block since the grant. If it was in none since
-    /// then, or in a slab after that, it has zeroes.
+    /// Allocates 2^order frames. A frame has what the tenant left there in a page block since the grant. If it was in no page
+    /// block since the grant, or has been in a slab since its last page block, it has zeroes.
     pub fn alloc(&self, tenant: Tenant, order: u32) -> Result<Block, Error> {
         // SAFETY: the machine is booted, no other call of it runs, and the result goes to a local variable.
         let lent = result(|lent| unsafe { sys::partmem_alloc(self.of(tenant), order, lent) })?;
@@ -318,7 +318,7 @@ impl Machine {
     pub fn lend<'a, Kind>(&'a self, handle: &'a Handle<Kind>) -> Result<&'a [u8], Error> {
         let at = self.address_of(handle)?;
         // SAFETY: the bytes stay there and live while the machine and the handle are borrowed, and have all been written. A store
-        // in them takes the handle or the machine, unborrowed.
+        // in them needs the handle or the machine unborrowed.
         Ok(unsafe { slice::from_raw_parts(at, handle.bytes as usize) })
     }
 
@@ -342,7 +342,8 @@ impl Machine {
     pub(crate) unsafe fn lend_shared(&self, tenant: Tenant, place: Place, bytes: u32) -> Result<&mut [u8], Error> {
         let at = self.address(self.of(tenant), place, bytes)?;
         // SAFETY: the bytes live while the machine is borrowed, and nobody else has them. A typed value that was leaked may have
-        // padding, to which Rust gives no values. But the call above is code outside of Rust: to the compiler it has written all.
+        // padding, to which Rust gives no values. But the call above is code outside of Rust: as far as the compiler knows, it
+        // has written them all.
         Ok(unsafe { slice::from_raw_parts_mut(at, bytes as usize) })
     }
 }

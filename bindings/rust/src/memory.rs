@@ -1,4 +1,4 @@
-//! The memory of a machine: its sizes, and statics that have it.
+//! The memory of a machine: its sizes, and statics that hold it.
 use crate::{sys, Config, Error};
 use core::cell::UnsafeCell;
 use core::mem::{size_of, MaybeUninit};
@@ -144,7 +144,7 @@ pub struct StaticMemory<const RAM: usize, const TABLES: usize> {
 unsafe impl<const RAM: usize, const TABLES: usize> Sync for StaticMemory<RAM, TABLES> {}
 
 impl<const RAM: usize, const TABLES: usize> StaticMemory<RAM, TABLES> {
-    /// Returns memory that nobody has taken, as a value of a static.
+    /// Returns memory that nobody has taken, for a static.
     #[allow(clippy::new_without_default)]
     pub const fn new() -> Self {
         StaticMemory {

@@ -64,7 +64,7 @@ const _: () = assert!(size_of::<Figures>() == 740);
 impl Heap {
     /// Returns a heap that is all 0, as after a refused initialisation.
     pub fn none() -> Heap {
-        // SAFETY: it has numbers and pointers alone, which may all be 0.
+        // SAFETY: it has only numbers and pointers, which may all be 0.
         unsafe { MaybeUninit::zeroed().assume_init() }
     }
 }

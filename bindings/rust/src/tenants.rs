@@ -6,7 +6,7 @@ use core::{fmt, ptr};
 #[derive(Clone, Copy)]
 pub struct Administrator<'a>(&'a Machine);
 
-/// A tenant of a machine that is divided by [`Machine::split`], and its only handle. Code that has it acts for this tenant alone.
+/// A tenant of a machine that is divided by [`Machine::split`], and its only handle. Code that has it acts only for this tenant.
 ///
 /// Its calls are those of [`Machine`] for one tenant. What is lent borrows the client, and a handle of another tenant is
 /// [`Error::Stale`] here.
@@ -65,8 +65,8 @@ impl Administrator<'_> {
 }
 
 impl<'a> Clients<'a> {
-    /// Returns an iterator over the tenants of a divided machine, which only its parts use. One may be left out, which the caller
-    /// has.
+    /// Returns an iterator over the tenants of a divided machine, which only its parts use. A tenant whose client the caller has
+    /// may be left out.
     pub(crate) fn new(machine: &'a Machine, left_out: Option<Tenant>) -> Clients<'a> {
         Clients { machine, next: 0, left_out }
     }
@@ -121,7 +121,7 @@ impl<'a> Client<'a> {
         OwnedHeap::new(self, sizes, has_runs)
     }
 
-    /// Returns a second client of the tenant. Only a heap has it, whose user has no other one, or only borrows it.
+    /// Returns a second client of the tenant. It is only for a heap, whose user no longer has the first one, or only borrows it.
     pub(crate) fn again(&self) -> Client<'a> {
         Client { ..*self }
     }

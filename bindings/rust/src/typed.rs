@@ -11,7 +11,7 @@ const LEAST_ALIGN: usize = 8;
 /// A cache of values of type `T`. Dropping it destroys it, and frees its slabs.
 pub struct Cache<'c, T> {
     client: &'c Client<'c>,
-    /// A cache for this type alone: nothing else knows its number.
+    /// A cache only for this type: nothing else knows its number.
     cache: crate::Cache,
     values: PhantomData<T>,
 }
@@ -101,7 +101,7 @@ impl<'k, T> Object<'k, T> {
 
 impl<T> Drop for Object<'_, T> {
     fn drop(&mut self) {
-        // Gives the object back after the value's end, also if that panics.
+        // Gives the object back after the value is dropped, even if that panics.
         let taken = Taken { at: self.at, place: self.place, cache: self.cache };
         // SAFETY: the value is alive, and this is its only owner.
         unsafe { ptr::drop_in_place(taken.at.as_ptr()) };

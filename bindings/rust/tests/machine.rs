@@ -33,7 +33,7 @@ fn an_object_has_the_pattern_and_then_what_was_in_it() {
     let mut object = machine.take(&cache).unwrap();
     let (place, bytes) = (object.place(), machine.lend_mut(&mut object).unwrap());
     assert!(*bytes == *b"ab".repeat(48) && bytes.as_ptr() as usize % 32 == 0);
-    // Patterns and lends do not meet.
+    // A pattern may be lent bytes: it is copied.
     let second = machine.make_cache(ONE, 8, 8, &bytes[..4]).unwrap();
     bytes[95] = b'c';
     assert_eq!(machine.lend(&machine.take(&second).unwrap()), Ok(b"abababab".as_slice()));
@@ -120,7 +120,7 @@ struct User {
     seen: Vec<String>,
 }
 
-/// Lends all that a user has at once. It has what was stored, and is disjoint.
+/// Lends all that a user has at once. The bytes are those that were stored, and no two lends overlap.
 fn check<Kind>(machine: &Machine, handles: &mut [(Handle<Kind>, u8)]) {
     let mut lends: Vec<_> = handles.iter_mut().map(|(handle, fill)| (machine.lend_mut(handle).unwrap(), *fill)).collect();
     lends.sort_by_key(|(bytes, _)| bytes.as_ptr());
