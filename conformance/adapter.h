@@ -1,12 +1,12 @@
-/* An allocator of your own behind the lines of docs/traces.md: fill in the ten functions below and link them with adapter.c,
- * which reads the trace and writes the replies.
+/* Makes an allocator of your own answer the lines of docs/traces.md: fill in the ten functions below and link them with
+ * adapter.c, which reads the trace and writes the replies.
  *
  *     cc -O2 -o mine conformance/adapter.c mine.c && conformance/check --pages ./mine
  *
  * A superblock has 2^order frames of FRAME_BYTES bytes. Slot u has the tenant's frames from u * 2^order on, and frame f its
  * places from f * FRAME_BYTES on, all below 2^32; which slot a grant takes is yours to choose. A tenant that is passed exists;
- * slots, frames, places and numbers of caches are any that a line may have. A function that refuses changes nothing and returns
- * the first refusal that applies, in the order named with it. Otherwise it stores its results and returns DONE. */
+ * slots, frames, places and numbers of caches may be any that a line can have. A function that refuses changes nothing and
+ * returns the first refusal that applies, in the order named with it. Otherwise it stores its results and returns DONE. */
 #ifndef PARTMEM_ADAPTER_H
 #define PARTMEM_ADAPTER_H
 
@@ -103,7 +103,7 @@ struct caches {
     void (*report)(unsigned tenant, struct figures *figures);
 };
 
-/* Your caches, or NULL if there are none: their commands then end the program, so test it with --pages. */
+/* Your caches, or NULL if there are none: the commands of caches then end the program, so test it with --pages. */
 const struct caches *caches(void);
 
 #ifdef __cplusplus

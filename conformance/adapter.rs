@@ -1,4 +1,5 @@
-//! An allocator of your own in Rust behind the lines of docs/traces.md: implement [`Allocator`], and call [`run`] in `main`.
+//! Makes an allocator of your own in Rust answer the lines of docs/traces.md: implement [`Allocator`], and call [`run`] in
+//! `main`.
 //!
 //! ```sh
 //! rustc -O -o mine mine.rs && conformance/check --pages ./mine
@@ -7,8 +8,8 @@
 //! with `#[path = "conformance/adapter.rs"] mod adapter;` in `mine.rs`. A superblock has `2^order` frames of [`FRAME_BYTES`]
 //! bytes. Slot `u` has the tenant's frames from `u * 2^order` on, and frame `f` its places from `f * FRAME_BYTES` on, all below
 //! 2^32; which slot a grant takes is yours to choose. A tenant that is passed exists; slots, frames, places and numbers of caches
-//! are any that a line may have. A function that refuses changes nothing and returns the first refusal that applies, in the order
-//! named with it.
+//! may be any that a line can have. A function that refuses changes nothing and returns the first refusal that applies, in the
+//! order named with it.
 #![allow(dead_code)]
 
 use std::io::{self, BufRead, Write};
@@ -64,7 +65,7 @@ pub trait Allocator {
     fn read(&mut self, tenant: u32, place: u32, length: u32) -> Result<Vec<u8>, Refusal>;
     /// Writes bytes in the same way: OutOfReach.
     fn write(&mut self, tenant: u32, place: u32, bytes: &[u8]) -> Result<(), Refusal>;
-    /// Your caches; without any, their commands end the program, so test it with --pages.
+    /// Your caches; if there are none, the commands of caches end the program, so test it with --pages.
     fn caches(&mut self) -> Option<&mut dyn Caches> {
         None
     }

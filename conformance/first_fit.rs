@@ -7,7 +7,7 @@ use std::process::ExitCode;
 
 struct Superblock {
     owner: Option<(u32, u32)>,
-    /// By frame, the first frame and the order of the block that has it.
+    /// By frame, the first frame and the order of the block that contains it.
     blocks: Vec<Option<(usize, u32)>>,
     bytes: Vec<u8>,
 }

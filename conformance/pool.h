@@ -1,4 +1,4 @@
-/* An allocator of blocks of your own, with one pool and no tenants, behind the lines of docs/traces.md: fill in the four
+/* Makes an allocator of blocks of your own, with one pool and no tenants, answer the lines of docs/traces.md: fill in the four
  * functions below and link them with pool.c and adapter.c.
  *
  *     cc -O2 -o mine conformance/adapter.c conformance/pool.c mine.c && conformance/check --pages ./mine

@@ -21,8 +21,8 @@ class Unusable(Exception):
 
 
 class Breach(NamedTuple):
-    """A broken promise: one of docs/promises.md, or Exact. It has the line that shows it, if that is known, and Alone the tenant
-    whose replies differ."""
+    """A broken promise: one of docs/promises.md, or Exact. It has the line that shows it, if that is known, and for Alone the
+    tenant whose replies differ."""
     kind: str
     words: str
     tenant: Optional[int] = None
@@ -53,7 +53,7 @@ class Judge:
         self.partmem, self.partcheck = options.partmem, options.partcheck
 
     def judged(self, run):
-        """Returns what a run shows by itself."""
+        """Returns what a run shows on its own."""
         finding = run.failure or self.broken_promise(run) or (self.compared_with_partmem(run) if self.exact else None)
         return finding and Case(run, finding)
 

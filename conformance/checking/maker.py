@@ -230,6 +230,6 @@ class Maker:
             # begins at the end, or begins or ends one before the block, or is partly in the next or partly in the one before
             return self.one([size, -1, -length, size - rng.randint(1, length), -rng.randint(1, length)])
         if chance < 0.8:
-            # across two frames of a block, or at the end or the begin of one
+            # across two frames of a block, or at the end or the beginning of one
             return FRAME_BYTES * rng.randrange(size // FRAME_BYTES + 1) - self.one([0, length // 2, length])
         return rng.randrange(last + 1)

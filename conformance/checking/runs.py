@@ -103,7 +103,7 @@ class Places:
         self.known[begin] = size, now
 
     def around(self, place):
-        """Returns the first place of what contains a place, or has it just before or behind it; None if nothing has."""
+        """Returns the first place of what contains a place, or has it just before or after it; None if there is nothing."""
         at = bisect.bisect_right(self.begins, place) - 1
         before = self.begins[at] if at >= 0 else None
         if before is not None and place <= before + self.known[before][0]:

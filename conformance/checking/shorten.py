@@ -64,8 +64,8 @@ class Shortener:
         self.from_the_end()
 
     def leave_out(self, parts):
-        """Leaves lines out, the families of lines first, and fills the same space by fewer lines. The changes of a kind are tried
-        in parts, down to `parts` of them."""
+        """Leaves lines out, the families of lines first, and fills the same space with fewer lines. The changes of a kind are
+        tried in parts, down to `parts` of them."""
         for changes_of in (of_tenants, by_command, over, idle, grants, caches, rewriting.slabs_as_blocks, rewriting.joined_blocks,
                            taken):
             self.change(changes_of, parts)
