@@ -1,4 +1,5 @@
-/* The administrator. Partition 0 gets and loses the same at the same points of its own run in all worlds. All else may differ. */
+/* The administrator. Partition 0 gets and loses the same at the same points of its own run in all worlds. Everything
+ * else may differ. */
 #include "kernel.h"
 
 /* The words of the boot line, NAME=VALUE. */

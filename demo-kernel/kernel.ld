@@ -1,4 +1,4 @@
-/* The kernel lies at 1 MiB, at its physical addresses. The programs of partitions lie behind it and run at USER_CODE. */
+/* The kernel lies at 1 MiB, at its physical addresses. The programs of partitions lie after it and run at USER_CODE. */
 USER_CODE = 0x10000000000;
 ENTRY(enter)
 SECTIONS

@@ -51,7 +51,8 @@ static bool is_refused(unsigned who, partmem_status status)
 
 /* ---- Page blocks -------------------------------------------------------------------------------------------------------- */
 
-/* Maps a block as partmem_alloc or partmem_lend_block returned it, so no slab, free frame or other superblock (duty 11). */
+/* Maps a block as partmem_alloc or partmem_lend_block returned it, so it maps no slab, free frame or other superblock (duty
+ * 11). */
 static void map_block(unsigned t, partmem_lent block)
 {
     uint8_t *at = block.at;
@@ -211,7 +212,7 @@ bool move_slot(unsigned t, uint32_t slot)
     return true;
 }
 
-/* If this is done, nothing of the slot is mapped: the library refuses a take-back while a page block is in it. */
+/* When a take-back is done, nothing of the slot is mapped: the library refuses it while a page block is in the slot. */
 bool take_back(unsigned t, uint32_t slot)
 {
     partmem_slot found = {0};
