@@ -47,7 +47,7 @@ impl FaultyLine {
         match self.fault {
             LineFault::Long => "a line has at most 255 bytes",
             LineFault::Unknown => "no such actor, or no such command of it; see --help",
-            LineFault::Words => "wrong number of words for this command; see --help",
+            LineFault::Words => "the command has another number of words; see --help",
             LineFault::Number => "a number has 1 to 10 digits and is at most 4294967295",
             LineFault::Hex =>
                 "bytes are two hex digits each, 1 to 64 of them, 1 to 16 of a pattern",
