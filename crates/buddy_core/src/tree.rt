@@ -106,9 +106,14 @@ impl Tree {
             → (number_at order result * 2 ^ order ≡ result) × IsLeast ok self.now.order order (number_at order result) }
     {
         let words = self.words.as_slice();
+        // Nodes 1 to `inner` have blocks of larger orders. The loop tests the node, so it needs no counter: `level` is for its
+        // invariant alone.
+        let inner = words.len() >> (order + 1);
+        let mut level = order;
         let mut node = 1;
-        for _level in order..self.order {
+        while node <= inner {
             node = 2 * node + 1 - usize::from(has(words[2 * node - 1], order));
+            level += 1;
         }
         ((node as u32) << order) - (1 << self.order)
     }
