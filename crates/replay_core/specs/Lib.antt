@@ -6,6 +6,7 @@ pub mod Noting
 pub mod Pending
 pub mod Promised
 pub mod Pushes
+pub mod QuickLine
 pub mod Rows
 pub mod Runs
 pub mod Shown
