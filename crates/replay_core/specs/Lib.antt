@@ -1,7 +1,6 @@
 pub mod Bounds
 pub mod Doing
 pub mod Ending
-pub mod Front
 pub mod Noting
 pub mod Pending
 pub mod Promised
