@@ -153,13 +153,14 @@ impl Kernel {
             return Err(Refusal::NoTenant);
         };
         self.laws();
-        let block = self.alloc_block(t, order)?;
+        let first = self.alloc(t, order)?;
         self.laws();
+        let superblock = self.space.machine_of(t, first >> self.order()).unwrap();
         Ok(Span {
             tenant: t,
-            place: FRAME_BYTES * block.first,
+            place: FRAME_BYTES * first,
             bytes: FRAME_BYTES << order,
-            superblock: block.superblock,
+            superblock,
         })
     }
 

@@ -21,7 +21,9 @@ use Rattle.slab_core.proofs.Slabs.give.Goals as goal
 use Rattle.slab_core.proofs.Slabs.give.Goals.{After-from_residual, In_ok-kept, After-from_residual-in_err-object, After-clear_bit, After-recount}
 
 no_cache : (c : After-from_residual) → cache_at c.args.self.now c.args.t c.args.c ≡ None
-no_cache c = cc
+no_cache c =
+    sym (ap (λ (s : Content). cache_at s c.args.t c.args.c) c.self.view_is)
+    ∙ (sym c.cache.ensures ∙ ap (option_map (λ x. x.now)) c.in_err-kept.ensures.ok_part)
 
 refused : (c : After-from_residual) (m : Machine) → ShowsMachine c.args.space.now c.args.buddy.now c.args.self.now c.args.t m → give_step c.args.c c.args.place m ≡ refuse NoCache m
 refused c m h = give_refused c.args.space.now c.args.buddy.now c.args.self.now c.args.t c.args.c c.args.place m h (no_cache c)
@@ -34,7 +36,9 @@ returns-in_err-kept-clause-shows c = λ m h. rw (refused c m h) h
 
 -- the cache in the tables
 cached : (c : In_ok-kept) → cache_at c.args.self.now c.args.t c.args.c ≡ Some c.in_ok-kept.field-0.now
-cached c = cc
+cached c =
+    sym (ap (λ (s : Content). cache_at s c.args.t c.args.c) c.self.view_is)
+    ∙ (sym c.cache.ensures ∙ ap (option_map (λ x. x.now)) c.in_ok-kept.ensures.ok_part)
 
 pub locate-requires-clause-parts : goal.locate-requires-clause-parts
 locate-requires-clause-parts c = (c.args.buddy.now, c.laws_with.ensures.parts)

@@ -20,7 +20,10 @@ use Rattle.slab_core.proofs.Slabs.take_new.Goals.{After-from_residual, In_ok-bef
 
 refused : (c : After-from_residual) (m : Machine) → ShowsMachine c.args.space.now c.args.buddy.now c.args.self.now c.args.t m
     → take_step c.args.self.now.top c.args.c m ≡ refuse NoCache m
-refused c m h = no_cache_step c.args.c h (cc)
+refused c m h =
+    no_cache_step c.args.c h
+    (sym (ap (λ (s : Content). cache_at s c.args.t c.args.c) c.self.view_is)
+    ∙ (sym c.cache.ensures ∙ ap (option_map (λ x. x.now)) c.in_err-before.ensures.ok_part))
 
 pub returns-in_err-before-clause-answer : goal.returns-in_err-before-clause-answer
 returns-in_err-before-clause-answer c = λ m h. let e = refused c m h in rw e (search rules)
@@ -30,7 +33,9 @@ returns-in_err-before-clause-shows c = λ m h. rw (refused c m h) h
 
 -- the cache in the tables
 cached : (c : In_ok-before) → cache_at c.args.self.now c.args.t c.args.c ≡ Some c.in_ok-before.field-0.now
-cached c = cc
+cached c =
+    sym (ap (λ (s : Content). cache_at s c.args.t c.args.c) c.self.view_is)
+    ∙ (sym c.cache.ensures ∙ ap (option_map (λ x. x.now)) c.in_ok-before.ensures.ok_part)
 
 -- No slab can be made
 

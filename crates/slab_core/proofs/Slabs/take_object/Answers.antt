@@ -13,7 +13,10 @@ use Rattle.slab_core.proofs.Slabs.take_object.Goals.{After-from_residual, In_ok-
 
 refused : (c : After-from_residual) (m : Machine) → ShowsMachine c.args.space.now c.args.buddy.now c.args.self.now c.args.t m
     → take_step c.args.self.now.top c.args.c m ≡ refuse NoCache m
-refused c m h = no_cache_step c.args.c h (cc)
+refused c m h =
+    no_cache_step c.args.c h
+    (sym (ap (λ (s : Content). cache_at s c.args.t c.args.c) c.self.view_is)
+    ∙ (sym c.cache.ensures ∙ ap (option_map (λ x. x.now)) c.in_err-kept.ensures.ok_part))
 
 pub returns-in_err-kept-clause-answer : goal.returns-in_err-kept-clause-answer
 returns-in_err-kept-clause-answer c = λ m h. let e = refused c m h in rw e (search rules)
@@ -23,7 +26,9 @@ returns-in_err-kept-clause-shows c = λ m h. rw (refused c m h) h
 
 -- the cache in the tables
 cached : (c : In_ok-kept) → cache_at c.args.self.now c.args.t c.args.c ≡ Some c.in_ok-kept.field-0.now
-cached c = cc
+cached c =
+    sym (ap (λ (s : Content). cache_at s c.args.t c.args.c) c.self.view_is)
+    ∙ (sym c.cache.ensures ∙ ap (option_map (λ x. x.now)) c.in_ok-kept.ensures.ok_part)
 
 -- A slab is used
 
