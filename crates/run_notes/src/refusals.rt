@@ -1,9 +1,9 @@
-//! Refusals, each with the number of times that it was the answer.
+//! The refusals, with a count of the answers for each.
 
 use std::fmt;
 use words_core::Refusal;
 
-/// The highest number that a refusal has.
+/// The greatest number of a refusal.
 pub const MOST_NUMBER: u8 = 15;
 
 /// A refusal, and the number of answers that were this refusal.
