@@ -2,9 +2,9 @@
 use Rattle.std.proofs.Common.{◌≡◌, ℕ, suc, ◌+◌, ◌-◌, ◌*◌, ◌/◌, ◌%◌, ◌^◌, ◌<◌, ◌≤◌, Bool, true, false, List, length, get_or, ◌⊎◌, inl, inr, refl, sym, ap, subst, ◌∙◌, arith}
 use Rattle.std.specs.Prelude.{slice_index}
 use Rattle.std.specs.Int.{bit_at}
-use Rattle.std.proofs.lemmas.Bool.{cases_eq, cond-false, false_from_ne_true}
-use Rattle.std.proofs.lemmas.Nat.{shl_below, shl_whole, shl-shr, one_shl, pow-add}
-use Rattle.std.proofs.Math.Nat.{pow-suc}
+use Rattle.std.proofs.lemmas.Bool.{cases_eq, cases_lt, cond-false, false_from_ne_true}
+use Rattle.std.proofs.lemmas.Nat.{shl_below, shl_whole, shl-shr, one_shl, pow_pos, pow-add}
+use Rattle.std.proofs.Math.Nat.{pow-suc, mul-le-mul_right, mul-lt-mul_of_pos_right, div-mul-le_self, div-lt_iff_lt-mul}
 use Rattle.std.proofs.Math.Pow.{pow_mono}
 use Rattle.model_core.specs.Numbered.{number_at, is_clear, IsOpen}
 use Rattle.buddy_core.specs.Tree.{orders, Shows, HasOpen, IsLeast}
@@ -158,3 +158,27 @@ reached_first top j d words e =
 -- the last step down is at the order looked for
 pub reached_last : (top j level n : ℕ) (words : List ℕ) → level ≡ top → Reached top j (level - j) n words → Reached top j (top - j) n words
 reached_last top j level n words e way = subst (λ i. Reached top j (i - j) n words) e way
+
+-- a node at depth d has a block of an order above j if and only if its number is at most that of the last such node
+pub inner_above : (top j d n len : ℕ) → len + 1 ≡ 2 ^ (top + 1) → n ≤ len / 2 ^ (j + 1) → 2 ^ d ≤ n → d + j < top
+inner_above top j d n len size test least = elim (cases_lt (d + j) top) [
+  | inl lt ↦ lt
+  | inr ge ↦ absurd (
+      let grown : 2 ^ (top + 1) ≤ 2 ^ d * 2 ^ (j + 1) = subst (λ i. 2 ^ (top + 1) ≤ i) (pow-add 2 d (j + 1)) (pow_mono {i = top + 1} {j = d + (j + 1)} (omega arith)) in
+      let from = mul-le-mul_right (2 ^ (j + 1)) least in
+      let to = mul-le-mul_right (2 ^ (j + 1)) test in
+      let whole = div-mul-le_self len (2 ^ (j + 1)) in
+      omega (arith, size, grown, from, to, whole))
+]
+
+pub inner_last : (top j d n len : ℕ) → len + 1 ≡ 2 ^ (top + 1) → d + j ≤ top → len / 2 ^ (j + 1) < n → n < 2 * 2 ^ d → d + j ≡ top
+inner_last top j d n len size h beyond depth = elim (cases_lt (d + j) top) [
+  | inl lt ↦ absurd (
+      let some = pow_pos (j + 1) in
+      let past : len < n * 2 ^ (j + 1) = (div-lt_iff_lt-mul {k = 2 ^ (j + 1)} {x = len} {y = n} some).0 beyond in
+      let room : n < 2 ^ suc d = omega (arith, pow-suc 2 d) in
+      let under = mul-lt-mul_of_pos_right {m = n} {n = 2 ^ suc d} {k = 2 ^ (j + 1)} room some in
+      let fits : 2 ^ suc d * 2 ^ (j + 1) ≤ 2 ^ (top + 1) = subst (λ i. i ≤ 2 ^ (top + 1)) (pow-add 2 (suc d) (j + 1)) (pow_mono {i = suc d + (j + 1)} {j = top + 1} (omega arith)) in
+      omega (arith, size, past, under, fits))
+  | inr ge ↦ omega arith
+]

@@ -5,7 +5,7 @@ use Rattle.model_core.specs.declared.limits.TheConstants.{MOST_ORDER, MOST_SUPER
 use Rattle.model_core.specs.Blocks.{Taken, block, IsSound}
 use Rattle.model_core.specs.Choice.{is_free, count_below}
 
--- one tenant: the superblock in each slot, and at each frame the order of the taken block that begins there
+-- what one tenant holds: the superblock in each slot, and for each frame the order of the taken block that begins there
 pub record Holding : Type 0 where
   pub slots : List (Option ℕ)
   pub taken : List (Option ℕ)
@@ -16,7 +16,7 @@ pub record Content : Type 0 where
   pub superblocks : ℕ
   pub tenants : List Holding
 
--- neither a slot nor a taken block
+-- no slot is held and no block is taken
 abbrev pub nothing_held : ℕ → ℕ → Holding
 nothing_held top superblocks = record { slots = replicate superblocks None; taken = replicate (superblocks * 2 ^ top) None }
 
@@ -31,7 +31,7 @@ no_tenant = record { slots = []; taken = [] }
 abbrev pub holding_of : ℕ → Content → Holding
 holding_of t c = slice_index_or c.tenants t no_tenant
 
--- tenant t holds h now, and nothing else changes
+-- tenant t holds h, and nothing else changes
 abbrev pub with_holding : ℕ → Holding → Content → Content
 with_holding t h c = record c { tenants = slice_set c.tenants t h }
 
@@ -85,7 +85,7 @@ pub record IsSized (c : Content) : Type 0 where
   pub slots : (t : ℕ) → t < length c.tenants → length (holding_of t c).slots ≡ c.superblocks
   pub taken : (t : ℕ) → t < length c.tenants → length (holding_of t c).taken ≡ c.superblocks * 2 ^ c.top
 
--- what holds of every buddy system
+-- what is true of every `Buddy`
 pub record BuddyLaws (c : Content) : Type 0 where
   pub sizes : IsSized c
   pub sound : (t : ℕ) → t < length c.tenants → IsSoundHolding c.top (holding_of t c)

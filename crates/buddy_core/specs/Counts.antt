@@ -1,8 +1,8 @@
--- A tenant's counts of free and taken blocks of each order, when a block is taken or released.
+-- How a tenant's counts of free and taken blocks of each order change when a block is taken or released.
 use Rattle.std.specs.Prelude.{◌≡◌, ◌⊎◌, ℕ, ◌+◌, ◌^◌, ◌<◌, ◌≤◌, length, slice_index}
 use Rattle.buddy_core.specs.Stored.{StoredTenant}
 
--- one more of each order can be counted
+-- one more block of each order can be counted, free or taken
 abbrev pub CanCountMore : StoredTenant → Type 0
 CanCountMore tenant = (i : ℕ) → (slice_index tenant.free i + 1 < 2 ^ 32) × (slice_index tenant.taken i + 1 < 2 ^ 32)
 

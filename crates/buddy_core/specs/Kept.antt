@@ -1,4 +1,4 @@
--- What always holds of the stored superblocks and tenants.
+-- What is always true of the stored superblocks and tenants.
 use Rattle.std.specs.Prelude.{◌≡◌, ℕ, ◌+◌, ◌*◌, ◌^◌, ◌<◌, ◌≤◌, Bool, Some, List, length, slice_index}
 use Rattle.model_core.specs.declared.limits.TheConstants.{MOST_ORDER, MOST_SUPERBLOCKS, MOST_TENANTS}
 use Rattle.model_core.specs.Blocks.{block, IsSound}
@@ -7,7 +7,7 @@ use Rattle.buddy_core.specs.Content.{taken_block_count}
 use Rattle.buddy_core.specs.Tree.{Shows}
 use Rattle.buddy_core.specs.Stored.{StoredSuperblock, StoredTenant, bare_superblock, superblock_of, stored_tenant, superblock_at, held_by, taken_by, holding_shown}
 
--- which frames of slot u are available, counted from the slot's first
+-- frame x of slot u, counted from the slot's first frame, is available
 abbrev pub available_in : ℕ → List StoredSuperblock → StoredTenant → ℕ → ℕ → Bool
 available_in top superblocks tenant u x = is_available top (held_by tenant) (taken_by top superblocks tenant) (u * 2 ^ top + x)
 

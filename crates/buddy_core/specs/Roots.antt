@@ -1,4 +1,4 @@
--- Which orders of free blocks the superblocks of one tenant have, by the first words of their trees.
+-- The orders of the free blocks that the superblocks of one tenant have, according to the root words of their trees.
 use Rattle.std.specs.Prelude.{◌≡◌, ◌↔◌, ℕ, ◌+◌, ◌<◌, ◌≤◌, Option, Some, None, List, length, slice_index, slice_index_or}
 use Rattle.std.specs.Int.{bit_at}
 use Rattle.model_core.specs.declared.limits.TheConstants.{MOST_ORDER, MOST_SUPERBLOCKS}
@@ -25,7 +25,7 @@ HasBit superblocks m j = bit_at (slice_index (superblock_of m superblocks).tree.
 abbrev pub HasOrder : List StoredSuperblock → List (Option ℕ) → ℕ → Type 0
 HasOrder superblocks slots j = (u m : ℕ) × (slice_index_or slots u None ≡ Some m) × HasBit superblocks m j
 
--- a tenant counts free blocks of exactly the orders that its superblocks have
+-- the tenant's count of free blocks of an order is above 0 if and only if one of its superblocks has a free block of that order
 abbrev pub IsCounted : List StoredSuperblock → StoredTenant → Type 0
 IsCounted superblocks tenant = (j : ℕ) → (0 < slice_index tenant.free j) ↔ HasOrder superblocks tenant.slots j
 
@@ -37,7 +37,7 @@ IsThere superblocks slots = (u m : ℕ) → slice_index_or slots u None ≡ Some
 abbrev pub IsWithoutOrder : List StoredSuperblock → List (Option ℕ) → ℕ → Type 0
 IsWithoutOrder superblocks slots k = (j u m : ℕ) → k ≤ j → slice_index_or slots u None ≡ Some m → HasBit superblocks m j → ⊥
 
--- the first slot with a free block of the least free order of at least k
+-- `p.order` is the least order of at least k that has a free block, and `p.slot` is the first slot with a free block of that order
 pub record IsSource (superblocks : List StoredSuperblock) (slots : List (Option ℕ)) (k : ℕ) (p : Source) : Type 0 where
   pub at : slice_index_or slots p.slot None ≡ Some p.superblock
   pub enough : k ≤ p.order

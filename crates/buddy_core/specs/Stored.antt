@@ -1,4 +1,4 @@
--- What is stored of each superblock and of each tenant, and what the tenant holds according to it.
+-- What is stored for each superblock and for each tenant, and what the tenant holds according to it.
 use Rattle.std.specs.Prelude.{◌≡◌, ℕ, ◌+◌, ◌-◌, ◌*◌, ◌/◌, ◌%◌, ◌^◌, ◌≤◌, Bool, Option, Some, None, is_some, List, [], length, map, replicate, slice_index_or}
 use Rattle.std.specs.List.{range_with_len}
 use Rattle.model_core.specs.declared.limits.TheConstants.{MOST_ORDER}
@@ -15,7 +15,7 @@ pub record IsTree (order : ℕ) (words : List ℕ) : Type 0 where
   pub small : order ≤ MOST_ORDER
   pub size : length words + 1 ≡ 2 ^ (order + 1)
 
--- a superblock: its tree, and at each of its frames the order of the taken block that begins there
+-- a superblock: its tree, and for each of its frames the order of the taken block that begins there
 pub record StoredSuperblock : Type 0 where
   pub tree : StoredTree
   pub orders : List (Option ℕ)

@@ -5,11 +5,11 @@ use Rattle.buddy_core.specs.declared.summaries.TheConstants.{GROUP_SLOTS}
 use Rattle.buddy_core.specs.Roots.{HasBit}
 use Rattle.buddy_core.specs.Stored.{StoredSuperblock, StoredTenant, stored_tenant}
 
--- if a superblock in a slot of a group has a free block of order j, the bit of the group is 1 in the word of that order
+-- if a superblock in a slot of a group has a free block of order j, the group's bit in the word of that order is 1
 abbrev pub IsBounded : List StoredSuperblock → List (Option ℕ) → List ℕ → Type 0
 IsBounded superblocks slots words = (j u m : ℕ) → slice_index_or slots u None ≡ Some m → HasBit superblocks m j → bit_at (slice_index words j) (u / GROUP_SLOTS) ≡ 1
 
--- this holds for each tenant
+-- each tenant has a summary for which `IsBounded` holds
 pub record AreBounded (superblocks : List StoredSuperblock) (tenants : List StoredTenant) (summaries : List (List ℕ)) : Type 0 where
   pub size : length summaries ≡ length tenants
   pub each : (t : ℕ) → IsBounded superblocks (stored_tenant t tenants).slots (slice_index_or summaries t [])

@@ -10,7 +10,7 @@ use Rattle.buddy_core.specs.Content.{Content, holding_of, superblock_at, is_held
 abbrev pub Lies : Block → Block → Type 0
 Lies b c = (c.first ≤ b.first) × (b.first + 2 ^ b.order ≤ c.first + 2 ^ c.order)
 
--- the block of node 2 ^ d + q, in the frames of the tenant that has the superblock in slot u
+-- the block of node 2 ^ d + q, in the frame numbers of the tenant that has the superblock in slot u
 abbrev pub node_block : ℕ → ℕ → ℕ → ℕ → Block
 node_block top u d q = block (u * 2 ^ top + q * 2 ^ (top - d)) (top - d)
 

@@ -1,16 +1,16 @@
 -- The tree of orders of one superblock: node 1 is the whole superblock, of order `top`, and nodes 2i and 2i + 1 are the halves of
 -- node i. Node i is stored at index i - 1, so block q of order `top - d` is node 2 ^ d + q. Frames are those of the superblock,
--- from 0; `ok` is true of the available ones.
+-- from 0; `ok` is true of the available frames.
 use Rattle.std.specs.Prelude.{◌≡◌, ℕ, zero, suc, ◌+◌, ◌-◌, ◌*◌, ◌/◌, ◌^◌, ◌<◌, ◌≤◌, nat_lt, Bool, true, false, ◌&&◌, cond, List, length, slice_index, bit_or}
 use Rattle.model_core.specs.Numbered.{number_at, is_clear, IsOpen}
 
--- the orders of the free blocks in block q of order k, a bit for each, as if there were no frames around that block
+-- the orders of the free blocks in block q of order k, as one bit each, as if there were no frames around that block
 abbrev pub orders : (ℕ → Bool) → ℕ → ℕ → ℕ
 orders ok zero q = cond (ok q) 1 0
 orders ok (suc k) q =
     cond (is_clear ok (suc k) q) (2 ^ suc k) (bit_or (orders ok k (2 * q)) (orders ok k (2 * q + 1)))
 
--- the word of block q of order k in a superblock: nothing inside a larger free block is a free block
+-- the word of block q of order k in a superblock; it is 0 if the block lies inside a larger free block
 abbrev pub word : (ℕ → Bool) → ℕ → ℕ → ℕ → ℕ
 word ok top k q = cond (nat_lt k top && is_clear ok (suc k) (q / 2)) 0 (orders ok k q)
 
@@ -23,7 +23,7 @@ pub record Shows (top : ℕ) (ok : ℕ → Bool) (words : List ℕ) : Type 0 whe
   pub size : length words + 1 ≡ 2 ^ (top + 1)
   pub each : (d k q : ℕ) → d + k ≡ top → q < 2 ^ d → word_at words d q ≡ word ok top k q
 
--- `node` is the node of the block of order k around frame f: it is stored, and so is the node of its other half
+-- `node` is the node of the block of order k around frame f. It is stored, and so is the node of the block's buddy, if it has one.
 pub record IsNode (top k f node : ℕ) : Type 0 where
   pub at : (d : ℕ) → d + k ≡ top → node ≡ 2 ^ d + number_at k f
   pub some : 0 < node
@@ -35,28 +35,29 @@ pub record IsNode (top k f node : ℕ) : Type 0 where
 abbrev pub IsWith : ℕ → ℕ → ℕ → Type 0
 IsWith k f x = number_at k x ≡ number_at k f
 
--- `small` is `large` without the block of order k around frame f, all of it available in `large`
+-- the frames available in `small` are those available in `large`, without the block of order k around frame f, which is all
+-- available in `large`
 pub record IsLess (small large : ℕ → Bool) (k f : ℕ) : Type 0 where
   pub was : (x : ℕ) → IsWith k f x → large x ≡ true
   pub gone : (x : ℕ) → IsWith k f x → small x ≡ false
   pub kept : (x : ℕ) → (IsWith k f x → ⊥) → small x ≡ large x
 
--- a block of order j is free inside block q of order k
+-- a free block of order j lies inside block q of order k
 abbrev pub HasOpen : (ℕ → Bool) → ℕ → ℕ → ℕ → ℕ → Type 0
 HasOpen ok top k q j = (n p : ℕ) × (j + n ≡ k) × (number_at n p ≡ q) × IsOpen ok top j p
 
--- the block of order j with the least first frame of those that are free
+-- block q of order j is free, and no free block of order j has a lower first frame
 abbrev pub IsLeast : (ℕ → Bool) → ℕ → ℕ → ℕ → Type 0
 IsLeast ok top j q = IsOpen ok top j q × ((p : ℕ) → p < 2 ^ (top - j) → IsOpen ok top j p → q ≤ p)
 
--- The words while a change from `old` to `new` is carried up. Inside the block of order k around frame f they are those of a
--- separate tree of that block under `new`; all others are as they were under `old`.
+-- The words while a change from `old` to `new` is carried up the tree. Inside the block of order k around frame f they are those
+-- of a separate tree of that block under `new`. All others are still those of `old`.
 pub record Mended (top k f : ℕ) (old new : ℕ → Bool) (words : List ℕ) : Type 0 where
   pub within : (d i e q : ℕ) → d + i ≡ top → q < 2 ^ d → i + e ≡ k → number_at e q ≡ number_at k f → word_at words d q ≡ word new k i q
   pub beyond : (d i q : ℕ) → d + i ≡ top → q < 2 ^ d → ((e : ℕ) → i + e ≡ k → number_at e q ≡ number_at k f → ⊥) → word_at words d q ≡ word old top i q
 
--- `old` and `new` are the same outside the block of order k around frame f, and neither has all frames of a larger block around
--- it
+-- `old` and `new` are the same outside the block of order k around frame f. In neither are all frames of a larger block around it
+-- available.
 pub record IsConfined (top k f : ℕ) (old new : ℕ → Bool) : Type 0 where
   pub same : (x : ℕ) → (IsWith k f x → ⊥) → old x ≡ new x
   pub before : (i : ℕ) → k ≤ i → i < top → is_clear old (suc i) (number_at (suc i) f) ≡ false

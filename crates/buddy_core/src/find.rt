@@ -1,4 +1,5 @@
-//! Finds the slot and the order of the free block that an allocation takes, from a tenant's counts and the root words of trees.
+//! Finds the slot and the order of the free block that an allocation takes, from the tenant's counts and the root words of the
+//! trees.
 
 ghost use Rattle.std.specs.Prelude.{◌≡◌, ℕ, ◌/◌, ◌<◌, ◌≤◌, Some, None, length, slice_index_or, MatchOption};
 ghost use Rattle.model_core.specs.declared.limits.TheConstants.{MOST_SUPERBLOCKS};
@@ -19,8 +20,9 @@ pub struct Source {
     pub order: u8,
 }
 
-/// Returns the first slot with a free block of the tenant's least free order of at least `k`, or `None` if no such block is free.
-/// Removes from `summaries` the groups in which it found none.
+/// Finds the least order of at least `k` in which the tenant has a free block, and returns the first slot with a free block of
+/// that order. Returns `None` if no block of order `k` or more is free. Removes from `summaries` the groups that it searched in
+/// vain.
 pub fn find(
     superblocks: &[Superblock],
     tenant: &Tenant,
@@ -46,7 +48,7 @@ pub fn find(
     None
 }
 
-/// Returns the first slot of a group with a free block of `order`.
+/// Returns the first slot of a group that has a free block of `order`, or `None` if no slot of the group has one.
 fn first_in(
     superblocks: &[Superblock],
     slots: &[Option<u16>],

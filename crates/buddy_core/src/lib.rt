@@ -3,11 +3,12 @@
 //!
 //! A superblock has `2^order` frames and is in at most one slot of one tenant. The frames of slot `u`
 //! of a tenant are numbered from `u * 2^order` on. A block of order `k` has `2^k` frames and begins at
-//! a multiple of `2^k`; it is taken or not. A free block is an aligned block of held slots that has no
-//! taken frame and that no larger such block contains. So halves are joined at every release.
+//! a multiple of `2^k`. [`Buddy::reserve`] takes a block, and [`Buddy::release`] frees it. A free block
+//! lies in a held slot and has no taken frame, and no larger such block contains it. So free halves are
+//! joined at every release.
 //!
-//! Contracts see a [`Buddy`] as the slots and the taken blocks of each tenant. Internally each superblock has a tree of words: a
-//! word has the orders of the free blocks inside one block.
+//! Contracts see a [`Buddy`] as the slots and the taken blocks of each tenant. Internally each superblock has a tree of words, and
+//! each word has the orders of the free blocks inside one block.
 //!
 //! # Example
 //!
@@ -73,8 +74,8 @@ impl Model for Buddy {
 }
 
 impl Buddy {
-    /// Makes a machine of `superblocks` superblocks of `2^order` frames each, and of `tenants` tenants that hold nothing. Returns
-    /// `AllocError` if the allocator refuses memory.
+    /// Makes a machine with `superblocks` superblocks of `2^order` frames each, and with `tenants` tenants that hold nothing.
+    /// Returns `AllocError` if the allocator refuses memory.
     pub fn new(alloc: Global, order: u8, superblocks: u16, tenants: u8) -> Result<Buddy, AllocError>
         requires order { order ≤ MOST_ORDER }
         requires superblocks { superblocks ≤ MOST_SUPERBLOCKS }
@@ -128,7 +129,8 @@ impl Buddy {
         self.tenants.len() as u8
     }
 
-    /// Gives superblock `m`, which is in no slot, to tenant `t` as a slot that it does not hold. All its frames are free.
+    /// Puts superblock `m`, which is in no slot, into a slot that tenant `t` does not hold. The tenant then holds the slot, and
+    /// all frames of the slot are free.
     pub fn add_slot(&mut self, t: u8, slot: u16, m: u16)
         requires tenant { t < length self.old.tenants }
         requires slot { slot < self.old.superblocks }
@@ -194,11 +196,11 @@ impl Buddy {
         self.tenants[t as usize].clear();
     }
 
-    /// Takes a block of order `k` for tenant `t` and returns its first frame. It is the beginning of a free block of the least
-    /// free order of at least `k`, and of these blocks the one with the least first frame. Returns `None` and changes nothing if
-    /// no block of order `k` or more is free.
+    /// Takes a block of order `k` for tenant `t` and returns its first frame. It is taken from the beginning of the free block
+    /// with the least order of at least `k` and, among those of equal order, the least first frame. Returns `None` and changes
+    /// nothing if no block of order `k` or more is free.
     ///
-    /// A block that is too large is split; the upper half stays free.
+    /// A free block that is too large is split, and the upper half of each split stays free.
     pub fn reserve(&mut self, t: u8, k: u8) -> Option<u32>
         requires tenant { t < length self.old.tenants }
         requires order { k ≤ self.old.top }
@@ -220,7 +222,8 @@ impl Buddy {
     }
 
     /// Frees the taken block of tenant `t` that begins at `frame` and returns its order, or `None` if no
-    /// taken block begins there. The block is joined at once with its buddy while that is one free block.
+    /// taken block begins there. The block is joined at once with its buddy, as long as the buddy is one
+    /// free block.
     pub fn release(&mut self, t: u8, frame: u32) -> Option<u8>
         requires { t < length self.old.tenants }
         ensures answer { result ≡ taken_of (holding_of t self.old) frame }
@@ -231,7 +234,7 @@ impl Buddy {
         self.release_in(m, t, frame)
     }
 
-    /// Does the same as [`Buddy::release`] if the caller knows that superblock `m` is in that slot.
+    /// Does the same as [`Buddy::release`], for a caller that knows that superblock `m` is in the slot of `frame`.
     #[inline(always)]
     pub fn release_in(&mut self, m: u16, t: u8, frame: u32) -> Option<u8>
         requires tenant { t < length self.old.tenants }
@@ -249,7 +252,7 @@ impl Buddy {
         Some(k)
     }
 
-    /// Returns the order of the taken block of tenant `t` that begins at `frame`, or `None` if none begins there.
+    /// Returns the order of the taken block of tenant `t` that begins at `frame`, or `None` if no taken block begins there.
     pub fn live_order(&self, t: u8, frame: u32) -> Option<u8>
         requires { t < length self.now.tenants }
         ensures { result ≡ taken_of (holding_of t self.now) frame }
@@ -269,8 +272,8 @@ impl Buddy {
         self.block_in(m, t, frame)
     }
 
-    /// Returns the same as [`Buddy::block_of`] if the caller knows that superblock `m` is in that slot. Only the contract uses
-    /// `t`.
+    /// Returns the same as [`Buddy::block_of`], for a caller that knows that superblock `m` is in the slot of `frame`. Only the
+    /// contract uses `t`.
     #[inline(always)]
     pub fn block_in(&self, m: u16, t: u8, frame: u32) -> Option<(u32, u8)>
         requires tenant { t < length self.now.tenants }
@@ -328,9 +331,9 @@ impl Buddy {
         self.superblocks[m as usize].orders()
     }
 
-    /// Returns the stored words of superblock `m`, node `i` at index `i - 1`. Node 1 is the whole
-    /// superblock, and nodes `2i` and `2i + 1` are the halves of node `i`. Bit `j` of a node is 1 if and
-    /// only if a free block of order `j` lies inside the node's block.
+    /// Returns the stored words of superblock `m`, one for each node. Node `i` is at index `i - 1`. Node 1
+    /// is the whole superblock, and nodes `2i` and `2i + 1` are the halves of node `i`. Bit `j` of a node is
+    /// 1 if and only if a free block of order `j` lies inside the node's block.
     pub fn table(&self, m: u16) -> &[u16]
         requires { m < self.now.superblocks }
         ensures { IsTable self.now m result.now }

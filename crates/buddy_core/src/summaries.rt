@@ -16,7 +16,7 @@ pub const GROUPS: usize = 32;
 pub const ORDERS: usize = 16;
 
 /// For each order, one bit for each group of a tenant's slots: 1 if the group may have a free block of this order. After the last
-/// such block was taken the bit stays 1 until a search finds none.
+/// such block is taken, the bit stays 1 until a search of the group finds none.
 #[derive(Debug, Drop)]
 pub struct Summary {
     words: [u32; ORDERS],

@@ -10,7 +10,7 @@ use crate::tree::Tree;
 use std::alloc::{AllocError, Global};
 use std::marker::Model;
 
-/// The tree of orders of one superblock, and at each of its frames the order of the taken block that begins there.
+/// The tree of orders of one superblock, and for each of its frames the order of the taken block that begins there, or `None`.
 #[derive(Debug, Drop)]
 pub struct Superblock {
     tree: Tree,
@@ -46,7 +46,7 @@ impl Superblock {
         &self.tree
     }
 
-    /// Returns the order of the taken block that begins at `frame` of the superblock, or `None` if none begins there.
+    /// Returns the order of the taken block that begins at `frame` of the superblock, or `None` if no taken block begins there.
     pub fn order_at(&self, frame: u32) -> Option<u8>
         requires { frame < 2 ^ self.now.tree.order }
         ensures { result ≡ slice_index_or self.now.orders frame None }
@@ -78,8 +78,8 @@ impl Superblock {
         self.orders[first as usize] = Some(order);
     }
 
-    /// Frees the taken block of `order` that begins at `first` and joins it with its buddies. Returns the order of the free block
-    /// that results.
+    /// Frees the taken block of `order` that begins at `first` and joins it with its buddy, as long as the buddy is one free
+    /// block. Returns the order of the resulting free block.
     #[inline(always)]
     pub fn release_at(&mut self, first: u32, order: u8) -> u8
         requires order { order ≤ self.old.tree.order }

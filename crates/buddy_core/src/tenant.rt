@@ -48,7 +48,7 @@ impl Tenant {
         })
     }
 
-    /// Returns the superblock in each slot, up to the last slot that is held.
+    /// Returns the superblock in each slot, or `None`. No slot after the end of the slice is held.
     pub fn held(&self) -> &[Option<u16>]
         ensures same { (u : ℕ) → slice_index_or result.now u None ≡ slice_index_or self.now.slots u None }
         ensures few { length result.now ≤ MOST_SUPERBLOCKS }
@@ -56,7 +56,7 @@ impl Tenant {
         &self.slots[..self.end]
     }
 
-    /// Returns the superblock in `slot`, or `None` if there is none. The number may be past the last slot.
+    /// Returns the superblock in `slot`, or `None` if there is none. `slot` may be any number.
     pub fn superblock_at(&self, slot: u32) -> Option<u16>
         ensures { result ≡ slice_index_or self.now.slots slot None }
     {
@@ -71,7 +71,7 @@ impl Tenant {
         self.free[order as usize]
     }
 
-    /// Returns the least order, at least `k`, in which the tenant has a free block, or `None` if there is no such order.
+    /// Returns the least order of at least `k` in which the tenant has a free block, or `None` if there is no such order.
     pub fn least_free(&self, k: u8) -> Option<u8>
         ensures { MatchOption result ((j : ℕ) → k ≤ j → slice_index self.now.free j ≡ 0)
             (λ j. (k ≤ j) × (j ≤ MOST_ORDER) × (0 < slice_index self.now.free j)
@@ -152,7 +152,7 @@ impl Tenant {
         }
     }
 
-    /// Counts a freed block of `order` that was joined with its buddies to a free block of order `to`.
+    /// Counts a freed block of `order` that was joined with its buddies into a free block of order `to`.
     #[inline(always)]
     pub fn count_released(&mut self, order: u8, to: u8)
         requires order { order ≤ to }

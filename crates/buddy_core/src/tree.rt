@@ -2,7 +2,7 @@
 //!
 //! Node 1 is the whole superblock, nodes `2i` and `2i + 1` are the halves of node `i`, and the word of node `i` is stored
 //! at index `i - 1`. Bit `j` of a word is 1 if and only if a free block of order `j` lies inside the node's block. A free block
-//! lies inside no half of itself, so all words below a node that is one free block are 0.
+//! does not lie inside its own halves, so all words below a node that is one free block are 0.
 
 ghost use Rattle.std.specs.Prelude.{◌≡◌, ℕ, ◌+◌, ◌-◌, ◌*◌, ◌/◌, ◌^◌, ◌<◌, ◌≤◌, Bool, true, false, ◌↔◌, IsTrue, IfOk, length, slice_index};
 ghost use Rattle.std.specs.Int.{bit_at};
@@ -47,7 +47,8 @@ fn sibling(node: usize) -> usize
     node ^ 1
 }
 
-/// Returns the node of the block of `order` around the frame that has the node `leaf`, or 0 if the superblock is smaller than that.
+/// Returns the node of the block of `order` around the frame whose node is `leaf`, or 0 if the superblock is smaller than that
+/// block.
 fn node_of(leaf: u32, order: u8) -> usize
     requires { order < 32 }
     ensures { result ≡ leaf / 2 ^ order }
@@ -105,14 +106,19 @@ impl Tree {
             → (number_at order result * 2 ^ order ≡ result) × IsLeast ok self.now.order order (number_at order result) }
     {
         let words = self.words.as_slice();
+        // Nodes 1 to `inner` have blocks of larger orders. The loop tests the node, so it needs no counter: `level` is for its
+        // invariant alone.
+        let inner = words.len() >> (order + 1);
+        let mut level = order;
         let mut node = 1;
-        for _level in order..self.order {
+        while node <= inner {
             node = 2 * node + 1 - usize::from(has(words[2 * node - 1], order));
+            level += 1;
         }
         ((node as u32) << order) - (1 << self.order)
     }
 
-    /// Takes the block of `order` around frame `first` out of the free block of order `from` around it, which it splits.
+    /// Splits the free block of order `from` around frame `first`, and takes the block of `order` around that frame out of it.
     pub fn reserve_at(&mut self, first: u32, from: u8, order: u8)
         requires order { order ≤ from }
         requires from { from ≤ self.old.order }
@@ -127,8 +133,8 @@ impl Tree {
         self.climb(leaf, first, from);
     }
 
-    /// Makes the block of `order` around frame `first` available, and joins it at once with its buddy while that is one
-    /// free block. Returns the order of the free block that results.
+    /// Makes the block of `order` around frame `first` available, and joins it at once with its buddy, as long as the buddy is one
+    /// free block. Returns the order of the resulting free block.
     #[inline(always)]
     pub fn release_at(&mut self, first: u32, order: u8) -> u8
         requires order { order ≤ self.old.order }
@@ -155,8 +161,8 @@ impl Tree {
     }
 
     /// Writes the words of all larger blocks that contain the block of `order` around frame `first`, each from the words of its
-    /// halves. It does not stop at a word that stays the same: most changes reach the root or nearly so, and the tests at all levels
-    /// would cost more than they save.
+    /// halves. It does not stop at a word that stays the same: most changes reach the root or come close to it, so a test at each
+    /// level would cost more than it saves.
     #[inline(always)]
     fn climb(&mut self, leaf: u32, first: u32, order: u8)
         requires order { order ≤ self.old.order }
@@ -176,8 +182,8 @@ impl Tree {
         }
     }
 
-    /// Writes the words inside the free block of order `from` around frame `first` after the block of `order` around that
-    /// frame was taken out of it. One free block of each order from `order` to `from - 1` is left.
+    /// Writes the words inside the block of order `from` around frame `first`, a free block from which the block of `order` around
+    /// that frame is taken. One free block of each order from `order` to `from - 1` is left.
     #[inline(always)]
     fn split(&mut self, leaf: u32, first: u32, from: u8, order: u8)
         requires order { order ≤ from }
@@ -201,8 +207,8 @@ impl Tree {
         }
     }
 
-    /// Joins the block of `order` around frame `first`, which becomes available, with its buddy while that is one free
-    /// block, and writes the words inside the free block that results. Returns the order of that block.
+    /// Makes the block of `order` around frame `first` available, and joins it with its buddy, as long as the buddy is one free
+    /// block. Writes the words inside the resulting free block and returns its order.
     #[inline(always)]
     fn join(&mut self, leaf: u32, first: u32, order: u8) -> u8
         requires order { order ≤ self.old.order }

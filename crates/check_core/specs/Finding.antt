@@ -1,4 +1,4 @@
--- The finding of a trace and its replies, by their texts.
+-- The finding for a trace and its replies, as a function of their texts.
 use Rattle.std.specs.Prelude.{ℕ, zero, suc, ◌+◌, ◌==◌, Bool, false, if◌then◌else◌, List, [], ◌∷◌, ◌++◌, length, slice_get, nat_le, nat_lt, find, Option, Some, None, Result, Ok, Err, unwrap_or}
 use Rattle.std.specs.Option.{option_map_or}
 use Rattle.std.specs.Result.{result_err}
@@ -43,16 +43,16 @@ lines_at (suc k) bytes = do
 abbrev pub after_lines : ℕ → List ℕ → List ℕ
 after_lines k bytes = option_map_or (λ found. found.1) (lines_at k bytes) []
 
--- the reply that a text is; a reply has at most 257 lines of at most 256 bytes each
+-- the reply with this text; a reply has at most 257 lines of at most 256 bytes each
 abbrev pub text_read : List ℕ → Option Reply
 text_read text = whole_of MOST_TEXT_BYTES text >>= reply_of_text
 
--- the reply that the first `k` lines are
+-- the reply that the first `k` lines form
 abbrev pub reply_in : ℕ → List ℕ → Option Reply
 reply_in k bytes = lines_at k bytes >>= (λ found. text_read found.0)
 
--- The number of lines behind the first in a reply that is no refusal: a table of owners has one for each superblock, a report one
--- for each order and each cache of the tenant.
+-- The number of lines after the first in a reply that is not a refusal: a table of owners has one for each superblock, and a
+-- report has one for each order and one for each cache of the tenant.
 abbrev pub more_lines : Event → Known → ℕ
 more_lines (Event.Admin AdminCommand.Pool) w = length w.owners
 more_lines (Event.Tenant t Command.Report) w =
@@ -95,7 +95,7 @@ refusal_told who (Body.Fault fault) = None
 abbrev pub refusal_read : Option Reply → Option (Addressee × Refusal)
 refusal_read found = found >>= (λ reply. refusal_told reply.addressee reply.body)
 
--- the promise that is broken if the lines are no reply: a refusal in the first line may break another promise than Form
+-- the promise that is broken if the lines do not form a reply; a refusal in the first line may break a promise other than Form
 abbrev pub broken_by : Event → Option (Addressee × Refusal) → Known → Promise
 broken_by event None w = Promise.Form
 broken_by event (Some told) w =
@@ -109,8 +109,8 @@ fault_reply fault = record { addressee = Addressee.Nobody; body = Body.Fault fau
 abbrev pub reports_fault : LineFault → List ℕ → Bool
 reports_fault fault bytes = option_map_or (λ found. bytes_eq found.0 (text_of (fault_reply fault))) (lines_at 1 bytes) false
 
--- What is known after a line with this reading and the reply at the front of these bytes, else the first promise that the reply
--- breaks. If the lines are no reply, the first line alone is judged.
+-- What is known after a line with this reading and the reply at the front of these bytes, or else the first promise that the
+-- reply breaks. If the lines do not form a reply, the first line alone is judged.
 abbrev pub verdict_at : Result (Option Event) LineFault → List ℕ → Known → Result Known Promise
 verdict_at (Ok None) bytes w = Ok w
 verdict_at (Err fault) bytes w = if reports_fault fault bytes then Ok w else Err Promise.Form
@@ -123,20 +123,20 @@ lines_to (Ok None) w = 0
 lines_to (Err fault) w = 1
 lines_to (Ok (Some event)) w = suc (more_lines event w)
 
--- the promise is broken at these lines of the two texts, otherwise the check continues
+-- a broken promise is found at these lines of the two texts; otherwise the check continues
 abbrev pub or_broken : Result Known Promise → ℕ → ℕ → (Known → Finding) → Finding
 or_broken (Ok after) line reply more = more after
 or_broken (Err promise) line reply more = Finding.Broken (record { line = line; reply = reply; promise = promise })
 
--- The finding of lines with these readings and the bytes of their replies, behind `line` and `reply` lines of the two texts. It
--- is kept if the reply to each line is allowed, and nothing follows the last reply.
+-- The finding for lines with these readings and the bytes of their replies, after `line` and `reply` lines of the two texts. It
+-- is `Kept` if the reply to each line is allowed, and nothing follows the last reply.
 abbrev pub finding : ℕ → ℕ → List (Result (Option Event) LineFault) → List ℕ → Known → Finding
 finding line reply [] [] w = Finding.Kept line
 finding line reply [] (_ ∷ _) w = Finding.Broken (record { line = line; reply = reply + 1; promise = Promise.Form })
 finding line reply (reading ∷ readings) bytes w = or_broken (verdict_at reading bytes w) (line + 1) (reply + 1)
     (λ after. finding (line + 1) (reply + lines_to reading w) readings (after_lines (lines_to reading w) bytes) after)
 
--- the finding of the texts of a trace and of its replies
+-- the finding for the texts of a trace and of its replies
 abbrev pub finding_of : Known → List ℕ → List ℕ → Finding
 finding_of w trace replies = finding 0 0 (readings_of trace) replies w
 

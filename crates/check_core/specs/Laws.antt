@@ -1,4 +1,4 @@
--- The meaning of a finding of two texts.
+-- The meaning of a finding for two texts.
 use Rattle.std.specs.Prelude.{◌≡◌, ℕ, ◌+◌, ◌==◌, List, [], ◌∷◌, ◌++◌, length, take, count_by, Option, Some, None, Result, Ok, Err}
 use Rattle.words_core.specs.Cutting.{lines_of_trace}
 use Rattle.words_core.specs.Grammar.{reading_of}
@@ -14,7 +14,8 @@ use Rattle.check_core.specs.declared.finding.Finding.TheVariants.{Kept, Broken}
 use Rattle.check_core.specs.Finding.{fault_reply, finding_of}
 use Rattle.check_core.specs.Ranges.{Fits}
 
--- if a finding is kept, the replies are the text of replies to the trace's events, and each is allowed, from the opening on
+-- if a finding is kept, the replies are the text of replies to the trace's events, and each of these is allowed, starting from
+-- the opening
 abbrev pub KeptIsAllowed : Type 0
 KeptIsAllowed = (limit order superblocks tenants lines : ℕ) (trace replies : List ℕ)
     → finding_of (opening limit order superblocks tenants) trace replies ≡ Kept lines
@@ -27,7 +28,7 @@ HasNoReply (Err fault) bytes w = (rest : List ℕ) → bytes ≡ text_of (fault_
 HasNoReply (Ok (Some event)) bytes w = (reply : Reply) (rest : List ℕ) (after : Known)
     → Fits reply → bytes ≡ text_of reply ++ rest → allowed event reply w ≡ Ok after → ⊥
 
--- the same for the first of these lines; if no line is left, bytes are
+-- the same for the first of these lines; if no line is left, some bytes are left
 abbrev pub IsWrong : List (List ℕ) → List ℕ → Known → Type 0
 IsWrong [] bytes w = bytes ≡ [] → ⊥
 IsWrong (line ∷ lines) bytes w = HasNoReply (reading_of line) bytes w

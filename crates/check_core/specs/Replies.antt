@@ -52,7 +52,7 @@ given_at text = made_at (codes "given\n") (λ ns. true) (λ ns. Body.Given) text
 unfoldable pub reaped_at : List ℕ → Option (Body × List ℕ)
 reaped_at text = made_at (codes "reaped #\n") (λ ns. true) (λ ns. Body.Reaped (slice_index ns 0)) text
 
--- the refusal of this number
+-- the refusal with this number
 abbrev pub refusal_of : ℕ → Option Refusal
 refusal_of number = find (λ refusal. number_of_refusal refusal == number) REFUSALS
 
@@ -64,7 +64,7 @@ refused_at text = do
   ended ← form_at (codes "\n") named.1
   Some (Body.Refused refusal, ended.1)
 
--- the bytes that a word spells in lower-case hex: encoded again they are that word
+-- the bytes that a word spells in lower-case hex: encoded again, they give that word
 abbrev pub bytes_again : List ℕ → Result (List ℕ) FromHexError → Option (List ℕ)
 bytes_again word (Ok bytes) = if bytes_eq (encode_lower bytes) word then Some bytes else None
 bytes_again word (Err e) = None
@@ -82,12 +82,12 @@ bytes_at text = do
 
 -- ---- replies to the administrator, and to a faulty line
 
--- the numbers fit those of a tenant, a slot and a superblock
+-- the numbers are in the ranges of a tenant, a slot and a superblock
 abbrev pub fit_place : List ℕ → Bool
 fit_place ns =
     nat_lt (slice_index ns 0) (2 ^ 8) && (nat_lt (slice_index ns 1) (2 ^ 16) && nat_lt (slice_index ns 2) (2 ^ 16))
 
--- the numbers fit that of a tenant, and one of a slot or a number of superblocks
+-- the first number is in the range of a tenant, and the second in that of a slot or of a number of superblocks
 abbrev pub fit_tenant : List ℕ → Bool
 fit_tenant ns = nat_lt (slice_index ns 0) (2 ^ 8) && nat_lt (slice_index ns 1) (2 ^ 16)
 

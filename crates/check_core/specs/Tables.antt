@@ -1,4 +1,5 @@
--- Reading a report and the table of owners: a first line, and then rows that begin with the same front as that line.
+-- Reading a report and the table of owners: a first line, and then rows that begin with the same front as that line. The front is
+-- the addressee, such as `3> `.
 use Rattle.std.specs.Prelude.{ℕ, true, zero, suc, ◌+◌, ◌-◌, ◌^◌, ◌==◌, ◌&&◌, List, [], ◌∷◌, codes, length, take, drop, slice_index, nat_lt, count_by, is_none, if◌then◌else◌, Option, Some, None}
 use Rattle.std.specs.Str.{bytes_eq}
 use Rattle.model_core.specs.declared.owner.Owner.{Owner}
@@ -16,7 +17,7 @@ use Rattle.check_core.specs.Replies.{made_at, ◌or_else◌, fit_tenant, address
 unfoldable pub after_front : List ℕ → List ℕ → Option (List ℕ)
 after_front front text = if bytes_eq (take (length front) text) front then Some (drop (length front) text) else None
 
--- a row behind the front
+-- the front, and then a row
 abbrev pub row_behind : {A : Type 0} → (List ℕ → Option (A × List ℕ)) → List ℕ → List ℕ → Option (A × List ℕ)
 row_behind row_at front text = after_front front text >>= row_at
 
@@ -25,7 +26,7 @@ abbrev pub then_rows : {A : Type 0} → Option (A × List ℕ) → List ℕ → 
 then_rows None text more = ([], text)
 then_rows (Some found) text more = (found.0 ∷ (more found.1).0, (more found.1).1)
 
--- the rows from this index on, each behind the front, at most this many, and the text that follows them
+-- the rows from this index on, each after the front, at most this many; and the text that follows them
 unfoldable pub rows_from : {A : Type 0} → (ℕ → List ℕ → Option (A × List ℕ)) → List ℕ → ℕ → ℕ → List ℕ → List A × List ℕ
 rows_from row_at front zero index text = ([], text)
 rows_from row_at front (suc most) index text =
@@ -110,6 +111,6 @@ table_of text =
     (report_at front found.1 or_else pool_at front found.1) >>= (λ body.
     whole body >>= (λ alone. Some (record { addressee = found.0; body = alone }))))
 
--- the reply that a text is, with one line or several
+-- the reply with this text, of one line or of several
 unfoldable pub reply_of_text : List ℕ → Option Reply
 reply_of_text text = answer_of text or_else table_of text

@@ -39,7 +39,8 @@ answer_read asked told =
     event_read (reading_of (without_line_feed asked)) >>= (λ event.
     (whole_of MOST_TEXT_BYTES told >>= answer_of) >>= (λ reply. Some (event, reply)))
 
--- the block in the way is noted, if there are such an event and reply; otherwise the note stays unchanged
+-- if the line and the reply were read as an event and a reply of one line, the block in the way is noted; otherwise the note is
+-- unchanged
 abbrev pub IsNoted : (asked told : List ℕ) → SeenMachine → (old new : Option TakenFrame) → Type 0
 IsNoted asked told x old new =
     MatchOption (answer_read asked told) (new ≡ old) (λ read. IsInWay x read.0 read.1.body new)

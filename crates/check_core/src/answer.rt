@@ -14,14 +14,14 @@ use model_core::limits::MOST_BYTES;
 use words_core::{Addressee, Answer};
 
 /// Reads `text` as a whole reply of one line, with its line feed. Returns the addressee and the answer. The bytes of a read are
-/// stored in `buffer`. Returns `None` if `text` is no such reply.
+/// stored in `buffer`. Returns `None` if `text` is not such a reply.
 pub fn read_answer<'a>(
     text: &'a [u8],
     buffer: &'a mut [u8; MOST_BYTES],
 ) -> Option<(Addressee, Answer<'a>)>
-    // The reply that is returned has this text.
+    // The returned reply has this text.
     ensures found { IfSome result (λ found. text_of (reply_to found.0 found.1) ≡ text.now) }
-    // A reply with this text is returned, unless it is a table.
+    // If a reply has this text and is not a table, it is returned.
     ensures only { (due : Reply) → Fits due → text_of due ≡ text.now
         → MatchOption result (is_table due.body ≡ true) (λ found. reply_to found.0 found.1 ≡ due) }
     // The result as a function of the text.

@@ -18,10 +18,10 @@ use promise_core::promise::Promise;
 use streams::{Feed, Stopped};
 
 /// Checks the replies to a trace, each against what earlier replies reported, up to the first that is not allowed. Returns `Err`
-/// if an end fails or memory runs out.
+/// if the trace or the replies cannot be read, or if memory runs out.
 ///
-/// `shown` then holds the last line and what was read as its reply. If a reply is left over behind the last line's, `shown` holds
-/// this reply and no line.
+/// Afterwards `shown` holds the last line that was read, and what was read as its reply. If a reply is left over after the reply
+/// to the last line, `shown` holds that reply and no line.
 pub fn check<T: Feed, R: Feed>(
     machine: &mut KnownMachine,
     trace: &mut LineReader<T>,
@@ -30,12 +30,12 @@ pub fn check<T: Feed, R: Feed>(
 ) -> Result<Finding, Unchecked>
     requires trace_fine { trace.old.failed ≡ false }
     requires replies_fine { replies.old.failed ≡ false }
-    // What was read of the trace and of the replies. The finding is right for all texts that begin so.
+    // The finding is right for all texts that begin with what was read of the trace and of the replies.
     ensures found { (asked : List ℕ) × (told : List ℕ) × HasGiven trace.old trace.new asked × HasGiven replies.old replies.new told
         × ((w : Known) → ShowsKnown machine.old w → IfOk result (λ finding. WhateverFollows trace.new replies.new asked told
         (λ trace replies. finding ≡ finding_of w trace replies))) }
     ensures kept { IfOk result (λ finding. IsKeptAtEnd finding trace.new replies.new) }
-    // Memory runs out only if an allowed reply adds something and no promise was broken before.
+    // Memory runs out only if an allowed reply adds something and no promise was broken before it.
     ensures end { IsEndedBy result trace.new.failed replies.new.failed ((asked : List ℕ) × (told : List ℕ)
         × HasGiven trace.old trace.new asked × HasGiven replies.old replies.new told
         × ((w : Known) → ShowsKnown machine.old w → WhateverFollows trace.new replies.new asked told
@@ -59,7 +59,7 @@ pub fn check<T: Feed, R: Feed>(
     }
 }
 
-/// Returns the finding that the promise is broken at this line, by the reply that begins behind this number of reply lines.
+/// Returns the finding that the promise is broken at this line, by the reply that begins after this number of reply lines.
 fn broken(line: u128, replies: u128, promise: Promise) -> Finding
     requires { replies + 1 < 2 ^ 128 }
     ensures { result ≡ Finding.Broken (record { line = line; reply = replies + 1; promise = promise }) }

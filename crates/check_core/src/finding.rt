@@ -17,9 +17,10 @@ pub enum Finding {
 /// The first reply that is not allowed, missing or left over.
 #[derive(Clone, Copy, Debug, PartialEq, Eq)]
 pub struct Breach {
-    /// The number of the line of the trace that it answers, from 1. For a reply that is left over, the number of the last line.
+    /// The number of the trace line that the reply answers, counted from 1. For a reply that is left over, the number of the last
+    /// line.
     pub line: u128,
-    /// The number of the first line of the reply in the replies, from 1.
+    /// The number of the reply's first line among all lines of the replies, counted from 1.
     pub reply: u128,
     /// The first promise that the reply breaks.
     pub promise: Promise,

@@ -9,7 +9,8 @@ use arrayvec::ArrayVec;
 /// The largest number of decimal digits of a number.
 const MOST_DIGITS: usize = 10;
 
-/// Returns the number that a word spells in decimal, without leading zeros and below `2^32`. Returns `None` for other words.
+/// Returns the number that a word spells in decimal. Returns `None` if the word is not a number, has leading zeros, or spells a
+/// number of `2^32` or more.
 fn plain_number(word: &[u8]) -> Option<u32>
     ensures { result ≡ plain_number word.now }
 {
@@ -44,8 +45,8 @@ fn digits_len(text: &[u8]) -> usize
     text.iter().take_while(|byte| byte.is_ascii_digit()).count()
 }
 
-/// Matches one byte of a form with the front of the text. Returns the number for a `#`, no number for any other byte, which must
-/// be at the front, and the text that follows.
+/// Matches one byte of a form with the front of the text. A `#` matches a number, and any other byte matches only itself. Returns
+/// the number, if there is one, and the text that follows.
 #[tactic(auto, unfolding(crate::specs::Forms::mark_at))]
 fn mark_at(mark: u8, text: &[u8]) -> Option<(Option<u32>, &[u8])>
     ensures { Gives (λ found. (found.0, found.1.now)) result (mark_at mark text.now) }
@@ -68,7 +69,7 @@ fn letter_at(letter: u8, text: &[u8]) -> Option<&[u8]>
     }
 }
 
-/// Matches the form with the front of the text. Returns the numbers in the form, and the text that follows it.
+/// Matches the form with the front of the text. Returns the numbers that match the `#`s, and the text that follows the match.
 pub fn form_at<'a, const N: usize>(form: &[u8], text: &'a [u8]) -> Option<([u32; N], &'a [u8])>
     requires few { N < 2 ^ 32 }
     requires marks { count_by (λ b. b == 35) form.now ≡ N }
@@ -102,7 +103,7 @@ pub fn behind_word<'a>(word: &[u8], text: &'a [u8]) -> Option<&'a [u8]>
     Some(rest)
 }
 
-/// Returns the number between two words and the text that follows the second, if the text begins with these three.
+/// If the text begins with the word `before`, a number, and the word `after`, returns the number and the text that follows.
 #[inline(always)]
 pub fn number_between<'a>(before: &[u8], after: &[u8], text: &'a [u8]) -> Option<(u32, &'a [u8])>
     requires before { count_by (λ b. b == 35) before.now ≡ 0 }

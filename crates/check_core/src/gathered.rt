@@ -6,7 +6,7 @@ ghost use Rattle.check_core.specs.Forms.{Gives};
 
 use arrayvec::ArrayVec;
 
-/// The first `N` bytes of what comes in pieces, and whether more came.
+/// The first `N` bytes of a text that comes in pieces, and whether more bytes came.
 #[derive(Debug, Drop)]
 pub struct Gathered<const N: usize> {
     held: ArrayVec<u8, N>,
@@ -14,7 +14,7 @@ pub struct Gathered<const N: usize> {
 }
 
 impl<const N: usize> Gathered<N> {
-    /// Returns an empty value, without any bytes.
+    /// Returns a value without any bytes.
     pub fn new() -> Self
         ensures { Gathers N [] result }
     {
@@ -55,7 +55,7 @@ impl<const N: usize> Gathered<N> {
         self.held.is_empty()
     }
 
-    /// Returns all bytes that have come, `None` if there were more than `N`.
+    /// Returns all bytes that have come, or `None` if there were more than `N`.
     pub fn whole(&self) -> Option<&[u8]>
         ensures { (came : List ℕ) → Gathers N came self.now → Gives (λ bytes. bytes.now) result (whole_of N came) }
     {

@@ -7,8 +7,8 @@ ghost use Rattle.check_core.specs.Replies.{bytes_of};
 
 use model_core::limits::MOST_BYTES;
 
-/// Decodes a word of lower-case hex into `buffer`, and returns the bytes. Returns `None` if the word is not such hex or has more
-/// than 64 bytes.
+/// Decodes a word of lower-case hex into `buffer`, and returns the bytes. Returns `None` if the word is not such hex or spells
+/// more than 64 bytes.
 #[tactic(auto, unfolding(crate::specs::Replies::bytes_of))]
 pub fn bytes_of<'a>(word: &[u8], buffer: &'a mut [u8; MOST_BYTES]) -> Option<&'a [u8]>
     ensures value { Gives (λ bytes. bytes.now) result (bytes_of word.now) }
@@ -40,7 +40,7 @@ fn byte_of(pair: &[u8; 2]) -> Option<u8>
     Some(digit_of(pair[0])? * 16 + digit_of(pair[1])?)
 }
 
-/// Returns the value of a lower-case hex digit, `None` for any other byte.
+/// Returns the value of a lower-case hex digit, or `None` for any other byte.
 #[inline(always)]
 fn digit_of(digit: u8) -> Option<u8>
     ensures found { IfSome result (λ value. (value < 16) × (slice_index lower_digits value ≡ digit)) }

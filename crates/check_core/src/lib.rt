@@ -1,7 +1,7 @@
-//! Checks the replies to a trace. `specs/` defines the finding of two texts. `check` reads both in step, one line at a time, and
-//! returns that finding.
+//! Checks the replies to a trace. `specs/` defines the finding for the texts of a trace and of its replies. `check` reads both
+//! texts in step, one line at a time, and returns that finding.
 //!
-//! Bytes are read as the reply that has them as its text, if there is one.
+//! A text is read as the reply that has this text, if there is one.
 #![tactic(auto)]
 
 mod answer;

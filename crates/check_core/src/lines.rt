@@ -13,7 +13,7 @@ use crate::shown::MOST_PART_BYTES;
 use streams::Feed;
 use words_core::{Event, LineFault, read_line};
 
-/// Reads the next line of a trace into `line`. Returns its event, nothing for a line without one, or its fault. Returns `None` at
+/// Reads the next line of a trace into `line`. Returns the line's event, no event if it has none, or its fault. Returns `None` at
 /// the end of the trace.
 pub fn next_reading<F: Feed>(
     trace: &mut LineReader<F>,
@@ -38,7 +38,7 @@ pub fn next_reading<F: Feed>(
     Ok(Some(reading(line)))
 }
 
-/// Returns the event of a line, nothing for a line without one, or its fault. The line may or may not have its LF.
+/// Returns the event of a line, no event if it has none, or its fault. The line may or may not end in an LF.
 pub(crate) fn reading(line: &Gathered<MOST_PART_BYTES>) -> Result<Option<Event>, LineFault>
     ensures { (part : List ℕ) → Gathers MOST_PART_BYTES part line.now → result ≡ reading_of (without_line_feed part) }
 {

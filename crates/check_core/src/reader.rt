@@ -12,7 +12,7 @@ use std::marker::Model;
 use streams::{Feed, Stopped, line_end};
 use words_core::Event;
 
-/// The largest number of bytes of one pull.
+/// The largest number of bytes in one pull.
 const PIECE_BYTES: usize = 65_536;
 
 /// Reads the lines of a feed.
@@ -68,7 +68,7 @@ impl<F: Feed> LineReader<F> {
     }
 
     /// Reads the next line, with its LF if it has one, and adds it to what was gathered. Returns whether it has an LF. The text
-    /// after the last LF is read as a line without one, up to its end, and may be empty. Returns `Err` if the feed fails.
+    /// after the last LF is read as a line without an LF, and may be empty. Returns `Err` if the feed fails.
     pub fn next<const N: usize>(&mut self, into: &mut Gathered<N>) -> Result<bool, Stopped>
         requires fine { self.old.failed ≡ false }
         // The part that was read.

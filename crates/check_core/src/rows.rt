@@ -1,4 +1,4 @@
-//! The rows of a table. Each begins with the same front as the table's first line.
+//! The rows of a table. Each begins with the same front as the table's first line: the addressee, such as `3> `.
 
 ghost use Rattle.std.specs.Prelude.{◌≡◌, ◌<◌, ◌^◌, ℕ, List, Option};
 ghost use Rattle.check_core.specs.Forms.{Gives};
@@ -11,10 +11,10 @@ use model_core::report::{CacheRow, OrderRow};
 
 /// A row of a table.
 pub trait Row: Default + Sized {
-    // The row of this index at the front of a text, and the text that follows it.
+    // The row with this index at the front of a text, and the text that follows it.
     ghost row_at: { ℕ → List ℕ → Option (Self × List ℕ) };
 
-    /// Reads the row of this index, without the front. Returns it and the text that follows it.
+    /// Reads the row with this index, without the front. Returns the row and the text that follows it.
     fn read(index: u32, text: &[u8]) -> Option<(Self, &[u8])>
         ensures { Gives (λ found. (found.0, found.1.now)) result (row_at index text.now) };
 }
@@ -39,7 +39,7 @@ pub fn rows_at<'a, R: Row + Drop, const N: usize>(
     (rows, rest)
 }
 
-/// Reads the row of this index behind the front.
+/// Reads the front, and then the row with this index.
 fn row_behind<'a, R: Row>(front: &[u8], index: u32, text: &'a [u8]) -> Option<(R, &'a [u8])>
     ensures { Gives (λ found. (found.0, found.1.now)) result (row_behind (R.row_at index) front.now text.now) }
 {

@@ -30,7 +30,7 @@ pub fn said_at<'a>(
         .or_else(|| rare_at(text))
 }
 
-/// Does what [`said_at`] does, for rare answers.
+/// Does the same as [`said_at`], for rare answers.
 #[tactic(auto, unfolding(crate::specs::Replies::rare_at))]
 #[inline(never)]
 fn rare_at(text: &[u8]) -> Option<(Answer<'_>, &[u8])>
@@ -43,7 +43,7 @@ fn rare_at(text: &[u8]) -> Option<(Answer<'_>, &[u8])>
         .or_else(|| notice_at(text))
 }
 
-/// Does what [`said_at`] does, for answers to the administrator and to faulty lines.
+/// Does the same as [`said_at`], for answers to the administrator and to faulty lines.
 #[tactic(auto, unfolding(crate::specs::Replies::notice_at))]
 fn notice_at(text: &[u8]) -> Option<(Answer<'_>, &[u8])>
     ensures { Gives (λ found. (body_of_answer found.0, found.1.now)) result (notice_at text.now) }

@@ -45,7 +45,7 @@ fn command_of(request: Request<'_>) -> Command
     }
 }
 
-/// Returns the same bytes.
+/// Returns a copy of the bytes.
 fn copy_of<const N: usize>(bytes: &[u8]) -> ArrayVec<u8, N>
     requires { length bytes.now ≤ N }
     ensures { result.items ≡ bytes.now }

@@ -1,4 +1,5 @@
-//! Reports and the table of owners. Each has a first line, and then rows that begin with the same front as that line.
+//! Reports and the table of owners. Each has a first line, and then rows that begin with the same front as that line. The front
+//! is the addressee, such as `3> `.
 
 ghost use Rattle.std.specs.Prelude.{◌≡◌, ◌==◌, ◌&&◌, count_by, is_none, length, true, Some, IfSome};
 ghost use Rattle.words_core.specs.Requests.{is_table};
@@ -19,9 +20,9 @@ use words_core::{Body, CACHES, ORDERS, OWNERS, Reply, Report};
 #[cold]
 #[inline(never)]
 pub fn read_table(text: &[u8]) -> Option<Reply>
-    // The table that is returned has this text.
+    // The returned table has this text.
     ensures found { IfSome result (λ table. text_of table ≡ text.now) }
-    // A table with this text is returned.
+    // If a table has this text, it is returned.
     ensures only { (due : ReplyValue) → Fits due → is_table due.body ≡ true → text_of due ≡ text.now → result ≡ Some due }
     ensures table { IfSome result (λ table. is_table table.body ≡ true) }
     // The result as a function of the text.

@@ -5,7 +5,7 @@ use Rattle.std.specs.declared.io.Error.{Error}
 use Rattle.clap.specs.Words.{Text}
 use Rattle.command_line.specs.declared.files.WatchedReader.{WatchedReader}
 
--- the error of the last read that failed, if one has
+-- the error of the last read that failed, or None if no read has failed
 abbrev pub last_error : {R : Type 0} → WatchedReader R → Option Error
 last_error reader = reader.error
 

@@ -8,7 +8,7 @@ use Rattle.model_core.specs.declared.config.Config.{Config}
 use Rattle.command_line.specs.declared.machine_options.MachineOptions.{MachineOptions}
 use Rattle.command_line.specs.declared.outcome.Outcome.{Outcome}
 
--- the text is a number below 2 ^ 32 in decimal digits, after a `+` if there is one
+-- the text is a number below 2 ^ 32 in decimal digits, which may have a `+` in front
 abbrev pub IsNumber : Text → Type 0
 IsNumber text = IsNumeral 10 (without_leading_plus text) × (digits_value 10 (without_leading_plus text) < 2 ^ 32)
 
@@ -17,7 +17,7 @@ abbrev pub Writes : Option Text → ℕ → Type 0
 Writes None n = ⊥
 Writes (Some text) n = IsNumber text × (n ≡ digits_value 10 (without_leading_plus text))
 
--- the same if there may be no number
+-- the same for an optional number: `None` means that there is no text, or that the text is not such a number
 abbrev pub MayWrite : Option Text → Option ℕ → Type 0
 MayWrite text (Some n) = Writes text n
 MayWrite None None = Unit {0}
@@ -51,7 +51,7 @@ pub record AsksNoTenant (read : Text → Option Text) : Type 0 where
   pub only : Writes (read (codes "only")) tenant
   pub above : sizes.tenants ≤ tenant
 
--- why no machine is found; the outcome is `NoMemory` only if a size is faulty and there is no memory for the message
+-- why no machine is found; the outcome may be `NoMemory` only if a size is missing or out of its range
 abbrev pub IsNoMachine : (Text → Option Text) → Outcome → Type 0
 IsNoMachine read (Outcome.BadLine text) = AsksNoSizes read × (string_bytes text ≡ bad_size_text)
 IsNoMachine read Outcome.NoMemory = AsksNoSizes read

@@ -59,7 +59,7 @@ after_flush (Outcome.BadLine text) unsent flushed = Outcome.BadLine text
 after_flush Outcome.BadOnly unsent flushed = Outcome.BadOnly
 after_flush Outcome.NoMemory unsent flushed = Outcome.NoMemory
 
--- how a refusal of the parser of this kind may end
+-- a program may end with this outcome if the parser refuses the words with an error of this kind
 abbrev pub IsReportedAs : ErrorKind → Outcome → Type 0
 IsReportedAs kind (Outcome.Help text) = kind ≡ ErrorKind.DisplayHelp
 IsReportedAs kind (Outcome.Version text) = kind ≡ ErrorKind.DisplayVersion
@@ -74,7 +74,7 @@ IsReportedAs kind Outcome.BadOnly = ⊥
 abbrev pub HasFault : Kinds → Type 0
 HasFault kinds = (kind : ErrorKind) × IsAmong kind kinds × (kind ≢ ErrorKind.DisplayHelp) × (kind ≢ ErrorKind.DisplayVersion)
 
--- how a refusal by the parser for one of these kinds may end; `NoMemory` is possible for every kind
+-- a program may end with this outcome if the parser refuses the words for one of these kinds; `NoMemory` is always possible
 abbrev pub IsRefusedBy : Kinds → Outcome → Type 0
 IsRefusedBy kinds (Outcome.Help text) = IsAmong ErrorKind.DisplayHelp kinds
 IsRefusedBy kinds (Outcome.Version text) = IsAmong ErrorKind.DisplayVersion kinds
@@ -126,8 +126,9 @@ requested_text (Outcome.BadLine text) = None
 requested_text Outcome.BadOnly = None
 requested_text Outcome.NoMemory = None
 
--- How a program ends whose command line was refused, and its output before and after. A text that was requested is written whole,
--- and the outcome stays the same; or it is `Unwritable`. If no text was requested, nothing is written.
+-- How a program ends if its command line was refused, with its output before and after. If a text was requested, either all of it
+-- is written and the outcome stays the same, or the outcome is `Unwritable`. Otherwise nothing is written, and the outcome stays
+-- the same.
 abbrev pub IsHandedOut : (refused ended : Outcome) → (before after : Option Text) → Type 0
 IsHandedOut refused ended before after = MatchOption (requested_text refused)
     ((ended ≡ refused) × Keeps before after)

@@ -1,4 +1,4 @@
--- The settings that a command line of `partmem` requests, in the terms of clap's model.
+-- The settings that a command line of `partmem` requests, in terms of clap's model.
 use Rattle.std.specs.Prelude.{◌≡◌, ◌⊎◌, ℕ, ◌-◌, ◌^◌, ◌<◌, ◌≤◌, Bool, true, false, List, []}
 use Rattle.std.specs.Prelude.{Option, Some, None, option_map, codes}
 use Rattle.std.specs.Option.{ForSome}
@@ -22,7 +22,7 @@ pub record IsFlag (text : Option Text) (flag : Bool) : Type 0 where
   pub denied : text ≡ Some (codes "false") → flag ≡ false
   pub none : text ≡ None → flag ≡ false
 
--- a tenant's own list is requested without `--only` and `--tally`
+-- if a tenant's own list is requested, neither `--only` nor `--tally` is given
 abbrev pub IsAlone : Option ℕ → Option ℕ → Bool → Type 0
 IsAlone None only tally = Unit {0}
 IsAlone (Some t) only tally = (only ≡ None) × (tally ≡ false)
@@ -49,7 +49,7 @@ command_line = with_rule (with_rule (with_rule (machine_command (codes "partmem"
 abbrev pub IsRequestedBy : List Text → Settings → Type 0
 IsRequestedBy words settings = Asks (λ name. one_of name (matches_of command_line words)) (λ name. first_of name (matches_of command_line words)) settings
 
--- clap's model takes these words
+-- clap's model accepts these words
 unfoldable pub IsInOrder : List Text → Type 0
 IsInOrder words = takes command_line words ≡ true
 
@@ -65,7 +65,7 @@ own_beside_text = codes "error: --own goes with neither --only nor --tally\n"
 abbrev pub own_no_tenant_text : Text
 own_no_tenant_text = codes "partmem: --own names no tenant\n"
 
--- why a tenant's own list is refused, with this machine and with a tally or without one; `--only` and `--tally` are tested first
+-- why a tenant's own list is refused for this machine, with a tally or without; `--only` and `--tally` are tested first
 abbrev pub IsNoOwn : (Text → Option Text) → MachineOptions → Bool → Outcome → Type 0
 IsNoOwn read machine tally outcome = (tenant : ℕ) × Writes (read (codes "own")) tenant
     × (((¬ IsAlone (Some tenant) machine.only tally) × IsBadLine own_beside_text outcome)
@@ -77,11 +77,11 @@ IsNoSettings read outcome = IsNoMachine read outcome
     ⊎ ((machine : MachineOptions) × (tally : Bool) × AsksMachine read machine × IsFlag (read (codes "tally")) tally
     × IsNoOwn read machine tally outcome)
 
--- the kinds of error for which clap's model refuses these words; empty if it takes them
+-- the kinds of error for which clap's model refuses these words; empty if it accepts them
 unfoldable pub parse_faults : List Text → Kinds
 parse_faults words = fault_of command_line words
 
--- why these words are refused: clap's model refuses them, or it takes them and they give no settings
+-- why these words are refused: clap's model refuses them, or it accepts them and they give no settings
 abbrev pub IsRefusedFor : List Text → Outcome → Type 0
 IsRefusedFor words outcome = IsRefusedBy (parse_faults words) outcome
     ⊎ ((parse_faults words ≡ []) × IsNoSettings (λ name. one_of name (matches_of command_line words)) outcome)

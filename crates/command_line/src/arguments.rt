@@ -73,7 +73,7 @@ pub fn sizes_command<'a>(alloc: Global, program: Program<'a>) -> Result<Command<
         ))
 }
 
-/// Returns a required argument `--name NUMBER`, a number from `least` to `most`.
+/// Returns a required argument `--name NUMBER`, whose value is a number from `least` to `most`.
 pub fn number<'a>(alloc: Global, name: &'a str, value: &'a str, least: u32, most: u32) -> Arg<'a>
     ensures rule { rule_of result ≡ number_rule name.entry.now least most }
     ensures local { result.global ≡ false }
@@ -86,7 +86,7 @@ pub fn number<'a>(alloc: Global, name: &'a str, value: &'a str, least: u32, most
         .value_parser(value_parser!(u32).range(i64::from(least)..=i64::from(most)))
 }
 
-/// Returns an argument without a name, such as a file.
+/// Returns an argument that is given by its position, without `--name`, such as a file.
 pub fn positional<'a>(alloc: Global, name: &'a str, help: &'a str) -> Arg<'a>
     ensures rule { rule_of result ≡ positional_rule name.entry.now }
     ensures local { result.global ≡ false }
@@ -96,7 +96,7 @@ pub fn positional<'a>(alloc: Global, name: &'a str, help: &'a str) -> Arg<'a>
 
 /// Parses these words, which do not include the program's name, and returns the matches.
 ///
-/// Fails with `Help`, `Version`, `BadLine` or `NoMemory`. If clap's model takes the words, only with `NoMemory`.
+/// Fails with `Help`, `Version`, `BadLine` or `NoMemory`. If clap's model accepts the words, it can fail only with `NoMemory`.
 pub fn parse<'a>(
     alloc: Global,
     command: Command<'a>,
@@ -117,14 +117,14 @@ pub fn parse<'a>(
     }
 }
 
-/// Returns the number given under this name, or `None` if no number below 2^32 is.
+/// Returns the number given under this name, or `None` if no number below 2^32 is given.
 pub(crate) fn number_written(matches: &ArgMatches<'_>, name: &str) -> Option<u32>
     ensures { MayWrite (one_text (found_of matches.now) name.now) result }
 {
     matches.get_one::<u32>(name)
 }
 
-/// Returns the number given under this name, or 0, which is outside every range, if none is.
+/// Returns the number given under this name, or 0 if no number below 2^32 is given. No size of a machine may be 0.
 pub(crate) fn number_of(matches: &ArgMatches<'_>, name: &str) -> u32
     ensures value { 0 < result → Writes (one_text (found_of matches.now) name.now) result }
     ensures written { (n : ℕ) → Writes (one_text (found_of matches.now) name.now) n → result ≡ n }

@@ -13,7 +13,7 @@ use std::fs::File;
 use std::io::{self, Read};
 use std::rt::Files;
 
-/// Opens the file of this path, or standard input if there is none.
+/// Opens the file at this path, or standard input if there is no path.
 ///
 /// Standard input can always be opened. Fails with the system's error if a file cannot be opened.
 pub fn open<R: Files + Input>(rt: &R, path: Option<&str>) -> io::Result<Either<R::Reader, R::File>>
@@ -45,8 +45,8 @@ pub fn tell_file(rt: &impl Eprint, program: Program<'_>, path: &str, error: &Fil
     };
 }
 
-/// A path for messages. It is printed unchanged if it is printable ASCII without quotes and backslashes, else in quotes and
-/// escaped. So no file name begins a line of its own or moves the cursor of a terminal.
+/// A path for messages. It is printed unchanged if it is printable ASCII without quotes and backslashes, and otherwise in quotes
+/// and escaped. So a file name cannot begin a new line or move the cursor of a terminal.
 #[derive(Clone, Copy)]
 struct PathShown<'a>(&'a str);
 
@@ -75,7 +75,7 @@ pub struct WatchedReader<R: Read> {
 }
 
 impl<R: Read> WatchedReader<R> {
-    /// Watches this reader.
+    /// Makes a reader that watches `reader` and has no error yet.
     pub fn new(reader: R) -> WatchedReader<R>
         ensures bytes { ⟦<WatchedReader<R> as Read>⟧.remaining result ≡ R.remaining reader }
         ensures none { last_error result ≡ None }
@@ -86,7 +86,7 @@ impl<R: Read> WatchedReader<R> {
         }
     }
 
-    /// Returns the error of the last read that failed, if one has.
+    /// Returns the error of the last read that failed, or `None` if no read has failed.
     pub fn error(&self) -> Option<FileError>
         ensures { result ≡ option_map (λ error. FileError.Read error) (last_error self.now) }
     {

@@ -38,7 +38,7 @@ pub enum Outcome {
     Unwritable,
     /// The command line is faulty or not UTF-8, or a number is out of its range: what is wrong with it.
     BadLine(String),
-    /// `--only` is not below the number of tenants; the command line is otherwise valid.
+    /// The sizes of the machine are valid, but `--only` is not below the number of tenants.
     BadOnly,
     /// There was not enough memory.
     NoMemory,
@@ -119,7 +119,7 @@ pub(crate) fn bad_line(alloc: Global, text: &str) -> Outcome
     }
 }
 
-/// Returns the outcome if the words of the command line could not be read: there was no memory, or a word is not UTF-8.
+/// Returns the outcome if the words of the command line could not be read because memory ran out or because a word is not UTF-8.
 pub(crate) fn not_words(alloc: Global, kind: io::ErrorKind) -> Outcome
     ensures text { IsBadLine not_utf8_text result }
     ensures memory { kind ≡ SystemKind.OutOfMemory → result ≡ Outcome.NoMemory }

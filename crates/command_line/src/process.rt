@@ -38,7 +38,7 @@ pub fn texts_of<'a>(alloc: Global, words: &'a [String]) -> Result<Vec<&'a str>, 
     Ok(texts)
 }
 
-/// Writes the text of help or of the version, if that was requested, and flushes. Returns the outcome of the program.
+/// If help or the version was requested, writes its text and flushes. Returns the outcome of the program.
 ///
 /// If the text could not be written or flushed, the outcome is `Unwritable`, and a part of the text may have been written.
 pub fn hand_out<W: Write>(out: &mut W, refused: Outcome) -> Outcome

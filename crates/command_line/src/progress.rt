@@ -1,4 +1,4 @@
-//! The progress of a run in a large file: a line on a terminal, which is erased at the end.
+//! The progress of a run through a large file: a line on a terminal, which is erased at the end.
 
 ghost use Rattle.std.specs.Prelude.{◌≡◌, ◌+◌, ◌-◌, ◌^◌, ◌<◌, ◌≤◌, ◌==◌, false, None, Some, IfSome, count_by, length, min};
 ghost use Rattle.command_line.specs.Progress.{percent_of, position_text};
@@ -12,18 +12,18 @@ use std::{fmt, fs};
 /// The largest input for which no progress is shown, 64 MiB. A load of this size takes about a second.
 const SMALL_BYTES: u64 = 64 << 20;
 
-/// The number of seconds between two lines, and before the first one. So a run of less than a second shows nothing, and a longer
-/// run spends nearly no time on the lines.
+/// The number of seconds until the line is first shown, and then between two updates of the line. So a run of less than a second
+/// shows nothing, and a longer run spends nearly no time on the line.
 const SECONDS_BETWEEN: u64 = 1;
 
-/// How far a run is in a file.
+/// How far a run has come in a file.
 #[derive(Clone, Copy, Debug)]
 struct Position {
-    /// The number of line feeds that were read.
+    /// The number of line feeds read so far.
     lines: u64,
-    /// The number of bytes that were read.
+    /// The number of bytes read so far.
     bytes: u64,
-    /// The number of bytes of the file.
+    /// The size of the file in bytes.
     size: u64,
     ghost some: { 0 < size },
 }
@@ -59,22 +59,22 @@ impl fmt::Display for Position {
     }
 }
 
-/// The progress of a run in a large file. When it is dropped, the line is erased.
+/// The progress of a run through a large file. When it is dropped, the line on the terminal is erased.
 #[derive(Debug)]
 pub struct Progress<'a, P: Eprint + Clock> {
     to: &'a P,
     name: &'a str,
     position: Position,
-    /// The time when the last line was shown, or when the run began.
+    /// The time when the line was last shown, or when the run began.
     last: Instant,
     /// True if a line is on the terminal.
     shown: bool,
 }
 
 impl<'a, P: Eprint + Clock> Progress<'a, P> {
-    /// Returns the progress of a run that begins now in a file of `size` bytes. `all` is the number of bytes of this file and of
-    /// another one that is read beside it. Returns `None` if the file is empty, if `all` is at most 64 MiB, or if there is no
-    /// clock.
+    /// Returns the progress of a run that begins now in a file of `size` bytes. `all` is the number of bytes in this file and in
+    /// the file that is read beside it, if there is one. Returns `None` if the file is empty, if `all` is at most 64 MiB, or if
+    /// there is no clock.
     fn begin(to: &'a P, program: Program<'a>, size: u64, all: u64) -> Option<Progress<'a, P>>
         ensures empty { size ≡ 0 → result ≡ None }
         ensures small { all ≤ 2 ^ 26 → result ≡ None }
@@ -101,7 +101,7 @@ impl<'a, P: Eprint + Clock> Progress<'a, P> {
         })
     }
 
-    /// Shows the line if a second has passed since the last one.
+    /// Shows the line if a second has passed since it was last shown, or since the run began.
     fn show(&mut self) {
         let to = self.to;
         let Ok(now) = Instant::now(to) else {
@@ -139,11 +139,11 @@ impl<P: Eprint + Clock> Drop for Progress<'_, P> {
     }
 }
 
-/// Returns the progress of a run of `program` that begins now in the file of this path, or in standard input if there is none.
+/// Returns the progress of a run of `program` that begins now in the file at this path, or in standard input if there is no path.
 /// The run may read another file `beside` it.
 ///
 /// Returns `None` if progress is not `wanted`, if one of these is not a regular file, if the first is empty, if they have at most
-/// 64 MiB together, or if there is no clock.
+/// 64 MiB in total, or if there is no clock.
 pub fn progress_in<'a, P: Files + Eprint + Clock>(
     rt: &'a P,
     program: Program<'a>,
@@ -167,14 +167,14 @@ pub fn progress_in<'a, P: Files + Eprint + Clock>(
     Progress::begin(rt, program, size, size.saturating_add(other))
 }
 
-/// Returns the number of bytes of the file of this path, or `None` if it is not a regular file.
+/// Returns the size in bytes of the file at this path, or `None` if it is not a regular file.
 fn size_of(rt: &impl Files, path: &str) -> Option<u64> {
     let metadata = fs::metadata(rt, path).ok()?;
     metadata.is_file().then_some(metadata.len())
 }
 
-/// A reader that gives the bytes of another reader, and shows the progress of the run before each read. All whole lines given
-/// so far are done then.
+/// A reader that gives the bytes of another reader, and shows the progress of the run before each read. By then the run has done
+/// all whole lines that were given.
 #[derive(Debug, Drop)]
 pub struct ProgressReader<'a, R: Read, P: Eprint + Clock> {
     reader: R,
@@ -182,7 +182,7 @@ pub struct ProgressReader<'a, R: Read, P: Eprint + Clock> {
 }
 
 impl<'a, R: Read, P: Eprint + Clock> ProgressReader<'a, R, P> {
-    /// Shows this progress, if there is one, while this reader is read.
+    /// Makes a reader over `reader` that shows this progress, if there is one.
     pub fn new(reader: R, progress: Option<Progress<'a, P>>) -> ProgressReader<'a, R, P>
         ensures bytes { ⟦<ProgressReader<'a, R, P> as Read>⟧.remaining result ≡ R.remaining reader }
         ensures shown { result.progress ≡ progress.entry }

@@ -19,7 +19,7 @@ pub fn sizes_found(alloc: Global, matches: &ArgMatches<'_>) -> Result<Config, Ou
     ensures asked { IfOk result (AsksSizes (one_text (found_of matches.now))) }
     ensures bootable { IfOk result (λ config. is_bootable config ≡ true) }
     ensures refused { IfErr result (IsBadLine bad_size_text) }
-    // So sizes that are given and valid are found, however little memory there is.
+    // Sizes that are given and valid are always found, however little memory there is.
     ensures given { OnErr result (AsksNoSizes (one_text (found_of matches.now))) }
 {
     let config = Config {

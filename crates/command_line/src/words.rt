@@ -21,7 +21,8 @@ const ONLY: &str = "Writes only the lines of this tenant, a number below --tenan
 /// Reads the words of a command line, without the program's name.
 ///
 /// Fails with `Help` or `Version` if the words request that, with `BadLine` if they are faulty or `--own` is not possible, with
-/// `BadOnly` if they are valid and `--only` is not below the number of tenants, or with `NoMemory`.
+/// `BadOnly` if the sizes are valid and `--only` is not below the number of tenants, or with `NoMemory`. The number of `--only` is
+/// tested before `--own`.
 pub fn read_words<'a>(alloc: Global, words: &'a [&'a str]) -> Result<Settings, Outcome>
     ensures config { IfOk result (λ settings. is_bootable settings.config ≡ true) }
     ensures only { IfOk result (λ settings. ForSome settings.only (λ tenant. tenant < settings.config.tenants)) }
@@ -46,7 +47,7 @@ pub fn read_words<'a>(alloc: Global, words: &'a [&'a str]) -> Result<Settings, O
     })
 }
 
-/// Returns the tenant whose own list is requested, or `None` if no own list is.
+/// Returns the tenant whose own list is requested, or `None` if none is requested.
 ///
 /// Fails with `BadLine` if `--only` or `--tally` is given too, or if the machine has no such tenant, or with `NoMemory` if
 /// there is no memory for that message.

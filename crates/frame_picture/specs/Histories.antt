@@ -22,7 +22,7 @@ columns_of h = take h.kept h.columns.items
 abbrev pub most_columns_of : History → ℕ
 most_columns_of h = vec_len h.columns
 
--- the number of lines of a column
+-- the number of lines per column
 abbrev pub width_of : History → ℕ
 width_of h = h.width
 

@@ -5,7 +5,7 @@ use Rattle.frame_picture.specs.declared.history.Sheet.{Sheet}
 use Rattle.frame_picture.specs.declared.owned.OwnSheets.{OwnSheets}
 use Rattle.frame_picture.specs.Rows.{cells_in, row_cells}
 
--- the cells of tenant t's frames from first on and below end in a sheet, if there is one
+-- the cells of tenant t's frames from first to end - 1 in a sheet, if there is one
 abbrev pub cells_of : ℕ → ℕ → ℕ → ℕ → Option Sheet → List FrameKind
 cells_of order t first end None = []
 cells_of order t first end (Some sheet) = cells_in order t first end sheet

@@ -1,5 +1,5 @@
--- Equal rows of cells as rectangles. A run is the number of consecutive rows that have a tone, from a row on where the row below
--- does not have it.
+-- Equal rows of cells as rectangles. A run is the number of consecutive rows that have a tone, counted upwards from a row; the
+-- row below that one does not have the tone.
 use Rattle.std.specs.Prelude.{◌≡◌, ◌≢◌, ℕ, zero, suc, false, ◌+◌, ◌-◌, ◌<◌, ◌≤◌, ◌⊎◌, ◌↔◌, Bool, IsTrue, if◌then◌else◌, All, Any, List, [], Some, length, take, drop, slice_get, slice_index_or}
 use Rattle.std.specs.List.{prefix_len}
 use Rattle.frame_picture.specs.Tones.{is_tone, not_held}
@@ -11,7 +11,7 @@ abbrev pub goes_on : Tone → List Tone → ℕ → Bool
 goes_on tone cells zero = false
 goes_on tone cells (suc below) = is_tone tone (slice_index_or cells below not_held)
 
--- the run of a tone that begins at a row, 0 if none begins there
+-- the run of a tone that begins at a row, or 0 if none begins there
 abbrev pub run_at : Tone → List Tone → ℕ → ℕ
 run_at tone cells row = if goes_on tone cells row then 0 else prefix_len (is_tone tone) (drop row cells)
 
@@ -29,11 +29,12 @@ pub record IsRectangle (runs : ℕ → ℕ) (columns end : ℕ) (r : Rectangle) 
   pub left : 0 < r.column → runs (r.column - 1) ≢ r.rows
   pub right : end < columns → runs end ≢ r.rows
 
--- no rectangle ends before column `end`: in the column before, no run begins at the row, or the same run does in both columns
+-- no rectangle ends before column `end`: in the previous column, no run begins at the row, or an equal run begins at the row in
+-- column `end`
 abbrev pub GoesOn : (ℕ → ℕ) → ℕ → ℕ → Type 0
 GoesOn runs columns end = (runs (end - 1) ≡ 0) ⊎ ((end < columns) × (runs end ≡ runs (end - 1)))
 
--- These are all rectangles of a tone that begin in a row below `height` and end behind column `from` and up to column `to`.
+-- These are all rectangles of a tone that begin in a row below `height` and end before one of the columns `from + 1` to `to`.
 pub record AreRectangles (columns : List (List Tone)) (tone : Tone) (rows height from to : ℕ) (rectangles : List Rectangle)
     : Type 0 where
   pub each : All (λ r. (r.row < height) × (r.column + r.columns ≤ to)
@@ -48,7 +49,7 @@ pub record HasCell (column row : ℕ) (r : Rectangle) : Type 0 where
   pub lower : r.row ≤ row
   pub upper : row < r.row + r.rows
 
--- of the shown cells, which are those of the first rows, the rectangles contain exactly those of the tone
+-- the shown cells are those of the first `rows` rows; of these, the rectangles contain exactly the cells of the tone
 abbrev pub CoverTone : List (List Tone) → Tone → ℕ → List Rectangle → Type 0
 CoverTone columns tone rows rectangles = (column row : ℕ) (cells : List Tone) (cell : Tone)
     → slice_get columns column ≡ Some cells → slice_get cells row ≡ Some cell → row < rows

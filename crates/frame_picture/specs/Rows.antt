@@ -6,7 +6,7 @@ use Rattle.frame_picture.specs.declared.history.Sheet.{Sheet}
 use Rattle.frame_picture.specs.Kinds.{rank_of}
 use Rattle.frame_picture.specs.declared.grid.Grid.{Grid}
 
--- the cells of the frames from first on and below end, in a slot that begins at frame base
+-- the cells of the frames from first to end - 1, in a slot that begins at frame base
 abbrev pub cells_between : ℕ → ℕ → ℕ → List FrameKind → List FrameKind
 cells_between base first end cells = slice_range cells (min (length cells) (first - base)) (min (length cells) (end - base))
 
@@ -19,7 +19,7 @@ owned_cells order t first end (Some owner) cells =
 abbrev pub cells_in : ℕ → ℕ → ℕ → ℕ → Sheet → List FrameKind
 cells_in order t first end sheet = owned_cells order t first end sheet.owner sheet.cells.items
 
--- the cells of tenant t's frames from first on and below end, in the order of superblocks
+-- the cells of tenant t's frames from first to end - 1, in the order of superblocks
 abbrev pub row_cells : ℕ → ℕ → ℕ → ℕ → List Sheet → List FrameKind
 row_cells order t first end [] = []
 row_cells order t first end (sheet ∷ sheets) = cells_in order t first end sheet ++ row_cells order t first end sheets

@@ -35,11 +35,11 @@ abbrev pub free_of : ℕ → ℕ → Option Column → ℕ
 free_of t k None = 0
 free_of t k (Some column) = free_in k (slice_get column.figures.items t)
 
--- that of tenant t in column n, 0 if there is no such column
+-- the same for tenant t in column n, or 0 if there is no such column
 abbrev pub free_in_column : List Column → ℕ → ℕ → ℕ → ℕ
 free_in_column columns t k n = free_of t k (slice_get columns n)
 
--- that in the column before column n; the stack begins at 0
+-- the same in the column before column n, or 0 before the first column
 abbrev pub free_before : List Column → ℕ → ℕ → ℕ → ℕ
 free_before columns t k zero = 0
 free_before columns t k (suc n) = free_in_column columns t k n

@@ -127,7 +127,7 @@ fn quarters_of(taken: usize, frames: u32) -> u8
     (4 * taken).div_ceil(u64::from(frames)).min(4) as u8
 }
 
-/// Counts tenant `t`'s frames from `first` up to `end` that the sheets show, by kind and in total.
+/// Counts tenant `t`'s frames in `first..end` that the sheets show, by kind and in total.
 fn count_kinds(
     sheets: &[Sheet],
     own: &OwnSheets,
@@ -152,7 +152,7 @@ fn count_kinds(
     (counts, shown)
 }
 
-/// Does what [`count_kinds`] does, for the listed sheets.
+/// Does the same as [`count_kinds`], for the listed sheets.
 fn count_listed(
     sheets: &[Sheet],
     own: &OwnSheets,
@@ -178,7 +178,7 @@ fn count_listed(
     (counts, shown)
 }
 
-/// Returns the cells of tenant `t`'s frames from `first` up to `end` that a sheet shows.
+/// Returns the cells of tenant `t`'s frames in `first..end` that a sheet shows.
 fn cells_of(sheet: &Sheet, t: u8, order: u32, first: u32, end: u32) -> &[FrameKind]
     requires order { order ≤ 8 }
     requires rising { first ≤ end }
@@ -210,7 +210,7 @@ fn count_cells(cells: &[FrameKind], counts: &mut [usize; KINDS], shown: &mut usi
     *shown = shown.saturating_add(cells.len());
 }
 
-/// Returns the index of the greatest of the first `kinds` counts. If several are greatest, it returns the first one.
+/// Returns the index of the greatest of the first `kinds` counts. If several are greatest, returns the first of them.
 fn greatest_at(counts: &[usize; KINDS], kinds: usize) -> usize
     requires some { 0 < kinds }
     requires all { kinds ≤ KINDS }

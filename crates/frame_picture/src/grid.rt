@@ -15,7 +15,7 @@ pub struct Grid {
     pub order: u32,
     /// The number of frames shown: those of all slots up to the greatest one that was ever held, and of at least one slot.
     pub frames: u32,
-    /// The number of frames of a row, a power of two. The last row may have fewer.
+    /// The number of frames in a row: a power of two, or all frames if 2^15 is too small. The last row may have fewer.
     pub frames_per_row: u32,
     /// The number of rows.
     pub rows: u32,
@@ -58,8 +58,8 @@ impl Grid {
         start..start.saturating_add(self.frames_per_row).min(self.frames)
     }
 
-    /// Returns the distance between marks in slots, the first mark being at slot 0: the least power of two that gives at most
-    /// `most_marks` marks. If 2^15 is too small, there is only one mark.
+    /// Returns the distance between marks, in slots: the least power of two that gives at most `most_marks` marks. The first mark
+    /// is at slot 0. If 2^15 is too small, there is only one mark.
     pub fn slots_between(self, most_marks: u32) -> u32
         requires { 0 < most_marks }
         ensures some { 0 < result }
@@ -91,7 +91,7 @@ impl Grid {
     }
 }
 
-/// Returns the number of frames of a row: the least power of two that gives at most `most_rows` rows for `frames` frames. If 2^15
+/// Returns the number of frames in a row: the least power of two that gives at most `most_rows` rows for `frames` frames. If 2^15
 /// is too small, all frames are one row.
 fn frames_per_row(frames: u32, most_rows: u32) -> u32
     requires { 0 < most_rows }
@@ -116,7 +116,7 @@ fn rows_up_to(frames: u32, frames_per_row: u32) -> u32
     frames.div_ceil(frames_per_row)
 }
 
-/// Returns the number above the greatest slot that tenant `t` holds in a column, 0 if it holds none.
+/// Returns the number above the greatest slot that tenant `t` holds in a column, or 0 if it holds none.
 fn slots_in(column: &Column, t: u8) -> u32
     ensures few { result ≤ 2 ^ 16 }
     ensures greatest { IsGreatest (IsAbove (λ slot. HasSlot t slot column.now)) 0 result }
@@ -128,7 +128,7 @@ fn slots_in(column: &Column, t: u8) -> u32
     slots
 }
 
-/// Returns the number above the slot of a sheet if tenant `t` holds it, else 0.
+/// Returns the number above the slot of a sheet if tenant `t` holds it, or else 0.
 fn slots_up_to(sheet: &Sheet, t: u8) -> u32
     ensures few { result ≤ 2 ^ 16 }
     ensures greatest { IsGreatest (IsAbove (λ slot. IsSheetOf t slot sheet.now)) 0 result }

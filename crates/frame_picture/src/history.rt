@@ -11,7 +11,7 @@ use std::alloc::{AllocError, Global};
 /// The largest number of columns. With it a history never takes more than the machine's own memory.
 pub const MOST_COLUMNS: u32 = 4096;
 
-/// A superblock at some time.
+/// A superblock after some line.
 #[derive(Debug, Drop)]
 pub struct Sheet {
     /// Its owner, if it has one.
@@ -26,7 +26,7 @@ pub const ORDERS: usize = 9;
 /// A tenant's frames, as in its report.
 #[derive(Clone, Copy, Debug)]
 pub struct Figures {
-    /// The number of frames of its slots.
+    /// The number of frames in its slots.
     pub held: u32,
     /// The number of these frames that are in taken blocks.
     pub taken: u32,
@@ -37,7 +37,7 @@ pub struct Figures {
 /// The machine after some line.
 #[derive(Debug, Drop)]
 pub struct Column {
-    /// The number of lines that were run before.
+    /// The number of lines that were run up to then.
     pub line: u32,
     /// The superblocks, by number.
     pub sheets: Vec<Sheet>,
@@ -50,8 +50,8 @@ pub struct Column {
 /// The states of a machine over a trace, in a fixed number of columns, each with the same number of lines.
 ///
 /// The length of the trace is unknown before its end, and a pipe cannot be read twice. So each line has its own column at first.
-/// Whenever all columns are in use, every second one is dropped, and later ones have twice as many lines. A history allocates
-/// nothing after it is made, for traces of any length.
+/// Whenever all columns are in use, every second one is dropped, and each column has twice as many lines from then on. A history
+/// allocates nothing after it is made, for traces of any length.
 #[derive(Debug, Drop)]
 pub struct History {
     /// A superblock has `2^order` frames.
@@ -63,7 +63,7 @@ pub struct History {
     refused: Vec<u32>,
     /// The number of columns in use.
     kept: usize,
-    /// The number of lines of a column.
+    /// The number of lines per column.
     width: u32,
     /// The number of lines that were run.
     lines: u32,
@@ -144,7 +144,7 @@ impl History {
         &self.columns[..self.kept]
     }
 
-    /// Returns the number of lines of a column. The last one may have fewer.
+    /// Returns the number of lines per column. The last column may have fewer.
     pub fn width(&self) -> u32
         ensures value { result ≡ width_of self.now }
         ensures some { 0 < result }

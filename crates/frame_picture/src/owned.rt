@@ -7,13 +7,13 @@ ghost use Rattle.frame_picture.specs.Owned.{IsOwn};
 use crate::history::Sheet;
 use model_core::limits::MOST_SUPERBLOCKS;
 
-/// The largest number of listed sheets of a tenant. On a machine within its limits these are all.
+/// The largest number of sheets that are listed for a tenant. On a machine within its limits, a tenant has no more.
 pub const MOST_LISTED: usize = MOST_SUPERBLOCKS as usize;
 
 /// The indices of a tenant's sheets in a column, found once for all rows.
 #[derive(Debug, Drop)]
 pub struct OwnSheets {
-    /// The indices of the first sheets of the tenant, ascending. Only the first `len` are used.
+    /// The indices of the tenant's first sheets, in ascending order. Only the first `len` entries are used.
     pub listed: [u16; MOST_LISTED],
     pub len: usize,
     /// Sheets from this index on were not searched. On a machine within its limits, none of these is the tenant's.

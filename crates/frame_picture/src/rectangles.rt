@@ -1,4 +1,4 @@
-//! Joins equal cells to rectangles: a run of rows of one tone that is the same in adjacent columns.
+//! Joins equal cells into rectangles. A rectangle is a run of rows of one tone that is the same in adjacent columns.
 
 ghost use Rattle.std.specs.Prelude.{◌≡◌, ◌≢◌, ℕ, ◌+◌, ◌-◌, ◌<◌, ◌≤◌, length, drop, MatchOption, IfSome};
 ghost use Rattle.std.specs.List.{prefix_len};
@@ -52,7 +52,7 @@ pub fn rectangle_at(
     })
 }
 
-/// Returns the number of rows of the tone from this row on in a column, if a run of the tone begins at this row, else 0.
+/// Returns the number of rows in the run of the tone that begins at this row in a column, or 0 if none begins there.
 fn run_in(
     columns: &[[Tone; MOST_ROWS]],
     tone: Tone,
@@ -68,7 +68,7 @@ fn run_in(
     run_at(tone, &columns[column][..rows], row)
 }
 
-/// Returns the number of cells of the tone from this row on, if a run of the tone begins at this row, else 0.
+/// Returns the number of cells in the run of the tone that begins at this row, or 0 if none begins there.
 fn run_at(tone: Tone, cells: &[Tone], row: usize) -> usize
     requires { row < length cells.now }
     ensures { result ≡ run_at tone cells.now row }

@@ -55,8 +55,7 @@ fn show_cells(cells: &mut [FrameKind], kernel: &Kernel, t: u8, slot: u16)
     show_beyond(cells, kernel, known, slot, 1usize << kernel.order());
 }
 
-/// Stores the kinds of a slot's frames behind the first `from`. If each slot has as many cells as frames, there are no such
-/// frames.
+/// Stores the kinds of a slot's frames after the first `from`. There are none if a sheet has as many cells as a slot has frames.
 fn show_beyond(cells: &mut [FrameKind], kernel: &Kernel, t: u8, slot: u16, from: usize)
     requires { t < kernel.now.tenants }
     ensures kept { (k : ℕ) → k < from → slice_get cells.new k ≡ slice_get cells.old k }

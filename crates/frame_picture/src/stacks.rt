@@ -20,7 +20,7 @@ pub fn figures_at(columns: &[Column], t: u8, column: usize) -> Figures
     }
 }
 
-/// Returns the largest number of taken frames of tenant `t` in a column, 0 without columns.
+/// Returns the largest number of taken frames of tenant `t` in any column, or 0 if there are no columns.
 pub fn most_taken(columns: &[Column], t: u8) -> u32
     ensures { IsGreatest (λ frames. SomeIndex columns.now (λ n. taken_in_column columns.now t n ≡ frames)) 0 result }
 {
@@ -59,7 +59,7 @@ fn free_from(figures: &Figures, order: usize) -> u64
     frames
 }
 
-/// Returns the number of frames of a number of blocks of an order.
+/// Returns the number of frames in a number of blocks of an order.
 fn frames_of_blocks(blocks: u32, order: usize) -> u64
     requires { order < ORDERS }
     ensures value { result ≡ blocks * 2 ^ order }
@@ -68,7 +68,8 @@ fn frames_of_blocks(blocks: u32, order: usize) -> u64
     u64::from(blocks) << order
 }
 
-/// Returns [`free_at`] of a column if it differs from that of the column before. Before the first column it is 0.
+/// Returns [`free_at`] for a column if it differs from the value for the previous column, and `None` otherwise. Before the first
+/// column the value is 0.
 pub fn turn_at(columns: &[Column], t: u8, order: usize, column: usize) -> Option<u64>
     requires { order < ORDERS }
     ensures { MatchOption result (free_in_column columns.now t order column ≡ free_before columns.now t order column)
@@ -83,7 +84,7 @@ pub fn turn_at(columns: &[Column], t: u8, order: usize, column: usize) -> Option
     if frames == before { None } else { Some(frames) }
 }
 
-/// Returns the largest number of free frames of tenant `t` in a column, but at least 1.
+/// Returns the largest number of free frames of tenant `t` in any column, but at least 1.
 pub fn most_free(columns: &[Column], t: u8) -> u64
     ensures { IsGreatest (λ frames. SomeIndex columns.now (λ n. free_in_column columns.now t 0 n ≡ frames)) 1 result }
 {

@@ -1,4 +1,4 @@
--- What is written of a run: the picture of a history, or the table of its figures.
+-- What a run writes: the picture of a history, or the table of its figures.
 use Rattle.std.specs.Prelude.{◌≡◌, ℕ, ◌+◌, ◌^◌, ◌<◌, List, Option, Some, None, MatchBool, length}
 use Rattle.words_core.specs.Cutting.{lines_of_trace}
 use Rattle.frame_picture.specs.declared.history.History.{History}
@@ -25,7 +25,7 @@ pub record IsRequestedPicture (settings : Settings) (picture : Picture) : Type 0
   pub columns : most_columns_in picture ≡ settings.columns
   pub gap : label_gap_of picture ≡ LABEL_GAP
 
--- with `--figures` the text is the table of this history, and otherwise its picture; the name in its title is open
+-- with `--figures` the text is the table of this history, and otherwise its picture; the name in its title is not specified
 abbrev pub IsDrawnText : Settings → History → Picture → List ℕ → Type 0
 IsDrawnText settings history picture text = MatchBool settings.figures
     (text ≡ table_text history (first_drawn settings.machine.only) (end_drawn (tenants_of history) settings.machine.only))

@@ -44,7 +44,7 @@ IsMapRequestedBy words settings = let rows = matches_of map_command_line words i
 unfoldable pub IsMapInOrder : List Text → Type 0
 IsMapInOrder words = takes map_command_line words ≡ true
 
--- the kinds of error for which clap's model refuses these words, none if it takes them
+-- the kinds of error for which clap's model refuses these words, or none if it takes them
 unfoldable pub map_faults : List Text → Kinds
 map_faults words = fault_of map_command_line words
 

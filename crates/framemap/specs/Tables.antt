@@ -15,7 +15,7 @@ free_heading order = codes ",free" ++ decimal order
 unfoldable pub heading_text : ℕ → List ℕ
 heading_text orders = codes "line,tenant,held,taken,refused" ++ (flat_map free_heading (range_with_len 0 orders) ++ codes "\n")
 
--- a number behind a comma
+-- a number after a comma
 abbrev pub free_cell : ℕ → List ℕ
 free_cell blocks = codes "," ++ decimal blocks
 
@@ -28,7 +28,7 @@ figures_row orders line t figures refused = concat (decimal line ∷ codes "," �
 abbrev pub row_text : ℕ → Column → ℕ → List ℕ
 row_text orders column t = figures_row orders column.line t (column_figures t (Some column)) (refused_in t (Some column))
 
--- the rows of the tenants from `first` on and below `end`
+-- the rows of the tenants from `first` to `end - 1`
 abbrev pub column_rows : ℕ → ℕ → ℕ → Column → List ℕ
 column_rows orders first end column = flat_map (row_text orders column) (range_with_len first (end - first))
 

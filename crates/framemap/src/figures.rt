@@ -8,7 +8,7 @@ ghost use Rattle.framemap.specs.Tables.{column_rows, free_cell, heading_text, ro
 use frame_picture::history::{Column, Figures, History, ORDERS};
 use std::io::{self, Write};
 
-/// Writes a row of headings, then a row for each column and each tenant from `first` on and below `end`, and flushes.
+/// Writes a row of headings, and then a row for each column and each tenant in `first..end`, and flushes.
 pub fn write_figures<W: Write>(out: &mut W, history: &History, first: u8, end: u8) -> io::Result<()>
     ensures { WritesText result (W.contents out.old) (W.contents out.new) (λ text. text ≡ table_text history.now first end) }
 {
@@ -64,7 +64,7 @@ fn write_row<W: Write>(out: &mut W, column: &Column, orders: usize, t: u8) -> io
     out.write_all(b"\n")
 }
 
-/// Writes the numbers, each behind a comma.
+/// Writes the numbers, each after a comma.
 fn write_cells<W: Write>(out: &mut W, numbers: &[u32]) -> io::Result<()>
     ensures { WritesText result (W.contents out.old) (W.contents out.new) (λ text. text ≡ flat_map free_cell numbers.now) }
 {

@@ -20,7 +20,7 @@ use std::alloc::Global;
 use std::io::{self, Write};
 use streams::LineLimit;
 
-/// A trace has fewer line feeds than this, 2^30.
+/// A trace must have fewer line feeds than this number, 2^30.
 const LINES_ABOVE: u64 = 1 << 30;
 
 /// How a run ended, and the number of events in the lines of the trace.
@@ -31,7 +31,7 @@ pub struct Drawn {
 }
 
 impl Drawn {
-    /// Returns this outcome of a run that draws nothing. Its events are not counted.
+    /// Returns the result of a run that draws nothing and has this outcome. Its events are not counted.
     pub fn at_once(outcome: Outcome) -> Drawn
         ensures { result.outcome ≡ outcome }
     {
@@ -44,7 +44,7 @@ impl Drawn {
     }
 }
 
-/// The distance in pixels by which the word below the lowest number of the axis is moved down, so that it is beside that number.
+/// The distance in pixels by which the word below the lowest number of the axis is moved down, so that the two do not overlap.
 const LABEL_GAP: u32 = 4;
 
 /// Runs a trace on a new machine with these settings, and draws its frames over the lines. If the trace cannot be read to its
@@ -106,7 +106,7 @@ fn write<W: Write>(
     picture.draw(history, name, writer)
 }
 
-/// Returns the part of a path behind its last slash.
+/// Returns the part of a path after its last slash.
 fn file_name(path: &str) -> &str {
     match path.rsplit_once('/') {
         Some((_, name)) => name,

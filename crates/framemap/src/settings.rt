@@ -10,7 +10,7 @@ use command_line::{MachineOptions, Outcome, Program, number, parse, path_of, pos
 use frame_picture::history::MOST_COLUMNS;
 use std::alloc::{AllocError, Global};
 
-/// The largest number of columns of a picture, if the command line does not say.
+/// The largest number of columns of a picture, if the command line does not set it.
 const DEFAULT_COLUMNS: u32 = 600;
 
 /// What this program prints about itself.

@@ -43,8 +43,8 @@ fn ends_fail_at_each_call_of_long_lines(rt: HostRuntime) -> Result<(), Fail> {
     fails_at_each_call(&rt, &table, &trace, REPLIES)
 }
 
-/// Runs a trace on the machine of a table, first with a feed that fails at call 1, 2, 3 and so on, then with such a drain. Pieces
-/// have one byte if only one tenant's lines are shown, else 20.
+/// Runs a trace on the machine of a table, first with a feed that fails at call 1, 2, 3 and so on, and then with such a drain.
+/// Pieces have one byte if only one tenant's lines are shown, and 20 bytes otherwise.
 fn fails_at_each_call(
     rt: &(impl AllocGlobal + Abort),
     table: &Table,
@@ -67,8 +67,8 @@ fn fails_at_each_call(
 /// Runs a trace with a feed and a drain that fail after these numbers of good calls. Returns true if neither failed.
 ///
 /// Checks that the pushed bytes are a beginning of the trace's output, as long as the tally says. The kernel then runs the lines
-/// behind those in the tally. After a failed feed, they write the rest of the output; after a failed drain, the rest behind the
-/// reply that was cut.
+/// after those in the tally. After a failed feed, these lines write the rest of the output; after a failed drain, the rest after
+/// the reply that was cut.
 fn is_done_after(
     rt: &(impl AllocGlobal + Abort),
     table: &Table,
@@ -100,19 +100,19 @@ fn is_done_after(
     Ok(ran.is_ok())
 }
 
-/// Returns whether the drain took a beginning of the output, as long as the tally says.
+/// Returns whether the drain took a beginning of the output that is as long as the tally says.
 fn begins(output: &[u8], taken: &[u8], tally: Tally) -> bool {
     output.starts_with(taken) && tally.written == taken.len() as u128
 }
 
-/// Returns whether `rest` is an end of the output behind what was taken. Bytes are missing between the two only if a reply was
-/// cut.
+/// Returns whether `rest` is an end of the output that does not overlap what was taken. Bytes must be missing between the two if
+/// a reply was cut, and only then.
 fn goes_on(output: &[u8], taken: &[u8], rest: &[u8], is_cut: bool) -> bool {
     let answered = output.len().saturating_sub(rest.len());
     output.ends_with(rest) && taken.len() <= answered && (taken.len() < answered) == is_cut
 }
 
-/// Returns the part of a trace behind its first lines.
+/// Returns the part of a trace after its first lines.
 fn behind(trace: &[u8], lines: u64) -> &[u8] {
     let mut rest = trace;
     for _line in 0..lines {

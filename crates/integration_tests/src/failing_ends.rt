@@ -1,4 +1,4 @@
-//! Ends that fail, and replies that are sent before more of the trace is read.
+//! Feeds and drains that fail, and replies that are sent before more of the trace is read.
 
 ghost use Rattle.std.specs.Prelude.{◌≡◌, false, IfOk};
 
@@ -84,7 +84,7 @@ fn drain_fails(rt: HostRuntime) -> Result<(), Fail> {
     Ok(())
 }
 
-/// The limit of a feed in bytes, around the length of the trace, how the replay ends then, and the tally.
+/// The limit of a feed in bytes, how the replay ends then, and the tally. The limits are around the length of the trace.
 const ROOMS: [(u64, End, u64, u128); 4] = [
     (0, End::FeedFails, 0, 0),
     (LEN - 1, End::FeedFails, 2, 48),
@@ -112,7 +112,7 @@ fn room_ends(rt: HostRuntime) -> Result<(), Fail> {
     Ok(())
 }
 
-/// What a reader and a writer record about each other's calls.
+/// What a reader and a writer record about their calls.
 #[derive(Drop)]
 struct Log {
     /// The number of successful writes.
@@ -225,7 +225,7 @@ struct Told {
     unwritten: usize,
 }
 
-/// Runs a replay with such a reader and writer.
+/// Runs a replay with a [`LineReader`] and a [`LogWriter`].
 fn between(alloc: Global, trace: &[u8], size: usize, log: &Log, good: Good) -> Result<Told, Fail> {
     let (good_reads, good_writes, good_flushes) = good;
     let mut kernel = Kernel::boot(alloc, MACHINE)?;
@@ -257,7 +257,7 @@ fn between(alloc: Global, trace: &[u8], size: usize, log: &Log, good: Good) -> R
 type Ending = (End, u64, u128, bool, usize);
 
 /// The numbers of good reads, writes and flushes, and the ending with each size of the drain's buffer: 0, 16, 64 and 4,096 bytes.
-/// With 16 bytes the second of the three replies is held until it is sent, with more bytes each reply is.
+/// A buffer of 16 bytes holds only the second of the three replies until it is sent; a larger buffer holds each reply.
 const STAYING: [(Good, [Ending; 4]); 9] = [
     ((ALL, ALL, ALL), [(End::Done, 3, 66, true, 0); 4]),
     ((0, ALL, ALL), [(End::FeedFails, 0, 0, false, 0); 4]),

@@ -3,7 +3,7 @@
 use layout_core::{Layout, Pattern};
 use std::process::Abort;
 
-/// Size, alignment, chunk, order, bytes for objects, number of objects, bytes behind the last object, and number of colours.
+/// Size, alignment, chunk, order, bytes for objects, number of objects, bytes after the last object, and number of colours.
 type Row = (u32, u32, u32, u8, u32, u32, u32, u32);
 
 const ROWS: [Row; 22] = [

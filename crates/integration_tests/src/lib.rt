@@ -1,5 +1,5 @@
-//! Tests across the libraries: traces on new machines with their output, ends that fail, pairs of worlds, the types and fixed
-//! values of public functions, and the examples at the roots of crates.
+//! Tests across the libraries: traces on new machines with their output, feeds and drains that fail, pairs of worlds, the types
+//! and fixed values of public functions, and the examples at the roots of crates.
 #![tactic(auto)]
 
 #[cfg(test)]

@@ -1,4 +1,4 @@
-//! A feed with a limit on its lines: it fails behind the limit, unless it has ended.
+//! A feed with a limit on its line feeds: once it has reached the limit, the next pull fails, unless the feed has ended.
 
 use streams::{Feed, LineLimit, ReaderFeed, Stopped};
 

@@ -62,12 +62,13 @@ const RECORD_BYTES: usize = 32;
 const FULLEST: &[u8] = b"\xff\xff\xff\xff\xff\xff\xff\xff\xff\xff\xff\xff\xff\xff\xff\xff\xff\xff\
     \xff\xff\xff\xff\xff\xff\xff\xff\xff\xff\xff\xff\xff\x3f";
 
-/// A cache, the number of takes out of it, and the lines behind these. Then a superblock, one of its frames, and the record at
-/// the end of that frame, without the zeroes behind it.
+/// A cache, the number of takes from it, and the lines after the takes. Then a superblock, one of its frames, and the record at
+/// the end of that frame, without the zeroes after it.
 type Case = (&'static [u8], u32, &'static [u8], u16, usize, &'static [u8]);
 
-/// A record has one bit for each live object, the least for the first object, and zeroes behind the bits. A freed slab leaves
-/// zeroes, a move copies the record, and a slab of large objects has object bytes there instead.
+/// A record has one bit for each object, the least significant bit for the first object. The bit is 1 if the object is live.
+/// Zeroes follow the bits. A freed slab leaves zeroes, a move copies the record, and a slab of large objects has object bytes
+/// there instead.
 const CASES: [Case; 8] = [
     (b"200 8 a5", 21, b"", 0, 0, b"\xff\xff\x0f"),
     (b"200 8 a5", 21, b"", 0, 1, b"\x01"),
@@ -111,7 +112,7 @@ fn stands(alloc: Global, case: &Case) -> Result<bool, Fail> {
     )
 }
 
-/// Returns the lines that make the cache and take objects, and the lines behind these.
+/// Returns the lines that make the cache and take objects, and the lines after these.
 fn trace_of(alloc: Global, case: &Case) -> Result<Vec<u8>, Fail> {
     let (cache, takes, after, ..) = *case;
     let mut trace = b"admin grant 0\n0 cache ".to_vec(alloc)?;

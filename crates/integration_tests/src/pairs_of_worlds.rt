@@ -7,7 +7,7 @@ use std::alloc::Global;
 use std::process::Abort;
 use std::test::Fail;
 
-/// The number of gaps in the tenant's trace: before, between and behind its lines.
+/// The number of gaps in the tenant's trace: before, between and after its lines.
 const GAPS: usize = 7;
 
 /// The commands of others. Tests use prefixes of this list.
@@ -47,7 +47,7 @@ fn among(
     Ok(trace)
 }
 
-/// Checks that a tenant with six lines gets the same replies as alone, with these lines in these gaps.
+/// Checks that a tenant with six lines gets the same replies with these lines in these gaps as it gets alone.
 fn is_told_alike(
     rt: &(impl AllocGlobal + Abort),
     noise: &[&[u8]],
@@ -65,8 +65,8 @@ fn is_told_alike(
     begins_alike(rt, &trace, alone.output)
 }
 
-/// Checks that each beginning of the trace gives the tenant the replies to its finished lines, which begin the whole output. A
-/// cut last line is a line too, and may add a reply.
+/// Checks for each beginning of the trace that the tenant gets the replies to its finished lines, which are a beginning of the
+/// whole output. A last line that is cut is also a line, and may add a reply.
 fn begins_alike(rt: &(impl AllocGlobal + Abort), trace: &[u8], output: &[u8]) -> Result<(), Fail> {
     let (mut ended, _) = replayed(rt.alloc(), MACHINE, b"", WHOLE, Some(0))?;
     for len in 0..=trace.len() {

@@ -20,7 +20,7 @@ pub struct PieceFeed<'a> {
     ghost whole: { ended ≡ true → rest.now ≡ [] },
 }
 
-/// Returns such a feed of these bytes.
+/// Returns a [`PieceFeed`] of these bytes.
 pub fn in_pieces<'a>(bytes: &'a [u8], piece: usize, good_pulls: u32) -> PieceFeed<'a>
     ensures remaining { ⟦<PieceFeed<'a> as Feed>⟧.remaining result ≡ Some bytes.now }
     ensures room { ⟦<PieceFeed<'a> as Feed>⟧.room_left result ≡ length bytes.now }
@@ -87,7 +87,7 @@ pub struct PieceDrain {
     ghost within: { len ≤ BUFFER_BYTES },
 }
 
-/// Returns such a drain, which has taken nothing.
+/// Returns a [`PieceDrain`] that has taken nothing.
 pub fn taking(piece: usize, good_pushes: u32) -> PieceDrain
     ensures contents { ⟦<PieceDrain as Drain>⟧.contents result ≡ Some [] }
     ensures fine { ⟦<PieceDrain as Drain>⟧.has_failed result ≡ false }

@@ -1,8 +1,7 @@
 //! The types of the public functions, written out: if one changes, this module does not compile.
 //!
-//! A generic function, and one that returns a borrow, is called with its types written out, since the prover does not follow a
-//! pointer to it.
-//! `pieces` has a feed and a drain, with all methods of these traits.
+//! Generic functions, and functions that return a borrow, are called with their types written out, since the prover does not
+//! follow pointers to them. `pieces` has a feed and a drain, with all methods of these traits.
 
 ghost use Rattle.std.specs.Prelude.{◌≡◌, false};
 

@@ -6,7 +6,7 @@ use std::process::Abort;
 use std::test::Fail;
 use words_core::Request;
 
-/// Returns the line with a line feed, and other lines behind it.
+/// Returns the line with a line feed, followed by other lines.
 fn window_of(line: &[u8]) -> [u8; WINDOW] {
     let mut window = *b"7 free 7\n7 free 7\n7 free 7\n7 fre";
     let len = line.len().min(WINDOW - 1);
@@ -20,7 +20,7 @@ const TENANTS: [u32; 6] = [0, 1, 9, 10, 63, 999];
 
 const NUMBERS: [u32; 8] = [0, 1, 9, 10, 255, 4096, 12_345, 999_999_999];
 
-/// The words before a number, and those behind it.
+/// The words before a number, and those after it.
 const COMMANDS: [(&str, &str); 8] = [
     ("alloc", ""),
     ("free", ""),

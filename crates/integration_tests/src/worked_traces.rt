@@ -5,7 +5,7 @@ use crate::tables::{MACHINE, tables};
 use std::alloc::Global;
 use std::test::Fail;
 
-/// The end of the first line and of every second one behind it, and the end of the others.
+/// The end of the first line and of every second line after it, and the end of the other lines.
 const ENDS: [[&[u8]; 2]; 3] = [[b"\n", b"\n"], [b"\r\n", b"\r\n"], [b"\n", b"\r\n"]];
 
 #[test]
@@ -29,7 +29,7 @@ fn traces_write_their_rows(rt: HostRuntime) -> Result<(), Fail> {
     Ok(())
 }
 
-/// Returns the trace with these ends of lines. Lines that end in CR LF are left as they are.
+/// Returns the trace with these ends of lines. Lines that end in CR LF stay unchanged.
 fn ended_by(alloc: Global, trace: &[u8], ends: [&[u8]; 2]) -> Result<Vec<u8>, Fail> {
     let mut ended = Vec::new(alloc);
     for (number, line) in trace.split_inclusive(|byte| *byte == b'\n').enumerate() {

@@ -18,7 +18,7 @@ use Rattle.judge.specs.Seen.{Seen, state_of}
 use Rattle.judge.specs.KnownMachine.{SeenMachine, KeepsSizes, known_of}
 use Rattle.judge.specs.Adding.{is_addition, IsAllowedAddition}
 
--- `Ok` if all promises are kept, else the first that is not
+-- `Ok` if all promises are kept, or else the first that is not
 abbrev pub broken : List (Promise × Bool) → Result (Unit {0}) Promise
 broken [] = Ok tt
 broken ((promise, kept) ∷ rest) = if kept then broken rest else Err promise
@@ -28,7 +28,8 @@ abbrev pub verdict_on : Event → Body → Known → State → Result (Unit {0})
 verdict_on event body w s = broken ((Promise.Form, is_some (state_after w.order event body s))
     ∷ drop 1 (kept event (record { addressee = Addressee.Nobody; body = body }) w s))
 
--- the verdict on a refusal if `due` must come; `full` says whether `NoFrames` may come, and `busy` whether `SlotBusy` may
+-- the verdict on a refusal; `due` is the refusal that must come, if any; `full` says whether `NoFrames` may come, and `busy`
+-- whether `SlotBusy` may
 abbrev pub on_refusal : Refusal → Option Refusal → Bool → Bool → Result (Unit {0}) Promise
 on_refusal refusal due full busy = broken (
     (Promise.Refusals, option_map_or (is_one refusal) due (is_one refusal Refusal.NoFrames || is_one refusal Refusal.SlotBusy))
@@ -59,14 +60,14 @@ pub record IsFollowed (event : Event) (body : Body) (w : Known) (old new : Seen)
   pub order : new.left.order ≡ old.left.order
   pub state : state_after old.left.order event body (state_of old) ≡ Some (state_of new)
 
--- .. or it breaks a promise, or memory runs out for what it adds, and the tenant is unchanged
+-- the reply is followed; or it breaks a promise, or memory runs out for what it adds, and then the tenant is unchanged
 abbrev pub IsVerdictFor : Event → Body → Known → Seen → Seen → Result (Unit {0}) Failure → Type 0
 IsVerdictFor event body w old new (Ok _) = IsFollowed event body w old new
 IsVerdictFor event body w old new (Err (Failure.Broken promise)) = (tenant_verdict event body w old ≡ Err promise) × (new ≡ old)
 IsVerdictFor event body w old new (Err (Failure.Memory error)) =
     ((tenant_verdict event body w old ≡ Ok tt) × (is_addition body ≡ true)) × (new ≡ old)
 
--- the answer does not fit the event, unless it is a refusal
+-- the answer is a refusal, or it does not fit the event
 abbrev pub IsUnfit : Event → Answer → Type 0
 IsUnfit event answer = (order : ℕ) (s : State) → ((r : Refusal) → answer ≡ Answer.Refused r → ⊥) → state_after order event (body_of_answer answer) s ≡ None
 

@@ -15,11 +15,11 @@ pub record SeenMachine : Type 0 where
 abbrev pub known_of : SeenMachine → Known
 known_of x = record { limit = MOST_CACHES; order = x.order; owners = x.owners; states = map state_of x.tenants }
 
--- this is what is known of the machine
+-- `w` is what is known of the machine `x`
 abbrev pub ShowsKnown : SeenMachine → Known → Type 0
 ShowsKnown x w = w ≡ known_of x
 
--- the verdict agrees with the definition's, and after an allowed reply the state holds what is known then
+-- the verdict is the one that the definitions give, and after an allowed reply the new state is what is known then
 abbrev pub IsVerdict : Result (Unit {0}) Promise → Result Known Promise → SeenMachine → Type 0
 IsVerdict (Ok _) allowed new = (after : Known) × (allowed ≡ Ok after) × ShowsKnown new after
 IsVerdict (Err promise) allowed new = allowed ≡ Err promise

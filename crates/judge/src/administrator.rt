@@ -62,7 +62,7 @@ impl Tenant {
         !self.held.has_slot(slot.into()) && end <= 1u64 << 32
     }
 
-    /// Judges and follows an answer that takes back this slot of tenant `t`. It reports this superblock.
+    /// Judges and follows an answer that takes back this slot of tenant `t`. The answer reports this superblock.
     pub(crate) fn drop_superblock(
         &mut self,
         owners: &mut [Option<Owner>],
@@ -83,7 +83,7 @@ impl Tenant {
         Ok(())
     }
 
-    /// Judges and follows an answer to a reset of tenant `t`. It reports this tenant and this number of superblocks.
+    /// Judges and follows an answer to a reset of tenant `t`. The answer reports this tenant and this number of superblocks.
     pub(crate) fn drop_all(
         &mut self,
         owners: &mut [Option<Owner>],
@@ -105,7 +105,7 @@ impl Tenant {
         Ok(())
     }
 
-    /// Judges and follows an answer to a move of a slot of tenant `t`. It reports this tenant, the slot `told` and this
+    /// Judges and follows an answer to a move of a slot of tenant `t`. The answer reports this tenant, the slot `told` and this
     /// superblock.
     pub(crate) fn put_over(
         &self,
@@ -129,7 +129,7 @@ impl Tenant {
         Ok(())
     }
 
-    /// Judges a refusal of the command. Any other answer breaks the promise Form: answers that fit the command are judged
+    /// Judges a refusal of the command. Any other answer breaks the promise `Form`, since answers that fit the command are judged
     /// elsewhere.
     pub(crate) fn judge_admin_refusal(
         &self,
@@ -157,7 +157,7 @@ impl Tenant {
         }
     }
 
-    /// Judges a refusal of a take-back of the slot.
+    /// Judges a refusal to take back the slot.
     fn judge_slot_kept(&self, slot: u32, refusal: Refusal) -> Result<(), Failure>
         ensures { (t : ℕ) (w : Known)
             → IsVerdictFor (On.Admin (Do.TakeBack t slot)) (Say.Refused refusal) w self.now self.now result }
@@ -173,7 +173,8 @@ impl Tenant {
         }
     }
 
-    /// Returns whether the slot may be busy: a frame of it is taken (`is_busy`), or a cache may have an empty slab.
+    /// Returns whether the slot may be busy, because a frame of it is taken (`is_busy`) or because a cache may have an empty
+    /// slab.
     fn may_be_busy(&self, is_busy: bool) -> bool
         ensures { result ≡ (is_busy || list_any (λ c. slice_index_or self.now.may_have_empty c.number false) self.now.has.caches) }
     {

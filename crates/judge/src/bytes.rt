@@ -27,7 +27,7 @@ impl Tenant {
         Ok(())
     }
 
-    /// Returns the holder of the range, if the read may be answered by these bytes; else the promise that the answer breaks.
+    /// Returns the holder of the range, if the read may be answered by these bytes, or else the promise that the answer breaks.
     fn holder_read(&self, place: u32, len: u32, bytes: &[u8]) -> Result<RangeHolder, Promise>
         ensures judged { (t : ℕ) (w : Known) → only_verdict result
             ≡ tenant_verdict (On.Tenant t (Command.Read place len)) (Say.Bytes (record { items = bytes.now })) w self.now }
@@ -49,7 +49,7 @@ impl Tenant {
         Ok(holder)
     }
 
-    /// Judges and follows an answer that `count` bytes are written, to a write of these bytes from `place` on.
+    /// Judges and follows the answer that `count` bytes were written. The command is a write of these bytes from `place` on.
     pub(crate) fn write_bytes(
         &mut self,
         place: u32,
@@ -64,7 +64,7 @@ impl Tenant {
         Ok(())
     }
 
-    /// Returns the holder of the range, if the write may be answered by `count`; else the promise that the answer breaks.
+    /// Returns the holder of the range, if the write may be answered by `count`, or else the promise that the answer breaks.
     fn holder_written(
         &self,
         place: u32,

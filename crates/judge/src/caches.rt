@@ -26,7 +26,7 @@ use promise_core::promise::Promise;
 use words_core::Refusal;
 
 impl Tenant {
-    /// Judges and follows an answer that makes a cache of this number and this layout.
+    /// Judges and follows an answer that makes a cache with this number and this layout.
     pub(crate) fn add_cache(
         &mut self,
         number: u8,
@@ -43,7 +43,7 @@ impl Tenant {
         Ok(())
     }
 
-    /// Returns the verdict on this answer.
+    /// Returns the verdict on an answer that makes a cache with this number and this layout.
     fn judge_layout(&self, number: u8, layout: &KnownLayout) -> Verdict
         ensures { (t : ℕ) (p : Pattern ℕ) (w : Known) → let l = layout.now in result
             ≡ tenant_verdict (On.Tenant t (Command.Cache l.size l.align p)) (Say.Cache number l.chunk l.order l.count l.colours) w
@@ -83,7 +83,7 @@ impl Tenant {
         }
     }
 
-    /// Judges and follows an answer that destroys the cache of this number and returns this many frames.
+    /// Judges and follows an answer that destroys the cache with this number and frees this many frames.
     pub(crate) fn drop_cache(&mut self, number: u32, frames: u32) -> Result<(), Failure>
         ensures { (t : ℕ) (w : Known)
             → IsVerdictFor (On.Tenant t (Command.Destroy number)) (Say.Destroyed frames) w self.old self.new result }
@@ -112,7 +112,7 @@ impl Tenant {
         }
     }
 
-    /// Judges and follows an answer to a reap that returns this many frames.
+    /// Judges and follows an answer to a reap. The answer frees this many frames.
     pub(crate) fn drop_empty_slabs(&mut self, frames: u32) -> Result<(), Failure>
         ensures { (t : ℕ) (w : Known) → IsVerdictFor (On.Tenant t Command.Reap) (Say.Reaped frames) w self.old self.new result }
     {
@@ -126,7 +126,7 @@ impl Tenant {
         Ok(())
     }
 
-    /// Returns whether empty slabs of the cache `only`, or of all caches if it is `None`, can return this many frames.
+    /// Returns whether this many frames can be freed with empty slabs of the cache `only`, or of all caches if `only` is `None`.
     fn can_come_back(&self, only: Option<u32>, frames: u32) -> bool
         ensures { result ≡ can_come_back self.now.left.order
             (filter (λ c. option_map_or (λ number. c.number == number) only true) self.now.has.caches) frames
@@ -137,8 +137,8 @@ impl Tenant {
                 && some_may_have(self.held.caches(), &self.may_have_empty, only, frames))
     }
 
-    /// Returns whether the last report, if it is valid, has this many frames in empty slabs of the cache `only`, or of all
-    /// caches.
+    /// Returns whether the last report has this many frames in empty slabs of the cache `only`, or of all caches if `only` is
+    /// `None`. Returns true if no report is valid.
     fn are_frames_told(&self, only: Option<u32>, frames: u32) -> bool
         ensures { result ≡ option_map_or (λ r. frames
             == empty_frames (λ n. option_map_or (λ number. n == number) only true) self.now.has r) self.now.told true }
@@ -164,7 +164,7 @@ fn is_alignment(align: u32) -> bool
     matches!(align, 8 | 16 | 32 | 64 | 128 | 256)
 }
 
-/// Returns whether the cache `only`, or some cache if it is `None`, may have empty slabs with this many frames.
+/// Returns whether the cache `only`, or some cache if `only` is `None`, may have empty slabs with this many frames.
 fn some_may_have(
     caches: &[HeldCache],
     may_have_empty: &[bool],

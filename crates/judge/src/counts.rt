@@ -25,7 +25,7 @@ pub(crate) fn counts_of(
     (free, taken)
 }
 
-/// Returns the number of frames of `counts[k]` blocks of each order `k`.
+/// Returns the total number of frames in `counts[k]` blocks of each order `k`.
 pub(crate) fn frames_of_counts(counts: &[u32]) -> u64
     requires { length counts.now ≤ ORDERS }
     ensures { result ≡ frames_of_counts counts.now }
@@ -37,7 +37,7 @@ pub(crate) fn frames_of_counts(counts: &[u32]) -> u64
     frames
 }
 
-/// Returns the number of frames of `count` blocks of an order.
+/// Returns the number of frames in `count` blocks of an order.
 pub(crate) fn frames_in(count: u32, order: u8) -> u64
     requires { order ≤ MOST_ORDER }
     ensures value { result ≡ count * 2 ^ order }
@@ -59,7 +59,7 @@ pub(crate) fn frames_from(counts: &[u32], k: u8) -> u64
     }
 }
 
-/// Returns the count of this order, 0 if there is none.
+/// Returns the count of this order, or 0 if there is none.
 pub(crate) fn count_at(counts: &[u32], order: u8) -> u32
     ensures { result ≡ slice_index counts.now order }
 {
@@ -80,8 +80,8 @@ pub(crate) fn greatest(counts: &[u32], end: u8) -> Option<u8>
     top
 }
 
-/// Returns the share of `free` frames that lie outside one block of the greatest free order `top`, in thousandths. Returns 0 if
-/// there is no free block.
+/// Returns, in thousandths, the share of the `free` free frames that lie outside one block of order `top`, the greatest order of
+/// a free block. Returns 0 if there is no free block.
 pub(crate) fn split_share(free: u32, top: Option<u8>) -> u32
     requires { IfSome top (λ k. k ≤ MOST_ORDER) }
     ensures { result ≡ share free top }

@@ -19,8 +19,8 @@ use words_core::{Addressee, Answer, Body, Event, Reply};
 
 impl KnownMachine {
     /// Judges an answer to the event, and updates the state if the answer is allowed. Returns the first promise that the answer
-    /// breaks, if it breaks one. Returns `AllocError` if memory runs out for what an allowed answer adds. After a breach and
-    /// after an error the state is unchanged.
+    /// breaks, if it breaks one. Returns `AllocError` if memory runs out for what an allowed answer adds. In both cases the state
+    /// is unchanged.
     pub fn judge(
         &mut self,
         event: &Event,
@@ -41,7 +41,7 @@ impl KnownMachine {
         }
     }
 
-    /// Does what [`KnownMachine::judge`] does. Fails if the answer is not followed.
+    /// Does the same as [`KnownMachine::judge`], but a broken promise is an error, too.
     fn judge_answer(
         &mut self,
         event: &Event,
@@ -99,7 +99,7 @@ impl KnownMachine {
         self.judge_rows(event, reply)
     }
 
-    /// Does what [`KnownMachine::judge_table`] does, with one fact in its contract.
+    /// Does the same as [`KnownMachine::judge_table`]. Its contract states everything as one fact.
     fn judge_rows(&mut self, event: &Event, reply: &Reply) -> Verdict
         requires { is_table reply.now.body ≡ true }
         ensures { IsJudged event.now reply.now self.old self.new (failing result) }

@@ -13,7 +13,7 @@ use model_core::owner::Owner;
 use std::alloc::{AllocError, Global};
 use std::marker::Model;
 
-/// What replies reported of a machine: the owner of each superblock, and what each tenant has.
+/// What replies reported about a machine: the owner of each superblock, and what each tenant has.
 #[derive(Debug, Drop)]
 pub struct KnownMachine {
     pub(crate) order: u8,
@@ -82,7 +82,7 @@ impl KnownMachine {
         self.tenants.get(tenant as usize)?.page_over(block)
     }
 
-    /// Returns the number of caches of the tenant, `None` if the tenant does not exist.
+    /// Returns the number of caches of the tenant, or `None` if the tenant does not exist.
     pub fn caches_of(&self, tenant: u32) -> Option<usize>
         ensures { result ≡ option_map (λ y. length y.has.caches) (slice_get self.now.tenants tenant) }
     {

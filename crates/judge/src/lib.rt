@@ -1,6 +1,7 @@
 //! Judges the replies of any page and object allocator of a partitioning kernel, one event after the other.
 //!
-//! The state holds what is known by the definitions of [`promise_core`], and a verdict is the one that these definitions give.
+//! The state and the verdicts are those that the definitions of [`promise_core`] give. A reply that keeps every promise is
+//! followed: it updates the state.
 #![tactic(auto)]
 
 mod addressing;

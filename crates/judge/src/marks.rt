@@ -8,7 +8,7 @@ ghost use Rattle.promise_core.specs.State.{is_in_use};
 use judge_core::Held;
 use words_core::CACHES;
 
-/// Sets the mark of the cache of this number.
+/// Sets the mark of the cache with this number.
 pub(crate) fn set_mark(marks: &mut [bool; CACHES], number: u32)
     requires { number < MOST_CACHES }
     ensures { (n : ℕ) → slice_index_or marks.new n false ≡ (n == number || slice_index_or marks.old n false) }
@@ -16,7 +16,7 @@ pub(crate) fn set_mark(marks: &mut [bool; CACHES], number: u32)
     marks[number as usize] = true;
 }
 
-/// Clears the mark of the cache of this number, if there is one.
+/// Clears the mark of the cache with this number, if there is one.
 pub(crate) fn clear_mark(marks: &mut [bool; CACHES], number: u32)
     ensures { (n : ℕ) → slice_index_or marks.new n false ≡ (not (n == number) && slice_index_or marks.old n false) }
 {
@@ -25,7 +25,7 @@ pub(crate) fn clear_mark(marks: &mut [bool; CACHES], number: u32)
     }
 }
 
-/// Returns marks of the caches that have a live object.
+/// Returns marks that are set for the caches that have a live object.
 pub(crate) fn marks_of_used(held: &Held) -> [bool; CACHES]
     ensures { (n : ℕ) → slice_index_or result n false ≡ (nat_lt n MOST_CACHES && is_in_use (known_cache held.now n)) }
 {
@@ -36,7 +36,7 @@ pub(crate) fn marks_of_used(held: &Held) -> [bool; CACHES]
     marks
 }
 
-/// Returns whether the cache of this number exists and has a live object.
+/// Returns whether the cache with this number exists and has a live object.
 fn is_used(held: &Held, number: u32) -> bool
     ensures { result ≡ is_in_use (known_cache held.now number) }
 {

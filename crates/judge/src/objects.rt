@@ -18,7 +18,7 @@ use promise_core::promise::Promise;
 use words_core::Refusal;
 
 impl Tenant {
-    /// Judges and follows an answer to a take from the cache, which returns the object at the place.
+    /// Judges and follows an answer to a take from the cache. The answer returns the object at the place.
     pub(crate) fn add_object(&mut self, number: u32, place: u32) -> Result<(), Failure>
         ensures { (t : ℕ) (w : Known)
             → IsVerdictFor (On.Tenant t (Command.Take number)) (Say.Object place) w self.old self.new result }
@@ -34,8 +34,8 @@ impl Tenant {
         Ok(())
     }
 
-    /// Returns the cache of this number, if a take from it may return the object at the place; else the promise that the answer
-    /// breaks.
+    /// Returns the cache with this number, if a take from it may return the object at the place, or else the promise that the
+    /// answer breaks.
     fn cache_with(&self, number: u32, place: u32) -> Result<&HeldCache, Promise>
         ensures judged { (t : ℕ) (w : Known)
             → only_verdict result ≡ tenant_verdict (On.Tenant t (Command.Take number)) (Say.Object place) w self.now }
@@ -50,7 +50,7 @@ impl Tenant {
         Ok(cache)
     }
 
-    /// Judges and follows an answer to a give of the object of the cache at the place.
+    /// Judges and follows an answer to a give of the cache's object at the place.
     pub(crate) fn drop_object(&mut self, number: u32, place: u32) -> Result<(), Failure>
         ensures { (t : ℕ) (w : Known)
             → IsVerdictFor (On.Tenant t (Command.Give number place)) Say.Given w self.old self.new result }

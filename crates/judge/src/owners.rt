@@ -62,7 +62,7 @@ pub(crate) fn are_all_owned(owners: &[Option<Owner>]) -> bool
     owners.iter().all(|owner| owner.is_some())
 }
 
-/// Returns whether the superblock exists and the tenant owns it, under this slot.
+/// Returns whether the superblock exists and the tenant owns it under this slot.
 pub(crate) fn is_owned_by(owners: &[Option<Owner>], superblock: u16, t: u32, slot: u32) -> bool
     ensures { result ≡ option_map_or (is_owner t slot) (slice_get owners.now superblock) false }
 {
@@ -144,14 +144,14 @@ pub(crate) fn give_up_all(owners: &mut [Option<Owner>], t: u32)
     }
 }
 
-/// Returns `None` if the owner is this slot of tenant `t`, else the owner.
+/// Returns the owner, or `None` if it is this slot of tenant `t`.
 fn without_slot(owner: Option<Owner>, t: u32, slot: u32) -> Option<Owner>
     ensures { result ≡ given_up (is_owner t slot) owner }
 {
     owner.filter(|owner| !(u32::from(owner.tenant) == t && u32::from(owner.slot) == slot))
 }
 
-/// Returns `None` if the owner is tenant `t`, else the owner.
+/// Returns the owner, or `None` if it is tenant `t`.
 fn without_tenant(owner: Option<Owner>, t: u32) -> Option<Owner>
     ensures { result ≡ given_up (is_of t) owner }
 {

@@ -25,7 +25,7 @@ impl Tenant {
         Ok(())
     }
 
-    /// Returns the block of `2^k` frames at the frame, if it may be allocated; else the promise that the answer breaks.
+    /// Returns the block of `2^k` frames at the frame, if it may be allocated, or else the promise that the answer breaks.
     fn new_block(&self, k: u32, frame: u32) -> Result<FrameBlock, Promise>
         ensures judged { (t : ℕ) (w : Known)
             → only_verdict result ≡ tenant_verdict (On.Tenant t (Command.Alloc k)) (Say.Frame frame) w self.now }
@@ -53,7 +53,7 @@ impl Tenant {
         Ok(())
     }
 
-    /// Returns the live page block at the frame, if it has `2^k` frames; else the promise that the answer breaks.
+    /// Returns the live page block at the frame, if it has `2^k` frames, or else the promise that the answer breaks.
     fn live_block(&self, frame: u32, k: u8) -> Result<FrameBlock, Promise>
         ensures judged { (t : ℕ) (w : Known)
             → only_verdict result ≡ tenant_verdict (On.Tenant t (Command.Free frame)) (Say.Freed k) w self.now }

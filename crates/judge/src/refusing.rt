@@ -19,7 +19,7 @@ use promise_core::promise::Promise;
 use words_core::{Answer, Command, Refusal};
 
 impl Tenant {
-    /// Judges a refusal of the command. Any other answer breaks the promise Form: answers that fit the command are judged
+    /// Judges a refusal of the command. Any other answer breaks the promise `Form`, since answers that fit the command are judged
     /// elsewhere.
     pub(crate) fn judge_refusal(
         &self,
@@ -73,7 +73,7 @@ impl Tenant {
         )
     }
 
-    /// Returns whether no frames are left for what the command requests, if no refusal is due.
+    /// Returns whether no frames are left for what the command requests. The result means nothing if a refusal is due.
     fn has_no_room(&self, command: &Command) -> bool
         ensures { (t : ℕ) (w : Known) → due (On.Tenant t command.now) (known_at self.now w) (state_of self.now) ≡ None
             → result ≡ room (On.Tenant t command.now) (Say.Refused Told.NoFrames) (known_at self.now w) (state_of self.now) }

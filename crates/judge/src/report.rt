@@ -36,8 +36,8 @@ impl Tenant {
         }
     }
 
-    /// Judges and follows a requested report. Kept out of line: on entry, a function clears the space for a report that it
-    /// copies.
+    /// Judges and follows a requested report. Not inlined: a function that copies a report clears the memory for the copy on
+    /// entry.
     #[inline(never)]
     fn judge_report(&mut self, report: &Report) -> Verdict
         ensures { (t : ℕ) (w : Known)
@@ -51,7 +51,7 @@ impl Tenant {
     }
 }
 
-/// Returns whether the report's figures are those of what the tenant has.
+/// Returns whether the report's figures are right for what the tenant has.
 fn tells_state(held: &Held, order: u8, may_have_empty: &[bool], r: &Report) -> bool
     requires { order ≤ MOST_ORDER }
     ensures { (t : ℕ) (w : Known) (s : State) → result ≡ report (On.Tenant t Asked.Report) (Say.Report r.now)
@@ -70,7 +70,7 @@ fn tells_state(held: &Held, order: u8, may_have_empty: &[bool], r: &Report) -> b
     ])
 }
 
-/// Returns whether all tests pass.
+/// Returns whether all of these are true.
 fn are_all(tests: &[bool]) -> bool
     ensures { result ≡ list_all (λ is_passed. is_passed) tests.now }
 {
@@ -84,8 +84,8 @@ fn has_rows(held: &Held, order: u8, free: &[u32], rows: &[CacheRow]) -> bool
     free.len() == usize::from(order) + 1 && rows.len() == held.caches().len()
 }
 
-/// Returns whether the report has the number of frames of the held slots, and its live and its free frames are those of the taken
-/// and the free blocks of its rows.
+/// Returns whether the report has as many frames as the held slots, whether its live and free frames add up to that number, and
+/// whether they agree with the taken and free blocks in its rows.
 fn has_frames(held: &Held, order: u8, r: &Report, free: &[u32], taken: &[u32]) -> bool
     requires order { order ≤ MOST_ORDER }
     requires free { length free.now ≤ ORDERS }
@@ -99,8 +99,8 @@ fn has_frames(held: &Held, order: u8, r: &Report, free: &[u32], taken: &[u32]) -
             && u64::from(r.live) == frames_of_counts(taken))
 }
 
-/// Returns whether the report has the greatest order of a free block, and the share of free frames outside one block of that
-/// order.
+/// Returns whether the report's greatest order of a free block, and its share of free frames outside one block of that order,
+/// agree with its other figures.
 #[tactic(auto, using(crate::proofs::Lists::same_share))]
 fn is_split(order: u8, r: &Report, free: &[u32]) -> bool
     requires { order ≤ MOST_ORDER }
@@ -111,7 +111,7 @@ fn is_split(order: u8, r: &Report, free: &[u32]) -> bool
     r.top == top && r.split == split_share(r.free, top)
 }
 
-/// Returns whether, for each order, the number of taken blocks is that of page blocks and slabs.
+/// Returns whether, for each order, the number of taken blocks is the number of page blocks and slabs.
 fn are_all_taken(held: &Held, order: u8, rows: &[CacheRow], taken: &[u32]) -> bool
     requires order { order ≤ MOST_ORDER }
     requires rows { length rows.now ≤ CACHES }
@@ -138,7 +138,7 @@ fn have_room(held: &Held, order: u8, free: &[u32]) -> bool
     true
 }
 
-/// Returns whether the report has the same free blocks and empty slabs as the last report, if that is valid.
+/// Returns whether the report has the same free blocks and empty slabs as the last report. Returns true if no report is valid.
 fn tells_same(told: Option<&Report>, r: &Report) -> bool
     ensures { result ≡ option_map_or (λ q. list_all (λ p. p.0.free == p.1.free) (zip q.orders.items r.now.orders.items)
         && list_all (λ p. p.0.empty == p.1.empty) (zip q.caches.items r.now.caches.items)) (option_copied told.entry) true }

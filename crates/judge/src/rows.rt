@@ -18,8 +18,8 @@ pub(crate) fn are_rows(caches: &[HeldCache], may_have_empty: &[bool], rows: &[Ca
         .all(|(cache, row)| is_row(cache, may_have_empty, row))
 }
 
-/// Returns whether the row is right for this cache: it has the cache's live objects and slabs, and empty slabs only if the cache
-/// may have some.
+/// Returns whether the row is right for this cache: its numbers of live objects and of slabs are the cache's, and it has empty
+/// slabs only if the cache may have some.
 fn is_row(cache: &HeldCache, may_have_empty: &[bool], row: &CacheRow) -> bool
     ensures { result ≡ is_row (λ n. slice_index_or may_have_empty.now n false) (cache.now, row.now) }
 {
@@ -54,8 +54,8 @@ fn count_slabs(cache: &HeldCache) -> (usize, usize)
     (full, partial)
 }
 
-/// Returns the live objects of the slab that contains the place. `last` are those of the slab of some other place. Live objects
-/// of one slab are neighbours in the list, so the slab is looked up once for all of them.
+/// Returns the live objects of the slab that contains the place. `last` has the live objects of the slab that contains some other
+/// place. Live objects of one slab are neighbours in the list, so the slab is looked up once for all of them.
 fn beside_next<'a>(cache: &'a HeldCache, last: &'a [u32], place: u32) -> &'a [u32]
     requires { (q : ℕ) × (last.now ≡ live_beside cache.now q) }
     ensures { result.now ≡ live_beside cache.now place }
@@ -66,7 +66,7 @@ fn beside_next<'a>(cache: &'a HeldCache, last: &'a [u32], place: u32) -> &'a [u3
     }
 }
 
-/// Returns whether the places are in one slab.
+/// Returns whether the places are in the same slab.
 fn are_beside(cache: &HeldCache, p: u32, q: u32) -> bool
     ensures { result ≡ ((slab_around cache.now p).first == (slab_around cache.now q).first) }
 {

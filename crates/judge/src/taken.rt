@@ -1,4 +1,4 @@
-//! Taken blocks, and frames of empty slabs, as the rows of a report have them.
+//! Taken blocks, and frames of empty slabs, according to the rows of a report.
 
 ghost use Rattle.std.specs.Prelude.{◌≡◌, ℕ, ◌+◌, ◌*◌, ◌^◌, ◌≤◌, ◌<◌, ◌==◌, if◌then◌else◌, length, filter, Option, true};
 ghost use Rattle.std.specs.List.{sum_by, zip};
@@ -11,7 +11,7 @@ use judge_core::{FrameBlock, Held, HeldCache};
 use model_core::report::CacheRow;
 use words_core::{CACHES, Report};
 
-/// Returns whether `count` blocks of `2^k` frames are taken, by the page blocks and these cache rows.
+/// Returns whether `count` blocks of `2^k` frames are taken, according to the page blocks and these cache rows.
 pub(crate) fn are_taken(held: &Held, rows: &[CacheRow], k: u8, count: u32) -> bool
     requires { length rows.now ≤ CACHES }
     ensures { result ≡ (count == known_count held.now rows.now k) }
@@ -55,8 +55,8 @@ fn slabs_in(cache: &HeldCache, row: &CacheRow, k: u8) -> u64
     }
 }
 
-/// Returns the number of frames in the empty slabs of a report: those of the cache of number `only`, or of all caches if it is
-/// `None`.
+/// Returns the number of frames in the empty slabs of a report: those of the cache with the number `only`, or of all caches if
+/// `only` is `None`.
 pub(crate) fn empty_frames(held: &Held, report: &Report, only: Option<u32>) -> u64
     ensures { result ≡ empty_frames (λ n. option_map_or (λ number. n == number) only true) held.now report.now }
 {
@@ -77,7 +77,7 @@ fn sum_empty(caches: &[HeldCache], rows: &[CacheRow], only: Option<u32>) -> u64
     frames
 }
 
-/// Returns the number of frames in the empty slabs of the cache, 0 if `only` is another cache.
+/// Returns the number of frames in the empty slabs of the cache, or 0 if `only` is another cache.
 fn empty_in(cache: &HeldCache, row: &CacheRow, only: Option<u32>) -> u64
     ensures value { result
         ≡ (if option_map_or (λ number. cache.now.number == number) only true then row.now.empty * 2 ^ cache.now.order else 0) }

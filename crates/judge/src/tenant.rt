@@ -17,8 +17,8 @@ use std::alloc::{AllocError, Global};
 use std::marker::Model;
 use words_core::{AdminCommand, Answer, CACHES, Command, Report};
 
-/// What replies reported of a tenant: its slots, page blocks, caches and objects, what was left at each place, which caches may
-/// have empty slabs, and the last report while it is valid.
+/// What replies reported about a tenant: its slots, page blocks, caches and objects, what was left at each place, which caches
+/// may have empty slabs, and the last report while it is valid.
 #[derive(Debug, Drop)]
 pub struct Tenant {
     pub(crate) alloc: Global,
@@ -169,7 +169,7 @@ impl Tenant {
     }
 }
 
-/// Forgets a report, if there is one. Storing `None` clears a whole report, so this is done only if needed.
+/// Forgets a report, if there is one. Storing `None` clears a whole report, so it is stored only if needed.
 pub(crate) fn forget(report: &mut Option<Report>)
     ensures { report.new ≡ None }
 {

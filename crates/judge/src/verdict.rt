@@ -9,7 +9,7 @@ use promise_core::promise::Promise;
 use std::alloc::AllocError;
 use words_core::Refusal;
 
-/// `Ok` if a reply keeps every promise, else the first promise that it breaks.
+/// `Ok` if a reply keeps every promise, or else the first promise that it breaks.
 pub type Verdict = Result<(), Promise>;
 
 /// Why a reply is not followed.

@@ -19,18 +19,18 @@ pub record IsKnownLayout (size align chunk order count : ℕ) : Type 0 where
   pub counted : 1 ≤ count
   pub fits : count * chunk ≤ FRAME_BYTES * 2 ^ order
 
--- object `i` of a slab is at the place, and all objects of that slab lie in the frames of the slab that contains the place
+-- an object at the place can be object `i` of its slab: all `count` objects then lie within the slab that contains the place
 abbrev pub IsObjectAt : KnownCache → ℕ → ℕ → Type 0
 IsObjectAt c place i = let slab = slab_around c place in let origin = place - i * c.chunk in
     (i * c.chunk ≤ place) × (FRAME_BYTES * slab.first ≤ origin)
     × (origin + (c.count - 1) * c.chunk + c.size ≤ FRAME_BYTES * (slab.first + 2 ^ slab.order))
 
--- the live page blocks rise, and none has more than 2 ^ longest frames
+-- the live page blocks are in ascending order of their first frames, and none has more than 2 ^ longest frames
 pub record ArePages (longest : ℕ) (pages : List Block) : Type 0 where
   pub most : longest ≤ MOST_ORDER
   pub rise : IsNonDecreasingBy (λ b. b.first) pages
   pub short : All (λ b. b.order ≤ longest) pages
 
--- the caches' numbers rise
+-- the caches are in ascending order of their numbers
 abbrev pub AreListed : List KnownCache → Type 0
 AreListed caches = RisesFrom 0 (map (λ c. c.number) caches)

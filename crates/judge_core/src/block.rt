@@ -51,7 +51,7 @@ impl FrameBlock {
         }
     }
 
-    /// Returns the aligned block of this order with this number; number 0 begins at frame 0.
+    /// Returns the aligned block with this order and number. Block 0 begins at frame 0.
     pub fn numbered(number: u32, order: u8) -> FrameBlock
         requires number { number < 2 ^ 24 }
         requires order { order ≤ MOST_ORDER }

@@ -1,4 +1,4 @@
-//! A cache of a tenant, as its request and its reply described it.
+//! A cache of a tenant, as its command and the reply describe it.
 
 ghost use Rattle.std.specs.Prelude.{◌≡◌, ℕ, ◌+◌, ◌-◌, ◌*◌, ◌/◌, ◌%◌, ◌^◌, ◌<◌, ◌≤◌, nat_le, nat_lt, ◌==◌, ◌&&◌, not, find, filter, length, [], IfOk, OnErr};
 ghost use Rattle.std.specs.List.{list_any, list_all};
@@ -29,7 +29,7 @@ pub struct HeldCache {
     chunk: u32,
     order: u8,
     count: u32,
-    /// The first places of the live objects, rising.
+    /// The first places of the live objects, in ascending order.
     pub(crate) live: Vec<u32>,
 }
 
@@ -46,7 +46,7 @@ impl Model for HeldCache {
 }
 
 impl HeldCache {
-    /// Returns a cache without live objects. A fresh object of it has the pattern, repeated.
+    /// Returns a cache without live objects. Its fresh objects contain the pattern, repeated.
     pub fn new(
         alloc: Global,
         number: u8,
@@ -109,7 +109,7 @@ impl HeldCache {
         self.size
     }
 
-    /// Returns the first places of the live objects, rising.
+    /// Returns the first places of the live objects in ascending order.
     pub fn live(&self) -> &[u32]
         ensures { result.now ≡ self.now.live }
     {
@@ -156,7 +156,7 @@ impl HeldCache {
         }
     }
 
-    /// Returns the first places of the live objects in the slab that contains the place, rising.
+    /// Returns, in ascending order, the first places of the live objects in the slab that contains the place.
     pub fn beside(&self, place: u32) -> &[u32]
         ensures { result.now ≡ live_beside self.now place }
     {
@@ -187,8 +187,8 @@ impl HeldCache {
     pub fn object_with(&self, place: u32, len: u32) -> Option<u32>
         ensures { result ≡ find (λ first. is_within place len first self.now.size) self.now.live }
     {
-        // An object that begins before `low` does not reach the end of the range. One that begins behind `place` misses its
-        // beginning.
+        // An object that begins before `low` does not reach the end of the range. An object that begins after `place` misses the
+        // beginning of the range.
         let end = u64::from(place) + u64::from(len);
         let low = end.saturating_sub(u64::from(self.size));
         first_within(&self.live, low, u64::from(place) + 1).copied()
@@ -267,8 +267,8 @@ impl HeldCache {
             && (place - origin) / self.chunk < self.count
     }
 
-    /// Returns a range that has every index that an object at the place can have in its slab: from the first result on, below the
-    /// second.
+    /// Returns the bounds of a range that contains every index that an object at the place can have in its slab. The range begins
+    /// at the first result and ends before the second.
     fn numbers_at(&self, place: u32) -> (u32, u32)
         ensures most { result.1 ≤ self.now.count }
         ensures others { (i : ℕ) → i < self.now.count → IsObjectAt self.now place i → (result.0 ≤ i) × (i < result.1) }
@@ -282,7 +282,7 @@ impl HeldCache {
         (low.min(count) as u32, high.min(count) as u32)
     }
 
-    /// Returns whether a slab that has any of its objects at the place can have these live objects.
+    /// Returns whether a slab with one of its objects at the place can have these live objects.
     fn is_on_some_grid(&self, place: u32, beside: &[u32]) -> bool
         ensures { result ≡ is_any_below (λ i. nat_le (i * self.now.chunk) place
             && is_grid self.now (slab_around self.now place) (place - i * self.now.chunk) beside.now) self.now.count }
@@ -315,7 +315,7 @@ impl HeldCache {
     }
 }
 
-/// Returns the byte of the repeated pattern at this offset, 0 if the pattern is empty.
+/// Returns the byte of the repeated pattern at this offset, or 0 if the pattern is empty.
 fn byte_of_pattern(pattern: &[u8], offset: u32) -> u8
     ensures { result ≡ pattern_byte pattern.now offset }
 {

@@ -20,7 +20,7 @@ use crate::vacancy::count_clear;
 use model_core::limits::{FRAME_BYTES, MOST_CACHES};
 use std::marker::Model;
 
-/// A tenant's slots, rising, its live page blocks, by rising first frame, and its caches, by rising number.
+/// A tenant's slots, its live page blocks by first frame, and its caches by number, all in ascending order.
 #[derive(Debug, Drop)]
 pub struct Held {
     pub(crate) slots: Vec<u16>,
@@ -43,21 +43,21 @@ impl Model for Held {
 }
 
 impl Held {
-    /// Returns the held slots, rising.
+    /// Returns the held slots in ascending order.
     pub fn slots(&self) -> &[u16]
         ensures { result.now ≡ self.now.slots }
     {
         self.slots.as_slice()
     }
 
-    /// Returns the live page blocks, by rising first frame.
+    /// Returns the live page blocks in ascending order of their first frames.
     pub fn pages(&self) -> &[FrameBlock]
         ensures { result.now ≡ self.now.pages }
     {
         self.pages.as_slice()
     }
 
-    /// Returns the caches, by rising number.
+    /// Returns the caches in ascending order of their numbers.
     pub fn caches(&self) -> &[HeldCache]
         ensures { result.now ≡ self.now.caches }
     {
@@ -71,7 +71,7 @@ impl Held {
         self.slots.iter().any(|held| u32::from(*held) == slot)
     }
 
-    /// Returns the number as a slot, if the tenant holds that slot.
+    /// Returns `slot` as a `u16` if the tenant holds this slot.
     pub fn held_slot(&self, slot: u32) -> Option<u16>
         ensures { MatchOption result (has_slot self.now slot ≡ false) (λ u. (u ≡ slot) × (has_slot self.now slot ≡ true)) }
     {
@@ -87,7 +87,8 @@ impl Held {
             .find(|held| u32::from(*held) == slot)
     }
 
-    /// Returns whether some cache may have an empty slab. `may_have_empty`, indexed by number, says which caches may.
+    /// Returns whether some cache may have an empty slab. `may_have_empty`, indexed by cache number, says which caches may have
+    /// one.
     pub fn may_have_some_empty(&self, may_have_empty: &[bool]) -> bool
         ensures { result ≡ list_any (λ c. slice_index_or may_have_empty.now c.number false) self.now.caches }
     {
@@ -114,7 +115,7 @@ impl Held {
         with_key(&self.pages, frame)
     }
 
-    /// Returns the cache of this number, if there is one.
+    /// Returns the cache with this number, if there is one.
     pub fn cache(&self, number: u32) -> Option<&HeldCache>
         ensures { option_copied result ≡ known_cache self.now number }
     {
@@ -142,14 +143,14 @@ impl Held {
     fn is_in_pages(&self, block: &FrameBlock) -> bool
         ensures { result ≡ list_any (overlaps block.now) self.now.pages }
     {
-        // The last ones are nearest to the block.
+        // The last of these blocks are the nearest to `block`, so they are tested first.
         self.pages_near(u64::from(block.first()), block.end())
             .iter()
             .rev()
             .any(|page| block.overlaps(page))
     }
 
-    /// Returns all live page blocks that end behind the frame `begin` and begin before the frame `end`, and maybe others.
+    /// Returns all live page blocks whose first frame is before `end` and whose last frame is `begin` or later, and maybe others.
     pub(crate) fn pages_near(&self, begin: u64, end: u64) -> &[FrameBlock]
         requires order { begin ≤ end }
         requires small { end < 2 ^ 33 }
@@ -157,7 +158,7 @@ impl Held {
             → ((b : Block) → test b ≡ true → (begin < b.first + 2 ^ b.order) × (b.first < end))
             → list_any test self.now.pages ≡ list_any test result.now }
     {
-        // Blocks before this one do not reach the frame `begin`.
+        // A block that begins before the frame `first` does not reach the frame `begin`.
         let first = begin.saturating_sub((1u64 << self.longest) - 1);
         all_within(&self.pages, first, end, (end - first) as usize)
     }
@@ -176,7 +177,7 @@ impl Held {
         self.caches.iter().any(|cache| cache.has_slab_over(block))
     }
 
-    /// Returns whether a page block or a slab can lie there, if slots have `2^order` frames.
+    /// Returns whether this block can become a page block or a slab. Slots have `2^order` frames.
     #[tactic(auto, unfolding(promise_core::specs::Holdings::can_stand))]
     pub fn can_stand(&self, order: u8, block: &FrameBlock) -> bool
         requires { order ≤ MOST_ORDER }
@@ -203,7 +204,8 @@ impl Held {
         ensures value { result ≡ length (filter (is_vacant self.now) (blocks_of_slot order k slot)) }
         ensures most { result ≤ 256 }
     {
-        // Marking costs a search in each cache and a short one for each slab: less than the tests of 64 frames, one by one.
+        // `taken_in` searches each cache, and does a short search for each slab. That costs less than testing 64 frames one by
+        // one.
         if k > 0 || order < 6 {
             let blocks = 1u32 << order.saturating_sub(k);
             return self.count_vacant_from(k, u32::from(slot) * blocks, blocks);
@@ -284,7 +286,7 @@ impl Held {
         ensures { result ≡ list_any (within_block place len) self.now.pages }
     {
         let frame = u64::from(place / FRAME_BYTES);
-        // The last ones are nearest to the place.
+        // The last of these blocks are the nearest to `place`, so they are tested first.
         self.pages_near(frame, frame + 1)
             .iter()
             .rev()
@@ -306,14 +308,14 @@ impl Held {
     }
 }
 
-/// Returns the mark of this number, false if there is none.
+/// Returns the mark at index `number`, or false if there is none.
 pub fn is_marked(marks: &[bool], number: u8) -> bool
     ensures { result ≡ slice_index_or marks.now number false }
 {
     marks.get(usize::from(number)).copied().unwrap_or(false)
 }
 
-/// Returns the index of the cache of this number.
+/// Returns the index of the cache with this number, if there is one.
 pub(crate) fn index_of_cache(caches: &[HeldCache], number: u32) -> Option<usize>
     ensures value { result ≡ position (λ c. c.number == number) caches.now }
     ensures inside { IfSome result (λ i. i < length caches.now) }

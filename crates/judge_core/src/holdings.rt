@@ -59,7 +59,7 @@ impl Held {
         Ok(())
     }
 
-    /// Adds the object that begins at the place to the cache of this number. Fails if memory runs out; the holdings are then
+    /// Adds the object that begins at the place to the cache with this number. Fails if memory runs out; the holdings are then
     /// unchanged.
     pub fn take(&mut self, number: u32, place: u32) -> Result<(), AllocError>
         ensures taken { IfOk result (λ _. self.new ≡ with_live_places number (put_rising (λ p. p) place) self.old) }
@@ -78,14 +78,14 @@ impl Held {
         remove(&mut self.pages, frame);
     }
 
-    /// Removes the cache of this number.
+    /// Removes the cache with this number.
     pub fn destroy(&mut self, number: u32)
         ensures { self.new ≡ record self.old { caches = filter (λ c. not (c.number == number)) self.old.caches } }
     {
         remove(&mut self.caches, number);
     }
 
-    /// Removes the object that begins at the place from the cache of this number.
+    /// Removes the object that begins at the place from the cache with this number.
     pub fn give(&mut self, number: u32, place: u32)
         ensures { self.new ≡ with_live_places number (filter (λ p. not (p == place))) self.old }
     {

@@ -1,4 +1,4 @@
-//! Searches in lists with rising keys.
+//! Searches in lists that are sorted by key, in ascending order.
 
 ghost use Rattle.std.specs.Prelude.{◌≡◌, ℕ, ◌≤◌, ◌<◌, ◌==◌, ◌&&◌, ◌++◌, take, drop, nat_le, nat_lt, not, filter, find, length, IfOk, OnErr};
 ghost use Rattle.std.specs.Option.{option_copied};
@@ -10,7 +10,7 @@ use crate::block::FrameBlock;
 use crate::cache::HeldCache;
 use std::alloc::AllocError;
 
-/// An item of a list with rising keys. A page block's key is its first frame, for example.
+/// An item of a list that is sorted by key. For example, the key of a page block is its first frame.
 pub(crate) trait Keyed {
     ghost key: { Self → ℕ };
 
@@ -62,7 +62,7 @@ pub(crate) fn count_below<T: Keyed>(items: &[T], bound: u64) -> usize
     items.partition_point(|item| u64::from(item.key()) < bound)
 }
 
-/// Returns what [`count_below`] returns. The search is shorter if the item at index `near` exists and its key is not below
+/// Returns the same as [`count_below`]. The search is shorter if the item at index `near` exists and its key is not below
 /// `bound`.
 pub(crate) fn count_below_near<T: Keyed>(items: &[T], near: usize, bound: u64) -> usize
     requires { IsNonDecreasingBy T.key items.now }
@@ -103,7 +103,7 @@ pub(crate) fn with_key<T: Keyed>(items: &[T], key: u32) -> Option<&T>
     first_within(items, key, key + 1)
 }
 
-/// Returns the items whose keys are at least `low` and below `end`. It is fastest if there are at most `near` of them.
+/// Returns the items whose keys are at least `low` and below `end`. The search is shorter if there are at most `near` of them.
 pub(crate) fn all_within<T: Keyed>(items: &[T], low: u64, end: u64, near: usize) -> &[T]
     requires { IsNonDecreasingBy T.key items.now }
     ensures { result.now ≡ filter (λ x. nat_le low (T.key x) && nat_lt (T.key x) end) items.now }
@@ -112,7 +112,7 @@ pub(crate) fn all_within<T: Keyed>(items: &[T], low: u64, end: u64, near: usize)
     &from[..count_below_near(from, near, end)]
 }
 
-/// Inserts the item behind those whose keys are not greater. Fails if memory runs out; the items are then unchanged.
+/// Inserts the item after those whose keys are not greater. Fails if memory runs out; the items are then unchanged.
 pub(crate) fn put<T: Keyed + Drop>(items: &mut Vec<T>, item: T) -> Result<(), AllocError>
     requires { IsNonDecreasingBy T.key items.old.items }
     ensures put { IfOk result (λ _. items.new.items ≡ put_rising T.key item items.old.items) }

@@ -1,4 +1,4 @@
-//! Which frames of a slot are taken, found once for all blocks of the slot.
+//! Finds which frames of a slot are taken, once for all blocks of the slot.
 
 ghost use Rattle.std.specs.Prelude.{◌≡◌, ℕ, ◌+◌, ◌*◌, ◌^◌, ◌<◌, ◌≤◌, not, ◌||◌, false, length, filter, slice_index, slice_index_or, take, drop, nat_lt};
 ghost use Rattle.std.specs.List.{list_any, prefix_len};
@@ -18,7 +18,7 @@ use words_core::ORDERS;
 const MOST_FRAMES: usize = 256;
 
 impl Held {
-    /// Returns for each frame of a slot, from its first one on, whether it is taken.
+    /// Returns for each frame of a slot, in order, whether it is taken.
     pub(crate) fn taken_in(&self, slot: &FrameBlock) -> [bool; MOST_FRAMES]
         ensures long { length result ≡ 256 }
         ensures taken { (f : ℕ) → f < 2 ^ slot.now.order
@@ -31,7 +31,7 @@ impl Held {
         taken
     }
 
-    /// Returns [`Held::count_vacant`] of each order from 0 to that of a slot, in one pass over the slots.
+    /// Returns [`Held::count_vacant`] for each order from 0 to the order of a slot, in one pass over the slots.
     pub fn vacant_by_order(&self, order: u8) -> [u128; ORDERS]
         requires { order ≤ MOST_ORDER }
         ensures long { length result ≡ 9 }
@@ -56,7 +56,7 @@ impl Held {
         for k in 0..order + 1 {
             let blocks = 1usize << (order - k);
             counts[k as usize] += count_clear(&taken, blocks) as u128;
-            // Each mark becomes the mark of a block of the next order.
+            // After this, each mark belongs to a block of the next order.
             join_pairs(&mut taken, blocks / 2);
         }
     }
@@ -71,7 +71,7 @@ pub(crate) fn count_clear(taken: &[bool; MOST_FRAMES], blocks: usize) -> usize
     taken[..blocks].iter().filter(|mark| !**mark).count()
 }
 
-/// Sets each mark `i` of the first `pairs` to whether one of the marks `2 * i` and `2 * i + 1` was set.
+/// For each `i` below `pairs`, sets mark `i` if mark `2 * i` or mark `2 * i + 1` was set, and clears it otherwise.
 fn join_pairs(taken: &mut [bool; MOST_FRAMES], pairs: usize)
     requires { pairs ≤ 128 }
     ensures { (i : ℕ) → i < pairs → slice_index_or taken.new i false
@@ -124,12 +124,12 @@ impl HeldCache {
         }
     }
 
-    /// Returns the places from the end of the slab on.
+    /// Returns those of the places that are at or after the end of the slab.
     fn behind<'a>(&self, slab: &FrameBlock, places: &'a [u32]) -> &'a [u32]
         requires { IsNonDecreasing places.now }
         ensures { result.now ≡ drop (prefix_len (λ p. nat_lt p (FRAME_BYTES * (slab.now.first + 2 ^ slab.now.order))) places.now) places.now }
     {
-        // A slab of a sound machine has at most `count` objects, so the first one behind it is near.
+        // A slab of a sound machine has at most `count` objects, so the first place after the slab is near in the list.
         &places[count_below_near(places, self.count() as usize, slab.end_byte())..]
     }
 }

@@ -64,7 +64,7 @@ abbrev pub own_actions : ℕ → List Action → List Own
 own_actions t [] = []
 own_actions t (action ∷ actions) = own_in t action ++ own_actions t actions
 
--- what is seen, and the machine afterwards
+-- what the tenant sees, and the machine afterwards
 pub record OwnSeen : Type 0 where
   pub sights : List Sight
   pub machine : Machine
@@ -77,7 +77,7 @@ own_step limit order (Enters entry) m = record {
 own_step limit order (Stored place bytes) m = record { sights = []; machine = (write_step place bytes m).machine }
 own_step limit order (LoadedAt place) m = record { sights = Loaded (m.bytes place) ∷ []; machine = m }
 
--- what the private machine does over an own list
+-- what the tenant sees over its own list, and the machine afterwards
 abbrev pub own_seen : ℕ → ℕ → List Own → Machine → OwnSeen
 own_seen limit order [] m = record { sights = []; machine = m }
 own_seen limit order (own ∷ owns) m = record {
@@ -91,15 +91,15 @@ pub record IsBooted (k : KernelContent) (superblocks tenants : ℕ) : Type 0 whe
   pub shows : Shows k (opening_world superblocks tenants)
 
 -- From boot on, a tenant sees what its private machine gives for its own list, and the kernel shows that machine for it. The
--- others may do anything.
+-- other tenants may do anything.
 abbrev pub OwnSights : Type 0
 OwnSights = (k k' : KernelContent) (superblocks tenants t : ℕ) (actions : List Action) →
     IsBooted k superblocks tenants → t < tenants → AllAct k actions k' →
     (sights_of t actions ≡ (own_seen cache_limit k.order (own_actions t actions) empty_machine).sights)
     × ShowsMachine k' t (own_seen cache_limit k.order (own_actions t actions) empty_machine).machine
 
--- So a tenant sees the same on two machines of one order if its own lists are equal. The numbers of superblocks and tenants may
--- differ.
+-- So a tenant sees the same on two machines of the same order if its own lists on them are equal. The numbers of superblocks and
+-- tenants may differ.
 abbrev pub SameSights : Type 0
 SameSights = (k k' l l' : KernelContent) (superblocks tenants superblocks' tenants' t : ℕ) (actions actions' : List Action) →
     IsBooted k superblocks tenants → IsBooted l superblocks' tenants' → l.order ≡ k.order → t < tenants → t < tenants' →

@@ -13,7 +13,7 @@ use Rattle.kernel_core.specs.Content.{KernelContent, PartsAgree}
 use Rattle.kernel_core.specs.Steps.{Steps, StepsMachine}
 use Rattle.kernel_core.specs.contracts.kernel.Kernel.{the_row}
 
--- the request was a step of the tenant's machine, with this answer, and the parts agree as before
+-- the request was a step of the tenant's machine, with this answer, and if the parts agreed before, they still agree
 pub record HasStepped (before : KernelContent) (t : ℕ) (request : Request) (answer : Answer) (after : KernelContent) : Type 0 where
   pub steps : StepsMachine before t (command_of request) after (body_of_answer answer)
   pub agree : PartsAgree before → PartsAgree after

@@ -11,14 +11,14 @@ use Rattle.machine_changes.specs.Keeps as keeping
 pub record KernelContent : Type 0 where
   -- a superblock has 2 ^ order frames of 4096 bytes
   pub order : ℕ
-  -- the numbers of superblocks and of tenants, both of which are numbered from 0
+  -- the numbers of superblocks and tenants, both numbered from 0
   pub superblocks : ℕ
   pub tenants : ℕ
   pub space : spaces.Content
   pub buddy : buddies.Content
   pub slabs : tables.Content
 
--- the kernel of a memory, of buddy systems, which give the sizes, and of tables of caches
+-- the kernel with this memory, these buddy systems and these tables of caches; the buddy systems give the sizes
 abbrev pub content_of : spaces.Content → buddies.Content → tables.Content → KernelContent
 content_of space buddy slabs = record {
   order = buddy.top;
@@ -37,8 +37,8 @@ superblock_at k t slot = spaces.superblock_at k.space.slots t slot
 abbrev pub superblock_bytes : KernelContent → ℕ → List ℕ
 superblock_bytes k m = spaces.bank k.space.banks m
 
--- The parts agree on their sizes, on the superblock in each slot of each tenant, and on each slab. A slab is a taken block of
--- its tenant, and its record shows its live objects. By `space` no two superblocks have the same owner and slot.
+-- The parts agree on their sizes, on the superblock in each slot of each tenant, and on each slab. A slab is a taken block of its
+-- tenant, and its record shows its live objects. By `space`, no two superblocks are in the same slot of the same tenant.
 pub record PartsAgree (k : KernelContent) : Type 0 where
   pub space : spaces.IsSpace k.space
   pub order : k.order ≤ MOST_ORDER
@@ -66,15 +66,15 @@ pub record SameSizes (old new : KernelContent) : Type 0 where
   pub superblocks : new.superblocks ≡ old.superblocks
   pub tenants : new.tenants ≡ old.tenants
 
--- The mark of a superblock, from its owners before and after and its mark before. It is set if the superblock lost its owner,
--- and cleared if it got one.
+-- The mark of a superblock after a call, given its owners before and after and its mark before. The mark is set if the superblock
+-- lost its owner, cleared if it got an owner, and otherwise unchanged.
 abbrev pub mark_after : Option Owner → Option Owner → Bool → Bool
 mark_after (Some owner) None was = true
 mark_after None (Some owner) was = false
 mark_after None None was = was
 mark_after (Some owner) (Some next) was = was
 
--- each superblock's mark follows from its owners
+-- each superblock's mark follows from its owners and its earlier mark
 abbrev pub MarksFollow : spaces.Content → spaces.Content → Type 0
 MarksFollow old new = (m : ℕ) → spaces.mark_at new.marks m
     ≡ mark_after (spaces.owner_at old.owners m) (spaces.owner_at new.owners m) (spaces.mark_at old.marks m)

@@ -10,7 +10,7 @@ use Rattle.kernel_core.specs.Shows.{ShowsMachine}
 
 -- The call does this step of a private machine: if the parts showed a machine for tenant t, they now show the machine after the
 -- step, and the call returns the step's answer. All other tenants keep everything. `owned` are the owners of the superblocks
--- afterwards. A superblock that lost its owner is marked, one that got an owner is unmarked, and one without owner keeps its
+-- afterwards. A superblock that lost its owner is marked, one that got an owner is unmarked, and one without an owner keeps its
 -- bytes.
 pub record Does {A : Type 0} (old : KernelContent) (t : ℕ) (step : Machine → Step A) (owned : List (Option Owner)) (new : KernelContent) (told : A) : Type 0 where
   pub sizes : SameSizes old new
@@ -21,9 +21,9 @@ pub record Does {A : Type 0} (old : KernelContent) (t : ℕ) (step : Machine →
   pub marks : MarksFollow old.space new.space
   pub spare : SpareStays old.space new.space
 
--- The steps of the administrator's calls that are not commands of a tenant
+-- The steps of the administrator's calls, which are not commands of a tenant
 
--- a superblock is granted as the least slot that is not held
+-- a superblock is granted in the lowest slot that is not held
 abbrev pub slot_grant_step : ℕ → Machine → Step ℕ
 slot_grant_step order m = record { answer = next_slot m; machine = after_grant order m }
 

@@ -24,6 +24,6 @@ IsFrame order m f FrameKind.Full = IsInSlab m f is_full
 IsFrame order m f FrameKind.Partial = IsInSlab m f is_partial
 IsFrame order m f FrameKind.Empty = IsInSlab m f is_empty
 
--- each taken block that begins before frame x ends at or before x
+-- no taken block begins before frame x and contains x
 abbrev pub AreEndedBefore : Taken → ℕ → Type 0
 AreEndedBefore taken x = (f k : ℕ) → taken f ≡ Some k → f < x → f + 2 ^ k ≤ x

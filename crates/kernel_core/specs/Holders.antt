@@ -6,14 +6,14 @@ use Rattle.slab_core.specs.Lending.{HasObject}
 use Rattle.kernel_core.specs.Lending.{HasBlock}
 use Rattle.kernel_core.specs.declared.holders.Holder.{Holder}
 
--- a live object of cache c begins at `begin` and has this many bytes, and the place is in it
+-- a live object of cache c begins at `begin`, has this many bytes, and contains the place
 pub record HasObjectAround (m : Machine) (place c begin bytes : ℕ) : Type 0 where
   pub number : c < MOST_CACHES
   pub object : HasObject m c begin bytes
   pub from : begin ≤ place
   pub below : place < begin + bytes
 
--- in the machine, the holder is a live object, or a live page block if it has no cache, and the place is in it
+-- in the machine, the holder is a live object, or a live page block if it has no cache, and it contains the place
 abbrev pub IsHolder : Machine → ℕ → Holder → Type 0
 IsHolder m place holder = MatchOption holder.cache
     (HasBlock m place holder.place holder.bytes)

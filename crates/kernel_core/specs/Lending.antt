@@ -1,4 +1,4 @@
--- Bytes lent in place: what a caller finds there, and what the parts are when the borrow ends.
+-- Bytes lent in place: what a caller finds there, and what the parts become when the borrow ends.
 use Rattle.std.specs.Prelude.{◌⊎◌, ◌≤◌, if◌then◌else◌, nat_lt, ◌≡◌, ℕ, ◌+◌, ◌*◌, ◌/◌, ◌^◌, ◌<◌, ◌++◌, true, List, [], Some, length, take, drop, unwrap_or, slice_index}
 use Rattle.std.specs.Borrow.{Lends, MutBor, Fml, Array, u8}
 use Rattle.words_core.specs.declared.reply.Addressee.{Addressee}
@@ -18,7 +18,7 @@ use Rattle.kernel_core.specs.Shows.{ShowsMachine}
 use Rattle.kernel_core.specs.declared.lending.Span.{Span}
 use Rattle.kernel_core.specs.contracts.kernel.Kernel.{the_row}
 
--- ws, cut or extended by the end of xs to the length of xs; if ws is as long as xs, it is ws
+-- ws, cut to the length of xs, or extended to it with the end of xs; this is ws if ws is as long as xs
 abbrev pub fit : List ℕ → List ℕ → List ℕ
 fit xs ws = take (length xs) (ws ++ drop (length ws) xs)
 
@@ -33,7 +33,7 @@ LendsWithin s t place len r = Lends spaces.the_row (Array u8 0) s r (λ ws. with
 abbrev pub with_left : KernelContent → ℕ → ℕ → ℕ → List ℕ → KernelContent
 with_left k t place len ws = record k { space = stored t place (fit (bytes_in k.space t place len) ws) k.space }
 
--- when the borrow ends, the span has the last value written through r, and all else is as before
+-- when the borrow ends, the span has the last value written through r, and everything else is as before
 abbrev pub LendsSpan : MutBor KernelContent → Span → MutBor (List ℕ) → Fml
 LendsSpan s span r = Lends the_row (Array u8 0) s r (with_left s.now span.tenant span.place span.bytes)
 
@@ -48,8 +48,8 @@ pub record HasBytes (m : Machine) (place : ℕ) (bytes : List ℕ) : Type 0 wher
   pub reach : in_reach m place (length bytes) ≡ true
   pub each : (i : ℕ) → i < length bytes → m.bytes (place + i) ≡ Some (slice_index bytes i)
 
--- These are the `len` bytes of tenant t from the place on, and those of its private machine. If as many bytes are left there,
--- they are stored. If the same bytes are left there, nothing changes.
+-- These are the `len` bytes of tenant t from the place on, and its private machine has the same bytes there. If `len` bytes are
+-- left there, they are stored. If these same bytes are left there, nothing changes.
 pub record IsLent (k : KernelContent) (t place len : ℕ) (bytes : List ℕ) : Type 0 where
   pub count : length bytes ≡ len
   pub reach : IsInReach k.space k.buddy k.slabs t place len
@@ -57,7 +57,7 @@ pub record IsLent (k : KernelContent) (t place len : ℕ) (bytes : List ℕ) : T
   pub left : (ws : List ℕ) → length ws ≡ len → with_left k t place len ws ≡ record k { space = stored t place ws k.space }
   pub kept : with_left k t place len bytes ≡ k
 
--- the machine has a live page block of `bytes` bytes that begins at place `begin`, and the place is in it
+-- the machine has a live page block of `bytes` bytes that begins at place `begin` and contains the place
 pub record HasBlock (m : Machine) (place begin bytes : ℕ) : Type 0 where
   pub first : ℕ
   pub order : ℕ

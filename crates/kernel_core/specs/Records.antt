@@ -8,8 +8,8 @@ use Rattle.machine_changes.specs.Records.{is_set}
 use Rattle.kernel_core.specs.Content.{KernelContent, superblock_at, superblock_bytes}
 use Rattle.kernel_core.specs.Shows.{ShowsMachine}
 
--- The last 32 bytes of frame f of tenant t, in the superblock of its slot, have the flags of slab y: bit j of byte i is flag 8
--- i + j. All bits past the flags are 0.
+-- The last 32 bytes of frame f of tenant t, in the superblock of its slot, have the flags of slab y: flag 8i + j is bit j of byte
+-- i. All bits past the flags are 0.
 pub record HasRecord (k : KernelContent) (t f : ℕ) (y : Slab) : Type 0 where
   pub superblock : ℕ
   pub under : superblock_at k t (f / 2 ^ k.order) ≡ Some superblock

@@ -1,4 +1,4 @@
--- Stores and loads, without a call, of the bytes of a live page block or a live object in place.
+-- Stores to and loads from a live page block or a live object, in place and without a call.
 use Rattle.std.specs.Prelude.{◌≡◌, ℕ, ◌<◌, List, Some, length, slice_get}
 use Rattle.model_core.specs.Machine.{Machine}
 use Rattle.words_core.specs.declared.reply.Addressee.{Addressee}
@@ -37,7 +37,7 @@ StoresAreWrites = (k k' : KernelContent) (t place : ℕ) (bytes : List ℕ) → 
     × Steps k (Event.Tenant t (Command.Write place (record { items = bytes }))) k'
     (record { addressee = Addressee.Tenant t; body = Body.Written (length bytes) })
 
--- a loaded byte is the byte of the private machine
+-- a loaded byte is the byte that the private machine has there
 abbrev pub LoadsAreOwn : Type 0
 LoadsAreOwn = (k : KernelContent) (w : World) (m : Machine) (t place byte : ℕ) → IsKernel k → Shows k w →
     slice_get w.machines t ≡ Some m → Loads k t place byte → m.bytes place ≡ Some byte

@@ -18,7 +18,7 @@ use space_core::{MoveRefusal, PoolEmpty, Space};
 use words_core::{Addressee, Answer, Body, OWNERS, Refusal, Reply};
 
 impl Kernel {
-    /// Grants the tenant the first superblock without an owner, as the least slot that it does not hold.
+    /// Grants the tenant the first superblock without an owner, in the lowest slot that the tenant does not hold.
     ///
     /// Refuses with `NoTenant`, then with `PoolEmpty` if every superblock has an owner.
     pub(crate) fn grant(&mut self, tenant: u32) -> Result<Answer<'static>, Refusal>
@@ -44,8 +44,8 @@ impl Kernel {
 
     /// Takes back a slot of the tenant.
     ///
-    /// Refuses with `NoTenant`, then with `NoSlot` if the tenant does not hold the slot, then with `SlotBusy` if a frame of it
-    /// is in a page block or in a slab, even an empty one.
+    /// Refuses with `NoTenant`, then with `NoSlot` if the tenant does not hold the slot, then with `SlotBusy` if a frame of the
+    /// slot is in a page block or in a slab, even an empty slab.
     pub(crate) fn take_back(&mut self, tenant: u32, slot: u32) -> Result<Answer<'static>, Refusal>
         ensures steps { PartsAgree self.new
             → Steps self.old (On.Admin (Do.TakeBack tenant slot)) self.new (to_admin result) }
@@ -68,8 +68,8 @@ impl Kernel {
         Ok(Answer::TakenBack(superblock))
     }
 
-    /// Takes back everything that the tenant has, including its caches, and returns the number of its superblocks. Refuses only
-    /// with `NoTenant`.
+    /// Takes back everything that the tenant has, including its caches, and returns the number of superblocks that it had.
+    /// Refuses only with `NoTenant`.
     pub(crate) fn reset(&mut self, tenant: u32) -> Result<Answer<'static>, Refusal>
         ensures steps { PartsAgree self.new
             → Steps self.old (On.Admin (Do.Reset tenant)) self.new (to_admin result) }
@@ -89,8 +89,8 @@ impl Kernel {
         })
     }
 
-    /// Moves a slot of the tenant to the first superblock without an owner. All its bytes are copied, so nothing changes for the
-    /// tenant.
+    /// Moves a slot of the tenant to the first superblock without an owner. All bytes of the slot are copied, so nothing changes
+    /// for the tenant.
     ///
     /// Refuses with `NoTenant`, then with `NoSlot` if the tenant does not hold the slot, then with `PoolEmpty` if every
     /// superblock has an owner.
@@ -118,7 +118,7 @@ impl Kernel {
         })
     }
 
-    /// Returns the reply to a request for the table of owners, the same as [`Kernel::step`] of that event.
+    /// Returns the reply to a request for the table of owners. It is the reply that [`Kernel::step`] returns for that event.
     #[cold]
     #[inline(never)]
     pub fn pool(&self) -> Reply
@@ -152,7 +152,7 @@ fn copied(owners: &[Option<Owner>]) -> ArrayVec<Option<Owner>, OWNERS>
     copied
 }
 
-/// Takes back every superblock of tenant `t` and returns their number.
+/// Takes back all superblocks of tenant `t` and returns their number.
 fn give_up(space: &mut Space, superblocks: u16, t: u8) -> u16
     requires tenant { t < length space.old.slots }
     requires all { superblocks ≡ length space.old.owners }

@@ -18,11 +18,11 @@ use slab_core::Taken;
 use words_core::{Answer, Refusal};
 
 impl Kernel {
-    /// Makes a cache for objects of `size` bytes at multiples of `align` bytes, constructed with the pattern.
+    /// Makes a cache for objects of `size` bytes, at multiples of `align` bytes, that are constructed with the pattern.
     ///
-    /// Refuses with `BadSize`, then with `BadAlign`, then with `NoCacheSlot` if all numbers are used.
-    // Always inlined: a call would leave its answer in memory, and every request would clear that memory and read its own answer
-    // from it.
+    /// Refuses with `BadSize`, then with `BadAlign`, then with `NoCacheSlot` if the tenant already has `MOST_CACHES` caches.
+    // Always inlined: a call would return its answer in memory. Every request, of any kind, would then clear that memory and read
+    // its own answer from it.
     #[inline(always)]
     pub(crate) fn make_cache(
         &mut self,
@@ -56,7 +56,7 @@ impl Kernel {
         })
     }
 
-    /// Destroys a cache and returns the number of frames of its slabs.
+    /// Destroys a cache and returns the number of frames in its slabs.
     pub(crate) fn destroy(&mut self, t: u8, cache: u32) -> Result<u32, Refusal>
         requires { t < self.old.tenants }
         ensures { StepsMachine self.old t (Command.Destroy cache) self.new (body_of Destroyed result) }
@@ -76,7 +76,7 @@ impl Kernel {
         Ok(self.slabs.take(&mut self.space, &mut self.buddy, t, cache)?)
     }
 
-    /// The same as [`Kernel::take`]. It also returns all that a caller needs to lend the object.
+    /// The same as [`Kernel::take`], but also returns all that a caller needs to lend the object.
     // Always inlined: its result is then kept in registers, not written to memory and read again.
     #[inline(always)]
     pub(crate) fn take_object(&mut self, t: u8, cache: u32) -> Result<Taken, Refusal>
@@ -105,7 +105,7 @@ impl Kernel {
 
     /// Gives an object of a tenant back to its cache.
     ///
-    /// Refuses with `NoTenant`, then as a `give` does.
+    /// Refuses with `NoTenant`, then in the same cases as a `give`.
     #[inline(always)]
     pub fn give_object(&mut self, tenant: u32, cache: u32, place: u32) -> Result<(), Refusal>
         ensures { Steps self.old (On.Tenant tenant (Command.Give cache place)) self.new
@@ -120,7 +120,7 @@ impl Kernel {
         Ok(())
     }
 
-    /// Frees all empty slabs and returns the number of their frames.
+    /// Frees all empty slabs and returns the number of frames freed.
     pub(crate) fn reap(&mut self, t: u8) -> u32
         requires { t < self.old.tenants }
         ensures { StepsMachine self.old t Command.Reap self.new (Reaped result) }

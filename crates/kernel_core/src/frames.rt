@@ -18,17 +18,17 @@ use slab_tables::{Kind, ListId};
 /// The kind of a frame of a tenant.
 #[derive(Clone, Copy, Debug, PartialEq, Eq)]
 pub enum FrameKind {
-    /// The tenant does not hold its slot.
+    /// The tenant does not hold the slot of the frame.
     NotHeld,
-    /// It is in a held slot and in no taken block.
+    /// The frame is in a held slot and in no taken block.
     Free,
-    /// It is in a page block.
+    /// The frame is in a page block.
     Page,
-    /// It is in a full slab: all objects are live.
+    /// The frame is in a full slab: all objects are live.
     Full,
-    /// It is in a partial slab: some objects are live, but not all.
+    /// The frame is in a partial slab: some objects are live, but not all.
     Partial,
-    /// It is in an empty slab: no object is live.
+    /// The frame is in an empty slab: no object is live.
     Empty,
 }
 
@@ -51,9 +51,9 @@ impl Kernel {
         }
     }
 
-    /// Sets cells to the kinds of the frames of a slot of tenant `t`, from its first frame on. Each is that of
-    /// [`Kernel::frame_at`], but this function looks up each block only once. Cells past those of the slot may be set to
-    /// anything.
+    /// Sets the cells to the kinds of the frames of a slot of tenant `t`: cell 0 to the kind of the first frame, and so on. The
+    /// kinds are those that [`Kernel::frame_at`] returns, but this function looks up each block only once. If there are more
+    /// cells than frames, the others may be set to anything.
     pub fn show_frames(&self, t: u8, slot: u16, cells: &mut [FrameKind])
         requires { t < self.now.tenants }
         ensures { (m : Machine) (k : ℕ) (cell : FrameKind) → ShowsMachine self.now t m → k < 2 ^ self.now.order
@@ -69,7 +69,7 @@ impl Kernel {
         }
     }
 
-    /// The same as [`Kernel::show_frames`] for a slot with this superblock.
+    /// The same as [`Kernel::show_frames`], for a slot in which the tenant has this superblock.
     fn show_held(&self, superblock: u16, t: u8, slot: u16, cells: &mut [FrameKind])
         requires tenant { t < self.now.tenants }
         requires held { superblock_at self.now t slot ≡ Some superblock }
@@ -98,9 +98,9 @@ impl Kernel {
         u32::from(slot) << self.order()
     }
 
-    /// Returns the kind of a frame of tenant `t`, and the number of frames of this kind from it on. These are the frames of the
-    /// taken block that begins there, or one free frame if none does. `order` is the order of that block. The result is only
-    /// valid if no block that begins before the frame contains it.
+    /// Returns the kind of frame `first` of tenant `t`, and a number of frames from `first` on that all have this kind: those of
+    /// the taken block that begins at `first`, or one free frame if no block begins there. `order` is the order of that block.
+    /// The result is valid only if no block that begins before `first` contains it.
     fn run_at(&self, superblock: u16, t: u8, first: u32, order: Option<u8>) -> (FrameKind, usize)
         requires tenant { t < self.now.tenants }
         requires held { superblock_at self.now t (first / 2 ^ self.now.order) ≡ Some superblock }
@@ -119,7 +119,8 @@ impl Kernel {
         }
     }
 
-    /// Returns the kind of the frames of a taken block that begins at this frame of tenant `t`, in a slot with this superblock.
+    /// Returns the kind of the frames of the taken block that begins at frame `first` of tenant `t`, in a slot with this
+    /// superblock.
     fn kind_of_block(&self, superblock: u16, t: u8, first: u32) -> FrameKind
         requires tenant { t < self.now.tenants }
         requires held { superblock_at self.now t (first / 2 ^ self.now.order) ≡ Some superblock }
@@ -154,7 +155,7 @@ impl Kernel {
         Some(ListId { number })
     }
 
-    /// The same as `list_at` if the caller knows that the slot has this superblock.
+    /// The same as `list_at`, for a caller that knows the superblock in the slot of the frame.
     fn list_in(&self, superblock: u16, t: u8, first: u32) -> Option<ListId>
         requires tenant { t < self.now.tenants }
         requires held { superblock_at self.now t (first / 2 ^ self.now.order) ≡ Some superblock }
@@ -179,7 +180,8 @@ impl Kernel {
         Some(self.machine_frame_in(superblock, t, frame))
     }
 
-    /// The same as `machine_frame_of` if the caller knows that the slot has this superblock. Only the contract uses `t`.
+    /// The same as `machine_frame_of`, for a caller that knows the superblock in the slot of the frame. Only the contract uses
+    /// `t`.
     #[inline(always)]
     pub(crate) fn machine_frame_in(&self, superblock: u16, t: u8, frame: u32) -> u32
         requires { superblock_at self.now t (frame / 2 ^ self.now.order) ≡ Some superblock }
@@ -204,8 +206,8 @@ fn kind_in(list: ListId) -> FrameKind
     }
 }
 
-/// Sets the cells from `begin` up to `end`, which are `Free` before. Most blocks have one frame, and its cell is set without
-/// the loop, which is compiled to a call of `memset`.
+/// Sets the cells `begin..end`, which must be `Free`. Most blocks have one frame. The cell of such a block is set without the
+/// loop, because the loop is compiled to a call of `memset`.
 fn set_cells(cells: &mut [FrameKind], begin: usize, end: usize, kind: FrameKind)
     requires inside { end ≤ length cells.old }
     requires free { (k : ℕ) (cell : FrameKind) → begin ≤ k → k < end → slice_get cells.old k ≡ Some cell → cell ≡ Free }
@@ -234,7 +236,7 @@ fn set_cell(cells: &mut [FrameKind], at: usize, kind: FrameKind)
     cells[at] = kind;
 }
 
-/// Sets the cells from `begin` up to `end`.
+/// Sets the cells `begin..end`.
 fn set_more_cells(cells: &mut [FrameKind], begin: usize, end: usize, kind: FrameKind)
     requires { end ≤ length cells.old }
     ensures set { (k : ℕ) (cell : FrameKind) → begin ≤ k → k < end → slice_get cells.new k ≡ Some cell → cell ≡ kind }

@@ -14,9 +14,9 @@ use words_core::Refusal;
 pub struct Holder {
     /// The number of the object's cache, or `None` for a page block.
     pub cache: Option<u32>,
-    /// The place of its first byte.
+    /// The place of the first byte.
     pub place: u32,
-    /// The number of its bytes.
+    /// The size in bytes.
     pub bytes: u32,
 }
 
@@ -25,9 +25,9 @@ impl Kernel {
     ghost use Rattle.kernel_core.specs.Lending.{IsNotLent};
     ghost use Rattle.kernel_core.specs.Holders.{IsHolder};
 
-    /// Returns the live object or the live page block of a tenant that the byte at `place` lies in.
+    /// Returns the tenant's live object or live page block that contains the byte at `place`.
     ///
-    /// Refuses with `NoTenant`, then with `OutOfReach` if the byte lies in none.
+    /// Refuses with `NoTenant`, then with `OutOfReach` if no live object or live page block contains the byte.
     #[inline(always)]
     pub fn holder(&self, tenant: u32, place: u32) -> Result<Holder, Refusal>
         ensures tenant { IfOk result (λ holder. tenant < self.now.tenants) }
@@ -41,7 +41,7 @@ impl Kernel {
         self.holder_of(t, place).ok_or(Refusal::OutOfReach)
     }
 
-    /// Returns the live object or the live page block of tenant `t` that a byte lies in, or `None` if it lies in none.
+    /// Returns the live object or live page block of tenant `t` that contains the byte at `place`, or `None` if none does.
     #[inline(always)]
     fn holder_of(&self, t: u8, place: u32) -> Option<Holder>
         requires { t < self.now.tenants }

@@ -18,7 +18,7 @@ use words_core::{Addressee, AdminCommand, Answer, Body, Event, Refusal, Reply, R
 /// The reason why a kernel did not boot.
 #[derive(Debug, Drop, Error)]
 pub enum BootError {
-    /// A number of the configuration is out of its range. Nothing was allocated.
+    /// A number in the configuration is out of range. Nothing was allocated.
     #[error("a number of the configuration is out of range")]
     BadConfig,
     /// An allocation was refused.
@@ -66,8 +66,8 @@ impl Kernel {
 
     /// Boots a machine of these sizes. All its memory is zero, and no superblock has an owner.
     ///
-    /// Returns `BadConfig` before anything is allocated, and `Memory` only if an allocation was refused. No later call
-    /// allocates.
+    /// Returns `BadConfig` if a number in the configuration is out of range, before anything is allocated. Returns `Memory` only
+    /// if an allocation was refused. No later call allocates.
     pub fn boot(alloc: Global, config: Config) -> Result<Kernel, BootError>
         ensures config { (result ≡ Err BootError.BadConfig) ↔ (is_bootable config ≡ false) }
         ensures parts { IfOk result (λ k. k ≡ opening_content config.order config.superblocks config.tenants) }
@@ -86,7 +86,7 @@ impl Kernel {
         Ok(kernel)
     }
 
-    /// Boots with sizes within the limits.
+    /// Boots a machine whose sizes are within the limits.
     fn new(alloc: Global, order: u8, superblocks: u16, tenants: u8) -> Result<Kernel, AllocError>
         requires order { order ≤ MOST_ORDER }
         requires superblocks { superblocks ≤ MOST_SUPERBLOCKS }
@@ -119,7 +119,7 @@ impl Kernel {
         // All other tenants keep their slots with their superblocks, all their bytes, and their blocks, caches and slabs.
         ensures others { (t : ℕ) → is_named t event.now ≡ false → Keeps self.old self.new t }
 
-        // A superblock that lost its owner is marked, and one that got an owner is unmarked. A superblock without owner keeps
+        // A superblock that lost its owner is marked, and one that got an owner is unmarked. A superblock without an owner keeps
         // its bytes.
         ensures marks { MarksFollow self.old.space self.new.space }
         ensures spare { SpareStays self.old.space self.new.space }
@@ -146,7 +146,7 @@ impl Kernel {
         }
     }
 
-    /// Runs a command of a tenant other than a report. The reply has its own copy of the bytes.
+    /// Runs any command of a tenant except a report. The reply has its own copy of the bytes that were read.
     fn reply_to(&mut self, tenant: u32, request: Request<'_>) -> Reply
         requires { IsAskable request }
         ensures { Steps self.old (Event.Tenant tenant (command_of request.entry)) self.new result }
@@ -176,10 +176,10 @@ impl Kernel {
         }
     }
 
-    /// Runs a command of the administrator other than `pool`. It does the same as [`Kernel::step`] of that event, and returns
-    /// the answer to the administrator as a small value.
+    /// Runs any command of the administrator except `pool`. Does the same as [`Kernel::step`] with that event, but returns the
+    /// answer to the administrator as a small value.
     ///
-    /// Returns `None` and does nothing if the table of owners is requested. [`Kernel::pool`] returns it.
+    /// Returns `None` and does nothing if the table of owners is requested. [`Kernel::pool`] returns the reply with that table.
     #[cold]
     #[inline(never)]
     pub fn administer(&mut self, command: &AdminCommand) -> Option<Answer<'static>>
@@ -202,8 +202,8 @@ impl Kernel {
         })
     }
 
-    /// Runs a command of a tenant other than a report. It does the same as [`Kernel::step`] of that event, and returns the
-    /// tenant and the answer to it as a small value. The answer to a read borrows the bytes.
+    /// Runs any command of a tenant except a report. Does the same as [`Kernel::step`] with that event, but returns the tenant
+    /// and its answer as a small value. The answer to a read borrows the bytes.
     ///
     /// Returns `None` and does nothing if there is no such tenant.
     #[inline(always)]
@@ -221,7 +221,7 @@ impl Kernel {
         Some((t, self.ask_known(t, request)))
     }
 
-    /// The same as [`Kernel::ask`] for a tenant that exists.
+    /// The same as [`Kernel::ask`], for a tenant that exists.
     #[inline(always)]
     pub fn ask_known(&mut self, t: u8, request: Request<'_>) -> Answer<'_>
         requires tenant { t < self.old.tenants }
@@ -288,7 +288,7 @@ impl Kernel {
         answer
     }
 
-    /// Returns the reply to a request for a report, the same as [`Kernel::step`] of that event.
+    /// Returns the reply to a request for a report. It is the reply that [`Kernel::step`] returns for that event.
     #[cold]
     #[inline(never)]
     pub fn report(&self, tenant: u32) -> Reply

@@ -1,5 +1,5 @@
-//! The laws of whole runs, and of the world that a kernel shows. Each is the contract of an empty function. A proof that needs
-//! the law calls the function.
+//! The laws of whole runs, and of the world that a kernel shows. Each law is the contract of an empty function. A proof that
+//! needs the law calls the function.
 
 ghost use Rattle.kernel_core.specs.Actions.{OwnSights, SameSights};
 ghost use Rattle.kernel_core.specs.Shows.{OneWorld};
@@ -17,8 +17,8 @@ pub use world_core::laws::{
     own_lists_are_requests, own_run, own_shown, reached_machines, reached_objects, shown_stays,
 };
 
-/// A kernel shows at most one world. So what `step` says of each world that the kernel shows, it says of the world that `boot`
-/// and the steps since have made.
+/// A kernel shows at most one world. So what the contract of `step` says about each world that the kernel shows holds for the
+/// world that `boot` and the steps since then have made.
 pub fn one_world()
     ensures { OneWorld }
 {}
@@ -30,20 +30,21 @@ pub fn is_kernel(kernel: &Kernel)
     kernel.laws();
 }
 
-/// A change only of bytes inside one live page block or one live object of a tenant is the step of its `write` of these bytes, of
-/// any length. The kernel keeps its invariants.
+/// If only bytes inside one live page block or one live object of a tenant change, that is the step of a `write` of these bytes
+/// by the tenant, even if they are more than a `write` can have. The kernel keeps its invariants.
 pub fn stores_are_writes()
     ensures { StoresAreWrites }
 {}
 
-/// A byte loaded from inside a live page block or a live object of a tenant is the byte of its private machine.
+/// A byte that is loaded from inside a live page block or a live object of a tenant is the byte that the tenant's private machine
+/// has there.
 pub fn loads_are_own()
     ensures { LoadsAreOwn }
 {}
 
-/// In any list of events, stores and loads from boot on, a tenant gets the replies and loads the bytes that its private machine
-/// gives for the tenant's own list. So if its own lists on two machines of one order are equal, it sees the same on both. The
-/// others may do anything.
+/// In any list of events, stores and loads after boot, a tenant gets the replies and loads the bytes that its private machine
+/// gives for the tenant's own list. So if the tenant's own lists on two machines of the same order are equal, it sees the same on
+/// both. The other tenants may do anything.
 pub fn own_sights()
     ensures own { OwnSights }
     ensures same { SameSights }

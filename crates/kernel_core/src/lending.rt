@@ -1,4 +1,4 @@
-//! Lends bytes of a tenant in place, to be read and written.
+//! Lends a tenant's bytes in place, to be read and written.
 
 ghost use Rattle.std.specs.Prelude.{◌≡◌, ◌/◌, false, Some, IfOk, IfErr};
 ghost use Rattle.std.specs.Borrow.{sem};
@@ -21,16 +21,16 @@ use model_core::limits::FRAME_BYTES;
 use space_core::Space;
 use words_core::Refusal;
 
-/// Bytes of a tenant that lie inside one live page block or one live object. They can be lent until the block is freed or the
-/// object is given back, the slot is moved, or the tenant is reset.
+/// Bytes of a tenant that lie inside one live page block or one live object. They can be lent until the block is freed, the
+/// object is given back, the slot is moved or the tenant is reset.
 #[derive(Clone, Copy, Debug, PartialEq, Eq)]
 pub struct Span {
     pub tenant: u8,
     /// The first place.
     pub place: u32,
-    /// The number of the bytes.
+    /// The number of bytes.
     pub bytes: u32,
-    /// The superblock of the bytes.
+    /// The superblock that contains the bytes.
     pub superblock: u16,
 }
 
@@ -40,7 +40,7 @@ impl Kernel {
     ghost use Rattle.kernel_core.specs.Lending.{LendsSpan, IsLive, IsLent, HasBlock, IsBlockSpan, IsNotLent, reply_for};
 
     /// Lends the bytes of a span in place, to be read and written. When the borrow ends, the span has the bytes that were left
-    /// there, and all else is as before.
+    /// there, and everything else is as before.
     pub fn lend(&mut self, span: Span) -> &mut [u8]
         requires { IsLive self.old span }
         ensures* writes_back { sem 𝓛 (LendsSpan self.entry span result) }
@@ -115,7 +115,7 @@ impl Kernel {
 
     /// Returns the span of all bytes of the live object of a cache that begins at `place`.
     ///
-    /// Refuses with `NoTenant`, then as a `give` of the object does: with `NoCache`, then with `NotAnObject`.
+    /// Refuses with `NoTenant`, then in the same cases as a `give` of the object: with `NoCache`, then with `NotAnObject`.
     pub fn object_span(&self, tenant: u32, cache: u32, place: u32) -> Result<Span, Refusal>
         ensures live { IfOk result (λ span. IsLive self.now span) }
         ensures object { IfOk result (λ span. (span.tenant ≡ tenant) × ((span.place ≡ place)
@@ -142,7 +142,7 @@ impl Kernel {
 
     /// Takes a page block of `2^order` frames for a tenant, and returns the span of all its bytes.
     ///
-    /// Refuses with `NoTenant`, then as an `alloc` does.
+    /// Refuses with `NoTenant`, then in the same cases as an `alloc`.
     pub fn alloc_span(&mut self, tenant: u32, order: u32) -> Result<Span, Refusal>
         ensures steps { Steps self.old (On.Tenant tenant (Command.Alloc order)) self.new
             (reply_for self.old tenant (body_of (λ span. Frame (span.place / FRAME_BYTES)) result)) }
@@ -166,7 +166,7 @@ impl Kernel {
 
     /// Takes an object of a cache for a tenant, and returns the span of all its bytes.
     ///
-    /// Refuses with `NoTenant`, then as a `take` does.
+    /// Refuses with `NoTenant`, then in the same cases as a `take`.
     #[inline(always)]
     pub fn take_span(&mut self, tenant: u32, cache: u32) -> Result<Span, Refusal>
         ensures steps { Steps self.old (On.Tenant tenant (Command.Take cache)) self.new
@@ -190,7 +190,7 @@ impl Kernel {
     }
 }
 
-/// Lends the bytes of a range of tenant `t` that lies in this superblock. What is left there has the same length.
+/// Lends the bytes of a range of tenant `t` that lies in this superblock. The bytes left there have the same length.
 #[inline(always)]
 fn lend_within(space: &mut Space, superblock: u16, t: u8, place: u32, len: u32) -> &mut [u8]
     requires { home_of space.old t place len ≡ Some superblock }

@@ -1,8 +1,8 @@
 //! The kernel of a machine whose memory is shared by tenants.
 //!
-//! [`Kernel::step`] runs one event. It is proved to be a step of the world (`specs/`), which has the owner of each superblock
-//! and a private machine for each tenant. The laws of whole runs, and of traces from bytes to bytes, are in [`laws`]:
-//! whatever the others do, a tenant gets the replies of its private machine.
+//! [`Kernel::step`] runs one event. It is proved to be a step of the world (`specs/`), which has the owner of each superblock and
+//! a private machine for each tenant. The laws of whole runs, and of traces and replies as bytes, are in [`laws`]: whatever the
+//! other tenants do, a tenant gets the replies of its private machine.
 //!
 //! # Example
 //!
@@ -22,7 +22,7 @@
 //! ```
 //!
 //! A crate that does this has the line `NAME: kernel_core words_core` in `crates.txt`. `step` requires that the pattern of a
-//! cache has a byte; other commands have no such requirement.
+//! `cache` command has at least one byte. It requires nothing of other commands.
 #![tactic(auto)]
 
 mod administrator;

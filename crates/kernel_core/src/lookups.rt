@@ -25,8 +25,8 @@ impl Kernel {
         Some(tenant as u8)
     }
 
-    /// Returns the superblock in slot `slot` of tenant `t`, or `None` if the tenant does not hold the slot. It is the
-    /// superblock with this owner.
+    /// Returns the superblock in slot `slot` of tenant `t`, or `None` if the tenant does not hold the slot. It is the superblock
+    /// whose owner is this slot of this tenant.
     pub fn superblock_of(&self, t: u8, slot: u32) -> Option<u16>
         ensures value { result ≡ superblock_at self.now t slot }
         ensures owner { (m : ℕ) → (result ≡ Some m) ↔ (owner_at self.now.space.owners m ≡ Some (owned_by t slot)) }
@@ -62,7 +62,7 @@ impl Kernel {
         u32::from(self.buddy.order())
     }
 
-    /// Returns the number of superblocks of the machine.
+    /// Returns the number of superblocks in the machine.
     pub fn superblocks(&self) -> u32
         ensures { result ≡ self.now.superblocks }
     {
@@ -97,7 +97,7 @@ impl Kernel {
         &self.slabs
     }
 
-    /// A law: the relation between the parts of every kernel. The call does nothing.
+    /// A law: the parts of every kernel agree. The call does nothing.
     pub fn parts_agree(&self)
         ensures { PartsAgree self.now }
     {
@@ -112,7 +112,7 @@ impl Kernel {
         self.laws();
     }
 
-    /// A law: the relation between the parts, and the invariants of each. The call does nothing.
+    /// A law: the parts agree, and the invariants of each part hold. The call does nothing.
     pub(crate) fn laws(&self)
         ensures agree { PartsAgree self.now }
         ensures records { RecordsStand self.now }

@@ -17,8 +17,8 @@ use space_core::Space;
 use words_core::Refusal;
 
 impl Kernel {
-    /// Takes a page block of `2^order` frames and returns its first frame. Frees the tenant's empty slabs if a block is found only
-    /// then.
+    /// Takes a page block of `2^order` frames and returns its first frame. If a block is found only after the tenant's empty
+    /// slabs are freed, frees them first.
     #[inline(always)]
     pub(crate) fn alloc(&mut self, t: u8, order: u32) -> Result<u32, Refusal>
         requires { t < self.old.tenants }
@@ -34,7 +34,7 @@ impl Kernel {
             .ok_or(Refusal::NoFrames)
     }
 
-    /// Frees the page block that begins at a frame and returns its order. Its bytes stay as they are.
+    /// Frees the page block that begins at a frame and returns its order. The bytes of the block do not change.
     #[inline(always)]
     pub(crate) fn free(&mut self, t: u8, frame: u32) -> Result<u8, Refusal>
         requires { t < self.old.tenants }
@@ -75,8 +75,8 @@ impl Kernel {
 
     /// Writes at most 64 bytes from `place` on and returns their number.
     ///
-    /// Refuses with `OutOfReach` if there is no byte, or if they are not inside one live page block or one live object of the
-    /// tenant. Then nothing is written.
+    /// Refuses with `OutOfReach` if `bytes` is empty, or if the range is not inside one live page block or one live object of the
+    /// tenant. A refused call writes nothing.
     #[inline(always)]
     pub(crate) fn write(&mut self, t: u8, place: u32, bytes: &[u8]) -> Result<u32, Refusal>
         requires tenant { t < self.old.tenants }
@@ -93,8 +93,8 @@ impl Kernel {
         Ok(len)
     }
 
-    /// Returns the superblock of a range of tenant `t`, or `None` if the range has no byte or is not inside one live page block
-    /// or one live object.
+    /// Returns the superblock of a range of tenant `t`, or `None` if the range is empty or is not inside one live page block or
+    /// one live object.
     #[inline(always)]
     pub(crate) fn reached(&self, t: u8, place: u32, len: u32) -> Option<u16>
         requires { t < self.now.tenants }
@@ -112,8 +112,8 @@ impl Kernel {
         Some(superblock)
     }
 
-    /// Returns true if a range of tenant `t` has a byte and is inside one live page block or one live object. The caller knows
-    /// that this superblock is in the slot of its first byte.
+    /// Returns true if a range of tenant `t` is not empty and is inside one live page block or one live object. The caller knows
+    /// that this superblock is in the slot of the range's first byte.
     #[inline(always)]
     fn is_in_reach(&self, superblock: u16, t: u8, place: u32, len: u32) -> bool
         requires tenant { t < self.now.tenants }

@@ -20,7 +20,7 @@ use model_core::limits::MOST_ORDER;
 use model_core::report::OrderRow;
 use words_core::{ORDERS, Report};
 
-/// The figures of a tenant's blocks of all orders.
+/// The figures of a tenant's blocks.
 #[derive(Drop)]
 struct Blocks {
     /// The blocks of each order, from order 0 on.
@@ -43,7 +43,7 @@ pub struct BlockFigures {
 }
 
 impl Kernel {
-    /// Returns the figures of frames and blocks in a report of tenant `t`. It does not count the caches.
+    /// Returns the figures of frames and blocks in a report of tenant `t`, without those of its caches.
     pub fn block_figures(&self, t: u8) -> BlockFigures
         requires { t < self.now.tenants }
         ensures frames { (m : Machine) → ShowsMachine self.now t m → result.frames ≡ frames_held self.now.order m }
@@ -60,8 +60,8 @@ impl Kernel {
         }
     }
 
-    /// Returns the figures of tenant `t`'s memory: its frames, its blocks of each order, and its caches. They are the contents
-    /// of the reply of [`Kernel::report`], in half the bytes.
+    /// Returns the figures of tenant `t`'s memory: its frames, its blocks of each order, and its caches. They are the contents of
+    /// the reply of [`Kernel::report`], in a value of half the size.
     pub fn figures(&self, t: u8) -> Report
         requires { t < self.now.tenants }
         ensures machine { (m : Machine) → ShowsMachine self.now t m → result ≡ figures_of self.now.order m }
@@ -113,8 +113,8 @@ fn orders_of(buddy: &Buddy, t: u8) -> Blocks
     Blocks { orders, live, top }
 }
 
-/// Returns the share of the `free` frames that are outside one greatest free block, in thousandths. `top` is the order of that
-/// block. Returns 0 if there is no free block.
+/// Returns the share of the `free` frames that are outside one of the largest free blocks, in thousandths. `top` is the order of
+/// that block, or `None` if no block is free. Returns 0 if no block is free.
 fn split_share(free: u32, top: Option<u8>) -> u32
     requires free { IfSome top (λ k. 0 < free) }
     requires order { IfSome top (λ k. k ≤ MOST_ORDER) }

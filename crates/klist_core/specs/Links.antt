@@ -1,15 +1,16 @@
--- What the links of a table say. A list has two directions, up and down the keys; what holds in one holds in the other.
+-- What the links of a table mean. A list can be followed in two directions, up and down the keys. The definitions are the same for
+-- both.
 use Rattle.std.specs.Prelude.{◌≡◌, ◌≢◌, ℕ, ◌+◌, ◌-◌, ◌%◌, ◌^◌, ◌<◌, ◌≤◌, ◌==◌, if◌then◌else◌, Option, Some, None, List, length, map, slice_index_or, count_by, MatchOption}
 use Rattle.klist_core.specs.Places.{Placed, ArePlaces, IsByKey, place_at, is_in}
 use Rattle.klist_core.specs.Raw.{raw_place}
 use Rattle.klist_core.specs.declared.Head.{Head}
 use Rattle.klist_core.specs.declared.Node.{Node}
 
--- a direction is a rank of keys, which rises along it
+-- a direction is given by a rank of keys that rises along it: the key itself ..
 abbrev pub up : ℕ → ℕ
 up key = key
 
--- .. or the limit less the rank, for ranks below the limit
+-- .. or, for the opposite direction, a limit minus the rank; ranks are below the limit
 abbrev pub back_from : ℕ → ℕ → ℕ
 back_from limit r = limit - r
 
@@ -20,17 +21,17 @@ down = back_from (2 ^ 32)
 abbrev pub NoneFrom : (ℕ → ℕ) → (ℕ → Option (ℕ × ℕ)) → ℕ → ℕ → Type 0
 NoneFrom rank place h bound = (i k : ℕ) → place i ≡ Some (h, k) → rank k < bound
 
--- node j is in list h under the key k, which has the lowest rank that is not below bound
+-- node j is in list h under the key k, whose rank is the lowest in the list that is not below bound
 pub record IsLeastFrom (rank : ℕ → ℕ) (place : ℕ → Option (ℕ × ℕ)) (h bound j k : ℕ) : Type 0 where
   pub here : place j ≡ Some (h, k)
   pub from : bound ≤ rank k
   pub least : (i k' : ℕ) → place i ≡ Some (h, k') → bound ≤ rank k' → rank k ≤ rank k'
 
--- o is the first node of list h, in this direction, with a rank that is not below bound
+-- o is the first node of list h, in this direction, with a rank that is not below bound, or None if there is none
 pub record IsNearest (rank : ℕ → ℕ) (place : ℕ → Option (ℕ × ℕ)) (h bound : ℕ) (o : Option ℕ) : Type 0 where
   pub is : MatchOption o (NoneFrom rank place h bound) (λ j. (k : ℕ) × IsLeastFrom rank place h bound j k)
 
--- list h is linked by key, and in it a new key comes between these two nodes
+-- list h is linked by key, and a new key belongs between these two of its nodes
 pub record IsGap (place : ℕ → Option (ℕ × ℕ)) (h key : ℕ) (g : Option ℕ × Option ℕ) : Type 0 where
   pub by_key : IsByKey h
   pub previous : IsNearest down place h (down key + 1) g.0
@@ -48,7 +49,7 @@ IsFollowing rank place i o = (h k : ℕ) → IsByKey h → place i ≡ Some (h, 
 pub record IsStart (place : ℕ → Option (ℕ × ℕ)) (h : ℕ) (o : Option ℕ) : Type 0 where
   pub is : MatchOption o ((i k : ℕ) → place i ≢ Some (h, k)) (λ j. (k : ℕ) × (place j ≡ Some (h, k)))
 
--- in this direction `ends` are the first nodes of the lists, and `links` gives the node after each node
+-- in this direction, `ends` gives the first node of each list, and `links` the node after each node
 pub record IsChain (rank : ℕ → ℕ) (place : ℕ → Option (ℕ × ℕ)) (heads : ℕ) (ends links : ℕ → Option ℕ) : Type 0 where
   pub begins : (h : ℕ) → h < heads → IsNearest rank place h 0 (ends h)
   pub goes_on : (i : ℕ) → IsAfter rank place i (links i)
@@ -63,7 +64,7 @@ free_node = record { list = None; key = 0; previous = None; next = None }
 abbrev pub node_at : List Node → ℕ → Node
 node_at nodes i = slice_index_or nodes i free_node
 
--- list and key of the node
+-- the list and the key of the node
 abbrev pub place_in : Node → Option (ℕ × ℕ)
 place_in n = raw_place n.list n.key
 
@@ -79,14 +80,14 @@ abbrev pub ranked : ℕ → Option (ℕ × ℕ) → Option (ℕ × ℕ)
 ranked time None = None
 ranked time (Some p) = Some (p.0, if p.0 % 3 == 0 then time else p.1)
 
--- the same for all nodes, which were inserted at these times
+-- the same for node i of a table; `came` gives the time at which each node was inserted
 abbrev pub ranks : (ℕ → ℕ) → List (Option (ℕ × ℕ)) → ℕ → Option (ℕ × ℕ)
 ranks came places i = ranked (came i) (place_at places i)
 
--- the links of a table and its lengths are those of its lists
+-- the links and the lengths that are stored in a table are those of its lists
 pub record IsLinked (heads : List Head) (nodes : List Node) : Type 0 where
   pub table : ArePlaces (shown heads nodes)
-  -- the time, before now, at which each node was inserted: any numbers that agree with the links of the loose lists
+  -- The time, before `now`, at which each node was inserted. Any numbers will do that agree with the links of the loose lists.
   pub came : ℕ → ℕ
   pub now : ℕ
   pub wide : 2 ^ 32 ≤ now

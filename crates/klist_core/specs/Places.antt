@@ -14,7 +14,7 @@ abbrev pub is_in : ℕ → Option (ℕ × ℕ) → Bool
 is_in h None = false
 is_in h (Some p) = p.0 == h
 
--- list h is linked by key: it is none of the loose lists 0, 3, 6 ..
+-- list h is linked by key: it is not one of the loose lists 0, 3, 6 ..
 abbrev pub IsByKey : ℕ → Type 0
 IsByKey h = 0 < h % 3
 
@@ -25,7 +25,7 @@ pub record IsPlacedByKey (places : List (Option (ℕ × ℕ))) (i : ℕ) : Type 
   pub here : place_at places i ≡ Some (list, key)
   pub by_key : IsByKey list
 
--- what holds of every table: its numbers fit into 32 bits, and no two nodes of a list have the same key
+-- what is true of every table: its numbers fit into 32 bits, and no two nodes of a list have the same key
 pub record ArePlaces (s : Placed) : Type 0 where
   pub few : s.heads < 2 ^ 32
   pub small : length s.places < 2 ^ 32
@@ -49,7 +49,7 @@ replaced s i j = record s { places = slice_set (slice_set s.places i None) j (pl
 abbrev pub IsEmpty : List (Option (ℕ × ℕ)) → ℕ → Type 0
 IsEmpty places h = (i k : ℕ) → place_at places i ≢ Some (h, k)
 
--- node i is in list h under the key k, the least of the list
+-- node i is in list h under the key k, the least key of the list
 pub record IsFirst (places : List (Option (ℕ × ℕ))) (h k i : ℕ) : Type 0 where
   pub here : place_at places i ≡ Some (h, k)
   pub least : (j k' : ℕ) → place_at places j ≡ Some (h, k') → k ≤ k'
@@ -58,7 +58,7 @@ pub record IsFirst (places : List (Option (ℕ × ℕ))) (h k i : ℕ) : Type 0 
 abbrev pub NoneAbove : List (Option (ℕ × ℕ)) → ℕ → ℕ → Type 0
 NoneAbove places h b = (i k : ℕ) → place_at places i ≡ Some (h, k) → k ≤ b
 
--- node i is in list h under the key k, the least above b that the list has
+-- node i is in list h under the key k, the least key of the list above b
 pub record IsNext (places : List (Option (ℕ × ℕ))) (h b k i : ℕ) : Type 0 where
   pub here : place_at places i ≡ Some (h, k)
   pub above : b < k
@@ -68,7 +68,7 @@ pub record IsNext (places : List (Option (ℕ × ℕ))) (h b k i : ℕ) : Type 0
 abbrev pub NoneBelow : List (Option (ℕ × ℕ)) → ℕ → ℕ → Type 0
 NoneBelow places h b = (i k : ℕ) → place_at places i ≡ Some (h, k) → b ≤ k
 
--- node i is in list h under the key k, the greatest below b that the list has
+-- node i is in list h under the key k, the greatest key of the list below b
 pub record IsPrevious (places : List (Option (ℕ × ℕ))) (h b k i : ℕ) : Type 0 where
   pub here : place_at places i ≡ Some (h, k)
   pub below : k < b

@@ -1,20 +1,21 @@
 //! The laws of ordered lists. Each is the contract of an empty function, to be called where a proof
-//! needs the law. `list_of places head` is a list as pairs of key and node; `keys_of` has its keys.
+//! needs the law. `list_of places head` is a list, as pairs of a key and a node. `keys_of` has only its
+//! keys.
 
 ghost use Rattle.klist_core.specs.Laws.{ListsRise, ListsHoldPlaces, KeysHoldPlaces, ListsCountPlaces, InsertionChangesOneList, RemovalChangesOneList};
 
-/// Each list, as contracts see it, is in ascending order of keys. Every third list is loose: its links have the order in which the
-/// nodes were inserted.
+/// Each list, as contracts see it, is in ascending order of keys. So is a loose list, although its nodes are linked in the order
+/// in which they were inserted.
 pub fn lists_rise()
     ensures { ListsRise }
 {}
 
-/// A list consists of the pairs of its nodes, and no others.
+/// A list consists of exactly the pairs of its nodes.
 pub fn lists_hold_places()
     ensures { ListsHoldPlaces }
 {}
 
-/// The keys of a list are the keys of its nodes, and no others.
+/// The keys of a list are exactly the keys of its nodes.
 pub fn keys_hold_places()
     ensures { KeysHoldPlaces }
 {}

@@ -1,12 +1,12 @@
-//! Many ordered lists of nodes through one table of links.
+//! Many ordered lists of nodes in one table of links.
 //!
-//! Nodes, lists and keys are numbers of 32 bits. A node is in at most one list, under a key. The keys
-//! of a list ascend, and no two of its nodes have the same key. Lists are doubly linked through their
-//! nodes, with a first and a last node for each list (Knuth, The Art of Computer Programming, 2.2.5).
+//! Nodes, lists and keys are 32-bit numbers. A node is in at most one list, under a key. The keys of a
+//! list ascend, and no two of its nodes have the same key. Each node has links to the previous and the
+//! next node, and each list to its first and last node (Knuth, The Art of Computer Programming, 2.2.5).
 //!
-//! Every third list, from list 0 on, is loose. In contracts it is a list like any other, in ascending order of keys, but its links
-//! have the order in which the nodes were inserted. So an insertion takes constant time with any key, and the search for the first
-//! node goes over all nodes.
+//! Every third list, from list 0 on, is loose. In contracts it is a list like any other, in ascending order of keys, but its nodes
+//! are linked in the order in which they were inserted. So an insertion takes constant time with any key, but a search for the
+//! first node visits all nodes of the table.
 //!
 //! Only [`Lists::new`] allocates.
 #![tactic(auto)]
@@ -65,7 +65,7 @@ impl Link {
         }
     }
 
-    /// Returns true if it is this number. Takes one comparison.
+    /// Returns true if the link is to this number. Takes one comparison.
     #[inline(always)]
     fn is(self, number: u32) -> bool
         requires { number < 2 ^ 32 - 1 }
@@ -83,8 +83,8 @@ struct Head {
     len: u32,
 }
 
-/// List and key of a node, and its neighbours in the list: the nodes with the next smaller and the next greater
-/// key, or in a loose list those inserted before and after it. A node in no list has the key 0, which has no meaning then.
+/// The list and the key of a node, and its neighbours in the list: the nodes with the next smaller and the next greater
+/// key, or in a loose list those inserted before and after it. The key of a node that is in no list is 0 and means nothing.
 #[derive(Clone, Copy, Debug)]
 struct Node {
     list: Link,
@@ -94,7 +94,7 @@ struct Node {
 }
 
 impl Node {
-    /// A node in no list.
+    /// Returns a node that is in no list.
     #[inline(always)]
     fn free() -> Node
         ensures { result ≡ free_node }
@@ -118,7 +118,7 @@ pub fn is_loose(head: u32) -> bool
     head % 3 == 0
 }
 
-/// Ordered lists over one table of nodes. Lists are numbered by their heads, from 0, and so are nodes.
+/// Ordered lists over one table of nodes. Lists and nodes are numbered from 0. The number of a list is called its head.
 #[derive(Debug, Drop)]
 pub struct Lists {
     heads: Vec<Head>,
@@ -200,7 +200,8 @@ impl Lists {
         list.len
     }
 
-    /// Returns the least key of the list and its node, or `None` if the list is empty. For a loose list this goes over all nodes.
+    /// Returns the least key of the list and its node, or `None` if the list is empty. For a loose list this visits all nodes of
+    /// the table.
     pub fn first(&self, head: u32) -> Option<(u32, u32)>
         requires { head < self.now.heads }
         ensures head { result ≡ slice_get (list_of self.now.places head) 0 }
@@ -224,7 +225,8 @@ impl Lists {
         self.first_at(head, self.first_of(head))
     }
 
-    /// Returns the key of this node, the one with the least key of the list, and the node.
+    /// Returns the key of node `least`, which has the least key of the list, and the node itself. Returns `None` if `least` is
+    /// `None`, which means that the list is empty.
     #[inline(always)]
     fn first_at(&self, head: u32, least: Option<u32>) -> Option<(u32, u32)>
         requires { IsNearest up (place_at self.now.places) head 0 least }
@@ -244,7 +246,8 @@ impl Lists {
         self.heads[head as usize].first.get()
     }
 
-    /// Returns the key and the node after this one in its list, which is not loose, or `None` if it is the last.
+    /// Returns the key and the number of the next node in the list of `node`, or `None` if `node` is the last. The list must not
+    /// be loose.
     pub fn after(&self, node: u32) -> Option<(u32, u32)>
         requires node { node < length self.now.places }
         requires placed { IsPlacedByKey self.now.places node }
@@ -255,7 +258,8 @@ impl Lists {
         Some((self.key_of(next), next))
     }
 
-    /// Returns the key and the node before this one in its list, which is not loose, or `None` if it is the first.
+    /// Returns the key and the number of the previous node in the list of `node`, or `None` if `node` is the first. The list must
+    /// not be loose.
     pub fn before(&self, node: u32) -> Option<(u32, u32)>
         requires node { node < length self.now.places }
         requires placed { IsPlacedByKey self.now.places node }
@@ -269,7 +273,7 @@ impl Lists {
 
     /// Inserts a node that is in no list, under a key that the list does not have.
     ///
-    /// Takes constant time if the key is below the first of the list or above the last, and always in a loose list. Otherwise it
+    /// Takes constant time in a loose list, and in any list if the key is below all its keys or above all of them. Otherwise it
     /// searches from the first node on, so use [`Lists::insert_near`] for a long list.
     #[inline(always)]
     pub fn insert(&mut self, head: u32, node: u32, key: u32)
@@ -301,7 +305,7 @@ impl Lists {
     }
 
     /// Does the same as [`Lists::insert`] for a list that is not loose, but the search begins at the node `near` if that is in
-    /// the list. Takes constant time if `near` becomes a neighbour. A wrong hint only costs steps.
+    /// the list. Takes constant time if `near` becomes a neighbour of the new node. A bad hint only costs time.
     pub fn insert_near(&mut self, head: u32, node: u32, key: u32, near: u32)
         requires head { head < self.old.heads }
         requires by_key { IsByKey head }
@@ -320,7 +324,7 @@ impl Lists {
         }
     }
 
-    /// Does the same as [`Lists::insert_near`] if the caller knows that `near` is in the list.
+    /// Does the same as [`Lists::insert_near`], for a caller that knows that `near` is in the list.
     #[inline(always)]
     pub fn insert_by(&mut self, head: u32, node: u32, key: u32, near: u32)
         requires head { head < self.old.heads }
@@ -340,7 +344,8 @@ impl Lists {
         }
     }
 
-    /// Replaces `node` by the node `by`, which is in no list: same list, same key, same neighbours. Takes constant time.
+    /// Replaces `node` by the node `by`, which is in no list. `by` gets the list, the key and the neighbours of `node`. `node` is
+    /// then in no list. Takes constant time.
     pub fn replace(&mut self, node: u32, by: u32)
         requires node { node < length self.old.places }
         requires placed { IsSome (place_at self.old.places node) }
@@ -375,8 +380,8 @@ impl Lists {
         unlink_node(heads, nodes, head, node, previous, next);
     }
 
-    /// Inserts a node into a gap between two neighbours of the list, or at the end of a loose list if there is no gap. `None` in
-    /// a gap means an end of the list.
+    /// Inserts a node between the two nodes of `gap`, or at the end of a loose list if `gap` is `None`. If one of the two is
+    /// `None`, the gap is at that end of the list.
     fn put(&mut self, head: u32, node: u32, key: u32, gap: Option<(Option<u32>, Option<u32>)>)
         requires head { head < self.old.heads }
         requires node { node < length self.old.places }
@@ -415,8 +420,8 @@ impl Lists {
         self.neighbours(head, key, Some(first))
     }
 
-    /// Returns the nodes between which a new key belongs; `None` means an end of the list. The search begins at a node of the
-    /// list.
+    /// Returns the nodes between which a new key belongs; `None` means an end of the list. The search begins at `start`, a node of
+    /// the list, or `None` if the list is empty.
     fn neighbours(&self, head: u32, key: u32, start: Option<u32>) -> (Option<u32>, Option<u32>)
         requires head { head < self.now.heads }
         requires by_key { IsByKey head }
@@ -453,7 +458,7 @@ impl Lists {
         }
     }
 
-    /// Returns the last node of the list with a key below `key` and the node after it. The search begins at a node with a key
+    /// Returns the last node of the list with a key below `key`, and the node after it. The search begins at `from`, whose key is
     /// below `key`.
     #[inline(always)]
     fn gap_behind(&self, head: u32, key: u32, from: u32) -> (u32, Option<u32>)
@@ -476,7 +481,7 @@ impl Lists {
         (previous, next)
     }
 
-    /// Returns the first node of the list with a key above `key`. The search begins behind a node whose key is not above it.
+    /// Returns the first node of the list with a key above `key`. The search begins after `from`, whose key is not above `key`.
     fn first_above(&self, head: u32, key: u32, from: u32) -> Option<u32>
         requires by_key { IsByKey head }
         requires from { (k : ℕ) × (place_at self.now.places from ≡ Some (head, k)) × (k ≤ key) }
@@ -492,7 +497,7 @@ impl Lists {
         next
     }
 
-    /// Returns the last node of the list with a key below `key`. The search begins before a node whose key is not below it.
+    /// Returns the last node of the list with a key below `key`. The search begins before `from`, whose key is not below `key`.
     fn last_below(&self, head: u32, key: u32, from: u32) -> Option<u32>
         requires by_key { IsByKey head }
         requires from { (k : ℕ) × (place_at self.now.places from ≡ Some (head, k)) × (key ≤ k) }
@@ -541,7 +546,7 @@ impl Lists {
         self.nodes[node as usize].key
     }
 
-    /// Returns the node with the least key of the list, from a search over all nodes.
+    /// Searches all nodes of the table for the one with the least key of the list. Returns `None` if the list is empty.
     #[cold]
     #[inline(never)]
     fn least(&self, head: u32) -> Option<u32>
@@ -591,7 +596,7 @@ impl Lists {
     }
 }
 
-/// Returns the nodes of the gap. Without a gap, these are the last node of the list and `None`.
+/// Returns the two nodes of the gap, or the last node of the list and `None` if there is no gap.
 #[inline(always)]
 fn link_place(
     heads: &[Head],
@@ -607,7 +612,7 @@ fn link_place(
     }
 }
 
-/// Writes a node of the list, and links it between two nodes. `None` means an end of the list.
+/// Puts a node into the list, linked between two nodes. `None` means an end of the list.
 #[inline(always)]
 fn link_node(
     heads: &mut [Head],
@@ -639,7 +644,7 @@ fn link_node(
     heads[head as usize].len += 1;
 }
 
-/// Frees a node of the list, and links its neighbours to each other. `None` means an end of the list.
+/// Frees a node of the list and links its neighbours to each other. `None` means an end of the list.
 #[inline(always)]
 fn unlink_node(
     heads: &mut [Head],

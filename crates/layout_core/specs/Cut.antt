@@ -14,7 +14,7 @@ cut size align = record { size = size; align = align }
 abbrev pub numbers_of : Cut → Layout
 numbers_of l = layout_of l.size l.align
 
--- the layout of a size and an alignment, or the refusal of the size, else of the alignment
+-- the layout for a size and an alignment, or else the refusal: BadSize if the size is not allowed, else BadAlign
 abbrev pub layout_or_refusal : ℕ → ℕ → Result Cut LayoutRefusal
 layout_or_refusal size align =
     if is_size size then (if is_alignment align then Ok (cut size align) else Err LayoutRefusal.BadAlign) else Err LayoutRefusal.BadSize

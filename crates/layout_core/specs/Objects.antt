@@ -2,7 +2,7 @@ use Rattle.std.specs.Prelude.{◌≡◌, ℕ, ◌+◌, ◌<◌, ◌≤◌}
 use Rattle.model_core.specs.Layouts.{object_offset, colour_offset}
 use Rattle.layout_core.specs.Cut.{Cut, numbers_of}
 
--- this is a colour offset of the layout, that of the slab made after `made` others
+-- `colour` is the colour offset of a slab with this layout, made after `made` others
 abbrev pub IsColour : Cut → ℕ → Type 0
 IsColour l colour = (made : ℕ) × (colour ≡ colour_offset l.align made (numbers_of l))
 
@@ -11,14 +11,14 @@ pub record Begins (l : Cut) (colour offset i : ℕ) : Type 0 where
   pub object : i < (numbers_of l).count
   pub begins : object_offset (numbers_of l) colour i ≡ offset
 
--- the `size` bytes of object i hold the range of `len` bytes from this offset on, and `len` is not 0
+-- object i contains the `len` bytes from this offset on, and `len` is not 0
 pub record Holds (l : Cut) (colour offset len i : ℕ) : Type 0 where
   pub object : i < (numbers_of l).count
   pub some : 0 < len
   pub from : object_offset (numbers_of l) colour i ≤ offset
   pub to : offset + len ≤ object_offset (numbers_of l) colour i + l.size
 
--- the only number for which the fact holds
+-- i is the only number for which P holds
 pub record IsOnly (P : ℕ → Type 0) (i : ℕ) : Type 0 where
   pub is : P i
   pub only : (j : ℕ) → P j → j ≡ i

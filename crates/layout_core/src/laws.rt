@@ -2,8 +2,8 @@
 ghost use Rattle.model_core.specs.Layouts.{LayoutsFit};
 ghost use Rattle.layout_core.specs.Laws.{EverySizeHasAnOrder, OffsetsApart, FewObjects};
 
-/// At each colour offset of an accepted size and alignment at least one object fits, all objects begin at multiples of
-/// the alignment and end within the slab, and those of a small slab end before the last 32 bytes of its frame.
+/// For each accepted size and alignment, at each colour offset, a slab has space for at least one object. All its objects begin
+/// at multiples of the alignment and end within the slab. Those of a small slab end before the last 32 bytes of its frame.
 pub fn layouts_fit()
     ensures { LayoutsFit }
 {}

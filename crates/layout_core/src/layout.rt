@@ -17,7 +17,7 @@ pub enum LayoutRefusal {
     BadAlign,
 }
 
-/// Chunks below this many bytes are small.
+/// Chunks of fewer bytes than this are small.
 const SMALL: u32 = 512;
 
 /// How the slabs of a cache are cut into objects: the size and alignment of an object, and the numbers that follow from them. The
@@ -49,7 +49,7 @@ impl Model for Layout {
 
 impl Layout {
     /// Returns the layout for objects of `size` bytes, 1 to 4096, at multiples of `align` bytes: 8, 16, 32, 64, 128 or 256.
-    /// Returns `BadSize` or `BadAlign` for any other number. The size is tested first.
+    /// Returns `BadSize` for any other size, else `BadAlign` for any other alignment.
     pub fn of(size: u32, align: u32) -> Result<Layout, LayoutRefusal>
         ensures { result ≡ layout_or_refusal size align }
     {
@@ -103,7 +103,7 @@ impl Layout {
         self.chunk
     }
 
-    /// Returns the number of objects of a slab, 1 to 254.
+    /// Returns the number of objects in a slab, 1 to 254.
     pub fn count(&self) -> u32
         ensures { result ≡ (numbers_of self.now).count }
     {
@@ -124,8 +124,8 @@ impl Layout {
         self.chunk < SMALL
     }
 
-    /// A law: the size and the alignment of every layout are accepted ones, and at each colour offset the objects end within the
-    /// slab, and before the control record if that is in the frame. The call does nothing.
+    /// A law: the size and the alignment of every layout are accepted. At each colour offset the objects end within the slab, and
+    /// before the control record if the slab has it in its frame. The call does nothing.
     pub fn laws(&self)
         ensures fits { IsLayout self.now.size self.now.align (numbers_of self.now) }
         ensures size { is_size self.now.size ≡ true }
@@ -173,8 +173,9 @@ impl Layout {
         }
     }
 
-    /// Returns the number of the chunk that holds byte `from`, counted from the first object of a slab, or `None` after the last
-    /// chunk. A slab has at most 32,768 bytes, so the multiplication finds the chunk that a division would.
+    /// Returns the index of the chunk that holds byte `from`, or `None` if the byte is after the last chunk. Chunks and bytes are
+    /// counted from the beginning of the slab's first object. A slab has at most 32,768 bytes, so the multiplication finds the
+    /// same chunk as a division would.
     #[inline(always)]
     fn chunk_at(&self, from: u32) -> Option<u32>
         ensures { MatchOption result ((numbers_of self.now).count ≤ from / (numbers_of self.now).chunk)

@@ -62,7 +62,8 @@ impl Pattern {
     }
 }
 
-/// Repeats the first `period` bytes over the whole slice. Copies the filled part behind itself, doubling it each time.
+/// Repeats the first `period` bytes over the whole slice. Each step copies the filled part to the bytes after it, until the slice
+/// is full.
 fn repeat(out: &mut [u8], period: usize)
     requires { 0 < period }
     ensures bytes { EachIndex out.new (λ j. slice_index out.new j ≡ slice_index out.old (j % period)) }

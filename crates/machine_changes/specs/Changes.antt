@@ -25,8 +25,8 @@ pub record Found : Type 0 where
 abbrev pub found : own.Cache → ℕ → ℕ → ℕ → Found
 found cache first machine_frame index = record { cache = cache; first = first; machine_frame = machine_frame; index = index }
 
--- Object o of cache c of tenant t is marked live, or free if v is false. Apart from that, only the record of its slab, the
--- slab's number of live objects and its list may change.
+-- Object o of cache c of tenant t is marked live, or free if v is false. Apart from that, only the slab's control record, its
+-- number of live objects and the list that it is in may change.
 pub record IsMarked (r r' : spaces.Content) (s s' : Content) (t c : ℕ) (o : Found) (v : Bool) : Type 0 where
   pub top : s'.top ≡ s.top
   pub slots : (u : ℕ) → spaces.superblock_at r'.slots t u ≡ spaces.superblock_at r.slots t u
@@ -41,8 +41,8 @@ pub record IsMarked (r r' : spaces.Content) (s s' : Content) (t c : ℕ) (o : Fo
   pub bytes : (place : ℕ) → ((k : ℕ) → k < RECORD_BYTES → place ≢ FRAME_BYTES * o.first + RECORD_OFFSET + k) → byte_at r' t place ≡ byte_at r t place
   pub large : is_small (layout_numbers o.cache).chunk ≢ true → (place : ℕ) → byte_at r' t place ≡ byte_at r t place
 
--- The slabs of tenant t that begin at these first frames are freed: they are in no list, their blocks are not taken, and
--- their bytes are zero. `gone` may select one slab, the slabs of one cache, or slabs of all caches.
+-- The slabs of tenant t whose first frames `gone` selects are freed: they are in no list, their blocks are not taken, and their
+-- bytes are zero. They may be one slab, slabs of one cache, or slabs of all caches.
 pub record IsReturned (r r' : spaces.Content) (b b' : buddies.Content) (s s' : Content) (t : ℕ) (gone : ℕ → Bool) : Type 0 where
   pub top : s'.top ≡ s.top
   pub slots : (u : ℕ) → spaces.superblock_at r'.slots t u ≡ spaces.superblock_at r.slots t u
@@ -59,7 +59,7 @@ pub record IsReturned (r r' : spaces.Content) (b b' : buddies.Content) (s s' : C
       → ((c f n : ℕ) (cache : own.Cache) → IsSlab r s t c f n cache → gone f ≡ true → is_inside place f cache ≡ false)
       → byte_at r' t place ≡ byte_at r t place
 
--- the same change of the private machine
+-- the same change to the private machine
 
 abbrev pub kept_slabs : (ℕ → Bool) → Cache → Cache
 kept_slabs gone c = record c { slabs = filter (λ s. not (gone s.first)) c.slabs }

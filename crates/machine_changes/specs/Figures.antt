@@ -8,12 +8,12 @@ use Rattle.slab_tables.specs.Content.{Content}
 use Rattle.machine_changes.specs.Shows.{ShowsMachine, Agree}
 use Rattle.machine_changes.specs.Steady.{IsSteady}
 
--- how many frames there are in `count k` blocks of each order k below n
+-- the number of frames in `count k` blocks of each order k below n
 abbrev pub frames_in : (ℕ → ℕ) → ℕ → ℕ
 frames_in count zero = 0
 frames_in count (suc k) = frames_in count k + count k * 2 ^ k
 
--- the frames of the taken blocks of the orders below n
+-- the number of frames in the taken blocks of orders below n
 abbrev pub frames_below : buddies.Holding → ℕ → ℕ
 frames_below h n = frames_in (λ k. buddies.taken_block_count k h) n
 
@@ -24,13 +24,13 @@ pub record HasFigures (b : buddies.Content) (t : ℕ) (m : Machine) : Type 0 whe
   pub taken : (k : ℕ) → taken_count m k ≡ buddies.taken_block_count k (buddies.holding_of t b)
   pub frames : frames_taken m ≡ frames_below (buddies.holding_of t b) (b.top + 1)
 
--- if the parts show a machine for a tenant, its figures are those of the tenant in the buddy system
+-- if the parts show a machine for a tenant, the machine's figures are those of the tenant in the buddy system
 abbrev pub FiguresMeet : Type 0
 FiguresMeet = (r : spaces.Content) (b : buddies.Content) (s : Content) (t : ℕ) (m : Machine)
     → Agree r b s → IsSteady r b s t → buddies.BuddyLaws b → t < length b.tenants → ShowsMachine r b s t m → HasFigures b t m
 
--- A tenant's slots have at most 65,536 frames. It has at most 65,536 free and 65,536 taken blocks of each order. Its taken
--- blocks are disjoint, so they have at most as many frames as its slots.
+-- A tenant's slots have at most 65,536 frames. The tenant has at most 65,536 free and 65,536 taken blocks of each order. The
+-- taken blocks are disjoint, so together they have at most as many frames as the slots.
 pub record AreWithin (b : buddies.Content) (t : ℕ) : Type 0 where
   pub held : buddies.held_slots (buddies.holding_of t b) * 2 ^ b.top ≤ 65536
   pub free : (k : ℕ) → buddies.free_block_count b.top b.superblocks k (buddies.holding_of t b) ≤ 65536

@@ -1,4 +1,4 @@
--- Where a block would fit after all empty slabs are freed.
+-- Where a block would fit if all empty slabs were freed.
 use Rattle.std.specs.Prelude.{◌≡◌, ℕ, ◌/◌, ◌^◌, IsSome}
 use Rattle.model_core.specs.Blocks.{block, HasFrame, IsAligned, IsTaken}
 use Rattle.space_core.specs.Content as spaces

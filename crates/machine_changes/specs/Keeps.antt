@@ -1,4 +1,4 @@
--- A call for one tenant changes nothing of the others.
+-- A call for one tenant changes nothing that other tenants have.
 use Rattle.std.specs.Prelude.{◌≡◌, ◌≢◌, ℕ, Some}
 use Rattle.klist_core.specs.Places.{place_at}
 use Rattle.space_core.specs.Content as spaces
@@ -14,14 +14,14 @@ pub record IsSameCaches (t : ℕ) (r : spaces.Content) (s s' : Content) : Type 0
   pub lists : (f n : ℕ) → machine_frame_of s.top r.slots t f ≡ Some n → place_at s'.lists.places n ≡ place_at s.lists.places n
   pub kept : (f n : ℕ) → machine_frame_of s.top r.slots t f ≡ Some n → kept_at s'.kept n ≡ kept_at s.kept n
 
--- tenant t keeps everything: its slots and bytes with the control records, its taken blocks, caches and slabs
+-- tenant t keeps everything: its slots, its bytes with the control records, its taken blocks, its caches and its slabs
 pub record Keeps (r r' : spaces.Content) (b b' : buddies.Content) (s s' : Content) (t : ℕ) : Type 0 where
   pub space : IsSameFor t r r'
   pub buddy : buddies.holding_of t b' ≡ buddies.holding_of t b
   pub slabs : IsSameCaches t r s s'
 
--- A call for tenant t changes nothing of other tenants. In the memory it changes only bytes, and none of a superblock without
--- owner. Of the buddy systems it changes only that of t.
+-- A call for tenant t changes nothing that other tenants have. In the memory it changes only bytes, and no byte of a superblock
+-- without an owner. It changes no buddy system other than that of t.
 pub record Spares (t : ℕ) (r r' : spaces.Content) (b b' : buddies.Content) (s s' : Content) : Type 0 where
   pub others : (u : ℕ) → u ≢ t → Keeps r r' b b' s s' u
   pub space : r' ≡ record r { banks = r'.banks }

@@ -27,7 +27,7 @@ abbrev pub KeptShowsSame : Type 0
 KeptShowsSame = (r r' : spaces.Content) (b b' : buddies.Content) (s s' : Content) (t : ℕ) → Keeps r r' b b' s s' t
     → (m : Machine) → ShowsMachine r b s t m → ShowsMachine r' b' s' t m
 
--- marking an object live or free marks it so in the machine
+-- marking an object live or free does the same in the machine
 abbrev pub MarkedShows : Type 0
 MarkedShows = (r r' : spaces.Content) (b : buddies.Content) (s s' : Content) (t c : ℕ) (o : Found) (v : Bool) (m : Machine) (x : Cache) (y : Slab)
     → IsMarked r r' s s' t c o v → IsSteady r b s t → IsSlab r s t c o.first o.machine_frame o.cache
@@ -47,14 +47,14 @@ ReapedShows = (r r' : spaces.Content) (b b' : buddies.Content) (s s' : Content) 
     → ((c f : ℕ) (x : Cache) (y : Slab) → cache_of m c ≡ Some x → slab_of x f ≡ Some y → gone f ≡ is_empty y)
     → ShowsMachine r' b' s' t (reaped m)
 
--- making a slab on free frames grows the cache in the machine
+-- making a slab out of free frames grows the cache in the machine
 abbrev pub GrownShows : Type 0
 GrownShows = (r r' : spaces.Content) (b b' : buddies.Content) (s s' : Content) (t c : ℕ) (cache : own.Cache) (f n : ℕ) (m : Machine) (x : Cache)
     → IsGrown r r' b b' s s' t c cache f n → IsSteady r b s t → IsLayout cache.layout.size cache.layout.align (layout_numbers cache)
     → ((g k y : ℕ) → buddies.taken_of (buddies.holding_of t b) g ≡ Some k → HasFrame (block g k) y → HasFrame (block f (layout_numbers cache).order) y → ⊥)
     → cache_of m c ≡ Some x → ShowsMachine r b s t m → ShowsMachine r' b' s' t (grown f x m)
 
--- a new taken block that is not a slab's is a new page block in the machine
+-- a new taken block that is not a slab is a new page block in the machine
 abbrev pub ReservedShows : Type 0
 ReservedShows = (r : spaces.Content) (b b' : buddies.Content) (s : Content) (t f k : ℕ) (m : Machine)
     → IsSteady r b s t → buddies.taken_of (buddies.holding_of t b) f ≡ None
@@ -73,7 +73,7 @@ TakeMakes = (r : spaces.Content) (b : buddies.Content) (s : Content) (t c : ℕ)
     → IsSlabs s → Agree r b s → IsSteady r b s t → ShowsMachine r b s t m → cache_of m c ≡ Some x → IsAllFull s t c
     → slab_to_use (find is_partial x.slabs) (find is_empty x.slabs) ≡ None
 
--- a give of cache c at the place returns object `index` of the slab that begins at frame `first`
+-- in the machine, a give to cache c at the place frees object `index` of the slab that begins at frame `first`
 pub record GivesObject (m : Machine) (c place index first : ℕ) : Type 0 where
   pub cache : Cache
   pub slab : Slab
@@ -81,7 +81,7 @@ pub record GivesObject (m : Machine) (c place index first : ℕ) : Type 0 where
   pub standing : slab_of cache first ≡ Some slab
   pub step : give_step c place m ≡ record { answer = Ok tt; machine = with_cache (with_slab (with_live index false slab) cache) m }
 
--- a give returns the live object that begins at the place
+-- a give frees the live object that begins at the place
 abbrev pub FoundGives : Type 0
 FoundGives = (r : spaces.Content) (b : buddies.Content) (s : Content) (t c place : ℕ) (o : Found) (m : Machine)
     → IsSteady r b s t → ShowsMachine r b s t m → IsLiveObject r s t c place o → GivesObject m c place o.index o.first
@@ -97,32 +97,32 @@ abbrev pub TakenMeets : Type 0
 TakenMeets = (r : spaces.Content) (b : buddies.Content) (s : Content) (t : ℕ) (m : Machine)
     → IsSteady r b s t → ShowsMachine r b s t m → (f : ℕ) → taken_in m f ≡ buddies.taken_of (buddies.holding_of t b) f
 
--- the stored number of live objects of each slab is the number that its record shows
+-- for each slab, the stored number of live objects is the number that its record shows
 abbrev pub AreObjectsCounted : spaces.Content → Content → ℕ → Type 0
 AreObjectsCounted r s t = (c f n : ℕ) (cache : own.Cache) → IsSlab r s t c f n cache
     → (kept_at s.kept n).live ≡ count_true (live_of r t cache (kept_at s.kept n) f)
 
--- a block would fit exactly if the reaped machine finds a place for it
+-- a block of order k would fit if and only if the reaped machine has a free block for it
 abbrev pub FittingMeets : Type 0
 FittingMeets = (r : spaces.Content) (b : buddies.Content) (s : Content) (t k : ℕ) (m : Machine)
     → IsSteady r b s t → AreObjectsCounted r s t → ShowsMachine r b s t m → k ≤ s.top
     → WouldFit r b s t k ↔ (is_some (choice s.top (reaped m) k) ≡ true)
 
--- the test of a kind of slab: 0 full, 1 partial, 2 empty
+-- the test for a kind of slab: 0 full, 1 partial, 2 empty
 abbrev pub is_kind : ℕ → Slab → Bool
 is_kind kind y = if kind == 0 then is_full y else (if kind == 1 then is_partial y else is_empty y)
 
--- the list of each kind has exactly the first frames of the cache's slabs of that kind
+-- the list of each kind has the first frames of exactly the cache's slabs of that kind, in ascending order
 abbrev pub ListsHold : Content → Type 0
 ListsHold s = (r : spaces.Content) (b : buddies.Content) (t c kind : ℕ) (m : Machine) (x : Cache)
     → Agree r b s → IsSteady r b s t → ShowsMachine r b s t m → cache_of m c ≡ Some x → kind < 3
     → keys_of s.lists.places (head_of t c kind) ≡ map (λ y. y.first) (filter (is_kind kind) x.slabs)
 
--- this holds of all tables
+-- this holds for all tables that satisfy their invariants
 abbrev pub KindsHold : Type 0
 KindsHold = (s : Content) → IsSlabs s → ArePlaces s.lists → ListsHold s
 
--- if the parts agree, the premise of the laws holds of each tenant
+-- if the parts agree, the premise of the laws holds for each tenant
 abbrev pub AgreeSteady : Type 0
 AgreeSteady = (r : spaces.Content) (b : buddies.Content) (s : Content) (t : ℕ)
     → IsSlabs s → Agree r b s → t < length r.slots → IsOneToOne r → buddies.IsSized b

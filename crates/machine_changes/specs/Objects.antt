@@ -36,7 +36,7 @@ pub record IsToUse (r : spaces.Content) (s : Content) (t c : ℕ) (cache : own.C
 abbrev pub IsAllFull : Content → ℕ → ℕ → Type 0
 IsAllFull s t c = IsEmpty s.lists.places (head_of t c (kind_number Partial)) × IsEmpty s.lists.places (head_of t c (kind_number Empty))
 
--- the range has a byte, and lies inside the live object o of tenant t
+-- the range is not empty, and lies inside the live object o of tenant t
 pub record HasRange (r : spaces.Content) (s : Content) (t place len : ℕ) (o : Found) : Type 0 where
   pub number : ℕ
   pub begin : ℕ
@@ -45,6 +45,6 @@ pub record HasRange (r : spaces.Content) (s : Content) (t place len : ℕ) (o : 
   pub from : begin ≤ place
   pub to : place + len ≤ begin + o.cache.layout.size
 
--- the range lies inside no live object of tenant t
+-- the range is empty, or lies inside no live object of tenant t
 abbrev pub HasNone : spaces.Content → Content → ℕ → ℕ → ℕ → Type 0
 HasNone r s t place len = (o : Found) → HasRange r s t place len o → ⊥

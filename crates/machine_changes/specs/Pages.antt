@@ -1,4 +1,5 @@
--- The laws of page blocks, of ranges in reach, and of bytes read and written; and that the parts show at most one machine.
+-- Laws about page blocks, ranges in reach, and bytes that are read and written. One law says that the parts show at most one
+-- machine for a tenant.
 use Rattle.std.specs.Prelude.{◌≡◌, ◌↔◌, ◌⊎◌, ℕ, ◌+◌, ◌*◌, ◌/◌, ◌%◌, ◌^◌, ◌<◌, ◌≤◌, true, false, List, Some, IsSome, length, filter_map, slice_index, slice_index_or}
 use Rattle.std.specs.List.{range_with_len}
 use Rattle.model_core.specs.declared.limits.TheConstants.{FRAME_BYTES, RECORD_OFFSET}
@@ -30,13 +31,13 @@ abbrev pub ReleasedShows : Type 0
 ReleasedShows = (r : spaces.Content) (b : buddies.Content) (s : Content) (t f : ℕ) (m : Machine)
     → ShowsMachine r b s t m → ShowsMachine r (released t f b) s t (without_block f m)
 
--- if the block is not a slab's, the parts still agree after its release, and others keep everything
+-- if the block is not a slab, the parts still agree after its release, and other tenants keep everything
 abbrev pub ReleasedAgrees : Type 0
 ReleasedAgrees = (r : spaces.Content) (b : buddies.Content) (s : Content) (t f : ℕ)
     → Agree r b s → has_slab s (machine_frame_of s.top r.slots t f) ≡ false
     → Agree r (released t f b) s × Spares t r r b (released t f b) s s
 
--- the range lies inside one taken block of tenant t that is not a slab's
+-- the range lies inside one taken block of tenant t that is not a slab
 pub record IsInPage (r : spaces.Content) (b : buddies.Content) (s : Content) (t place len : ℕ) : Type 0 where
   pub first : ℕ
   pub order : ℕ
@@ -45,24 +46,24 @@ pub record IsInPage (r : spaces.Content) (b : buddies.Content) (s : Content) (t 
   pub begins : FRAME_BYTES * first ≤ place
   pub ends : place + len ≤ FRAME_BYTES * (first + 2 ^ order)
 
--- the range has a byte, and lies inside a page block or inside a live object of tenant t
+-- the range is not empty, and lies inside a page block or inside a live object of tenant t
 pub record IsInReach (r : spaces.Content) (b : buddies.Content) (s : Content) (t place len : ℕ) : Type 0 where
   pub some : 0 < len
   pub inside : IsInPage r b s t place len ⊎ ((o : Found) × HasRange r s t place len o)
 
--- a range is in reach of the machine exactly if the parts say so
+-- a range is in reach of the machine if and only if the parts say so
 abbrev pub ReachMeets : Type 0
 ReachMeets = (r : spaces.Content) (b : buddies.Content) (s : Content) (t place len : ℕ) (m : Machine)
     → IsSteady r b s t → ShowsMachine r b s t m → (in_reach m place len ≡ true) ↔ IsInReach r b s t place len
 
--- if a taken block has the first frame of a range, that block decides whether the range lies inside a page block
+-- if the first frame of a range is in a taken block, that block decides whether the range lies inside a page block
 abbrev pub BlockDecides : Type 0
 BlockDecides = (r : spaces.Content) (b : buddies.Content) (s : Content) (t place len first order : ℕ)
     → IsSteady r b s t → 0 < len → buddies.taken_of (buddies.holding_of t b) first ≡ Some order → HasFrame (block first order) (place / FRAME_BYTES)
     → IsInPage r b s t place len
     ↔ ((has_slab s (machine_frame_of s.top r.slots t first) ≡ false) × (place + len ≤ FRAME_BYTES * (first + 2 ^ order)))
 
--- if no taken block has the first frame, the range lies inside no page block
+-- if the first frame of a range is in no taken block, the range lies inside no page block
 abbrev pub NoBlockDecides : Type 0
 NoBlockDecides = (r : spaces.Content) (b : buddies.Content) (s : Content) (t place len : ℕ)
     → 0 < len → (IsTaken (buddies.taken_of (buddies.holding_of t b)) (place / FRAME_BYTES) → ⊥) → IsInPage r b s t place len → ⊥
@@ -94,7 +95,7 @@ WrittenShows = (r : spaces.Content) (b : buddies.Content) (s : Content) (t place
     → SpaceLaws r → Agree r b s → IsSteady r b s t → IsInReach r b s t place (length new)
     → ShowsMachine r b s t m → ShowsMachine (stored t place new r) b s t (record m { bytes = written place new m.bytes })
 
--- a tenant's control records show the same live objects, the parts agree, and others keep everything
+-- a tenant's control records show the same live objects as before, the parts agree, and other tenants keep everything
 pub record IsWritten (r r' : spaces.Content) (b : buddies.Content) (s : Content) (t : ℕ) : Type 0 where
   pub live : (c f n : ℕ) (cache : own.Cache) → IsSlab r s t c f n cache
       → live_of r' t cache (kept_at s.kept n) f ≡ live_of r t cache (kept_at s.kept n) f
@@ -116,7 +117,7 @@ OneMachine = (r : spaces.Content) (b : buddies.Content) (s : Content) (t : ℕ) 
 abbrev pub record_at : spaces.Content → Content → ℕ → ℕ → ℕ
 record_at r s n i = slice_index (spaces.bank r.banks (n / 2 ^ s.top)) (FRAME_BYTES * (n % 2 ^ s.top) + RECORD_OFFSET + i)
 
--- the control record of a slab of small objects has a 1 for each live object of the machine's slab, and zeroes elsewhere
+-- the control record of a slab of small objects has a 1 for each live object of the machine's slab, and zeros elsewhere
 abbrev pub RecordMeets : Type 0
 RecordMeets = (r : spaces.Content) (b : buddies.Content) (s : Content) (t c f n : ℕ) (cache : own.Cache) (m : Machine) (x : Cache) (y : Slab)
     → Agree r b s → ShowsMachine r b s t m → IsSlab r s t c f n cache → is_small (layout_numbers cache).chunk ≡ true

@@ -1,4 +1,4 @@
--- Control records: one bit for each object of a slab, 1 if it is live. Object i has bit i % 8 of byte i / 8.
+-- Control records: one bit for each object of a slab, 1 if the object is live. Object i has bit i % 8 of byte i / 8.
 use Rattle.std.specs.Prelude.{ℕ, ◌+◌, ◌==◌, Bool, zero, suc, List, [], ◌∷◌, if◌then◌else◌}
 use Rattle.std.specs.Int.{bit_at}
 
@@ -14,7 +14,7 @@ flags_from k (suc n) test = test k ∷ flags_from (suc k) n test
 abbrev pub flags : ℕ → (ℕ → Bool) → List Bool
 flags n test = flags_from 0 n test
 
--- how many of the flags are set
+-- the number of flags that are true
 abbrev pub count_true : List Bool → ℕ
 count_true [] = 0
 count_true (b ∷ bs) = (if b then 1 else 0) + count_true bs

@@ -15,12 +15,12 @@ use Rattle.slab_tables.specs.declared.cache.Kept.{Kept}
 use Rattle.slab_tables.specs.Content.{Content, kept_at, cache_in, cache_at, index_of_cache, layout_numbers}
 use Rattle.machine_changes.specs.Records.{is_set, flags, count_true}
 
--- the machine frame at frame f, if the slot of f has this superblock
+-- the machine frame at frame f, given the superblock in the slot of f
 abbrev pub frame_under : ℕ → ℕ → Option ℕ → Option ℕ
 frame_under top f None = None
 frame_under top f (Some m) = Some (m * 2 ^ top + f % 2 ^ top)
 
--- the machine frame at frame f of tenant t, if t holds the slot
+-- the machine frame at frame f of tenant t, if t holds the slot of f
 abbrev pub machine_frame_of : ℕ → List (List (Option ℕ)) → ℕ → ℕ → Option ℕ
 machine_frame_of top slots t f = frame_under top f (spaces.superblock_at slots t (f / 2 ^ top))
 
@@ -31,17 +31,17 @@ byte_or_zero o = unwrap_or o 0
 abbrev pub record_byte : spaces.Content → ℕ → ℕ → ℕ → ℕ
 record_byte r t f j = byte_or_zero (byte_at r t (FRAME_BYTES * f + RECORD_OFFSET + j))
 
--- object i of the slab at frame f of tenant t is live: according to the record in the frame if the objects are small, and
--- according to the stored state if they are large
+-- object i of the slab at frame f of tenant t is live; the record in the frame shows this for small objects, and the stored state
+-- for large ones
 abbrev pub is_live : spaces.Content → ℕ → own.Cache → Kept → ℕ → ℕ → Bool
 is_live r t c kept f i =
     if is_small (layout_numbers c).chunk then is_set (record_byte r t f (i / 8)) (i % 8) else is_set kept.outside i
 
--- a flag for each object of the slab
+-- a flag for each object of the slab: true if it is live
 abbrev pub live_of : spaces.Content → ℕ → own.Cache → Kept → ℕ → List Bool
 live_of r t c kept f = flags (layout_numbers c).count (is_live r t c kept f)
 
--- the place in the lists is that of a slab that begins at frame f, of the cache with index n
+-- the list entry is a slab of the cache with index n, and the slab begins at frame f
 abbrev pub is_of_cache : ℕ → ℕ → Option (ℕ × ℕ) → Bool
 is_of_cache n f None = false
 is_of_cache n f (Some p) = p.0 / 3 == n && p.1 == f
@@ -86,7 +86,7 @@ pub record ShowsMachine (r : spaces.Content) (b : buddies.Content) (s : Content)
   pub slots_rise : RisesFrom 0 m.slots
   pub slots : (u : ℕ) → holds m u ≡ is_some (spaces.superblock_at r.slots t u)
   pub blocks_rise : RisesFrom 0 (map (λ x. x.first) m.blocks)
-  -- the page blocks are the taken blocks that are not slabs'
+  -- the page blocks are the taken blocks that are not slabs
   pub blocks : (f : ℕ) → order_in m.blocks f
       ≡ (if has_slab s (machine_frame_of s.top r.slots t f) then None else buddies.taken_of (buddies.holding_of t b) f)
   pub caches_rise : RisesFrom 0 (map (λ x. x.number) m.caches)
@@ -94,14 +94,14 @@ pub record ShowsMachine (r : spaces.Content) (b : buddies.Content) (s : Content)
   pub slabs_rise : (c : ℕ) (x : Cache) → cache_of m c ≡ Some x → RisesFrom 0 (map (λ y. y.first) x.slabs)
   pub slabs : (c f : ℕ) (x : Cache) (cache : own.Cache) → cache_of m c ≡ Some x → cache_at s t c ≡ Some cache
       → slab_of x f ≡ slab_at r s t c cache f
-  -- outside slabs exactly the places in held slots have a byte, and inside a slab exactly those of its objects
+  -- outside slabs, exactly the places in held slots have a byte; inside a slab, exactly the places in its objects have one
   pub mapped : (place : ℕ) → ((c f n : ℕ) (cache : own.Cache) → IsSlab r s t c f n cache → is_inside place f cache ≡ false)
       → is_some (m.bytes place) ≡ holds m (slot_of s.top place)
   pub in_slab : (place c f n : ℕ) (cache : own.Cache) → IsSlab r s t c f n cache → is_inside place f cache ≡ true
       → is_some (m.bytes place) ≡ in_object (layout_numbers cache) cache.layout.size (kept_at s.kept n).colour (place - FRAME_BYTES * f)
   pub bytes : (place byte : ℕ) → m.bytes place ≡ Some byte → byte_at r t place ≡ Some byte
 
--- the slab at machine frame n is a taken block of its tenant, and its record has as many live objects as its stored state says
+-- the slab at machine frame n is a taken block of its tenant, and its record shows as many live objects as its stored state says
 pub record IsAgreed (r : spaces.Content) (b : buddies.Content) (s : Content) (n head key : ℕ) (cache : own.Cache) : Type 0 where
   pub under : machine_frame_of s.top r.slots (head / 3 / MOST_CACHES) key ≡ Some n
   pub taken : buddies.taken_of (buddies.holding_of (head / 3 / MOST_CACHES) b) key ≡ Some (layout_numbers cache).order

@@ -22,20 +22,20 @@ pub record HoldTogether (r : spaces.Content) (b : buddies.Content) (s : Content)
   pub agree : Agree r b s
 
 -- The parts change only for tenant t: they still agree, and all other tenants keep everything. If they showed a machine for t,
--- they now show `change` of it.
+-- they now show `change` of that machine.
 pub record ChangesFor (t : ℕ) (r r' : spaces.Content) (b b' : buddies.Content) (s s' : Content) (change : Machine → Machine) : Type 0 where
   pub agree : Agree r' b' s'
   pub others : (u : ℕ) → u ≢ t → Keeps r r' b b' s s' u
   pub shows : (m : Machine) → ShowsMachine r b s t m → ShowsMachine r' b' s' t (change m)
 
--- granting superblock m, which has no owner, to tenant t as its least free slot u
+-- granting superblock m, which has no owner, to tenant t in slot u, the lowest that t does not hold
 abbrev pub GrantedShows : Type 0
 GrantedShows = (r : spaces.Content) (b : buddies.Content) (s : Content) (t u m : ℕ)
     → HoldTogether r b s → t < length r.slots → IsLeastSlot r.slots t u → u < length r.owners
     → m < length r.owners → spaces.owner_at r.owners m ≡ None
     → ChangesFor t r (with_grant r t u m) b (buddies.with_holding t (buddies.with_slot u m (buddies.holding_of t b)) b) s s (after_grant s.top)
 
--- the least slot that the tenant does not hold is the machine's next one
+-- the lowest slot that the tenant does not hold is the machine's next slot
 abbrev pub NextMeets : Type 0
 NextMeets = (r : spaces.Content) (b : buddies.Content) (s : Content) (t u : ℕ) (m : Machine)
     → ShowsMachine r b s t m → IsLeastSlot r.slots t u → next_slot m ≡ u
@@ -47,7 +47,7 @@ TakenBackShows = (r : spaces.Content) (b : buddies.Content) (s : Content) (t u m
     → (HasTaken (buddies.taken_of (buddies.holding_of t b)) (slot_block b.top u) → ⊥)
     → ChangesFor t r (with_take_back r t u m) b (buddies.with_holding t (buddies.without_slot u (buddies.holding_of t b)) b) s s (after_take_back s.top u)
 
--- a slot has a taken frame exactly if it is busy in the machine
+-- a slot has a taken frame if and only if it is busy in the machine
 abbrev pub BusyMeets : Type 0
 BusyMeets = (r : spaces.Content) (b : buddies.Content) (s : Content) (t u : ℕ) (m : Machine)
     → HoldTogether r b s → t < length r.slots → ShowsMachine r b s t m
@@ -58,7 +58,7 @@ pub record IsSpare (b : buddies.Content) (s : Content) (m : ℕ) : Type 0 where
   pub unused : (t u : ℕ) → buddies.superblock_at (buddies.holding_of t b) u ≡ Some m → ⊥
   pub bare : (i : ℕ) → i < 2 ^ s.top → place_at s.lists.places (m * 2 ^ s.top + i) ≡ None
 
--- a superblock without owner is spare
+-- a superblock without an owner is spare
 abbrev pub UnownedIsSpare : Type 0
 UnownedIsSpare = (r : spaces.Content) (b : buddies.Content) (s : Content) (m : ℕ)
     → HoldTogether r b s → spaces.owner_at r.owners m ≡ None → IsSpare b s m
@@ -71,7 +71,7 @@ MovedShows = (r : spaces.Content) (b : buddies.Content) (s s' : Content) (t u fr
     → ReadsSame t r (with_move r t u from to)
     × ChangesFor t r (with_move r t u from to) b (buddies.with_holding t (buddies.with_slot u to (buddies.holding_of t b)) b) s s' (λ m. m)
 
--- tenant t has no slot, and all others have the same memory as before
+-- tenant t has no slot, and all other tenants have the same memory as before
 pub record HasGivenUp (t : ℕ) (r r' : spaces.Content) : Type 0 where
   pub unit : r'.unit ≡ r.unit
   pub superblocks : length r'.owners ≡ length r.owners

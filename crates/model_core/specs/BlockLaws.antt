@@ -8,8 +8,8 @@ abbrev pub EachFrameInOne : Type 0
 EachFrameInOne = (top : ℕ) (held : ℕ → Bool) (taken : Taken) (x : ℕ) → held (x / 2 ^ top) ≡ true → (IsTaken taken x → ⊥)
     → (b : Block) × IsFree top held taken b × HasFrame b x × ((c : Block) → IsFree top held taken c → HasFrame c x → c ≡ b)
 
--- The free blocks once order k is reserved out of the free block of order j at f: that block is gone, and the upper halves of the
--- splits, of the orders from k to j - 1, are added.
+-- The free blocks once a block of order k is reserved out of the free block of order j at f: the free block is gone, and the upper
+-- halves of its splits are added, one of each order from k to j - 1.
 abbrev pub IsFreeOnceSplit : (Block → Type 0) → ℕ → ℕ → ℕ → Block → Type 0
 IsFreeOnceSplit WasFree f j k b = (WasFree b × (b ≡ block f j → ⊥)) ⊎ ((i : ℕ) × (k ≤ i) × (i < j) × (b ≡ block (f + 2 ^ i) i))
 
@@ -18,7 +18,7 @@ abbrev pub Splits : Type 0
 Splits = (top : ℕ) (held : ℕ → Bool) (taken : Taken) (f j k : ℕ) → IsFree top held taken (block f j) → k ≤ j → (b : Block)
     → (IsFree top held (with_taken taken f k) b ↔ IsFreeOnceSplit (IsFree top held taken) f j k b)
 
--- The block of order k at f, when released, is joined up to order j: at each order from k to j - 1
+-- When the block of order k at f is released, it is joined up to order j: at each order from k to j - 1
 -- its buddy is free, and at order j it is a whole slot or its buddy is not free.
 pub record JoinsTo (top : ℕ) (held : ℕ → Bool) (taken : Taken) (f k j : ℕ) : Type 0 where
   pub rises : k ≤ j
@@ -31,7 +31,7 @@ pub record JoinsTo (top : ℕ) (held : ℕ → Bool) (taken : Taken) (f k j : �
 abbrev pub IsFreeOnceJoined : (Block → Type 0) → ℕ → ℕ → ℕ → Block → Type 0
 IsFreeOnceJoined WasFree f k j b = (b ≡ around f j) ⊎ (WasFree b × ((i : ℕ) → k ≤ i → i < j → b ≡ buddy (around f i) → ⊥))
 
--- a release joins the block
+-- a release of a taken block joins it up to some order
 abbrev pub Joins : Type 0
 Joins = (top : ℕ) (held : ℕ → Bool) (taken : Taken) (f k : ℕ) → IsSound top held taken → taken f ≡ Some k
     → (j : ℕ) × JoinsTo top held taken f k j × ((b : Block)
@@ -42,7 +42,7 @@ abbrev pub ReservedIsUntaken : Type 0
 ReservedIsUntaken = (top : ℕ) (held : ℕ → Bool) (taken : Taken) (f j k : ℕ) → IsFree top held taken (block f j) → k ≤ j
     → IsAligned top (block f k) × ((x : ℕ) → HasFrame (block f k) x → (held (x / 2 ^ top) ≡ true) × (IsTaken taken x → ⊥))
 
--- The taken blocks stay aligned, in held slots and apart, if one is reserved out of a free block ..
+-- The taken blocks stay aligned, in held slots and apart, if a block is reserved out of a free block ..
 abbrev pub ReserveStaysSound : Type 0
 ReserveStaysSound = (top : ℕ) (held : ℕ → Bool) (taken : Taken) (f j k : ℕ) → IsSound top held taken
     → IsFree top held taken (block f j) → k ≤ j

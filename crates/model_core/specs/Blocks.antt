@@ -11,7 +11,7 @@ pub record Block : Type 0 where
 abbrev pub block : ℕ → ℕ → Block
 block first order = record { first = first; order = order }
 
--- frame x is one of the block's
+-- frame x lies in the block
 abbrev pub HasFrame : Block → ℕ → Type 0
 HasFrame b x = (b.first ≤ x) × (x < b.first + 2 ^ b.order)
 
@@ -31,7 +31,7 @@ around x k = block (x / 2 ^ k * 2 ^ k) k
 abbrev pub slot_block : ℕ → ℕ → Block
 slot_block top u = block (u * 2 ^ top) top
 
--- the taken blocks: at the first frame of each its order, at all other frames None
+-- the taken blocks, as a map from frames: the first frame of each maps to its order, all other frames to None
 abbrev pub Taken : Type 0
 Taken = ℕ → Option ℕ
 
@@ -39,7 +39,7 @@ Taken = ℕ → Option ℕ
 abbrev pub with_taken : Taken → ℕ → ℕ → Taken
 with_taken taken f k g = if g == f then Some k else taken g
 
--- the taken blocks less the one at frame f
+-- the taken blocks without the block at frame f
 abbrev pub without_taken : Taken → ℕ → Taken
 without_taken taken f g = if g == f then None else taken g
 
@@ -51,14 +51,14 @@ IsTaken taken x = (f k : ℕ) × (taken f ≡ Some k) × HasFrame (block f k) x
 abbrev pub HasTaken : Taken → Block → Type 0
 HasTaken taken b = (x : ℕ) × HasFrame b x × IsTaken taken x
 
--- An aligned block in a held slot, without a taken frame, that is a whole slot or lies in an aligned block of the next order with
--- a taken frame. These are the free blocks if halves are joined at every release.
+-- The block is aligned, lies in a held slot and has no taken frame. It is a whole slot, or the aligned block of the next order
+-- around it has a taken frame. These are the free blocks if halves are joined at every release.
 abbrev pub IsFree : ℕ → (ℕ → Bool) → Taken → Block → Type 0
 IsFree top held taken b = IsAligned top b × (held (b.first / 2 ^ top) ≡ true) × (HasTaken taken b → ⊥)
     × ((b.order ≡ top) ⊎ HasTaken taken (around b.first (b.order + 1)))
 
--- The free block that a request for order k is served from. Of the free blocks of order at least k it has the least order, and of
--- these the least first frame. The request gets its first 2 ^ k frames.
+-- The free block that a request for order k is served from. Among the free blocks of order k or more it has the least order, and
+-- among those of that order the least first frame. The request gets its first 2 ^ k frames.
 abbrev pub IsChoice : ℕ → (ℕ → Bool) → Taken → ℕ → Block → Type 0
 IsChoice top held taken k b = IsFree top held taken b × (k ≤ b.order)
     × ((c : Block) → IsFree top held taken c → k ≤ c.order → (b.order < c.order) ⊎ ((b.order ≡ c.order) × (b.first ≤ c.first)))
@@ -67,7 +67,7 @@ IsChoice top held taken k b = IsFree top held taken b × (k ≤ b.order)
 abbrev pub IsWithout : ℕ → (ℕ → Bool) → Taken → ℕ → Type 0
 IsWithout top held taken k = (c : Block) → IsFree top held taken c → k ≤ c.order → ⊥
 
--- what holds of the taken blocks of every machine
+-- what is true of the taken blocks of every machine
 pub record IsSound (top : ℕ) (held : ℕ → Bool) (taken : Taken) : Type 0 where
   -- each is aligned and lies in a held slot
   pub placed : (f k : ℕ) → taken f ≡ Some k → IsAligned top (block f k) × (held (f / 2 ^ top) ≡ true)

@@ -1,4 +1,4 @@
--- Which sizes a machine may have.
+-- The sizes that a machine may have.
 use Rattle.std.specs.Prelude.{ℕ, nat_le, ◌&&◌, Bool}
 use Rattle.model_core.specs.declared.limits.TheConstants.{LEAST_ORDER, MOST_ORDER, MOST_SUPERBLOCKS, MOST_TENANTS}
 use Rattle.model_core.specs.declared.config.Config.{Config}

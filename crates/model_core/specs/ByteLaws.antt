@@ -1,4 +1,4 @@
--- The laws of bytes: what changes the byte at a place, and what leaves it.
+-- The laws of bytes: what changes the byte at a place, and what does not.
 use Rattle.std.specs.Prelude.{◌≡◌, ℕ, ◌+◌, Bool, true, false, List, [], ◌∷◌, length, Some, None, nat_le, nat_lt, ◌&&◌, ⊤}
 use Rattle.model_core.specs.Machine.{Machine, holds, slot_of, choice}
 use Rattle.model_core.specs.Reach.{in_reach}
@@ -39,15 +39,15 @@ writes Operation.Grant place = false
 writes (Operation.TakeBack slot) place = false
 writes Operation.Reset place = false
 
--- The operation leaves the place alone: it does not write it, no slab is made or freed there, and its slot is neither granted nor
--- taken away.
+-- The operation leaves the place alone: it does not write the place, does not make or free a slab there, and does not grant or
+-- take away the slot of the place.
 pub record IsLeftAlone (limit order : ℕ) (operation : Operation) (m : Machine) (place : ℕ) : Type 0 where
   pub unwritten : writes operation place ≡ false
   pub unmade : makes_slab_at order operation m place ≡ false
   pub same_slab : in_slab (after limit order operation m) place ≡ in_slab m place
   pub same_slot : holds (after limit order operation m) (slot_of order place) ≡ holds m (slot_of order place)
 
--- the byte of a place that is left alone stays, live or not, in reach or not ..
+-- a place that is left alone keeps its byte, in reach or not ..
 abbrev pub BytesStay : Type 0
 BytesStay = (limit order : ℕ) (operation : Operation) (m : Machine) (place : ℕ) → IsWellFormed limit order m
     → IsLeftAlone limit order operation m place → (after limit order operation m).bytes place ≡ m.bytes place
@@ -58,8 +58,8 @@ AllLeaveAlone limit order [] m place = ⊤
 AllLeaveAlone limit order (operation ∷ operations) m place =
     IsLeftAlone limit order operation m place × AllLeaveAlone limit order operations (after limit order operation m) place
 
--- .. also over whole runs. So an object that is left alone is handed out again as it was when it was given back, and a page block
--- is allocated as it was when it was freed.
+-- .. also over whole runs. So an object that is left alone has the same bytes when it is handed out again as when it was given
+-- back, and a page block has the same bytes when it is allocated again as when it was freed.
 abbrev pub RunsKeepBytes : Type 0
 RunsKeepBytes = (limit order : ℕ) (operations : List Operation) (m : Machine) (place : ℕ) → ArePossible operations
     → IsWellFormed limit order m → AllLeaveAlone limit order operations m place

@@ -31,7 +31,7 @@ create_step limit size align pattern m =
 abbrev pub cache_answer : Step (Option ℕ) → Step (Result ℕ CacheRefusal)
 cache_answer step = record { answer = ok_or step.answer CacheRefusal.NoCacheSlot; machine = step.machine }
 
--- makes a cache, or refuses its size or its alignment
+-- makes a cache; refuses a size or an alignment that is not allowed, and a cache beyond the limit
 unfoldable pub cache_step : ℕ → ℕ → ℕ → List ℕ → Machine → Step (Result ℕ CacheRefusal)
 cache_step limit size align pattern m =
     if not (is_size size) then refuse CacheRefusal.BadSize m
@@ -74,7 +74,7 @@ abbrev pub give_of : ℕ → Machine → Option Cache → Step (Result (Unit {0}
 give_of place m None = refuse GiveRefusal.NoCache m
 give_of place m (Some c) = give_object c m (find (λ object. object.place == place) (live_objects c))
 
--- gives back the object of the cache that begins at this place, whose bytes stay
+-- gives back the object of the cache that begins at this place; its bytes stay
 unfoldable pub give_step : ℕ → ℕ → Machine → Step (Result (Unit {0}) GiveRefusal)
 give_step number place m = give_of place m (cache_of m number)
 

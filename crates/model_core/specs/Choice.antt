@@ -1,31 +1,31 @@
--- The free block that a request gets, and the number of free blocks, computed. `slots` is any number above all held slots; the
+-- Computes the free block that a request gets, and the number of free blocks. `slots` is any number above all held slots; the
 -- results do not depend on it.
 use Rattle.std.specs.Prelude.{ℕ, zero, suc, ◌+◌, ◌*◌, ◌/◌, ◌%◌, ◌^◌, Bool, false, not, ◌&&◌, ◌||◌, ◌==◌, nat_lt, nat_le, if◌then◌else◌, Option, Some, None, is_some}
 use Rattle.std.specs.Option.{option_and_then, option_map}
 use Rattle.model_core.specs.Blocks.{Block, block, Taken}
 use Rattle.model_core.specs.Numbered.{is_clear}
 
--- some number below n passes
+-- some number below n passes the test
 abbrev pub is_any_below : (ℕ → Bool) → ℕ → Bool
 is_any_below p zero = false
 is_any_below p (suc n) = is_any_below p n || p n
 
--- the number found so far, or else n if it passes
+-- the number found so far, or else n if it passes the test
 abbrev pub found_or : (ℕ → Bool) → ℕ → Option ℕ → Option ℕ
 found_or p n (Some i) = Some i
 found_or p n None = if p n then Some n else None
 
--- the least number below n that passes
+-- the least number below n that passes the test
 abbrev pub least : (ℕ → Bool) → ℕ → Option ℕ
 least p zero = None
 least p (suc n) = found_or p n (least p n)
 
--- the block that begins at frame f, if its order is `order`, has frame x
+-- a block begins at frame f and has frame x; its order is given, or None if no block begins there
 abbrev pub has_frame : ℕ → ℕ → Option ℕ → Bool
 has_frame x f None = false
 has_frame x f (Some order) = nat_le f x && nat_lt x (f + 2 ^ order)
 
--- the test of `IsTaken`
+-- the test for `IsTaken`
 abbrev pub is_taken : Taken → ℕ → Bool
 is_taken taken x = is_any_below (λ f. has_frame x f (taken f)) (suc x)
 
@@ -33,7 +33,8 @@ is_taken taken x = is_any_below (λ f. has_frame x f (taken f)) (suc x)
 abbrev pub is_available : ℕ → (ℕ → Bool) → Taken → ℕ → Bool
 is_available top held taken x = held (x / 2 ^ top) && not (is_taken taken x)
 
--- the test of `IsFree`: aligned, all available, and a whole slot or not all available around it
+-- The test for `IsFree`: the block is aligned and all its frames are available. It is a whole slot, or not all frames of the block
+-- of the next order around it are available.
 abbrev pub is_free : ℕ → (ℕ → Bool) → Taken → Block → Bool
 is_free top held taken b = (nat_le b.order top && b.first % 2 ^ b.order == 0)
     && (is_clear (is_available top held taken) b.order (b.first / 2 ^ b.order)
@@ -47,12 +48,12 @@ first_free top held taken slots j = least (λ f. is_free top held taken (block f
 abbrev pub first_order : ℕ → (ℕ → Bool) → Taken → ℕ → ℕ → Option ℕ
 first_order top held taken slots k = least (λ j. nat_le k j && is_some (first_free top held taken slots j)) (suc top)
 
--- the block of `IsChoice`, or None if there is none
+-- the block that `IsChoice` describes, or None if there is none
 abbrev pub choose : ℕ → (ℕ → Bool) → Taken → ℕ → ℕ → Option Block
 choose top held taken slots k =
     option_and_then (λ j. option_map (λ f. block f j) (first_free top held taken slots j)) (first_order top held taken slots k)
 
--- the number of numbers below n that pass
+-- how many numbers below n pass the test
 abbrev pub count_below : (ℕ → Bool) → ℕ → ℕ
 count_below p zero = 0
 count_below p (suc n) = count_below p n + (if p n then 1 else 0)

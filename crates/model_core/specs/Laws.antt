@@ -20,7 +20,7 @@ ChoiceIsUntaken = (order k first : ℕ) (m : Machine) → choice order m k ≡ S
     → IsAligned order (block first k)
     × ((x : ℕ) → HasFrame (block first k) x → (holds m (x / 2 ^ order) ≡ true) × (IsTaken (taken_in m) x → ⊥))
 
--- any other representation of the held slots and the taken blocks chooses what the machine chooses
+-- any other representation of the same held slots and taken blocks leads to the same choice as the machine
 abbrev pub ChoicesMeet : Type 0
 ChoicesMeet = (order k : ℕ) (held : ℕ → Bool) (taken : Taken) (m : Machine) → ((u : ℕ) → holds m u ≡ held u)
     → ((f : ℕ) → taken_in m f ≡ taken f)
@@ -112,7 +112,7 @@ pub record IsObject (m : Machine) (object : Object) : Type 0 where
 abbrev pub place_of : Object → ℕ
 place_of object = object_place (layout object.cache) object.slab.first object.slab.colour object.index
 
--- the place has one of the object's bytes
+-- the byte at the place is one of the object's
 abbrev pub HasByte : Object → ℕ → Type 0
 HasByte object place = (place_of object ≤ place) × (place < place_of object + object.cache.size)
 
@@ -142,8 +142,8 @@ taken_place order Operation.Grant m = None
 taken_place order (Operation.TakeBack slot) m = None
 taken_place order Operation.Reset m = None
 
--- The block of the slab that the cache makes for a take. It makes one if none of its slabs is partial or empty and a block is
--- found on demand.
+-- The block of the slab that the cache makes for a take, or None. The cache makes a slab if none of its slabs is partial or empty
+-- and a block is found, if need be after all empty slabs are freed.
 abbrev pub block_of_growth : ℕ → Machine → Cache → Option Block
 block_of_growth order m c =
     if is_some (slab_to_use (find is_partial c.slabs) (find is_empty c.slabs)) then None
@@ -171,22 +171,22 @@ makes_slab_at order operation m place = option_map_or (in_block place) (made_blo
 abbrev pub hands_out : ℕ → Operation → Machine → ℕ → Bool
 hands_out order operation m place = option_map_or (λ p. p == place) (taken_place order operation m) false
 
--- How often the object that begins at a place has been handed out since its slab was made: n times before the operations, which
--- begin at machine m. The count begins anew when they make a slab that has the place, and each take that returns the place adds
--- one.
+-- How often the object that begins at a place has been handed out since its slab was made. It was handed out n times before the
+-- operations, which begin at machine m. The count starts again from 0 when an operation makes a slab that has the place, and each
+-- take that returns the place adds one.
 abbrev pub hand_outs : ℕ → ℕ → ℕ → List Operation → Machine → ℕ → ℕ
 hand_outs limit order place [] m n = n
 hand_outs limit order place (operation ∷ operations) m n = hand_outs limit order place operations (after limit order operation m)
     ((if makes_slab_at order operation m place then 0 else n) + (if hands_out order operation m place then 1 else 0))
 
--- An object that was not handed out since its slab was made reads as its cache's pattern, after any operations ..
+-- An object that has not been handed out since its slab was made reads as its cache's pattern, after any operations ..
 abbrev pub ConstructedFirst : Type 0
 ConstructedFirst = (limit order : ℕ) (operations : List Operation) (object : Object) (j : ℕ) → ArePossible operations
     → let m = run limit order operations empty_machine in IsObject m object → j < object.cache.size
     → hand_outs limit order (place_of object) operations empty_machine 0 ≡ 0
     → m.bytes (place_of object + j) ≡ Some (pattern_byte object.cache.pattern j)
 
--- .. and so does one that a take has just handed out for the first time, also if that take makes the slab.
+-- .. and so does an object that a take has just handed out for the first time, even if that take makes the slab.
 abbrev pub ConstructedWhenTaken : Type 0
 ConstructedWhenTaken = (limit order number : ℕ) (operations : List Operation) (object : Object) (j : ℕ) → ArePossible operations
     → let step = take_step order number (run limit order operations empty_machine) in step.answer ≡ Ok (place_of object)

@@ -1,4 +1,4 @@
--- How a slab is cut into objects. Numbers are in bytes unless they are called frames.
+-- How a slab is cut into objects. Sizes, alignments and offsets are in bytes.
 use Rattle.std.specs.Prelude.{◌≡◌, ℕ, ◌+◌, ◌-◌, ◌*◌, ◌/◌, ◌%◌, ◌^◌, ◌<◌, ◌≤◌, Bool, true, List, [], ◌∷◌, length, max, slice_index, if◌then◌else◌, nat_lt, nat_le, ◌&&◌, ◌==◌}
 use Rattle.std.specs.List.{list_any}
 use Rattle.model_core.specs.declared.limits.TheConstants.{FRAME_BYTES, RECORD_BYTES, RECORD_OFFSET, MOST_SIZE, MOST_PATTERN}
@@ -85,7 +85,7 @@ pub record IsFit (l : Layout) (colour : ℕ) : Type 0 where
   pub within : l.room ≤ bytes_of_order l.order
   pub small : is_small l.chunk ≡ true → (l.order ≡ 0) × (l.room + RECORD_BYTES ≤ FRAME_BYTES)
 
--- the layout of these numbers fits at each of its colour offsets
+-- the layout suits objects of this size and alignment at each of its colour offsets
 pub record IsLayout (size align : ℕ) (l : Layout) : Type 0 where
   pub sized : 0 < size
   pub chunked : size ≤ l.chunk
@@ -94,7 +94,7 @@ pub record IsLayout (size align : ℕ) (l : Layout) : Type 0 where
   pub order : l.order ≤ 3
   pub fits : (made : ℕ) → IsFit l (colour_offset align made l)
 
--- for each allowed size and alignment, the objects of every colour offset are aligned, have their size and end within `room`
+-- for each allowed size and alignment, at each colour offset, objects are aligned, fit into their chunks and end within `room`
 abbrev pub LayoutsFit : Type 0
 LayoutsFit = (size align : ℕ) → is_size size ≡ true → is_alignment align ≡ true → IsLayout size align (layout_of size align)
 

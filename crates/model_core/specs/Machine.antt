@@ -1,4 +1,4 @@
--- The private machine of a tenant: what it would have if no one else were there. Slots, frames and places are
+-- The private machine of a tenant: what the tenant would have if it were alone. Slots, frames and places are
 -- numbered from 0; a frame has FRAME_BYTES places, one byte each.
 use Rattle.std.specs.Prelude.{ℕ, ◌+◌, ◌/◌, ◌^◌, Bool, List, [], ◌∷◌, ◌++◌, map, flat_map, max, Option, Some, None, option_map, if◌then◌else◌, nat_lt, nat_le, ◌&&◌, ◌==◌}
 use Rattle.std.specs.List.{list_any}
@@ -11,7 +11,7 @@ use Rattle.model_core.specs.Layouts.{Layout, layout_of}
 pub record Slab : Type 0 where
   pub first : ℕ
   pub colour : ℕ
-  -- a flag for each object, in their order: whether it is live
+  -- for each object, in order, whether it is live
   pub live : List Bool
 
 pub record Cache : Type 0 where
@@ -21,9 +21,9 @@ pub record Cache : Type 0 where
   pub align : ℕ
   -- the pattern of constructed objects
   pub pattern : List ℕ
-  -- slabs made since its creation, modulo the number of colours
+  -- the number of slabs made since the cache was created, modulo the number of colours
   pub made : ℕ
-  -- by rising first frame
+  -- the slabs, by rising first frame
   pub slabs : List Slab
 
 pub record Machine : Type 0 where
@@ -31,7 +31,7 @@ pub record Machine : Type 0 where
   pub slots : List ℕ
   -- the live page blocks, by rising first frame
   pub blocks : List Block
-  -- by rising number
+  -- the caches, by rising number
   pub caches : List Cache
   -- the byte at a place, if there is one
   pub bytes : ℕ → Option ℕ

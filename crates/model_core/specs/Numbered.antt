@@ -1,6 +1,6 @@
 -- Aligned blocks by number: block q of order k has the frames x with x / 2 ^ k equal to q, and its
 -- halves are the blocks 2 * q and 2 * q + 1 of the order below. `ok` is any test of frames; the free
--- blocks are the open ones of the test `is_available`.
+-- blocks are those that are open under the test `is_available`.
 use Rattle.std.specs.Prelude.{◌≡◌, ◌⊎◌, ℕ, zero, suc, ◌+◌, ◌*◌, ◌/◌, ◌≤◌, Bool, true, false, ◌&&◌}
 
 -- the number of the block of order k that has frame x

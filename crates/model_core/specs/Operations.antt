@@ -40,13 +40,13 @@ abbrev pub free_at : ℕ → Machine → Option ℕ → Step (Option ℕ)
 free_at first m None = record { answer = None; machine = m }
 free_at first m (Some order) = record { answer = Some order; machine = without_block first m }
 
--- Frees the page block that begins at this frame, whose bytes stay. The answer is its order, or None if there is no such block.
+-- Frees the page block that begins at this frame; its bytes stay. The answer is its order, or None if there is no such block.
 unfoldable pub free_step : ℕ → Machine → Step (Option ℕ)
 free_step first m = free_at first m (order_in m.blocks first)
 
 -- Bytes
 
--- reads the bytes of a range, 1 to MOST_BYTES of them
+-- reads a range of 1 to MOST_BYTES bytes
 unfoldable pub read_step : ℕ → ℕ → Machine → Step (Result (List ℕ) ReadRefusal)
 read_step place len m =
     if not (nat_le 1 len && nat_le len MOST_BYTES) then refuse ReadRefusal.BadLength m
@@ -92,7 +92,7 @@ after_take_back order slot m = record m {
   bytes = λ place. if slot_of order place == slot then None else m.bytes place;
 }
 
--- takes back a slot, or refuses because it is not held or has a taken frame
+-- takes back a slot; refuses a slot that is not held or has a taken frame
 unfoldable pub take_back_step : ℕ → ℕ → Machine → Step (Result (Unit {0}) TakeBackRefusal)
 take_back_step order slot m =
     if not (holds m slot) then refuse TakeBackRefusal.NoSlot m

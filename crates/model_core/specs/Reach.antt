@@ -6,7 +6,7 @@ use Rattle.model_core.specs.Blocks.{Block}
 use Rattle.model_core.specs.Machine.{Cache, Machine}
 use Rattle.model_core.specs.Slabs.{LiveObject, live_objects}
 
--- the `len` bytes from a place on are among the `size` bytes from a beginning on
+-- the `len` bytes from `place` on are among the `size` bytes from `begin` on
 abbrev pub is_within : ℕ → ℕ → ℕ → ℕ → Bool
 is_within place len begin size = nat_le begin place && nat_le (place + len) (begin + size)
 

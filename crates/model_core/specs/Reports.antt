@@ -1,4 +1,4 @@
--- The figures of a private machine that a report gives. Slots have 2 ^ order frames.
+-- The figures that a report gives about a private machine. Slots have 2 ^ order frames.
 use Rattle.std.specs.Prelude.{ℕ, zero, suc, ◌+◌, ◌-◌, ◌*◌, ◌/◌, ◌^◌, ◌==◌, if◌then◌else◌, List, [], ◌∷◌, ◌++◌, length, map, filter, Option, Some, None}
 use Rattle.model_core.specs.declared.report.OrderRow.{OrderRow}
 use Rattle.model_core.specs.declared.report.CacheRow.{CacheRow}
@@ -7,7 +7,7 @@ use Rattle.model_core.specs.Machine.{Cache, Machine, beyond, holds, taken_blocks
 use Rattle.model_core.specs.Slabs.{is_full, is_partial, is_empty, live_objects}
 use Rattle.model_core.specs.CacheOperations.{frames_of}
 
--- the number of frames of the held slots, of those in taken blocks, and of the others
+-- the number of frames in the held slots, the number of those in taken blocks, and the number of the others
 
 abbrev pub frames_held : ℕ → Machine → ℕ
 frames_held order m = length m.slots * 2 ^ order
@@ -18,7 +18,7 @@ frames_taken m = frames_of (taken_blocks m)
 abbrev pub frames_free : ℕ → Machine → ℕ
 frames_free order m = frames_held order m - frames_taken m
 
--- the number of free and of taken blocks of order k
+-- the numbers of free and of taken blocks of order k
 
 abbrev pub free_count : ℕ → Machine → ℕ → ℕ
 free_count order m k = free_blocks order (holds m) (taken_in m) (beyond m.slots) k
@@ -43,7 +43,8 @@ greatest count (suc k) = if count k == 0 then greatest count k else Some k
 abbrev pub greatest_free : ℕ → Machine → Option ℕ
 greatest_free order m = if frames_free order m == 0 then None else greatest (free_count order m) (order + 1)
 
--- The share of the free frames that lies outside one greatest free block, in thousandths, rounded up. It measures fragmentation.
+-- The share of the free frames that lies outside one free block of the greatest order, in thousandths, rounded up. It measures
+-- fragmentation.
 abbrev pub split_share : ℕ → Option ℕ → ℕ
 split_share free None = 0
 split_share free (Some k) = 1000 - 1000 * 2 ^ k / free

@@ -1,4 +1,4 @@
--- When a machine has space for a block, for any positions of its taken blocks.
+-- When a machine has space for a block, wherever its taken blocks lie.
 use Rattle.std.specs.Prelude.{◌≡◌, ℕ, ◌-◌, ◌*◌, ◌^◌, ◌<◌, ◌≤◌, length, Some, Ok}
 use Rattle.model_core.specs.Machine.{Cache, Machine, layout}
 use Rattle.model_core.specs.Slabs.{cache_of, reaped, choice_by_need}
@@ -7,8 +7,8 @@ use Rattle.model_core.specs.CacheOperations.{take_step}
 use Rattle.model_core.specs.Reports.{frames_taken}
 use Rattle.model_core.specs.WellFormed.{IsWellFormed}
 
--- Fewer frames are taken, empty slabs not counted, than the held slots have aligned blocks of order k; slots have
--- 2 ^ order frames.
+-- The number of taken frames, not counting those of empty slabs, is less than the number of aligned blocks of order k in the held
+-- slots. Slots have 2 ^ order frames.
 pub record IsAmple (order k : ℕ) (m : Machine) : Type 0 where
   pub of_slot : k ≤ order
   pub fewer : frames_taken (reaped m) < length m.slots * 2 ^ (order - k)

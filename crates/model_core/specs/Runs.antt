@@ -14,11 +14,11 @@ pub data Operation : Type 0 where
   Free : ℕ → Operation
   -- writes bytes from a place on
   Write : ℕ → List ℕ → Operation
-  -- makes a cache of a size, an alignment and a pattern
+  -- makes a cache with this size, alignment and pattern
   Create : ℕ → ℕ → List ℕ → Operation
   -- takes an object of this cache
   Take : ℕ → Operation
-  -- gives back the object of a cache at a place
+  -- gives back the object of this cache at this place
   Give : ℕ → ℕ → Operation
   -- destroys this cache
   Destroy : ℕ → Operation
@@ -31,7 +31,7 @@ pub data Operation : Type 0 where
   -- takes away everything
   Reset : Operation
 
--- the operation can be requested: a new cache has an allowed pattern
+-- the operation can be requested: if it makes a cache, the pattern is allowed
 abbrev pub IsPossible : Operation → Type 0
 IsPossible (Create size align pattern) = is_pattern pattern ≡ true
 IsPossible (Alloc k) = ⊤
@@ -49,7 +49,7 @@ IsPossible Reset = ⊤
 abbrev pub ArePossible : List Operation → Type 0
 ArePossible operations = AllByRecursion IsPossible operations
 
--- the machine after an operation; `limit` is the largest number of caches, slots have 2 ^ order frames
+-- The machine after an operation. `limit` is the largest number of caches; slots have 2 ^ order frames.
 abbrev pub after : ℕ → ℕ → Operation → Machine → Machine
 after limit order (Alloc k) m = (alloc_step order k m).machine
 after limit order (Free first) m = (free_step first m).machine

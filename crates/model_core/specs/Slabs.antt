@@ -6,11 +6,11 @@ use Rattle.model_core.specs.Blocks.{Block}
 use Rattle.model_core.specs.Layouts.{colour_offset, object_place, in_object, pattern_byte}
 use Rattle.model_core.specs.Machine.{Slab, Cache, Machine, layout, slab_block, slab_blocks, in_block, put_rising, choice}
 
--- all objects live
+-- all objects are live
 abbrev pub is_full : Slab → Bool
 is_full s = list_all (λ live. live) s.live
 
--- no object live
+-- no object is live
 abbrev pub is_empty : Slab → Bool
 is_empty s = not (list_any (λ live. live) s.live)
 
@@ -19,7 +19,7 @@ is_partial s = not (is_full s) && not (is_empty s)
 
 pub record LiveObject : Type 0 where
   pub slab : Slab
-  -- which object of the slab
+  -- its index in the slab
   pub index : ℕ
   -- its first place
   pub place : ℕ
@@ -46,15 +46,15 @@ cache_of m number = find (λ c. c.number == number) m.caches
 abbrev pub slab_of : Cache → ℕ → Option Slab
 slab_of c first = find (λ s. s.first == first) c.slabs
 
--- the machine with this cache in place of the one with its number
+-- the machine with this cache in place of the cache with the same number
 abbrev pub with_cache : Cache → Machine → Machine
 with_cache c m = record m { caches = map (λ x. if x.number == c.number then c else x) m.caches }
 
--- the cache with this slab in place of the one at its frame
+-- the cache with this slab in place of the slab at the same frame
 abbrev pub with_slab : Slab → Cache → Cache
 with_slab s c = record c { slabs = map (λ x. if x.first == s.first then s else x) c.slabs }
 
--- the slab with object i live or not
+-- the slab with object i marked live or not live
 abbrev pub with_live : ℕ → Bool → Slab → Slab
 with_live i live s = record s { live = slice_set s.live i live }
 
@@ -108,7 +108,7 @@ unfoldable pub reaped : Machine → Machine
 reaped m = record m { caches = map without_empty m.caches; bytes = zeroed (flat_map empty_blocks m.caches) m.bytes }
 
 -- The machine that serves a request for a block of order k. If a block is found only after all empty slabs are freed, they are
--- freed. Otherwise it is the machine itself.
+-- freed. Otherwise it is machine m itself.
 unfoldable pub by_need : ℕ → ℕ → Machine → Machine
 by_need order k m = if is_some (choice order m k) || is_none (choice order (reaped m) k) then m else reaped m
 

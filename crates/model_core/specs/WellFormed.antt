@@ -1,4 +1,4 @@
--- What holds of every machine after any operations.
+-- What is true of every machine after any operations.
 use Rattle.std.specs.Prelude.{◌≡◌, ℕ, ◌+◌, ◌-◌, ◌*◌, ◌/◌, ◌^◌, ◌<◌, ◌≤◌, Bool, true, not, List, [], ◌∷◌, map, flat_map, length, is_some, ⊤, ◌&&◌, ◌||◌}
 use Rattle.std.specs.List.{list_any, AllByRecursion}
 use Rattle.model_core.specs.declared.limits.TheConstants.{FRAME_BYTES}
@@ -6,7 +6,7 @@ use Rattle.model_core.specs.Blocks.{Block, HasFrame, IsAligned}
 use Rattle.model_core.specs.Layouts.{is_size, is_alignment, is_pattern, colour_offset, in_object}
 use Rattle.model_core.specs.Machine.{Slab, Cache, Machine, holds, slot_of, in_block, layout, slab_block, slab_blocks, taken_blocks}
 
--- the numbers rise, from n on
+-- each of the numbers is greater than the one before it, and none is below n
 abbrev pub RisesFrom : ℕ → List ℕ → Type 0
 RisesFrom n [] = ⊤
 RisesFrom n (x ∷ xs) = (n ≤ x) × RisesFrom (x + 1) xs
@@ -29,7 +29,7 @@ pub record IsCut (c : Cache) (s : Slab) : Type 0 where
   pub count : length s.live ≡ (layout c).count
   pub colour : (made : ℕ) × (s.colour ≡ colour_offset c.align made (layout c))
 
--- the cache's numbers and its pattern are within their limits, its slabs rise and are cut by its layout
+-- the cache's numbers and its pattern are within their limits; its slabs are in rising order and cut by its layout
 pub record IsCache (c : Cache) : Type 0 where
   pub sized : is_size c.size ≡ true
   pub aligned : is_alignment c.align ≡ true
@@ -42,18 +42,18 @@ pub record IsCache (c : Cache) : Type 0 where
 abbrev pub in_slab : Machine → ℕ → Bool
 in_slab m place = list_any (in_block place) (flat_map slab_blocks m.caches)
 
--- the byte at the place is one of an object of the slab, live or not
+-- the place lies in an object of the slab, live or not
 abbrev pub in_object_of : ℕ → Cache → Slab → Bool
 in_object_of place c s = in_block place (slab_block c s) && in_object (layout c) c.size s.colour (place - FRAME_BYTES * s.first)
 
 abbrev pub in_cache : ℕ → Cache → Bool
 in_cache place c = list_any (in_object_of place c) c.slabs
 
--- the place is held and lies outside slabs, or in the bytes of an object
+-- the place lies in a held slot and outside all slabs, or it lies in an object
 abbrev pub is_mapped : ℕ → Machine → ℕ → Bool
 is_mapped order m place = (holds m (slot_of order place) && not (in_slab m place)) || list_any (in_cache place) m.caches
 
--- `limit` is the largest number of caches, slots have 2 ^ order frames
+-- `limit` is the largest number of caches; slots have 2 ^ order frames
 pub record IsWellFormed (limit order : ℕ) (m : Machine) : Type 0 where
   pub slots_rise : RisesFrom 0 m.slots
   pub blocks_rise : RisesFrom 0 (map (λ b. b.first) m.blocks)
@@ -62,5 +62,5 @@ pub record IsWellFormed (limit order : ℕ) (m : Machine) : Type 0 where
   pub caches : AllByRecursion IsCache m.caches
   pub placed : AllByRecursion (IsPlaced order m) (taken_blocks m)
   pub apart : AreApart (taken_blocks m)
-  -- exactly these places have a byte
+  -- exactly the mapped places have a byte
   pub mapped : (place : ℕ) → is_some (m.bytes place) ≡ is_mapped order m place

@@ -5,7 +5,8 @@ ghost use Rattle.model_core.specs.BlockLaws.{EachFrameInOne, Splits, Joins, Rese
 
 /// Each frame of a held slot that is not taken is in exactly one free block. A reservation removes the
 /// free block that it splits, and the upper half of each split stays free. If the taken blocks are
-/// sound, a release joins the block with its buddy as long as that is free (Knuth, TAOCP 1, 2.5, algorithms R and S).
+/// sound, a released block is joined with its buddy as long as the buddy is free (Knuth, TAOCP 1, 2.5,
+/// algorithms R and S).
 pub fn splits_and_joins()
     ensures one_block { EachFrameInOne }
     ensures splits { Splits }
@@ -26,7 +27,7 @@ pub fn taken_stays_sound()
     ensures take_back { TakeBackStaysSound }
 {}
 
-/// `is_free` decides whether a block is free. Given a bound above every held slot, `choose` finds the block that a
+/// `is_free` decides whether a block is free. Given a bound above every held slot, `choose` returns the block that a
 /// request is served from, or `None` if no free block is large enough. There is at most one such block.
 pub fn choice_is_found()
     ensures tested { FreeIsTested }

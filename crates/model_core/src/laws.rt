@@ -29,7 +29,7 @@ pub fn reaps_by_need()
     ensures refused { RefusalsStay }
 {}
 
-/// After any list of operations that can be requested, the machine is well formed.
+/// After any list of operations that can be requested, from the empty machine on, the machine is well formed.
 pub fn stays_well_formed()
     ensures step { KeepsWellFormed }
     ensures run { RunsWellFormed }
@@ -45,16 +45,16 @@ pub fn taken_is_sound()
     ensures reap { ReapReleases }
 {}
 
-/// Taken blocks share no frame, objects of slabs share no byte, and those of small slabs stay below the last 32 bytes of
-/// their frame.
+/// No two taken blocks share a frame, and no two objects share a byte. The objects of a small slab lie before the last 32
+/// bytes of its frame.
 pub fn objects_apart()
     ensures blocks { TakenApart }
     ensures objects { ObjectsApart }
     ensures records { RecordsFree }
 {}
 
-/// An object that was never taken since its slab was made reads as its cache's pattern, after any operations in between. So
-/// does an object at its first take, also if that take makes the slab: it is in constructed state (Bonwick).
+/// An object that has not been taken since its slab was made reads as its cache's pattern, after any operations in between. So
+/// does an object at its first take, even if that take makes the slab: it is in constructed state (Bonwick).
 pub fn constructed_first()
     ensures untaken { ConstructedFirst }
     ensures taken { ConstructedWhenTaken }
@@ -62,9 +62,9 @@ pub fn constructed_first()
 
 /// No byte changes if a page block is allocated without freeing slabs, if one is freed, if an object is taken from an existing
 /// slab, or if one is given back. Over whole runs a place keeps its byte unless it is written, a slab is made or freed there, or
-/// its slot is granted or taken away. If none of these happens, objects and page blocks come back as they were left. An operation
-/// changes a byte that is within reach before and after it only if it writes that byte. A slab that is freed leaves zeros, if its
-/// slot stays.
+/// its slot is granted or taken away. If none of these happens, an object or page block that is allocated again has the bytes that
+/// it had when it was freed. An operation changes a byte that is within reach before and after it only if it writes that byte. The
+/// places of a slab that is freed read as zero, if its slot stays held.
 pub fn bytes_stay()
     ensures alloc { AllocKeeps }
     ensures free { FreeKeeps }
@@ -76,9 +76,9 @@ pub fn bytes_stay()
     ensures slabs { SlabsLeaveZeroes }
 {}
 
-/// If the frames taken, without those of empty slabs, are fewer than the aligned blocks of some order in the held slots, then a
-/// page block of that order is not refused, and neither is an object of a cache whose slabs have that order. This holds for any
-/// positions of the taken blocks.
+/// Suppose that the number of taken frames, not counting those of empty slabs, is less than the number of aligned blocks of some
+/// order in the held slots. Then a page block of that order is not refused, and neither is an object of a cache whose slabs have
+/// that order. This holds wherever the taken blocks lie.
 pub fn block_is_promised()
     ensures block { BlockIsPromised }
     ensures alloc { AllocIsPromised }

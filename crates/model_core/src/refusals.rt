@@ -1,5 +1,5 @@
-//! The refusals of the private machine. A refused operation changes nothing. Of several refusals the first in the order of the
-//! variants is returned.
+//! The refusals of the private machine. A refused operation changes nothing. If several refusals apply, the first in the order of
+//! the variants is returned.
 
 /// Why a page block is refused, in the order tested.
 #[derive(Clone, Copy, Debug, PartialEq, Eq)]
@@ -26,7 +26,7 @@ pub enum CacheRefusal {
     BadSize,
     /// The alignment is not 8, 16, 32, 64, 128 or 256.
     BadAlign,
-    /// The tenant has 32 caches, the largest number.
+    /// The tenant already has 32 caches, which is the limit.
     NoCacheSlot,
 }
 
@@ -35,7 +35,7 @@ pub enum CacheRefusal {
 pub enum TakeRefusal {
     /// There is no cache of this number.
     NoCache,
-    /// A new slab is needed and no block is free for it, nor would be if all empty slabs were freed.
+    /// A new slab is needed, no block is free for it, and none would be if all empty slabs were freed.
     NoFrames,
 }
 

@@ -1,4 +1,4 @@
--- The bytes taken, by the bytes given.
+-- Which bytes are taken, for the bytes given.
 use Rattle.std.specs.Prelude.{◌≡◌, ℕ, Bool, true, false, List, [], ◌∷◌, ◌++◌, Result, Ok, Err}
 use Rattle.words_core.specs.Cutting.{lines_of_trace}
 use Rattle.words_core.specs.Grammar.{reading_of}
@@ -12,12 +12,12 @@ use Rattle.own_trace.specs.declared.keeping.KeepError.{KeepError}
 use Rattle.own_trace.specs.declared.keeping.OwnLines.{OwnLines}
 use Rattle.own_trace.specs.Kept.{own_text}
 
--- These lines were run, and the text of those in the tenant's own list was taken ..
+-- these lines were run, and the text of those in the tenant's own list was taken
 pub record HasKept (t : ℕ) (before after : KernelContent) (lines : List (List ℕ)) (taken : List ℕ) : Type 0 where
   pub stands : StandsAfter before after lines
   pub kept : (w : World) → Shows before w → taken ≡ own_text t cache_limit before.order lines w
 
--- .. or only a part of that text: the last line is the tenant's own, and was cut.
+-- these lines and one more were run; the last one is in the tenant's own list, and its text was taken only in part
 pub record IsKeptShort (t : ℕ) (before after : KernelContent) (lines : List (List ℕ)) (line taken : List ℕ) : Type 0 where
   pub stands : StandsAfter before after (lines ++ line ∷ [])
   pub kept : (w : World) → Shows before w → IsCutIn (λ xs. own_text t cache_limit before.order xs w) lines line taken

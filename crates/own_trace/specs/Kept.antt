@@ -7,7 +7,7 @@ use Rattle.world_core.specs.World.{World, Exchange, opening_world, history, worl
 use Rattle.world_core.specs.OwnList.{own_list}
 use Rattle.world_core.specs.Output.{event_in, with_line_feeds}
 
--- a line with its event and the reply; with no exchange if the line is blank, a comment or faulty
+-- a line, and the exchange of its event and the reply; a line that is blank, a comment or faulty has no exchange
 pub record RunLine : Type 0 where
   pub line : List ℕ
   pub exchanges : List Exchange
@@ -31,7 +31,7 @@ is_own_line t run = has_entry (own_list t run.exchanges)
 abbrev pub own_lines : ℕ → ℕ → ℕ → List (List ℕ) → World → List (List ℕ)
 own_lines t limit order lines w = map (λ run. run.line) (filter (is_own_line t) (run_lines limit order lines w))
 
--- the same as bytes, each with its LF
+-- the same lines as bytes, each with an LF
 abbrev pub own_text : ℕ → ℕ → ℕ → List (List ℕ) → World → List ℕ
 own_text t limit order lines w = with_line_feeds (own_lines t limit order lines w)
 

@@ -1,4 +1,4 @@
--- The laws of a tenant's own lines, over the definitions alone.
+-- The laws of a tenant's own lines, stated with the definitions alone.
 use Rattle.std.specs.Prelude.{◌≡◌, ℕ, ◌*◌, ◌^◌, ◌<◌, ◌≤◌, List, filter}
 use Rattle.std.specs.List.{flat_map}
 use Rattle.words_core.specs.Cutting.{lines_of_trace}
@@ -14,14 +14,14 @@ KeptAreOwnList = (limit order superblocks tenants t : ℕ) (trace : List ℕ) �
     flat_map (λ run. own_list t run.exchanges) (filter (is_own_line t) (run_lines limit order (lines_of_trace trace) (opening_world superblocks tenants)))
     ≡ own_list t (opening_history limit order superblocks tenants (events_of (lines_of_trace trace)))
 
--- If the kept lines are run alone, on a new machine of the same sizes, their own list is the same; slots have at least 8
--- frames, and no place of RAM is 2 ^ 32 or more ..
+-- If the kept lines are run alone, on a new machine of the same sizes, their own list is the same. This holds if slots have at
+-- least 8 frames and RAM has at most 2 ^ 32 bytes.
 abbrev pub OwnListAlone : Type 0
 OwnListAlone = (limit order superblocks tenants t : ℕ) (trace : List ℕ) → 3 ≤ order → superblocks * 2 ^ order * 4096 ≤ 2 ^ 32 → t < tenants →
     own_list t (opening_history limit order superblocks tenants (events_of (lines_of_trace (own_trace limit order superblocks tenants t trace))))
     ≡ own_list t (opening_history limit order superblocks tenants (events_of (lines_of_trace trace)))
 
--- .. so the tenant gets the same lines.
+-- So the tenant gets the same reply lines.
 abbrev pub LinesAlone : Type 0
 LinesAlone = (limit order superblocks tenants t : ℕ) (trace : List ℕ) → 3 ≤ order → superblocks * 2 ^ order * 4096 ≤ 2 ^ 32 → tenants ≤ 2 ^ 64 → t < tenants →
     lines_for t (output_of limit order (own_trace limit order superblocks tenants t trace) (opening_world superblocks tenants))

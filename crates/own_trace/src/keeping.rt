@@ -1,4 +1,4 @@
-//! The lines of a tenant's own list, from a feed into a drain.
+//! Copies the lines of a tenant's own list from a feed into a drain.
 
 ghost use Rattle.std.specs.Prelude.{◌≡◌, ℕ, ◌+◌, true, false, List, [], ◌∷◌, ◌++◌, Ok, Some, OnOk, length, is_err};
 ghost use Rattle.std.specs.Io.KnownBytes.{Consumes, Appends, IsAtEnd};
@@ -33,11 +33,11 @@ pub enum KeepError {
     Drain,
 }
 
-/// Runs the trace that the feed gives on the kernel, and pushes the lines of the tenant's own list into the drain, unchanged and
-/// each with an LF. Pushes no reply.
+/// Runs the trace from the feed on the kernel, and pushes the lines of the tenant's own list into the drain, unchanged and each
+/// with an LF. Pushes no reply.
 ///
-/// Lines are cut and run as in `replay_core::replay`: they end at LF, the last line needs no LF, and the drain sends what was
-/// pushed before the next pull. Allocates nothing.
+/// Lines are cut and run as in `replay_core::replay`: they end at LF, the last line needs no LF, and before each pull the drain
+/// sends what was pushed. Allocates nothing.
 pub fn keep<F: Feed, D: Drain>(
     kernel: &mut Kernel,
     feed: &mut F,
@@ -46,15 +46,15 @@ pub fn keep<F: Feed, D: Drain>(
 ) -> Result<(), KeepError>
     requires feed_fine { F.has_failed feed.old ≡ false }
     requires drain_fine { D.has_failed drain.old ≡ false }
-    // The bytes given and taken during the call and their relation, for any world that the kernel showed. If the bytes of the
-    // feed are not known, their number is.
+    // The bytes given and taken during the call and their relation, for any world that the kernel showed. Even if the bytes of
+    // the feed are not known, the number of bytes given is known.
     ensures kept { (given : List ℕ) × (taken : List ℕ)
         × Consumes (F.remaining feed.old) (F.remaining feed.new) given
         × Appends (D.contents drain.old) (D.contents drain.new) taken
         × KeepsOwn (F.has_ended feed.new) tenant kernel.old kernel.new given taken result
         × (F.room_left feed.new + length given ≡ F.room_left feed.old) }
     ensures ended { OnOk result (F.has_ended feed.new ≡ true) }
-    // The bytes given are then all that it had.
+    // The bytes given are then all that the feed had.
     ensures whole { F.has_ended feed.new ≡ true → IsAtEnd (F.remaining feed.new) }
     ensures failed { NamesEnd result (F.has_failed feed.new) (D.has_failed drain.new) }
 {
@@ -75,7 +75,8 @@ pub struct OwnLines {
 }
 
 impl OwnLines {
-    /// Pushes a line and a line feed if its event, refused or not, is in the tenant's own list.
+    /// Pushes a line and a line feed if the line's event is in the tenant's own list. `refused` says whether the event was
+    /// refused.
     fn keep_event<D: Drain>(
         &self,
         line: &[u8],
@@ -133,7 +134,7 @@ impl Sink for OwnLines {
         self.keep_event(line, event, is_refusal(answer), drain)
     }
 
-    // Kept out of line: a function clears its stack frame on entry, and a reply of several lines takes 1.5 KB.
+    // Not inlined: a function clears its stack frame on entry, and a reply of several lines takes 1.5 KB of it.
     #[cold]
     #[inline(never)]
     fn replied<D: Drain>(
@@ -176,7 +177,8 @@ fn is_refused_by(reply: &Reply) -> bool
     matches!(reply.body, Body::Refused(_))
 }
 
-/// Returns true if an event, refused or not, is in the tenant's own list. A reset of an existing tenant is never refused.
+/// Returns true if an event is in the tenant's own list. `refused` says whether the event was refused. A reset of an existing
+/// tenant is never refused.
 fn is_own(tenant: u8, event: &Event, refused: bool) -> bool
     ensures { (body : Body) → refused ≡ is_refused body → result ≡ has_entry (own_entries tenant event.now body) }
 {

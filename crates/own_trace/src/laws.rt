@@ -1,5 +1,5 @@
-//! The laws of a tenant's own lines of a trace. Each is the contract of an empty function, to be called where a proof needs the
-//! law.
+//! The laws of a tenant's own lines of a trace. Each law is the contract of an empty function. A proof that needs the law calls
+//! the function.
 
 ghost use Rattle.own_trace.specs.Laws.{KeptAreOwnList, OwnListAlone, LinesAlone};
 
@@ -10,8 +10,8 @@ pub fn kept_are_own_list()
 {}
 
 /// If the lines that are kept for a tenant are run alone on a new machine of the same sizes, they have the same own list,
-/// whatever the replies to others in the trace were. So the tenant gets the same reply lines. Slots have at least 8 frames, and
-/// RAM has at most 2^32 bytes.
+/// whatever the replies to others in the trace were. So the tenant gets the same reply lines. This holds if slots have at least 8
+/// frames and RAM has at most 2^32 bytes.
 pub fn alone()
     ensures list { OwnListAlone }
     ensures lines { LinesAlone }

@@ -22,8 +22,8 @@ use quick_core::read_ended_request;
 use replay_core::{Drain, Stopped};
 use words_core::Request;
 
-/// Runs the quick requests at the front of a piece, pushes the tenant's own, and returns the rest of the piece. The lines end in
-/// LF, or in CR LF if `RETURNS`.
+/// Runs the quick requests at the front of a piece, pushes the lines of the tenant's own requests, and returns the rest of the
+/// piece. The lines end in LF, or in CR LF if `RETURNS`.
 pub(crate) fn keep_ended_lines<'a, const RETURNS: bool, D: Drain>(
     piece: &'a [u8],
     kernel: &mut Kernel,
@@ -80,7 +80,8 @@ fn keep_request<const RETURNS: bool, D: Drain>(
     push_line(line, drain)
 }
 
-/// Runs a request. Returns true if it is in the tenant's own list, that is, if the tenant made it, whatever the answer.
+/// Runs a request. Returns true if the request is in the tenant's own list. It is there if the tenant made it, whatever the
+/// answer was.
 fn run_request<const RETURNS: bool>(
     asked: u32,
     request: Request<'_>,

@@ -32,7 +32,7 @@ IsSoundFinding config (Finding.Kept lines) trace replies =
 IsSoundFinding config (Finding.Broken breach) trace replies =
     IsBreach MOST_CACHES config.order config.superblocks config.tenants (lines_of_trace trace) replies breach
 
--- it is the finding of these texts, with its meaning
+-- it is the finding for these texts, with its meaning
 abbrev pub IsFindingOf : Config → Finding → (trace replies : List ℕ) → Type 0
 IsFindingOf config finding trace replies =
     (finding ≡ finding_of (opening_of config) trace replies) × IsSoundFinding config finding trace replies

@@ -48,12 +48,12 @@ abbrev pub IsNoFile : Option Text → Outcome → Type 0
 IsNoFile path outcome =
     ((path ≡ None) × IsBadLine (codes "error: TRACE and REPLIES are required\n") outcome) ⊎ (outcome ≡ Outcome.NoMemory)
 
--- why the values of the arguments are no settings: a size is faulty, or there is no path of a file
+-- why the values of the arguments are not settings: a size is faulty, or there is no path of a file
 abbrev pub IsNoCheck : (read whole : Text → Option Text) → Outcome → Type 0
 IsNoCheck read whole outcome =
     (AsksNoSizes read × IsBadLine bad_size_text outcome) ⊎ IsNoFile (whole (codes "TRACE")) outcome ⊎ IsNoFile (whole (codes "REPLIES")) outcome
 
--- the kinds of error for which clap's model refuses these words, none if it takes them
+-- the kinds of error for which clap's model refuses these words, or none if it takes them
 unfoldable pub check_faults : List Text → Kinds
 check_faults words = fault_of check_command_line words
 

@@ -1,4 +1,4 @@
--- The line of a finding. A text is shown as it is if it is plain, else in quotes.
+-- The line of a finding. A text is shown as it is if it is plain, and in quotes otherwise.
 use Rattle.std.specs.Prelude.{ℕ, ◌-◌, ◌==◌, ◌||◌, ◌&&◌, Bool, not, nat_le, nat_lt, if◌then◌else◌, List, [], ◌∷◌, ◌++◌, Option, Some, None, codes, decimal, flat_map, length, slice_index, take}
 use Rattle.std.specs.Char.Escape.{escape_ascii}
 use Rattle.std.specs.Io.KnownBytes.{Appends}
@@ -33,11 +33,11 @@ is_reply_byte byte = (nat_le 48 byte && nat_le byte 57) || (nat_le 65 byte && na
 abbrev pub has_filled_ends : List ℕ → Bool
 has_filled_ends text = nat_lt 0 (length text) && not (slice_index text 0 == 32) && not (slice_index text (length text - 1) == 32)
 
--- a text of such bytes
+-- a text that has such bytes only, and filled ends
 abbrev pub is_plain_text : List ℕ → Bool
 is_plain_text text = has_filled_ends text && list_all is_reply_byte text
 
--- a byte of a plain text: a line feed between two lines is ` / `
+-- a byte of a plain text, as it is shown: a line feed between two lines becomes ` / `
 abbrev pub plain_byte : ℕ → List ℕ
 plain_byte byte = if byte == 10 then codes " / " else byte ∷ []
 
@@ -67,7 +67,7 @@ excerpt_text none most (Some text) = excerpt_of none most text
 abbrev pub trace_line : List ℕ → List ℕ
 trace_line line = if slice_index line (length line - 1) == 10 then strip_carriage_return (take (length line - 1) line) else line
 
--- the bytes that were read, cut, if any were read
+-- the bytes that were read, shortened by `cut`, if any were read
 abbrev pub if_read : (List ℕ → List ℕ) → List ℕ → Option (List ℕ)
 if_read cut [] = None
 if_read cut (byte ∷ bytes) = Some (cut (byte ∷ bytes))

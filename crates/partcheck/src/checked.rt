@@ -14,7 +14,7 @@ use std::process::ExitCode;
 pub enum Checked {
     /// With a finding, which was written to the output.
     Found(Finding),
-    /// Without a finding. The error is that of the file that could not be opened or read, if there is one.
+    /// Without a finding. If a file could not be opened or read, the error says why.
     Failed(Unchecked, Option<FileError>),
     /// With a finding that could not be written.
     Unwritten,
@@ -24,7 +24,7 @@ pub enum Checked {
 const BROKEN: u8 = 4;
 
 /// Prints on standard error why there is no finding, if there is none, and which file could not be opened or read. Returns the
-/// exit status: 0 if every reply is allowed, 4 if one is not, else that of the error.
+/// exit status: 0 if every reply is allowed, 4 if one is not, or else the status of the error.
 pub fn tell_checked(rt: &impl Eprint, settings: &Settings, checked: Checked) -> ExitCode
     ensures { exit_status result ≡ status_of_check checked }
 {

@@ -2,7 +2,7 @@
 //!
 //! `partcheck --order S --superblocks N --tenants T TRACE REPLIES`
 //!
-//! | Status | When | Standard output | Standard error, behind the program's name |
+//! | Status | When | Standard output | Standard error, after the program's name |
 //! |---|---|---|---|
 //! | 0 | all replies are allowed | `kept: 218508 lines, 6 tenants` | nothing |
 //! | 4 | a reply is not allowed | `line 391, reply 402: LINE, answered REPLY: PROMISE: what it requires` | nothing |
@@ -85,7 +85,7 @@ fn check_files<P: Eprint + Clock>(
     }
 }
 
-/// Checks the trace TRACE, which is a file or standard input. Each has its own copy of the loop.
+/// Checks the trace TRACE, which is a file or standard input. Files and standard input each have their own copy of the loop.
 fn find<P: Eprint + Clock>(
     rt: &(impl Files + Input + AllocGlobal),
     settings: &Settings,
@@ -130,7 +130,7 @@ fn find_beside<R: Read + Drop>(
     }
 }
 
-/// Returns the end of a check without this file, which could not be opened.
+/// Returns how a check ends if this file could not be opened.
 fn unopened(file: Unchecked, error: io::Error) -> Checked {
     Checked::Failed(file, Some(FileError::Open(error)))
 }

@@ -13,8 +13,8 @@ use std::alloc::Global;
 use std::mem;
 use streams::Feed;
 
-/// Checks the replies to a trace on a machine of these sizes, where no superblock is granted yet. Returns `Err` if an end fails
-/// or memory runs out. At the end `shown` holds the line and the reply, as after [`check`].
+/// Checks the replies to a trace on a machine of these sizes, where no superblock is granted yet. Returns `Err` if the trace or
+/// the replies cannot be read, or if memory runs out. At the end `shown` holds the line and the reply, as after [`check`].
 pub fn run<T: Feed, R: Feed>(
     alloc: Global,
     config: Config,
@@ -25,14 +25,14 @@ pub fn run<T: Feed, R: Feed>(
     requires bootable { is_bootable config ≡ true }
     requires trace_fine { trace.old.failed ≡ false }
     requires replies_fine { replies.old.failed ≡ false }
-    // What was read of the trace and of the replies. The finding, with its meaning, is that of all texts that begin so.
+    // The finding, with its meaning, is the one for all texts that begin with what was read of the trace and of the replies.
     ensures found { (asked : List ℕ) × (told : List ℕ) × HasGiven trace.old trace.new asked × HasGiven replies.old replies.new told
         × IfOk result (λ finding. WhateverFollows trace.new replies.new asked told (IsFindingOf config finding)) }
     ensures kept { IfOk result (λ finding. IsKeptAtEnd finding trace.new replies.new) }
-    // If the two texts are known, the finding is theirs.
+    // If the two texts are known, the finding is the one for these texts.
     ensures known { (asked told : List ℕ) → trace.old.left ≡ Some asked → replies.old.left ≡ Some told
         → IfOk result (λ finding. IsFindingOf config finding asked told) }
-    // Memory runs out before the first line, or if an allowed reply adds something and no promise was broken before.
+    // Memory runs out only before the first line, or if an allowed reply adds something and no promise was broken before it.
     ensures end { IsEndedBy result trace.new.failed replies.new.failed (((trace.new ≡ trace.old) × (replies.new ≡ replies.old))
         ⊎ ((asked : List ℕ) × (told : List ℕ) × HasGiven trace.old trace.new asked × HasGiven replies.old replies.new told
         × WhateverFollows trace.new replies.new asked told

@@ -62,7 +62,7 @@ impl Settings {
     ghost use Rattle.std.specs.Prelude.{option_copied};
     ghost use Rattle.partcheck.specs.Settings.{file_without, trace_file};
 
-    /// Returns the path of the trace, `None` for standard input.
+    /// Returns the path of the trace, or `None` for standard input.
     pub fn trace_path(&self) -> Option<&str>
         ensures { option_copied result ≡ trace_file self.now }
     {

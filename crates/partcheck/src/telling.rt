@@ -55,7 +55,7 @@ fn write_kept<W: Write>(out: &mut W, lines: u128, tenants: u32) -> io::Result<()
     writeln!(out, "kept: {lines} {lines_word}, {tenants} {tenants_word}")
 }
 
-/// Returns `one` if the count is 1, else `several`.
+/// Returns `one` if the count is 1, and `several` otherwise.
 fn counted<'a>(one: &'a str, several: &'a str, count: u128) -> &'a str
     ensures { result.now ≡ counted_word one.entry.now several.entry.now count }
 {
@@ -82,7 +82,7 @@ fn write_breach<W: Write>(out: &mut W, breach: &Breach, shown: &Shown) -> io::Re
     out.write_all(b"\n")
 }
 
-/// Writes why a promise is broken: the page block in the way if one was found, else what the promise requires.
+/// Writes why a promise is broken: the page block in the way if one was found, or else what the promise requires.
 fn write_reason<W: Write>(
     out: &mut W,
     promise: Promise,
@@ -155,7 +155,7 @@ fn write_excerpt<W: Write>(out: &mut W, text: &[u8], most: usize, none: &str) ->
     out.write_all(cut_mark(most < text.len()).as_bytes())
 }
 
-/// Returns the mark at the end of a shown text: `…` if the text is cut, else nothing.
+/// Returns the mark at the end of a shown text: `…` if the text is cut, and nothing otherwise.
 fn cut_mark(is_cut: bool) -> &'static str
     ensures { result.now ≡ cut_mark is_cut }
 {
@@ -169,8 +169,8 @@ fn front(text: &[u8], most: usize) -> &[u8]
     &text[..most.min(text.len())]
 }
 
-/// Writes the beginning of a text. The lines of a plain text are joined by ` / `. Any other text, and one that equals the words
-/// for no text, is escaped and in quotes. So no text looks like another one, or like a finding.
+/// Writes the beginning of a text. The lines of a plain text are joined by ` / `. Any other text is escaped and in quotes, and so
+/// is a text that equals the words for no text. So no text looks like another one, or like a finding.
 fn write_begin<W: Write>(out: &mut W, text: &[u8], begin: &[u8], none: &str) -> io::Result<()>
     ensures { OnOk result (Appends (W.contents out.old) (W.contents out.new) (begin_text none.now text.now begin.now)) }
 {

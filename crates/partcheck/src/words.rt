@@ -30,7 +30,7 @@ pub fn read_words<'a>(alloc: Global, words: &'a [&'a str]) -> Result<Settings, O
     })
 }
 
-/// Returns the path of the argument of this name, as it was written.
+/// Returns the path in the argument with this name, as it was written.
 ///
 /// Returns `BadLine` if there is none, or `NoMemory`.
 fn required_path(alloc: Global, matches: &ArgMatches<'_>, name: &str) -> Result<String, Outcome>

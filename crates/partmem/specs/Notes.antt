@@ -15,12 +15,12 @@ abbrev pub with_notes : {N : Type 0} → Noting N → MachineOptions → List (L
 with_notes noting m lines notes =
     noted_lines noting m.only cache_limit m.config.order 1 lines (opening_world m.config.superblocks m.config.tenants) notes
 
--- the notes after the beginning of a line that follows these lines; it is noted if it is faulty as far as it was read
+-- the notes after the beginning of a line that follows these lines; the beginning is noted if it is faulty
 abbrev pub with_unended : {N : Type 0} → Noting N → List (List ℕ) → List ℕ → N → N
 with_unended noting lines tail notes = noted_fault noting (suc (length lines)) (take 256 tail) (reading_of tail) notes
 
--- The notes after the `count` lines that were run, for a run with this outcome; and then of an unfinished line, if the trace
--- could not be read.
+-- The notes after the `count` lines that were run, for each outcome of the run. If the trace could not be read, an unfinished
+-- line is noted too if it is faulty.
 abbrev pub HasNoted : {N : Type 0} → Noting N → MachineOptions → Outcome → ℕ → Bool → List ℕ → N → N → Type 0
 HasNoted noting m Outcome.Done count ended given notes notes' = notes' ≡ with_notes noting m (lines_of_trace given) notes
 HasNoted noting m Outcome.Unreadable count ended given notes notes' = (tail : List ℕ) × (given ≡ with_line_feeds (ended_lines given) ++ tail)

@@ -13,7 +13,7 @@ use Rattle.partmem.specs.Run.{IsBeginning}
 abbrev pub own_of : Config → ℕ → List (List ℕ) → List ℕ
 own_of config t lines = own_text t cache_limit config.order lines (opening_world config.superblocks config.tenants)
 
--- the bytes written, by the bytes given and the outcome of the run
+-- the bytes written, for the bytes given and the outcome of the run
 abbrev pub WritesOwn : Config → ℕ → Outcome → List ℕ → List ℕ → Type 0
 WritesOwn config t Outcome.Done given written = written ≡ own_trace cache_limit config.order config.superblocks config.tenants t given
 WritesOwn config t Outcome.Unreadable given written = written ≡ own_of config t (ended_lines given)

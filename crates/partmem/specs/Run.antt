@@ -21,7 +21,7 @@ shown_replies m lines = shown_lines m.only cache_limit m.config.order lines (ope
 abbrev pub private_replies : Config → ℕ → List ℕ → List (List ℕ)
 private_replies config t trace = private_lines cache_limit config.order config.superblocks config.tenants t trace
 
--- whatever the others do, the lines for a tenant are those of its private machine; with `only` nothing else is written
+-- whatever the other tenants do, the lines for a tenant are those of its private machine; with `only`, nothing else is written
 abbrev pub IsPrivate : Option ℕ → Config → List ℕ → List ℕ → Type 0
 IsPrivate None config trace written = (t : ℕ) → t < config.tenants → lines_for t written ≡ private_replies config t trace
 IsPrivate (Some t) config trace written = t < config.tenants → written ≡ with_line_feeds (private_replies config t trace)
@@ -29,7 +29,7 @@ IsPrivate (Some t) config trace written = t < config.tenants → written ≡ wit
 abbrev pub IsBeginning : List ℕ → List ℕ → Type 0
 IsBeginning part whole = (rest : List ℕ) × (whole ≡ part ++ rest)
 
--- the bytes written, by the bytes given and the outcome of the run; outcomes that do not occur are ⊥
+-- the bytes written, for the bytes given and the outcome of the run; ⊥ for outcomes that do not occur
 abbrev pub Answers : MachineOptions → Outcome → List ℕ → List ℕ → Type 0
 Answers m Outcome.Done given written = (written ≡ shown_replies m (lines_of_trace given)) × IsPrivate m.only m.config given written
 Answers m Outcome.Unreadable given written = written ≡ shown_replies m (ended_lines given)
@@ -44,8 +44,8 @@ Answers m Outcome.BadOnly given written = ⊥
 abbrev pub IsHeldBack : (before writer : Option (List ℕ)) → (held written sent : List ℕ) → Type 0
 IsHeldBack before writer held written sent = Appends before (append_known writer held) written × (sent ≡ take (length written - length held) written)
 
--- The writer took these of the bytes written, by the outcome of the run: all of them, or those that a failed drain does not hold
--- back. `before` are the bytes that the drain had taken before the run.
+-- Which of the bytes written the writer took, for each outcome of the run: all of them, or those that a failed drain does not
+-- hold back. `before` are the bytes that the drain had taken before the run.
 abbrev pub HasReached : Outcome → (failed : Bool) → (before writer : Option (List ℕ)) → (held written sent : List ℕ) → Type 0
 HasReached Outcome.Done failed before writer held written sent = (sent ≡ written) × Appends before writer written
 HasReached Outcome.Unreadable false before writer held written sent = (sent ≡ written) × Appends before writer written
@@ -57,8 +57,8 @@ HasReached (Outcome.Version text) failed before writer held written sent = ⊥
 HasReached (Outcome.BadLine text) failed before writer held written sent = ⊥
 HasReached Outcome.BadOnly failed before writer held written sent = ⊥
 
--- The counts, by the outcome of the run: the lines that were run, and the bytes that the writer took. If the replies could not be
--- written, either all lines had been answered before a flush or a send failed, or the reply to the last line was cut short.
+-- The counts, for each outcome of the run: the lines that were run, and the bytes that the writer took. If the replies could not
+-- be written, either all lines had been answered before a flush or a send failed, or the reply to the last line was cut short.
 abbrev pub Tallies : MachineOptions → Outcome → Tally → (ended unread : Bool) → (given written sent : List ℕ) → Type 0
 Tallies m Outcome.Done tally ended unread given written sent = Counts tally (lines_of_trace given) sent
 Tallies m Outcome.Unreadable tally ended unread given written sent = Counts tally (ended_lines given) sent
@@ -73,8 +73,8 @@ Tallies m (Outcome.Version text) tally ended unread given written sent = ⊥
 Tallies m (Outcome.BadLine text) tally ended unread given written sent = ⊥
 Tallies m Outcome.BadOnly tally ended unread given written sent = ⊥
 
--- Which end failed, by the outcome of the run; a trace is done only at its end. If both failed, either a send failed before the
--- feed did, or the feed failed before the last flush.
+-- Which end failed, for each outcome of the run. A trace is done only at its end. If both ends failed, either a send failed
+-- before the feed did, or the feed failed before the last flush.
 abbrev pub EndsAs : Outcome → (ended unread unwritten unsent : Bool) → Type 0
 EndsAs Outcome.Done ended unread unwritten unsent = (ended ≡ true) × (unread ≡ false) × (unwritten ≡ false) × (unsent ≡ false)
 EndsAs Outcome.Unreadable ended unread unwritten unsent = (unread ≡ true) × (unsent ≡ false)
@@ -85,7 +85,7 @@ EndsAs (Outcome.Version text) ended unread unwritten unsent = ⊥
 EndsAs (Outcome.BadLine text) ended unread unwritten unsent = ⊥
 EndsAs Outcome.BadOnly ended unread unwritten unsent = ⊥
 
--- the bytes given, by the outcome of the run: a prefix of the trace, and all of it if it is done
+-- the bytes given, for each outcome of the run: a prefix of the trace, and the whole trace if it is done
 abbrev pub IsGiven : Outcome → List ℕ → List ℕ → Type 0
 IsGiven Outcome.Done trace given = trace ≡ given
 IsGiven (Outcome.Help text) trace given = IsBeginning given trace

@@ -5,7 +5,7 @@
 //! The exit status is that of the [`Outcome`].
 //!
 //! `--tally` prints the counts of the run, however it ended: `partmem: 6 lines, 6 events, 0 faults, 214 bytes written`. Then come
-//! the message of the exit, the reason why a file could not be opened or read, the count of each refusal, and the first faulty
+//! the message of the outcome, the reason why a file could not be opened or read, the count of each refusal, and the first faulty
 //! lines with their faults.
 #![tactic(auto)]
 
@@ -51,7 +51,7 @@ fn main(rt: HostRuntime) -> ExitCode {
     }
 }
 
-/// How a run ended, and what is printed after that.
+/// How a run ended, and what else is printed about it.
 #[derive(Drop)]
 struct Ran {
     ended: Ended,
@@ -68,7 +68,8 @@ fn read_command_line(rt: &(impl Env + AllocGlobal)) -> Result<Settings, Outcome>
     read_words(rt.alloc(), texts.as_slice())
 }
 
-/// Runs the trace, from FILE or from standard input, and writes to standard output. Each of the two has its own copy of the loop.
+/// Runs the trace, from FILE or from standard input, and writes to standard output. Each of the two inputs has its own copy of
+/// the loop.
 fn run_from<P: Eprint + Clock>(
     rt: &(impl Files + Input + Print + AllocGlobal),
     settings: &Settings,
@@ -87,7 +88,7 @@ fn run_from<P: Eprint + Clock>(
     }
 }
 
-/// Runs the trace of a reader and writes to standard output. If the trace could not be opened, the outcome is `Unreadable`.
+/// Runs the trace from a reader and writes to standard output. If the trace could not be opened, the outcome is `Unreadable`.
 fn run_opened<R: Read + Drop>(
     rt: &(impl Print + AllocGlobal),
     settings: &Settings,
@@ -124,7 +125,7 @@ fn run_opened<R: Read + Drop>(
     }
 }
 
-/// Runs the trace of a reader, writes to standard output, and takes notes.
+/// Runs the trace from a reader, writes to standard output, and takes notes.
 fn run_noted<R: Read + Drop>(
     rt: &(impl Print + AllocGlobal),
     machine: &MachineOptions,
@@ -140,7 +141,7 @@ fn run_noted<R: Read + Drop>(
     }
 }
 
-/// Writes a tenant's own list of the trace of a reader to standard output. Nothing is counted.
+/// Runs the trace from a reader and writes the tenant's own list to standard output. Counts nothing.
 fn keep_own<R: Read + Drop>(
     rt: &(impl Print + AllocGlobal),
     machine: &MachineOptions,
@@ -168,7 +169,7 @@ fn keep_own<R: Read + Drop>(
     }
 }
 
-/// Runs the trace of a reader and writes its replies to a writer.
+/// Runs the trace from a reader and writes its replies to a writer.
 fn run_between<R: Read + Drop, W: Write + Drop, N: Notes>(
     rt: &impl AllocGlobal,
     machine: &MachineOptions,
@@ -210,7 +211,7 @@ fn tell_run(rt: &impl Eprint, settings: &Settings, ran: Ran) -> ExitCode {
 }
 
 /// Prints the count of each refusal, and the first faulty lines. If the replies could not be written, some of the counted
-/// refusals were not written, so the lines say `answered`.
+/// refusals may not have been written, so the lines say `answered`.
 fn tell_notes(rt: &impl Eprint, notes: &RunNotes, outcome: &Outcome) {
     let counted = match outcome {
         Outcome::Unwritable => " answered",

@@ -29,7 +29,7 @@ pub data Done : Type 0 where
   -- a call of the kernel itself, a store or a load
   Direct : Action → Done
 
--- it led from one kernel to the other, as the contract of the call says
+-- what was done led from one kernel to the other, as the contract of the call says
 abbrev pub Did : KernelContent → Done → KernelContent → Type 0
 Did k (Line line text) k' = AnswersLine k (reading_of line) k' text × IsKernel k'
 Did k (Event a bytes numbers buffer buffer') k' =
@@ -41,8 +41,8 @@ abbrev pub AllDid : KernelContent → List Done → KernelContent → Type 0
 AllDid k [] k' = k' ≡ k
 AllDid k (done ∷ all) k' = (next : KernelContent) × Did k done next × AllDid next all k'
 
--- A line with this reading is the action of its event, and the reply's text was written. A line without an event is no action,
--- and its reply goes to no tenant.
+-- A line with this reading is the action of its event, and the reply's text was written. A line without an event is not an
+-- action, and its reply goes to no tenant.
 abbrev pub IsOfReading : Result (Option events.Event) LineFault → List ℕ → List Action → Type 0
 IsOfReading (Ok (Some event)) text actions = (reply : Reply) × (actions ≡ Runs event reply ∷ []) × (text ≡ text_of reply)
 IsOfReading (Ok None) text actions = (actions ≡ []) × (text ≡ [])

@@ -51,7 +51,7 @@ abbrev pub bytes_in_reply : Option Reply → List ℕ
 bytes_in_reply None = []
 bytes_in_reply (Some reply) = answered_bytes reply.body
 
--- the arguments are no event of the call, and nothing changes
+-- the arguments are not an event of the call, and nothing changes
 abbrev pub IsNoEvent : Option KernelContent → Option KernelContent → ℕ → Type 0
 IsNoEvent old new status = (new ≡ old) × (status ≡ (if is_some old then NOT_AN_EVENT else NO_MACHINE))
 
@@ -70,7 +70,7 @@ returned_slot kind None = no_slot
 returned_slot kind (Some numbers) =
     if numbers.kind == kind then record { slot = numbers.second; superblock = numbers.third } else no_slot
 
--- the bytes of a block of this order, which is at most a superblock's
+-- the number of bytes in a block of this order; an order above MOST_ORDER counts as MOST_ORDER
 abbrev pub block_bytes : ℕ → ℕ
 block_bytes order = FRAME_BYTES * 2 ^ min order MOST_ORDER
 
@@ -90,7 +90,7 @@ abbrev pub reaped_frames : Option ReplyNumbers → ℕ
 reaped_frames None = 0
 reaped_frames (Some numbers) = if numbers.kind == REAPED then numbers.first else 0
 
--- `to` with the bytes over its front, as many as fit
+-- `to` with as many of the bytes as fit written over its front
 abbrev pub read_over : List ℕ → List ℕ → List ℕ
 read_over bytes to = take (min (length bytes) (length to)) bytes ++ drop (min (length bytes) (length to)) to
 

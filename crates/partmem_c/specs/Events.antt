@@ -111,7 +111,7 @@ answered_bytes (Body.Fault fault) = []
 abbrev pub machine_status : Option KernelContent → ℕ
 machine_status held = if is_some held then DONE else NO_MACHINE
 
--- the status of a call that requires a machine and an event: the first error, else this status
+-- the status of a call that requires a machine and an event: the first error that applies, or else this status
 abbrev pub status_of_event : Option KernelContent → RequestNumbers → List ℕ → ℕ → ℕ
 status_of_event held a bytes status =
     if is_some held then (if is_some (requested_event a bytes) then status else NOT_AN_EVENT) else NO_MACHINE

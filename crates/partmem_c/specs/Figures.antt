@@ -41,16 +41,16 @@ no_figures = record {
   cache = replicate CACHES no_cache;
 }
 
--- the size of a greatest free block in bytes, 0 if there is none
+-- the size of a greatest free block in bytes, or 0 if there is none
 abbrev pub greatest_bytes : Option ℕ → ℕ
 greatest_bytes None = 0
 greatest_bytes (Some order) = block_bytes order
 
--- the rows, and the old rows behind them
+-- the rows, and then the rest of the old rows
 abbrev pub over : {A : Type 0} → List A → List A → List A
 over rows before = rows ++ drop (length rows) before
 
--- a report as figures, with zeroes behind its rows
+-- a report as figures, with zeroes after its rows
 abbrev pub figures_of_report : words.Report → Figures
 figures_of_report report = record {
   frames = report.frames;
@@ -90,7 +90,7 @@ pub record PutsFigures (k : KernelContent) (t status : ℕ) (figures : Figures) 
   pub returns : status ≡ call_status (Some (numbers_of_body reply.body))
   pub are : figures ≡ figures_of_body reply.body
 
--- the figures of the reply to a report, all zeroes if there is none
+-- the figures in the reply to a report, or all zeroes if there is no reply
 abbrev pub reported_figures : Option Reply → Figures
 reported_figures None = no_figures
 reported_figures (Some reply) = figures_of_body reply.body

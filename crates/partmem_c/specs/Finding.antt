@@ -15,7 +15,7 @@ use Rattle.partmem_c.specs.declared.lookups.TheConstants.{NO_SUCH_SLOT, FREE_FRA
 use Rattle.partmem_c.specs.declared.lookups.Block.{Block}
 use Rattle.partmem_c.specs.declared.granting.HeldSlot.{HeldSlot}
 
--- if a lookup succeeds, its value is returned with DONE; if it is refused, the refusal's status, with `nothing`
+-- if a lookup succeeds, its value is returned with DONE; if it is refused, `nothing` is returned with the refusal's status
 abbrev pub Returns : {A : Type 0} → A → Result A Refusal → ℕ → A → Type 0
 Returns nothing (Ok there) status found = (status ≡ DONE) × (found ≡ there)
 Returns nothing (Err refusal) status found = (status ≡ number_of_refusal refusal) × (found ≡ nothing)
@@ -45,7 +45,8 @@ use_of FrameKind.Full = SLAB
 use_of FrameKind.Partial = SLAB
 use_of FrameKind.Empty = SLAB
 
--- the first frame and the order for a frame in no taken block: those of the slot if it is not held, else those of the frame alone
+-- the first frame and the order for a frame in no taken block: those of the slot if it is not held, or else the frame itself and
+-- order 0
 abbrev pub untaken : FrameKind → ℕ → ℕ → ℕ × ℕ
 untaken FrameKind.NotHeld frame order = (frame / 2 ^ order * 2 ^ order, order)
 untaken FrameKind.Free frame order = (frame, 0)

@@ -77,7 +77,7 @@ pub record TakeLends (old : KernelContent) (t cache : ℕ) (new : KernelContent)
   pub lent : IfOk outcome (λ lent. IsLentAt lent.place lent.bytes lent)
   pub object : IfOk outcome (IsObjectOf new t cache)
 
--- this number of bytes at a place is lent if the condition is true, otherwise nothing is
+-- if the condition is true, this number of bytes at a place is lent; otherwise nothing is lent
 abbrev pub IsLentIf : Bool → ℕ → ℕ → Lent → Type 0
 IsLentIf true place bytes lent = IsLentAt place bytes lent
 IsLentIf false place bytes lent = lent ≡ no_lent

@@ -7,7 +7,7 @@ use Rattle.kernel_core.specs.Content.{KernelContent}
 use Rattle.partmem_c.specs.declared.owners.Owner.{Owner}
 use Rattle.partmem_c.specs.declared.status.TheConstants.{DONE, NO_MACHINE, NO_SUPERBLOCK}
 
--- the size of each superblock of the held machine in bytes, 0 without a machine
+-- the size of each superblock of the held machine in bytes, or 0 without a machine
 abbrev pub size_of_superblock : Option KernelContent → ℕ
 size_of_superblock None = 0
 size_of_superblock (Some k) = FRAME_BYTES * 2 ^ k.order
@@ -27,7 +27,7 @@ owner_status held superblock =
     if not (is_some held) then NO_MACHINE
     else (if nat_lt superblock (length (owners_held held)) then DONE else NO_SUPERBLOCK)
 
--- the owner to report for a superblock of this number, if the superblock exists
+-- the owner to report for the superblock with this number, if it exists
 abbrev pub owner_reported : List (Option model.Owner) → ℕ → Option Owner
 owner_reported owners superblock =
     if nat_lt superblock (length owners) then Some (owner_numbers (owner_at owners superblock)) else None

@@ -63,7 +63,8 @@ pub extern "C" fn partmem_boot_kernel(
     DONE
 }
 
-/// Ends the machine and drops it, so that its memory is freed. The place then holds none and can be booted again. Returns `NO_MACHINE`.
+/// Ends the machine and drops it, so that its memory is freed. The place then holds no machine, and one can be booted there
+/// again. Returns `NO_MACHINE`.
 #[unsafe(no_mangle)]
 pub extern "C" fn partmem_end_kernel(alloc: Global, machine: &mut MachineStorage) -> u32
     ensures status { result ≡ machine_status machine.old.slot.held }

@@ -18,7 +18,7 @@ use words_core::{Answer, Refusal, Request};
 
 /// Copies bytes of a live page block or a live object, from `place` on, to all of `to`, which has 1 to 64 bytes.
 ///
-/// Returns `NO_MACHINE`, `NO_TENANT`, `BAD_LENGTH` or `OUT_OF_REACH`. No byte of `to` is written then, whatever its length.
+/// Returns `NO_MACHINE`, `NO_TENANT`, `BAD_LENGTH` or `OUT_OF_REACH`. Then `to` is unchanged, whatever its length.
 #[unsafe(no_mangle)]
 pub extern "C" fn partmem_read(
     alloc: Global,

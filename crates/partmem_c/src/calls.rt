@@ -51,8 +51,8 @@ pub(crate) fn run_admin_command(
     Some(numbers)
 }
 
-/// Returns the status of a call with this reply: the refusal's number if it is one, `NO_MACHINE` if there is no reply, else
-/// `DONE`.
+/// Returns the status of a call with this reply: the number of the refusal if it is one, `NO_MACHINE` if there is no reply, or
+/// else `DONE`.
 #[inline(always)]
 pub(crate) fn call_status(reply: Option<ReplyNumbers>) -> u32
     ensures { result ≡ call_status reply }
@@ -64,7 +64,7 @@ pub(crate) fn call_status(reply: Option<ReplyNumbers>) -> u32
     }
 }
 
-/// Returns the number of bytes of a block of this order, which is at most a superblock's.
+/// Returns the number of bytes in a block of this order. An order above `MOST_ORDER` counts as `MOST_ORDER`.
 #[inline(always)]
 pub(crate) fn block_bytes(order: u32) -> u32
     ensures { result ≡ block_bytes order }

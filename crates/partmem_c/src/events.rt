@@ -26,9 +26,9 @@ use words_core::{AdminCommand, Answer, Command, Event, Refusal, Request};
 
 /// The administrator grants the tenant a superblock.
 pub const GRANT: u32 = 1;
-/// The administrator takes slot `first` of the tenant back.
+/// The administrator takes back slot `first` of the tenant.
 pub const TAKE_BACK: u32 = 2;
-/// The administrator takes everything that the tenant has.
+/// The administrator takes back everything that the tenant has.
 pub const RESET: u32 = 3;
 /// The administrator moves slot `first` of the tenant to another superblock.
 pub const MOVE: u32 = 4;
@@ -38,7 +38,7 @@ pub const POOL: u32 = 5;
 pub const ALLOC: u32 = 6;
 /// The tenant frees the page block that begins at frame `first`.
 pub const FREE: u32 = 7;
-/// The tenant reads `second` bytes, 1 to 64, from place `first` on. Another count is also an event, and is refused.
+/// The tenant reads `second` bytes, 1 to 64, from place `first` on. A read of any other count is also an event, which is refused.
 pub const READ: u32 = 8;
 /// The tenant writes the 1 to 64 bytes that are passed, from place `first` on.
 pub const WRITE: u32 = 9;
@@ -164,8 +164,8 @@ fn some_bytes<const N: usize>(bytes: &[u8]) -> Option<ArrayVec<u8, N>>
     Some(held)
 }
 
-/// Runs the event of the numbers and returns its reply as numbers. `bytes` are those of a write or the pattern of a new cache; no
-/// other event uses them.
+/// Runs the event of the numbers and returns its reply as numbers. `bytes` has the bytes of a write or the pattern of a new
+/// cache; no other event uses it.
 ///
 /// The bytes of a read are copied to the front of `buffer`, which needs `MOST_BYTES` bytes for any event. The status of a refused
 /// event is `DONE`, and its reply is the refusal.
@@ -227,8 +227,8 @@ fn status_without_buffer(machine: &MachineStorage, request: &RequestNumbers, byt
 
 /// [`partmem_event`] for a kind that neither uses nor returns bytes.
 ///
-/// Each kind has its own instance, out of line, which saves only the registers that it needs. The instance tests whether there is
-/// a machine, so that its caller can end in a tail call.
+/// Each kind has its own instance, which is not inlined and saves only the registers that it needs. The instance tests whether
+/// there is a machine, so that its caller can end in a tail call.
 #[inline(never)]
 fn plain_event<const KIND: u32>(
     alloc: Global,

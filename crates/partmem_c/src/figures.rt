@@ -34,7 +34,7 @@ pub struct CacheFigures {
     pub live: u32,
 }
 
-/// The figures of a tenant's memory. The rows behind those that `orders` and `caches` count are zeroes.
+/// The figures of a tenant's memory. The rows after those that `orders` and `caches` count are zeroes.
 #[repr(C)]
 #[derive(Clone, Copy, Debug)]
 pub struct Figures {
@@ -44,7 +44,7 @@ pub struct Figures {
     pub live: u32,
     /// The number of these frames that are free.
     pub free: u32,
-    /// The size of a largest free block in bytes, 0 if no frame is free.
+    /// The size of a largest free block in bytes, or 0 if no frame is free.
     pub greatest: u32,
     /// The share of the free frames outside one largest free block, in thousandths.
     pub split: u32,

@@ -84,7 +84,8 @@ pub extern "C" fn partmem_reset(alloc: Global, machine: &mut MachineStorage, ten
     call_status(run_admin_command(alloc, machine, AdminCommand::Reset { tenant }))
 }
 
-/// Returns the slot and the superblock in a reply of this kind. Both are 0 if there is no reply, or one of another kind.
+/// Returns the slot and the superblock in a reply of this kind. Both are 0 if there is no reply, or if the reply is of another
+/// kind.
 fn returned_slot(kind: u32, reply: Option<ReplyNumbers>) -> HeldSlot
     ensures { result ≡ returned_slot kind reply }
 {

@@ -1,4 +1,4 @@
-//! Lends bytes in place, by their addresses. A lend changes nothing, and is no event.
+//! Lends bytes in place, by their addresses. A lend changes nothing, and is not an event.
 
 ghost use Rattle.std.specs.Prelude.{◌≡◌};
 ghost use Rattle.std.specs.Borrow.{sem};

@@ -124,8 +124,8 @@ fn block_around(kernel: &Kernel, t: u8, frame: u32) -> Block
     }
 }
 
-/// Returns the first frame and the order of the taken block that contains a frame of this kind. If none does, it returns those of
-/// the frame alone, or those of its slot if the slot is not held.
+/// Returns the first frame and the order of the taken block that contains a frame of this kind. If none does, returns the frame
+/// itself and order 0, or the first frame and the order of its slot if the slot is not held.
 fn frames_around(kernel: &Kernel, t: u8, frame: u32, kind: FrameKind) -> (u32, u32)
     requires { t < kernel.now.tenants }
     ensures around { AreAround kernel.now t frame kind result }
@@ -141,7 +141,7 @@ fn frames_around(kernel: &Kernel, t: u8, frame: u32, kind: FrameKind) -> (u32, u
     }
 }
 
-/// Returns the first frame and the order of a frame's slot if the slot is not held, else those of the frame alone.
+/// Returns the first frame and the order of a frame's slot if the slot is not held, or else the frame itself and order 0.
 fn untaken(kind: FrameKind, frame: u32, order: u32) -> (u32, u32)
     requires { order ≤ MOST_ORDER }
     ensures value { result ≡ untaken kind frame order }

@@ -143,7 +143,7 @@ pub extern "C" fn partmem_give(
     status_of(outcome)
 }
 
-/// Returns the status of a call that returns nothing else: that of the refusal, if it is one.
+/// Returns the status of a call that returns nothing else: the number of the refusal, or `DONE` if there is none.
 #[inline(always)]
 fn status_of(outcome: Result<(), Refusal>) -> u32
     ensures done { IfOk outcome (λ given. result ≡ DONE) }
@@ -173,7 +173,7 @@ pub extern "C" fn partmem_reap(
     call_status(reply)
 }
 
-/// Returns the new cache of a reply.
+/// Returns the new cache in a reply, or zeros if the reply has none.
 fn made_cache(reply: Option<ReplyNumbers>) -> MadeCache
     ensures { result ≡ made_cache reply }
 {
@@ -189,7 +189,7 @@ fn made_cache(reply: Option<ReplyNumbers>) -> MadeCache
     }
 }
 
-/// Returns the number of freed frames of a reply.
+/// Returns the number of freed frames in a reply to a reap, or 0 for any other reply.
 fn reaped_frames(reply: Option<ReplyNumbers>) -> u32
     ensures { result ≡ reaped_frames reply }
 {

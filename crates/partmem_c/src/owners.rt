@@ -26,7 +26,7 @@ const NO_OWNER: Owner = Owner {
     slot: 0,
 };
 
-/// Returns the number of bytes of each superblock, or 0 without a machine.
+/// Returns the number of bytes in each superblock, or 0 without a machine.
 #[unsafe(no_mangle)]
 pub extern "C" fn partmem_superblock_bytes(alloc: Global, machine: &mut MachineStorage) -> u32
     ensures bytes { result ≡ size_of_superblock machine.old.slot.held }

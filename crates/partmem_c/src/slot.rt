@@ -14,8 +14,8 @@ use std::ptr::null_mut;
 
 /// The pointer of a boxed kernel, or null. Clauses call the kernel there `held`.
 ///
-/// C may hold a slot, but not a box. It is not `Drop`: outside this file a machine leaves it only by [`Slot::unpark`]. When a
-/// machine ends, its box is dropped and not forgotten, but no clause says so.
+/// C may hold a slot, but not a box. A slot is not `Drop`: outside this file, a machine leaves it only by [`Slot::unpark`]. When
+/// a machine ends, its box is dropped and not forgotten, but no clause says so.
 #[repr(C)]
 pub struct Slot {
     at: *mut u8,

@@ -59,7 +59,8 @@ AreKindPaths columns grid FrameKind.Full text = AreShadePaths columns grid Frame
 AreKindPaths columns grid FrameKind.Partial text = AreShadePaths columns grid FrameKind.Partial text
 AreKindPaths columns grid FrameKind.Empty text = AreShadePaths columns grid FrameKind.Empty text
 
--- what follows is drawn upwards from the height `foot`, in units of columns and rows, for these numbers of both
+-- the beginning of a group with these numbers of columns and rows, which is drawn upwards from the height `foot`, in units of
+-- columns and rows
 unfoldable pub group_begin : ℕ → ℕ → ℕ → List ℕ
 group_begin columns rows foot = concat (codes "<g class=\"cells\" transform=\"translate(" ∷ decimal LEFT ∷ codes " "
     ∷ decimal foot

@@ -8,11 +8,11 @@ use Rattle.picture_svg.specs.declared.svg.TheConstants.{LEFT, REFUSALS, STACK, W
 use Rattle.picture_svg.specs.Sizes.{lower}
 use Rattle.picture_svg.specs.Texts.{ratio_text}
 
--- a number, at most the greatest number of 64 bits
+-- a number, capped at the greatest number of 64 bits
 abbrev pub capped : ℕ → ℕ
 capped n = min n (2 ^ 64 - 1)
 
--- the distance of the middle of a column from the first column's left, for n columns
+-- the distance of the middle of a column from the left edge of the first column, if there are n columns
 abbrev pub middle_of : ℕ → ℕ → ℕ
 middle_of column n = min (capped (capped (capped (column * 2) + 1) * (WIDTH / 2)) / n) WIDTH
 
@@ -45,7 +45,7 @@ turn_text columns t k column = if free_in_column columns t k column == free_befo
 abbrev pub depth_class : ℕ → List ℕ
 depth_class depth = codes "d" ++ decimal (min depth 8)
 
--- the layer of order k in a stack whose height stands for `most` frames; slots have 2 ^ order frames
+-- the layer of order k in a stack whose height represents `most` frames; slots have 2 ^ order frames
 unfoldable pub layer_text : List Column → ℕ → ℕ → ℕ → ℕ → ℕ → List ℕ
 layer_text columns t order foot most k = concat (codes "<path class=\"cells " ∷ depth_class (order - k)
     ∷ codes "\" transform=\"translate(" ∷ decimal LEFT

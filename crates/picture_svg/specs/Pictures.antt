@@ -40,7 +40,7 @@ pub record IsSamePicture (old new : Picture) : Type 0 where
   pub columns : most_columns_in new ≡ most_columns_in old
   pub gap : label_gap_of new ≡ label_gap_of old
 
--- the largest number of rows of each of this number of bands
+-- the largest number of rows in a band, if there are this many bands
 abbrev pub most_rows_of : ℕ → ℕ
 most_rows_of bands = TALL_BANDS * MOST_ROWS / max bands TALL_BANDS
 
@@ -66,7 +66,7 @@ AreBands picture history t top (grid ∷ grids) text = (band : List ℕ) × (res
     × IsBandOf picture history t grid top band
     × AreBands picture history (t + 1) (lower top (band_height grid.rows)) grids rest × (text ≡ band ++ rest)
 
--- The picture of a history of the trace of this name: a title, and a band for each drawn tenant. The legend is not specified.
+-- The picture of a history of the trace with this name: a title, and a band for each drawn tenant. The legend is not specified.
 pub record IsPictureOf (picture : Picture) (history : History) (name : Option (List ℕ)) (text : List ℕ) : Type 0 where
   pub grids : List Grid
   pub legend : List ℕ

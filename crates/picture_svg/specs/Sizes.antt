@@ -2,11 +2,11 @@
 use Rattle.std.specs.Prelude.{ℕ, ◌+◌, ◌-◌, ◌*◌, ◌/◌, ◌^◌, max, min}
 use Rattle.picture_svg.specs.declared.svg.TheConstants.{ABOVE, BELOW, ROWS_HEIGHT, MOST_ROW_HEIGHT}
 
--- the height this number of pixels lower
+-- the height that is this number of pixels lower
 abbrev pub lower : ℕ → ℕ → ℕ
 lower y pixels = min (y + pixels) (2 ^ 32 - 1)
 
--- the height of each of this number of rows
+-- the height of a row if there are this many
 abbrev pub row_height : ℕ → ℕ
 row_height rows = max 1 (min (ROWS_HEIGHT / rows) MOST_ROW_HEIGHT)
 

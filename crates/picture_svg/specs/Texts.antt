@@ -13,16 +13,16 @@ pub record AppendsText (old new : Option (List ℕ)) (IsText : List ℕ → Type
   pub appended : Appends old new text
   pub is : IsText text
 
--- if the result is `Ok`, the known bytes have grown so
+-- if the result is `Ok`, the known bytes have grown by such a text
 abbrev pub WritesText : {E : Type 0} → Result (Unit {0}) E → Option (List ℕ) → Option (List ℕ) → (List ℕ → Type 0) → Type 0
 WritesText result old new IsText = OnOk result (AppendsText old new IsText)
 
--- a number of parts of 10^8, as a decimal with eight digits behind the point
+-- a number of parts divided by 10^8, as a decimal with eight digits after the point
 abbrev pub parts_text : ℕ → List ℕ
 parts_text parts = decimal (parts / 10 ^ 8)
     ++ (codes "." ++ padded_integral (format_spec 32 0 4 8 (2 ^ 64 - 1)) false [] (decimal (parts % 10 ^ 8)))
 
--- n divided by d, 0 if d is 0
+-- n divided by d, or 0 if d is 0
 abbrev pub ratio_text : ℕ → ℕ → List ℕ
 ratio_text n d = parts_text (n * 10 ^ 8 / d)
 
@@ -52,7 +52,7 @@ title_text lines name superblocks frames width = concat (codes "<text class=\"he
     ∷ codes ", of " ∷ decimal frames ∷ codes " frames each. Lines to a column: " ∷ decimal width
     ∷ codes "; it shows the machine after the last of them.</text>\n" ∷ [])
 
--- the note to the right above the rows of a band, if each row is several frames
+-- the note above the rows of a band, at the right, if each row is several frames
 unfoldable pub row_note : ℕ → ℕ → List ℕ
 row_note frames y = if nat_lt 1 frames then concat (codes "<text class=\"right\" x=\"" ∷ decimal (LEFT + WIDTH)
     ∷ codes "\" y=\"" ∷ decimal y
@@ -75,7 +75,7 @@ figures_text taken held most refused top =
     ∷ codes " taken; refused for want of frames: " ∷ decimal refused
     ∷ codes "</text>\n" ∷ [])
 
--- a rectangle of cells in a path: columns are units to the right, and rows units upwards
+-- a rectangle of cells in a path: one unit to the right is a column, and one unit upwards is a row
 unfoldable pub rectangle_path : Rectangle → List ℕ
 rectangle_path r = concat (codes "M" ∷ decimal r.column ∷ codes " " ∷ decimal r.row ∷ codes "h" ∷ decimal r.columns ∷ codes "v"
     ∷ decimal r.rows

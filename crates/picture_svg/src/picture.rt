@@ -51,15 +51,15 @@ impl Picture {
         })
     }
 
-    /// Moves the word below the lowest number of the axis down by this many pixels, so that they do not overlap.
+    /// Moves the word below the lowest number of the axis down by this many pixels, so that the two do not overlap.
     pub fn set_label_gap(&mut self, pixels: u32)
         ensures { self.new ≡ record self.old { label_gap = pixels } }
     {
         self.label_gap = pixels;
     }
 
-    /// Draws the frames of a history, with the name of its trace, and flushes. If the history has more columns than the one given
-    /// to `new`, only the first ones are drawn.
+    /// Draws the frames of a history, with the name of its trace, and flushes. If the history has more columns than the history
+    /// that was passed to `new` can have, only the first ones are drawn.
     pub fn draw<W: Write>(
         &mut self,
         history: &History,

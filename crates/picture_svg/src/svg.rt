@@ -90,7 +90,7 @@ text{font:12px sans-serif;fill:#444}\
 .frame{fill:none;stroke:#888;shape-rendering:crispEdges}\
 </style>\n";
 
-/// A number with eight digits behind the point.
+/// A number with eight digits after the decimal point.
 #[derive(Clone, Copy)]
 struct Decimal {
     hundred_millionths: u64,
@@ -261,7 +261,7 @@ fn write_escaped<W: Write>(out: &mut W, name: &[u8]) -> io::Result<()>
 }
 
 /// Draws the band of tenant `t` with these columns of cells, from the height `top` down. The word at the marks of refusals is
-/// `gap` pixels lower.
+/// moved down by `gap` pixels.
 pub fn draw_band<W: Write>(
     out: &mut W,
     history: &History,
@@ -353,7 +353,7 @@ fn draw_tone<W: Write>(
     out.write_all(b"\"/>\n")
 }
 
-/// Draws all cells of a tone as rectangles. Columns are units to the right, and rows units upwards.
+/// Draws all cells of a tone as rectangles. One unit to the right is a column, and one unit upwards is a row.
 fn draw_cells<W: Write>(
     out: &mut W,
     tone: Tone,
@@ -407,7 +407,7 @@ fn draw_rectangle<W: Write>(out: &mut W, rectangle: Rectangle) -> io::Result<()>
     write!(out, "M{column} {row}h{columns}v{rows}h-{columns}z")
 }
 
-/// Returns the width of each of this number of columns.
+/// Returns the width of a column if there are this many.
 fn column_width(columns: usize) -> Decimal
     ensures { result.hundred_millionths ≡ WIDTH * 10 ^ 8 / columns }
 {
@@ -509,8 +509,8 @@ fn draw_frames_axis<W: Write>(out: &mut W, grid: Grid, y: u32, bottom: u32) -> i
     Ok(())
 }
 
-/// Draws to the right of the rows a tick where a slot begins, and for some slots the number and a line across. Ticks and numbers
-/// do not overlap, however many slots there are.
+/// Draws a tick to the right of the rows where a slot begins, and for some slots also the number and a line across the rows.
+/// Ticks and numbers do not overlap, however many slots there are.
 fn draw_slots_axis<W: Write>(out: &mut W, grid: Grid, y: u32, bottom: u32) -> io::Result<()>
     ensures { WritesText result (W.contents out.old) (W.contents out.new) (λ _. ⊤) }
 {
@@ -559,7 +559,7 @@ fn height_of(grid: Grid, frame: u32) -> u32 {
     rows.saturating_mul(row_height(grid))
 }
 
-/// Returns the distance between numbers of the frames' axis: a power of two that gives at most eight steps.
+/// Returns the distance between the numbers on the frames' axis: a power of two that gives at most eight steps.
 fn frames_step(frames: u32) -> u32 {
     let mut step = 1u32;
     for _ in 0..31 {
@@ -571,8 +571,8 @@ fn frames_step(frames: u32) -> u32 {
     step
 }
 
-/// Writes beside the title of a band the tenant's figures at the end, the most frames that were taken in a column, and the number
-/// of requests that were refused for lack of frames.
+/// Writes beside the title of a band: the tenant's figures at the end, the most frames that were taken in a column, and the
+/// number of requests that were refused for lack of frames.
 fn draw_figures<W: Write>(out: &mut W, columns: &[Column], t: u8, top: u32) -> io::Result<()>
     ensures { WritesText result (W.contents out.old) (W.contents out.new) (IsFiguresText columns.now t top) }
 {
@@ -590,7 +590,7 @@ fn draw_figures<W: Write>(out: &mut W, columns: &[Column], t: u8, top: u32) -> i
 }
 
 /// Marks the columns with lines in which a request of tenant `t` was refused for lack of frames. The word that names the marks is
-/// `gap` pixels lower.
+/// moved down by `gap` pixels.
 fn draw_refusals<W: Write>(
     out: &mut W,
     columns: &[Column],
@@ -616,7 +616,7 @@ fn draw_refusals<W: Write>(
     out.write_all(b"\"/>\n")
 }
 
-/// Returns the distance of the middle of a column from the first column's left, for this number of columns.
+/// Returns the distance of the middle of a column from the left edge of the first column, if there are this many columns.
 fn middle_of(column: usize, columns: usize) -> u32
     ensures { result ≡ middle_of column columns }
 {
@@ -629,7 +629,7 @@ fn middle_of(column: usize, columns: usize) -> u32
 }
 
 /// Draws the free frames of tenant `t`, upwards from the height `foot`, by the order of their free block. The greatest order is
-/// lowest.
+/// at the bottom.
 fn draw_stack<W: Write>(out: &mut W, history: &History, t: u8, foot: u32) -> io::Result<()>
     ensures { WritesText result (W.contents out.old) (W.contents out.new) (IsStackText history.now t foot) }
 {
@@ -644,7 +644,7 @@ fn draw_stack<W: Write>(out: &mut W, history: &History, t: u8, foot: u32) -> io:
     draw_scale(out, top, foot, most)
 }
 
-/// Draws a layer of a stack for each order. The height of the stack stands for `most` frames.
+/// Draws a layer of a stack for each order. The height of the stack represents `most` frames.
 fn draw_layers<W: Write>(
     out: &mut W,
     history: &History,
@@ -693,7 +693,7 @@ fn draw_scale<W: Write>(out: &mut W, top: u32, foot: u32, most: u64) -> io::Resu
     )
 }
 
-/// Draws the outline of a layer: where the number of free frames in blocks of this order and above changes, and to what.
+/// Draws the outline of a layer: where the number of free frames in blocks of this order and above changes, and the new number.
 fn draw_turns<W: Write>(out: &mut W, columns: &[Column], t: u8, order: usize) -> io::Result<()>
     requires { order < ORDERS }
     ensures { WritesText result (W.contents out.old) (W.contents out.new)
@@ -707,7 +707,7 @@ fn draw_turns<W: Write>(out: &mut W, columns: &[Column], t: u8, order: usize) ->
     Ok(())
 }
 
-/// Draws the numbers of lines below a foot.
+/// Draws the numbers of lines below the height `foot`.
 fn draw_lines_axis<W: Write>(out: &mut W, history: &History, foot: u32) -> io::Result<()>
     ensures { WritesText result (W.contents out.old) (W.contents out.new) (λ _. ⊤) }
 {
@@ -731,7 +731,8 @@ fn draw_lines_axis<W: Write>(out: &mut W, history: &History, foot: u32) -> io::R
     )
 }
 
-/// Returns the distance from the first column's left to the end of the column that shows the machine after this number of lines.
+/// Returns the distance from the left edge of the first column to the end of the column that shows the machine after this number
+/// of lines.
 fn way_of(history: &History, line: u32) -> u32 {
     let lines = u64::from(history.width()).saturating_mul(history.columns().len() as u64);
     let way = (u64::from(line) * u64::from(WIDTH))
@@ -740,7 +741,7 @@ fn way_of(history: &History, line: u32) -> u32 {
     way.min(u64::from(WIDTH)) as u32
 }
 
-/// Returns the distance between numbers of the lines' axis: a round number that gives at most ten steps.
+/// Returns the distance between the numbers on the lines' axis: a round number that gives at most ten steps.
 fn lines_step(lines: u32) -> u32 {
     let mut decade = 1u32;
     for _ in 0..9 {

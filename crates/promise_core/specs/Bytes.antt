@@ -1,6 +1,6 @@
 -- What is known of a tenant's bytes. A byte belongs to a page block or to an object. A read returns the byte that was left there.
--- If that is in doubt (the block was freed since, or the object given back), it may also return the byte of fresh memory.
--- If nothing was left there, it returns the byte of fresh memory.
+-- If that byte is in doubt, because the block was freed or the object was given back since, the read may also return the byte of
+-- fresh memory. If nothing was left there, the read returns the byte of fresh memory.
 use Rattle.std.specs.Prelude.{ℕ, ◌+◌, ◌-◌, Bool, true, false, not, List, [], ◌∷◌, find, length, slice_index, Option, Some, None, option_map, nat_le, nat_lt, if◌then◌else◌, ◌&&◌, ◌||◌, ◌==◌}
 use Rattle.std.specs.List.{list_any}
 use Rattle.std.specs.Option.{option_and_then, option_map_or}
@@ -66,7 +66,7 @@ doubted test cells place =
 abbrev pub without : (ℕ → Holder → Bool) → Cells → Cells
 without test cells place = option_and_then (λ (cell : Cell). if test place cell.holder then None else Some cell) (cells place)
 
--- the live object of these caches that has the whole range
+-- the live object of one of these caches that contains the whole range
 abbrev pub object_with : ℕ → ℕ → List KnownCache → Option Holder
 object_with place len [] = None
 object_with place len (c ∷ cs) =

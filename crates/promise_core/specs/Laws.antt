@@ -107,7 +107,7 @@ LeftInHeld = (limit order superblocks tenants t : ℕ) (es : List Exchange) (w :
 abbrev pub may_tell : Known → ℕ → Command → Body → Bool
 may_tell w t command body = is_ok (allowed (Event.Tenant t command) (record { addressee = Addressee.Tenant t; body = body }) w)
 
--- for the tenant's command either an answer with some number is allowed, or the refusal `NoFrames` is, and never both
+-- for the tenant's command either an answer with some number is allowed, or the refusal `NoFrames` is, but never both
 pub record IsRefusedForCause (w : Known) (t : ℕ) (command : Command) (answer : ℕ → Body) : Type 0 where
   pub answered : may_tell w t command (Body.Refused Refusal.NoFrames) ≡ false → (n : ℕ) × (may_tell w t command (answer n) ≡ true)
   pub refused : (n : ℕ) → may_tell w t command (Body.Refused Refusal.NoFrames) ≡ true → may_tell w t command (answer n) ≡ false

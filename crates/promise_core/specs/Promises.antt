@@ -46,7 +46,7 @@ abbrev pub first_due : List (Bool × Refusal) → Option Refusal
 first_due [] = None
 first_due ((stands, refusal) ∷ tests) = if stands then Some refusal else first_due tests
 
--- the refusal that has to come, if there is one
+-- the refusal that the reply has to be, if there is one
 unfoldable pub due : Event → Known → State → Option Refusal
 due (Event.Tenant t (Command.Alloc k)) w s = first_due ((nat_lt w.order k, Refusal.BadOrder) ∷ [])
 due (Event.Tenant t (Command.Free f)) w s = first_due ((is_none (order_in s.has.pages f), Refusal.NotABlock) ∷ [])
@@ -95,15 +95,15 @@ refusals event (Body.Reaped frames) w s = is_none (due event w s)
 refusals event (Body.Report r) w s = is_none (due event w s)
 refusals event (Body.Fault fault) w s = is_none (due event w s)
 
--- all objects in the slabs with live objects are live, and no block can stand for another slab
+-- all slabs with live objects are full, and no block is vacant for another slab
 abbrev pub is_used_up : ℕ → Holdings → KnownCache → Bool
 is_used_up order h c = list_all (is_slab_full c) c.live && not (has_vacant_block order h c.order)
 
 -- Each promise below is about some commands. The others are listed too, so that a new command has to be added to each promise.
 -- Only `state_after` says which body is an answer to which command; `form` tests it.
 
--- `NoFrames` comes to an alloc only if no block of that order can stand, to a take only if the cache is used up, and to no other
--- command
+-- `NoFrames` may be the reply to an alloc only if no block of that order is vacant, to a take only if the cache is used up, and to
+-- no other command
 abbrev pub room : Event → Body → Known → State → Bool
 room (Event.Tenant t (Command.Alloc k)) (Body.Refused Refusal.NoFrames) w s = not (has_vacant_block w.order s.has k)
 room (Event.Tenant t (Command.Take number)) (Body.Refused Refusal.NoFrames) w s =
@@ -152,7 +152,8 @@ room event (Body.Reaped frames) w s = true
 room event (Body.Report r) w s = true
 room event (Body.Fault fault) w s = true
 
--- `SlotBusy` comes only to a take-back, and only if a frame of the slot is taken or some cache may have a slab without live objects
+-- `SlotBusy` may be the reply only to a take-back, and only if a frame of the slot is taken or some cache may have a slab without
+-- live objects
 abbrev pub busy : Event → Body → Known → State → Bool
 busy (Event.Admin (AdminCommand.TakeBack t u)) (Body.Refused Refusal.SlotBusy) w s =
     is_slot_busy w.order s.has u || list_any (λ c. s.may_have_empty c.number) s.has.caches
@@ -259,8 +260,8 @@ new_layout (Event.Admin (AdminCommand.Reset t)) body w s = true
 new_layout (Event.Admin (AdminCommand.Move t u)) body w s = true
 new_layout (Event.Admin AdminCommand.Pool) body w s = true
 
--- this number of frames can be freed: none, or at most as many as are not taken, and a multiple of the frames of a slab of one of
--- these caches that may have an empty one
+-- this number of frames can be freed: either 0, or at most the number of frames that are not taken and a multiple of the frames of
+-- a slab of one of these caches that may have an empty slab
 abbrev pub can_come_back : ℕ → List KnownCache → ℕ → State → Bool
 can_come_back order caches frames s = frames == 0 || (nat_le frames (length (vacant_blocks order s.has 0))
     && list_any (λ c. s.may_have_empty c.number && frames % 2 ^ c.order == 0) caches)
@@ -315,7 +316,7 @@ owners (Event.Admin (AdminCommand.Reset t)) body w s = true
 owners (Event.Admin (AdminCommand.Move t u)) body w s = true
 owners (Event.Admin AdminCommand.Pool) body w s = true
 
--- each byte that is read may be there, and as many bytes are read, or reported as written, as the command has
+-- each byte that is read may be the one there, and the number of bytes read, or reported as written, is that of the command
 abbrev pub bytes : Event → Body → Known → State → Bool
 bytes (Event.Tenant t (Command.Read place len)) (Body.Bytes told) w s = length told.items == len
     && option_map_or (λ holder. may_all_be s.has s.cells holder place told.items) (holder_of s.has place len) false
@@ -336,7 +337,7 @@ bytes (Event.Admin (AdminCommand.Reset t)) body w s = true
 bytes (Event.Admin (AdminCommand.Move t u)) body w s = true
 bytes (Event.Admin AdminCommand.Pool) body w s = true
 
--- the number of frames in these numbers of blocks, which are by order, from order 0 on
+-- the number of frames in blocks, if the list has the number of blocks of each order, from order 0 on
 abbrev pub frames_of_counts : List ℕ → ℕ
 frames_of_counts [] = 0
 frames_of_counts (n ∷ ns) = n + 2 * frames_of_counts ns
@@ -349,13 +350,13 @@ abbrev pub is_row : (ℕ → Bool) → KnownCache × CacheRow → Bool
 is_row may_have_empty (c, row) = ((row.cache == c.number && row.live == length c.live) && (row.empty == 0 || may_have_empty c.number))
     && (row.full == count_slabs (is_slab_full c) c && row.partial == count_slabs (λ p. not (is_slab_full c p)) c)
 
--- the number of taken blocks of order k: page blocks, and slabs by the rows of a report
+-- the number of taken blocks of order k: page blocks, and slabs as the rows of a report count them
 abbrev pub known_count : Holdings → List CacheRow → ℕ → ℕ
 known_count h rows k = length (filter (λ b. b.order == k) h.pages)
     + sum_by (λ p. if p.0.order == k then p.1.full + p.1.partial + p.1.empty else 0) (zip h.caches rows)
 
--- there is a row for each order and each cache; the figures are those of the state, and there are no more free blocks than can
--- stand
+-- there is a row for each order and each cache; the figures are those of the state, and for each order, the free blocks of that
+-- order and above fit into its vacant blocks
 abbrev pub report : Event → Body → Known → State → Bool
 report (Event.Tenant t Command.Report) (Body.Report r) w s =
     let orders = range_with_len 0 (w.order + 1) in
@@ -384,7 +385,7 @@ report (Event.Admin (AdminCommand.Reset t)) body w s = true
 report (Event.Admin (AdminCommand.Move t u)) body w s = true
 report (Event.Admin AdminCommand.Pool) body w s = true
 
--- the number of frames in empty slabs of the caches whose number passes the test, by a report
+-- the number of frames that a report counts in empty slabs of the caches whose number passes the test
 abbrev pub empty_frames : (ℕ → Bool) → Holdings → Report → ℕ
 empty_frames test h r = sum_by (λ p. if test p.0.number then p.1.empty * 2 ^ p.0.order else 0) (zip h.caches r.caches.items)
 
@@ -471,7 +472,7 @@ judged event reply w None =
 judged event reply w (Some s) =
     verdict (kept event reply w s) (known_after event reply.body w (unwrap_or (state_after w.order event reply.body s) s))
 
--- What is known after the event and its reply, if the reply is allowed; else the first promise that it breaks.
+-- What is known after the event and its reply, if the reply is allowed; otherwise the first promise that the reply breaks.
 unfoldable pub allowed : Event → Reply → Known → Result Known Promise
 allowed event reply w = judged event reply w (option_map_or (slice_get w.states) (named event) (Some opening_state))
 

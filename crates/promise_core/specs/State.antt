@@ -46,8 +46,8 @@ is_in_use cache = option_map_or (λ c. nat_lt 0 (length c.live)) cache false
 abbrev pub with_range : ℕ → List ℕ → State → Option Holder → State
 with_range place bytes s holder = record s { cells = option_map_or (λ x. with_bytes x place bytes s.cells) holder s.cells }
 
--- an object is taken at `first`: of what was left in its slab, only bytes of that object, and of objects of its cache that share
--- no byte with it, are still known
+-- the cells after an object of this cache is taken at `first`: in its slab, only the bytes of that object, and of objects of its
+-- cache that share no byte with it, are still known
 abbrev pub with_object : ℕ → Option KnownCache → Cells → Cells
 with_object first cache cells = option_map_or (λ c. without (λ place holder. in_block place (slab_around c first)
     && not (is_object (λ n p. n == c.number && (p == first || are_apart c first p)) holder)) cells) cache cells
@@ -56,7 +56,7 @@ with_object first cache cells = option_map_or (λ c. without (λ place holder. i
 abbrev pub is_in_no_slab : Holdings → ℕ → ℕ → Bool
 is_in_no_slab h n p = not (list_any (λ c. c.number == n && list_any (λ q. in_block p (slab_around c q)) c.live) h.caches)
 
--- the state after a reply to an event: unchanged after a refusal, None if the body is no answer to the event; slots have
+-- the state after a reply to an event: unchanged after a refusal, None if the body is not an answer to the event; slots have
 -- 2 ^ order frames
 unfoldable pub state_after : ℕ → Event → Body → State → Option State
 state_after order event (Body.Refused refusal) s = Some s

@@ -21,14 +21,14 @@ pub fn confined()
     ensures { Confined }
 {}
 
-/// In every state, an existing tenant's request for a block of at most a slot's order can either be granted or be refused with
-/// `NoFrames`, and never both. So the request has an allowed reply after any allowed replies.
+/// In every state, it is allowed either to grant an existing tenant's request for a block of at most a slot's order, or to refuse
+/// it with `NoFrames`, but never both. So the request has an allowed reply after any allowed replies.
 pub fn refused_for_cause()
     ensures { RefusedForCause }
 {}
 
-/// After allowed replies, a request for an object of an existing cache can either be granted or be refused with `NoFrames`,
-/// and never both. So after any allowed replies the request has an allowed reply.
+/// After allowed replies, it is allowed either to grant a request for an object of an existing cache, or to refuse it with
+/// `NoFrames`, but never both. So the request has an allowed reply after any allowed replies.
 pub fn take_refused_for_cause()
     ensures { TakeRefusedForCause }
 {}

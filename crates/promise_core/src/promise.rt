@@ -10,12 +10,12 @@ use std::fmt;
 pub enum Promise {
     /// The reply has the right addressee and is a refusal or an answer to that event.
     Form,
-    /// If the condition of a refusal holds, the first such refusal is the reply. Otherwise only `NoFrames` and `SlotBusy` may
-    /// refuse.
+    /// If the condition of a refusal holds, the first such refusal is the reply. Otherwise the only possible refusals are
+    /// `NoFrames` and `SlotBusy`.
     Refusals,
     /// No page block or object is refused for lack of frames while one can be allocated.
     Room,
-    /// No slot without taken frames is busy, unless an empty slab may be in it.
+    /// A take-back is refused with `SlotBusy` only if a frame of the slot is taken, or if an empty slab may be in the slot.
     Busy,
     /// A page block is aligned, lies in a held slot and overlaps nothing that is taken.
     Blocks,
@@ -23,15 +23,15 @@ pub enum Promise {
     Objects,
     /// The objects of a new cache fit into its slabs.
     Layout,
-    /// No more frames are freed than empty slabs could have had.
+    /// A free reports the order of its block. A reap or a destroy frees no more frames than empty slabs could have.
     Gives,
     /// A superblock has one owner, and each change of owners is reported.
     Owners,
-    /// A byte that is read is the one that was left there, or a fresh one if nothing was left or that is in doubt.
+    /// A byte that is read is the one that was left there, or a fresh one if none was left or if the one left is in doubt.
     Bytes,
     /// A report has the figures of the tenant's slots, page blocks and objects.
     Report,
-    /// The figures of a report stay valid until the tenant changes something, or the administrator does for it.
+    /// The figures of a report stay valid until a command changes the tenant's slots, page blocks, caches or objects, or reaps.
     Still,
 }
 

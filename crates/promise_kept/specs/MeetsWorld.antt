@@ -10,7 +10,7 @@ use Rattle.promise_core.specs.State.{State, Known}
 use Rattle.promise_core.specs.Promises.{named, allowed}
 use Rattle.promise_kept.specs.Meets.{Meets}
 
--- What is known of a world is true; `limit` is on a tenant's caches, and slots have 2 ^ order frames.
+-- What is known of a world is true; a tenant may have `limit` caches, and slots have 2 ^ order frames.
 pub record MeetsWorld (limit order : ℕ) (k : Known) (w : World) : Type 0 where
   -- all that is known, except for the tenants' states, is the world's own
   pub known : k ≡ record { limit = limit; order = order; owners = w.owners; states = k.states }

@@ -19,7 +19,7 @@ use Rattle.promise_kept.specs.MeetsWorld.{MeetsWorld, IsEventKept}
 abbrev pub GrantIsKept : Type 0
 GrantIsKept = (limit order t : ℕ) → IsEventKept limit order (Event.Admin (AdminCommand.Grant t))
 
--- a slot is taken back, or the take-back is refused if the slot is not held or busy
+-- a slot is taken back, or the take-back is refused if the slot is busy or not held
 abbrev pub TakeBackIsKept : Type 0
 TakeBackIsKept = (limit order t slot : ℕ) → IsEventKept limit order (Event.Admin (AdminCommand.TakeBack t slot))
 
@@ -50,7 +50,7 @@ StrangerChangesNothing = (limit order t : ℕ) (event : Event) (k : Known) (w : 
     → named event ≡ Some t → length w.machines ≤ t
     → (allowed event (world_step limit order event w).reply k ≡ Ok k) × ((world_step limit order event w).world ≡ w)
 
--- what is known at the end of a run from the opening world, each of whose replies is allowed
+-- every reply of the run from the opening world is allowed, and what is known at its end is true
 pub record IsKeptRun (limit order superblocks tenants : ℕ) (events : List Event) : Type 0 where
   pub after : Known
   pub are_allowed : all_allowed (opening_history limit order superblocks tenants events)

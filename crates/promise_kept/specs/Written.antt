@@ -22,7 +22,7 @@ text_of_replies only (Ok (Some event) ∷ readings) [] = []
 text_of_replies only (Ok (Some event) ∷ readings) (e ∷ es) = shown_text only e.reply ++ text_of_replies only readings es
 
 -- The text is that of replies to the lines' events, and each of these replies is allowed from the opening on, even if it is not
--- shown; `limit` is on a tenant's caches, and slots have 2 ^ order frames.
+-- shown. A tenant may have `limit` caches, and slots have 2 ^ order frames.
 pub record IsAllowedText (only : Option ℕ) (limit order superblocks tenants : ℕ) (lines : List (List ℕ)) (text : List ℕ) : Type 0 where
   pub exchanges : List Exchange
   pub asked : map (λ e. e.event) exchanges ≡ events_of lines

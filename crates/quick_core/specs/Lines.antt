@@ -16,13 +16,13 @@ pub record ReadsAs (bytes : List ℕ) (tenant : ℕ) (command : Command) (len : 
   pub ended : position (λ b. b == 10) bytes ≡ Some (len - 1)
   pub reading : reading_of (take (len - 1) bytes) ≡ Ok (Some (Event.Tenant tenant command))
 
--- the end of a line begins at index `end`, LF or CR LF, and the line has `len` bytes with it
+-- the end of a line, LF or CR LF, begins at index `end`, and the line has `len` bytes, including its end
 pub record EndsLine (bytes : List ℕ) (end len : ℕ) : Type 0 where
   pub within : len ≤ length bytes
   pub ended : ((len ≡ end + 1) × (slice_index bytes end ≡ 10))
       ⊎ ((len ≡ end + 2) × (slice_index bytes end ≡ 13) × (slice_index bytes (end + 1) ≡ 10))
 
--- from index `from` on there is this number of at most 9 digits, and after it the end of a line of `len` bytes
+-- a number of at most 9 digits with this value begins at index `from`, and the end of a line of `len` bytes follows it
 pub record IsLastNumber (bytes : List ℕ) (from value len : ℕ) : Type 0 where
   pub end : ℕ
   pub number : number_of (slice_range bytes from end) ≡ Some value
@@ -36,7 +36,7 @@ pub record NamesTenant (bytes : List ℕ) (tenant : Number) : Type 0 where
   pub short : tenant.end ≤ MOST_TENANT_DIGITS
   pub blank : slice_index bytes tenant.end ≡ 32
 
--- then come the first four letters of a command
+-- the bytes begin with the number of a tenant and a blank, followed by these first four letters of a command
 pub record BeginsLine (bytes : List ℕ) (tenant : Number) (four : List ℕ) : Type 0 where
   pub names : NamesTenant bytes tenant
   pub letters : slice_range bytes (tenant.end + 1) (tenant.end + 5) ≡ four

@@ -37,7 +37,7 @@ fn decode_fours(bytes: &[u8], from: usize, most: usize, out: &mut [u8; MOST_BYTE
     4 * (most / 4)
 }
 
-/// Writes four bytes after the first `at`.
+/// Writes four bytes after the first `at` bytes of `out`.
 #[inline(always)]
 fn put_four(four: &[u8; 4], at: usize, out: &mut [u8])
     requires { at + 4 ≤ length out.old }
@@ -46,7 +46,8 @@ fn put_four(four: &[u8; 4], at: usize, out: &mut [u8])
     out[at..at + 4].copy_from_slice(four);
 }
 
-/// Decodes the pairs after the first `done`, one at a time, and returns the number of all pairs, including the first `done`.
+/// Decodes the pairs after the first `done` pairs, one at a time, and returns the number of all decoded pairs, including the first
+/// `done`.
 #[inline(always)]
 fn decode_singly(
     bytes: &[u8],
@@ -89,7 +90,7 @@ fn four_pairs_at(bytes: &[u8], at: usize) -> Option<[u8; 4]>
     Some([first as u8, second as u8, third as u8, fourth as u8])
 }
 
-/// Returns the byte of a pair of hex digits, or `NO_DIGIT` or more if one of the two is not a hex digit.
+/// Returns the byte that a pair of hex digits encodes, or a value of at least `NO_DIGIT` if one of the two is not a hex digit.
 #[inline(always)]
 fn pair_at(bytes: &[u8], at: usize) -> u16
     requires { at + 2 ≤ length bytes.now }

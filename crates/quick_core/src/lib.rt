@@ -1,7 +1,7 @@
 //! The quick reader: reads the frequent lines in few instructions.
 //!
-//! It returns a request only if it is sure of it. That request is the one that the grammar in `words_core` gives the line.
-//! All other lines are left to `words_core`, so a reader of the rules can ignore this crate.
+//! It returns a request only if that is exactly how the grammar in `words_core` reads the line. All other lines are left to
+//! `words_core`, so you can ignore this crate if you only want to know the rules.
 #![tactic(auto)]
 
 mod decode;

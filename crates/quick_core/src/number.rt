@@ -1,4 +1,4 @@
-//! Reads numbers of few digits.
+//! Reads numbers with few digits.
 
 ghost use Rattle.std.specs.Prelude.{◌≡◌, true, ◌+◌, ◌-◌, ◌<◌, ◌≤◌, Some, IfSome, length, slice_range};
 ghost use Rattle.std.specs.Char.{is_ascii_digit};
@@ -7,10 +7,10 @@ ghost use Rattle.quick_core.specs.Lines.{IsLastNumber};
 
 use crate::line_end::line_len;
 
-/// The largest number of digits that is read. The value then fits a `u32`.
+/// The largest number of digits that are read. A number with that many digits always fits into a `u32`.
 pub const MOST_READ_DIGITS: usize = 9;
 
-/// A number in some bytes, and the index after its last digit.
+/// The value of a number in some bytes, and the index after its last digit.
 #[derive(Clone, Copy, Debug)]
 pub struct Number {
     pub value: u32,
@@ -47,14 +47,15 @@ pub fn number_at(bytes: &[u8], from: usize, most: usize) -> Option<Number>
     })
 }
 
-/// The last number of a line, and the length of the line with its end.
+/// The value of the last number in a line, and the length of the line, including its end.
 #[derive(Clone, Copy, Debug)]
 pub struct LastNumber {
     pub value: u32,
     pub len: usize,
 }
 
-/// Reads the number from index `from` on, if the end of the line follows it: LF, or CR LF if `RETURNS`.
+/// Reads a number of at most [`MOST_READ_DIGITS`] digits from index `from` on, if the end of the line follows it: LF, or CR LF if
+/// `RETURNS`. Returns `None` otherwise.
 #[inline(always)]
 pub fn last_number<const RETURNS: bool>(bytes: &[u8], from: usize) -> Option<LastNumber>
     requires { from + MOST_READ_DIGITS + 1 < length bytes.now }

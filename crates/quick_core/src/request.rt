@@ -15,7 +15,7 @@ use crate::number::{MOST_READ_DIGITS, Number, last_number, number_at};
 use model_core::limits::MOST_BYTES;
 use words_core::{Request, one_case};
 
-/// A line that was read: its tenant, its request, and its length with the line end.
+/// A line that was read: its tenant, its request, and its length in bytes, including the line end.
 #[derive(Clone, Copy, Debug)]
 pub struct RequestLine<'a> {
     pub tenant: u32,
@@ -23,11 +23,11 @@ pub struct RequestLine<'a> {
     pub len: usize,
 }
 
-/// The number of bytes that have to be given, from the beginning of a line on. A line that is read here fits into them with its
-/// line end; a `write` fits without the bytes that it writes.
+/// The number of bytes, counted from the beginning of a line, that have to be there for the line to be read here. Every line that
+/// is read here fits into them with its line end, except a `write`, whose hex digits and line end may lie beyond them.
 pub const WINDOW: usize = 32;
 
-/// The largest number of digits of a tenant's number that is read here.
+/// The largest number of digits in a tenant's number that is read here.
 pub const MOST_TENANT_DIGITS: usize = 3;
 
 /// The bytes `allo` as a little-endian number. The other constants are formed likewise.
@@ -45,7 +45,7 @@ const WRIT: u32 = 0x7469_7277;
 
 /// Reads the line at the front of these bytes, if it is an `alloc`, `free`, `take`, `give`, `read` or `write` with single blanks
 /// between its words and a line feed at its end. The bytes of a write are then in `buffer`. Returns `None` for any other line,
-/// for a number of too many digits, and if there are fewer than [`WINDOW`] bytes.
+/// for a number with too many digits, and if there are fewer than [`WINDOW`] bytes.
 #[inline(always)]
 pub fn read_request<'a>(bytes: &[u8], buffer: &'a mut [u8; MOST_BYTES]) -> Option<RequestLine<'a>>
     ensures reads { IfSome result (λ line. ReadsAs bytes.now line.tenant (command_of line.request) line.len) }
@@ -73,8 +73,8 @@ pub fn may_begin_request(bytes: &[u8]) -> bool {
     matches!(bytes, [b'0'..=b'9', ..])
 }
 
-/// Reads the number of a tenant, followed by a blank, at the front of these bytes. Returns `None` if they begin otherwise, if the
-/// number has more than [`MOST_TENANT_DIGITS`] digits, or if there are fewer than [`WINDOW`] bytes.
+/// Reads the number of a tenant, followed by a blank, at the front of these bytes. Returns `None` if they do not begin like that,
+/// if the number has more than [`MOST_TENANT_DIGITS`] digits, or if there are fewer than [`WINDOW`] bytes.
 #[inline(always)]
 pub fn read_tenant(bytes: &[u8]) -> Option<Number>
     ensures size { IfSome result (λ tenant. WINDOW ≤ length bytes.now) }
@@ -87,7 +87,7 @@ pub fn read_tenant(bytes: &[u8]) -> Option<Number>
     (bytes[tenant.end] == b' ').then_some(tenant)
 }
 
-/// [`read_ended_request`] for a line whose tenant was read: reads the rest of the line after that number.
+/// [`read_ended_request`] for a line whose tenant was already read: reads the rest of the line.
 #[inline(always)]
 pub fn read_known_request<'a, const RETURNS: bool>(
     bytes: &[u8],

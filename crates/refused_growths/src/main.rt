@@ -1,8 +1,8 @@
 //! Makes one call after a number of allocations, and prints its result.
 //!
-//! Standard input is a line `SPENT CALL`: first SPENT allocations are made and freed, then the call of that name is made. If the
-//! allocation with a certain number is refused, SPENT decides which growth of the call that is. `tests/refused-growths` tries all
-//! of them.
+//! Standard input is a line `SPENT CALL`: first SPENT allocations are made and freed, and then the call with that name is made.
+//! If the allocation with a fixed number is refused, SPENT decides which growth of the call that is. `tests/refused-growths`
+//! tries all of them.
 #![tactic(auto)]
 
 use buddy_core::Buddy;
@@ -35,14 +35,14 @@ fn run(alloc: Global, line: &[u8]) -> Option<&'static str> {
     made(alloc, call).or_else(|| read(alloc, call))
 }
 
-/// A machine of two superblocks of eight frames and two tenants.
+/// A machine with two superblocks of eight frames each, and two tenants.
 const MACHINE: Config = Config {
     order: 3,
     superblocks: 2,
     tenants: 2,
 };
 
-/// Makes a part of the small machine, or boots a kernel. Returns the result, if there is such a call.
+/// Makes a part of the small machine, or boots a kernel. Returns the result, if there is a call with this name.
 fn made(alloc: Global, call: &str) -> Option<&'static str> {
     match call {
         "Lists::new" => Some(part(&Lists::new(alloc, 16, 6))),
@@ -125,7 +125,7 @@ const ONLY_TWO: [&str; 8] = [
 
 const ORDER_TWO: [&str; 6] = ["--order", "2", "--superblocks", "2", "--tenants", "2"];
 
-/// Reads the words of a command line. Returns the result, if there is such a call.
+/// Reads the words of a command line. Returns the result, if there is a call with this name.
 fn read(alloc: Global, call: &str) -> Option<&'static str> {
     match call {
         "read_words" => Some(answered(alloc, &IN_ORDER)),

@@ -1,8 +1,8 @@
--- The limits of the counts of lines and bytes.
+-- Limits on the counts of lines and bytes.
 use Rattle.std.specs.Prelude.{ℕ, ◌*◌, ◌≤◌}
 use Rattle.replay_core.specs.Pushes.{most_reply_bytes}
 
--- no line counts twice, and each has at most one reply
+-- no line is counted twice, and each line has at most one reply
 pub record IsWithinLines (lines events faults written : ℕ) : Type 0 where
   pub events_few : events ≤ lines
   pub faults_few : faults ≤ lines

@@ -1,5 +1,5 @@
 -- Lines that are processed one after another. `does` is the effect of one line: it leads from a state to the next one. The drain
--- takes the first bytes of the line's output; the others are left if it fails.
+-- takes the first bytes of the line's output. If it fails, the others are left.
 use Rattle.std.specs.Prelude.{◌≡◌, ℕ, ◌<◌, List, [], ◌∷◌, ◌++◌, length, Option, Result, Err}
 use Rattle.std.specs.Io.KnownBytes.{Appends}
 use Rattle.world_core.specs.Output.{with_line_feeds}
@@ -26,7 +26,7 @@ pub record IsCutOff {S : Type 0} (does : S → List ℕ → List ℕ → List �
   pub ran : HaveRun does s done earlier mid
   pub did : does mid line here rest s'
 
--- one line, or its reading, was processed; in full if the result is Ok
+-- one line, given by its bytes or its reading, was processed: in full if the result is Ok
 pub record HasDone {S L : Type 0} (does : S → L → List ℕ → List ℕ → S → Type 0) (s : S) (line : L) (old new : Option (List ℕ))
     (result : Result (Unit {0}) Stopped) (s' : S) : Type 0 where
   pub taken : List ℕ
@@ -35,7 +35,7 @@ pub record HasDone {S L : Type 0} (does : S → L → List ℕ → List ℕ → 
   pub appended : Appends old new taken
   pub whole : IsWholeAtOk result rest
 
--- the lines of these bytes before the rest were processed
+-- the lines of these bytes that come before `rest` were processed
 pub record HasGone {S : Type 0} (does : S → List ℕ → List ℕ → List ℕ → S → Type 0) (s : S) (bytes rest : List ℕ) (old new : Option (List ℕ))
     (s' : S) : Type 0 where
   pub done : List (List ℕ)

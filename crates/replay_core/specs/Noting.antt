@@ -1,4 +1,4 @@
--- The notes that a replay takes beside its replies: the refusals that are shown, and the faulty lines.
+-- The notes that a replay takes in addition to its replies: the refusals that are shown, and the faulty lines.
 use Rattle.std.specs.Prelude.{◌≡◌, ℕ, suc, List, [], ◌∷◌, take, Option, Some, None, Result, Ok, Err, if◌then◌else◌}
 use Rattle.words_core.specs.declared.reply.Body.{Body}
 use Rattle.words_core.specs.declared.event.Event.{Event}
@@ -42,13 +42,13 @@ abbrev pub noted_fault : {N : Type 0} → Noting N → ℕ → List ℕ → Resu
 noted_fault noting number front (Ok event) n = n
 noted_fault noting number front (Err fault) n = noting.faulty n number fault front
 
--- the notes after a line with this reading: its fault is noted, or the reply to its event
+-- the notes after a line with this reading: its fault is noted, or the reply to its event if that is a shown refusal
 abbrev pub noted_reading : {N : Type 0} → Noting N → Option ℕ → ℕ → ℕ → ℕ → List ℕ → Result (Option Event) LineFault → World → N → N
 noted_reading noting only limit order number front (Ok (Some event)) w n = noted_reply noting only (world_step limit order event w).reply n
 noted_reading noting only limit order number front (Ok None) w n = noted_fault noting number front (Ok None) n
 noted_reading noting only limit order number front (Err fault) w n = noted_fault noting number front (Err fault) n
 
--- the notes after these lines, each run in the world that the events before it left; the first has this number
+-- the notes after these lines, each run in the world that the events before it left; the first line has this number
 abbrev pub noted_lines : {N : Type 0} → Noting N → Option ℕ → ℕ → ℕ → ℕ → List (List ℕ) → World → N → N
 noted_lines noting only limit order number [] w n = n
 noted_lines noting only limit order number (line ∷ lines) w n =

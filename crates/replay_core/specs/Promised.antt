@@ -1,5 +1,5 @@
--- What the drain takes in a replay keeps the promises. They leave open what the machine of the definitions decides: which block
--- and which object a request gets, and which frames are freed.
+-- What the drain takes in a replay keeps the promises. The promises leave open what only the definitions decide: which block and
+-- which object a request gets, and which frames are freed.
 use Rattle.std.specs.Prelude.{ℕ, ◌≤◌, Bool, List, ◌++◌, Option, Result, Ok, Err}
 use Rattle.words_core.specs.Cutting.{lines_of_trace}
 use Rattle.kernel_core.specs.Content.{KernelContent}
@@ -12,12 +12,12 @@ use Rattle.streams.specs.declared.tally.Tally.{Tally}
 use Rattle.streams.specs.declared.tally.ReplayError.{ReplayError}
 use Rattle.replay_core.specs.Runs.{Counts, HasCome}
 
--- From an opening world, whose slots have at least 8 frames, the text is that of allowed replies to these lines ..
+-- from an opening world with slots of at least 8 frames, the text is that of allowed replies to these lines
 abbrev pub IsAllowedOutput : Option ℕ → KernelContent → List (List ℕ) → List ℕ → Type 0
 IsAllowedOutput only before lines text = (superblocks tenants : ℕ) → Shows before (opening_world superblocks tenants) → 3 ≤ before.order
     → IsAllowedText only cache_limit before.order superblocks tenants lines text
 
--- .. or a prefix of it.
+-- from such a world, `part` is a prefix of the text of allowed replies to these lines
 abbrev pub BeginsAllowed : Option ℕ → KernelContent → List (List ℕ) → List ℕ → Type 0
 BeginsAllowed only before lines part = (superblocks tenants : ℕ) → Shows before (opening_world superblocks tenants) → 3 ≤ before.order
     → (rest : List ℕ) × IsAllowedText only cache_limit before.order superblocks tenants lines (part ++ rest)

@@ -4,7 +4,8 @@ use Rattle.std.specs.Io.KnownBytes.{Appends}
 use Rattle.words_core.specs.declared.text.TheConstants.{MOST_ROWS, MOST_REPLY_BYTES}
 use Rattle.streams.specs.declared.feed.Stopped.{Stopped}
 
--- the largest number of bytes of a reply: the table of owners, whose lines have at most 256 bytes each
+-- an upper bound on the number of bytes in a reply: no reply has more lines than the table of owners, and a line has at most 256
+-- bytes
 abbrev pub most_reply_bytes : ℕ
 most_reply_bytes = MOST_ROWS * MOST_REPLY_BYTES
 
@@ -17,7 +18,7 @@ pub record CanWrite (failed : Bool) (written len : ℕ) : Type 0 where
   pub fine : failed ≡ false
   pub counted : written + len < 2 ^ 128
 
--- a front of the text was taken and counted; if it is not the whole text, the drain has failed
+-- a prefix of the text was taken and counted; if it is not the whole text, the drain has failed
 pub record HasPushed (old new : Option (List ℕ)) (failing : Bool) (text : List ℕ) (written written' : ℕ)
     (result : Result (Unit {0}) Stopped) : Type 0 where
   pub taken : List ℕ

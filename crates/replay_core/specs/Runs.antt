@@ -41,8 +41,7 @@ pub record HasRun (only : Option ℕ) (before after : KernelContent) (lines : Li
   pub shown : (w : World) → Shows before w → taken ≡ shown_lines only cache_limit before.order lines w
   pub counted : Counts tally lines taken
 
--- of the text of these lines and one more, the drain took all of the lines' text, and a prefix of what the last one adds, not the
--- whole of it
+-- the drain took the whole text of `lines`, and a prefix, but not all, of the text that `line` adds
 abbrev pub IsCutIn : (text : List (List ℕ) → List ℕ) → (lines : List (List ℕ)) → (line taken : List ℕ) → Type 0
 IsCutIn text lines line taken = (part rest : List ℕ) × (0 < length rest) × (taken ≡ text lines ++ part) × (text (lines ++ line ∷ []) ≡ taken ++ rest)
 
@@ -74,8 +73,8 @@ NamesFailed (Ok tally) feed drain = (feed ≡ Bool.false) × (drain ≡ Bool.fal
 NamesFailed (Err (ReplayError.Feed tally)) feed drain = (feed ≡ Bool.true) × (drain ≡ Bool.false)
 NamesFailed (Err (ReplayError.Drain tally)) feed drain = (feed ≡ Bool.false) × (drain ≡ Bool.true)
 
--- From an opening world, whatever the others do, a tenant's lines are those of its private machine on its own list of
--- the trace; with `only` nothing else is taken.
+-- From an opening world, whatever the other tenants do, a tenant's reply lines are those of its private machine for its own list
+-- of the trace. With `only`, nothing else is taken.
 abbrev pub HasOwnLines : Option ℕ → KernelContent → List ℕ → List ℕ → Type 0
 HasOwnLines None before given taken = (superblocks tenants t : ℕ) → Shows before (opening_world superblocks tenants) → t < tenants →
     lines_for t taken ≡ private_lines cache_limit before.order superblocks tenants t given

@@ -4,7 +4,7 @@ use Rattle.streams.specs.declared.feed.Stopped.{Stopped}
 use Rattle.replay_core.specs.declared.replies.Replies.{Replies}
 use Rattle.replay_core.specs.Pushes.{most_reply_bytes, HasPushed}
 
--- the text of at most one reply was pushed, to a drain that has then failed or not
+-- the text of at most one reply was pushed; `failing` is true if the drain failed
 pub record HasShown (old new : Option (List ℕ)) (failing : Bool) (text : List ℕ) (replies replies' : Replies)
     (result : Result (Unit {0}) Stopped) : Type 0 where
   pub pushed : HasPushed old new failing text replies.written replies'.written result

@@ -34,8 +34,8 @@ pub record IsReady {N : Type 0} (failed : Bool) (run : Run N) (lines : ℕ) : Ty
   pub fine : failed ≡ false
   pub more : run.lines + lines < 2 ^ 64
 
--- a line with this reading was run and counted; the text that it shows is `taken` and then `rest`, which the drain did not take;
--- if the line is faulty, its front is noted
+-- A line with this reading was run and counted. The text that it shows is `taken`, and then `rest`, which the drain did not take.
+-- If the line is faulty, its front is noted.
 pub record AnswersRead {N : Type 0} (noting : Noting N) (front : List ℕ) (s : Run N × KernelContent) (reading : Result (Option Event) LineFault)
     (taken rest : List ℕ) (s' : Run N × KernelContent) : Type 0 where
   pub sizes : SameSizes s.1 s'.1
@@ -49,7 +49,7 @@ pub record AnswersRead {N : Type 0} (noting : Noting N) (front : List ℕ) (s : 
   pub noted : (w : World) → Shows s.1 w
       → s'.0.notes ≡ noted_reading noting s.0.replies.only cache_limit s.1.order (s.0.lines + 1) front reading w s.0.notes
 
--- the same for a line, by its reading
+-- the same for a line, given by its bytes
 abbrev pub answers : {N : Type 0} → Noting N → Run N × KernelContent → List ℕ → List ℕ → List ℕ → Run N × KernelContent → Type 0
 answers noting s line taken rest s' = AnswersRead noting (take 256 line) s (reading_of line) taken rest s'
 

@@ -1,4 +1,4 @@
-//! Frequent lines whose answers are written straight into the drain's buffer. Each command has its own copy of the code.
+//! Runs frequent lines and writes their answers straight into the drain's buffer. Each command has its own copy of the code.
 
 ghost use Rattle.std.specs.Prelude.{◌≡◌, ◌+◌, ◌^◌, ◌<◌, ◌≤◌, false, true, [], Some, Ok, length};
 ghost use Rattle.words_core.specs.Requests.{command_of, IsAskable};
@@ -34,7 +34,7 @@ const RARE: usize = 6;
 
 impl<N: Notes> Run<N> {
     /// Runs the quick requests of existing, shown tenants at the front of a piece, while the drain has space for an answer.
-    /// Returns the rest of the piece. The lines end in LF, or in CR LF if `RETURNS`. Kept out of line, which gives its loop all
+    /// Returns the rest of the piece. The lines end in LF, or in CR LF if `RETURNS`. Not inlined, so that its loop has all
     /// registers.
     #[inline(never)]
     pub fn run_in_place<'a, const RETURNS: bool, D: Drain>(
@@ -62,8 +62,8 @@ impl<N: Notes> Run<N> {
         rest
     }
 
-    /// Runs and answers the line at the front of these bytes and returns its length with the line end. Returns `None` and does
-    /// nothing if the line is not a quick request of an existing, shown tenant.
+    /// Runs and answers the line at the front of these bytes and returns its length, including the line end. Returns `None` and
+    /// does nothing if the line is not a quick request of an existing, shown tenant.
     #[inline(always)]
     fn answer_line<const RETURNS: bool, D: Drain>(
         &mut self,
@@ -143,9 +143,9 @@ impl<N: Notes> Run<N> {
         }
     }
 
-    /// [`Run::answer_request`] for the command with the number `COMMAND`. Each command and each line end has its own instance
-    /// with one caller. A function with one caller is always inlined, so the possible answers are known at the place that
-    /// writes them.
+    /// The same as [`Run::answer_request`], for the command with the number `COMMAND`. Each pair of a command and a line end has
+    /// its own instance, with one caller. A function with one caller is always inlined, so the code that writes the answer knows
+    /// which answers are possible.
     #[inline]
     fn answer_as<const COMMAND: usize, const RETURNS: bool, D: Drain>(
         &mut self,
@@ -170,7 +170,7 @@ impl<N: Notes> Run<N> {
         self.replies.show_in_place(tenant, answer, drain);
     }
 
-    /// [`Run::answer_as`] for a rare command.
+    /// The same as [`Run::answer_as`], for a rare command.
     #[cold]
     #[inline(never)]
     fn answer_rare<D: Drain>(

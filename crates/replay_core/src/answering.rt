@@ -15,7 +15,7 @@ use kernel_core::Kernel;
 use streams::{Drain, Stopped};
 use words_core::{Addressee, Answer, Event, LineFault, Refusal, Reply, Request};
 
-/// Runs a line with this reading and passes it to the sink. `front` is the line, or the beginning of one that is too long.
+/// Runs a line that was read as `reading`, and passes it to the sink. `front` is the line, or its beginning if it is too long.
 pub fn answer<S: Sink, D: Drain>(
     reading: Result<Option<Event>, LineFault>,
     front: &[u8],
@@ -101,7 +101,7 @@ fn ask<S: Sink, D: Drain>(
     }
 }
 
-/// Returns the reply of several lines to an event that changes nothing: a report, or the table of owners.
+/// Returns the reply to an event that changes nothing and has a reply of several lines: a report, or the table of owners.
 pub fn reply_in_rows(kernel: &Kernel, event: &Event) -> Reply
     requires { HasRows event.now }
     ensures { Steps kernel.now event.now kernel.now result }

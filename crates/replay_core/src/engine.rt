@@ -1,4 +1,4 @@
-//! Cuts the pieces that a feed gives into the lines of a trace.
+//! Cuts the pieces that a feed gives into the lines of a trace, and runs them.
 
 ghost use Rattle.std.specs.Prelude.{◌≡◌, ℕ, ◌+◌, ◌<◌, ◌≤◌, true, false, List, [], ◌++◌, length, IfOk, MatchResult, is_err};
 ghost use Rattle.std.specs.Io.KnownBytes.{Consumes, Appends, IsAtEnd};
@@ -14,7 +14,7 @@ use kernel_core::Kernel;
 use quick_core::{CR_LF, LF, may_begin_request};
 use streams::{Drain, Feed, Stopped};
 
-/// The largest number of bytes of one pull.
+/// The largest number of bytes in one pull.
 const PIECE_BYTES: usize = 65_536;
 
 /// The end that failed.
@@ -26,10 +26,10 @@ pub enum EndFailed {
     Drain,
 }
 
-/// Runs the lines that the feed gives on the kernel, and passes each with its answer to the sink.
+/// Runs the lines from the feed on the kernel, and passes each line with its answer to the sink.
 ///
 /// Lines end at LF; the ends of pieces have no effect, and the last line needs no LF. Each line is processed as soon as it is
-/// complete, and the drain sends what was pushed before the next pull. Allocates nothing.
+/// complete, and before each pull the drain sends what was pushed. Allocates nothing.
 pub fn do_lines<S: Sink, F: Feed, D: Drain>(
     kernel: &mut Kernel,
     sink: &mut S,
@@ -40,14 +40,15 @@ pub fn do_lines<S: Sink, F: Feed, D: Drain>(
     requires more { F.room_left feed.old ≤ S.lines_left sink.old }
     requires feed_fine { F.has_failed feed.old ≡ false }
     requires drain_fine { D.has_failed drain.old ≡ false }
-    // The bytes that were given and taken during the call. If the bytes of the feed are not known, their number is.
+    // The bytes that were given and taken during the call. Even if the bytes of the feed are not known, the number of bytes given
+    // is known.
     ensures ran { (given : List ℕ) × (taken : List ℕ)
         × Consumes (F.remaining feed.old) (F.remaining feed.new) given
         × Appends (D.contents drain.old) (D.contents drain.new) taken
         × RunsAs S.does S.leaves (F.has_ended feed.new) (sink.old, kernel.old) given taken result (sink.new, kernel.new)
         × (F.room_left feed.new + length given ≡ F.room_left feed.old) }
     ensures ended { IsRunToEnd result (F.has_ended feed.new) }
-    // The bytes given are then all that it had.
+    // The bytes given are then all that the feed had.
     ensures whole { F.has_ended feed.new ≡ true → IsAtEnd (F.remaining feed.new) }
     ensures failed { NamesEndFailed result (F.has_failed feed.new) (D.has_failed drain.new) }
 {
@@ -77,7 +78,7 @@ pub fn do_lines<S: Sink, F: Feed, D: Drain>(
     Ok(())
 }
 
-/// Passes the line whose end could not be read to the sink, if there is one.
+/// If there is a line whose end could not be read, passes it to the sink.
 #[cold]
 fn see_unended<S: Sink>(pending: &Pending, sink: &mut S)
     requires more { (tail : List ℕ) × HoldsLine tail pending.now × (length tail ≤ S.lines_left sink.old) }
@@ -144,7 +145,7 @@ fn begin_piece<'a, S: Sink, D: Drain>(
 
 /// Processes the quick lines at the front of a piece and returns the rest of it. No beginning of a line may be pending.
 ///
-/// It reads lines that end in LF, and then, if the line before ended in CR LF (`returned`), lines that end in CR LF.
+/// It reads lines that end in LF, and then, if the previous line ended in CR LF (`returned`), lines that end in CR LF.
 #[inline(always)]
 fn do_quick_lines<'a, S: Sink, D: Drain>(
     piece: &'a [u8],
@@ -173,7 +174,7 @@ fn do_quick_lines<'a, S: Sink, D: Drain>(
     sink.quick_lines(rest, CR_LF, kernel, drain)
 }
 
-/// Processes the line that ends with these bytes. No line is pending then.
+/// Processes the line that ends with these bytes. Afterwards no line is pending.
 fn end_line<S: Sink, D: Drain>(
     bytes: &[u8],
     pending: &mut Pending,

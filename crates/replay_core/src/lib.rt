@@ -1,5 +1,4 @@
-//! Replays a trace on the kernel: bytes in, replies out, both in pieces of any lengths. Either end may fail at any
-//! point.
+//! Replays a trace on the kernel: bytes in, replies out, both in pieces of any length. Either end may fail at any point.
 //!
 //! # Example
 //!

@@ -1,4 +1,4 @@
-//! Notes that a replay takes beside its replies.
+//! Notes that a replay takes in addition to its replies.
 
 ghost use Rattle.std.specs.Prelude.{◌≡◌, take};
 ghost use Rattle.words_core.specs.Requests.{body_of_answer};
@@ -8,16 +8,16 @@ use words_core::{Answer, Body, LineFault, Refusal};
 
 /// Notes of a replay: the refusals that are shown, and the faulty lines. They have no effect on the replies.
 pub trait Notes: Default + Drop {
-    // The notes after one more of each.
+    // The notes after one more refusal, and after one more faulty line.
     ghost noting: { Noting Self };
 
     /// Notes a refusal that is shown, before its reply is pushed.
     fn refused(&mut self, refusal: Refusal)
         ensures { self.new ≡ noting.refused self.old refusal };
 
-    /// Notes a faulty line: its number, from 1, its fault, and the line, or at least its first 256 bytes.
+    /// Notes a faulty line: its number, counted from 1, its fault, and the line or at least its first 256 bytes.
     ///
-    /// A line whose end could not be read is noted too, with the bytes that were read.
+    /// If the end of a line could not be read and the bytes before it are a faulty line, they are noted too.
     fn faulty(&mut self, number: u64, fault: LineFault, begin: &[u8])
         ensures { self.new ≡ noting.faulty self.old number fault (take 256 begin.now) };
 }

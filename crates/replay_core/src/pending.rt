@@ -17,7 +17,7 @@ pub struct Pending {
 }
 
 impl Pending {
-    /// Makes an empty beginning.
+    /// Makes a `Pending` that has no bytes.
     pub fn new() -> Self
         ensures { HoldsLine [] result }
     {
@@ -27,7 +27,7 @@ impl Pending {
         }
     }
 
-    /// Returns true if it has no byte.
+    /// Returns true if it has no bytes.
     pub fn is_empty(&self) -> bool
         ensures { (line : List ℕ) → HoldsLine line self.now → result ≡ (length line == 0) }
     {
@@ -49,7 +49,7 @@ impl Pending {
         }
     }
 
-    /// Reads the bytes so far as a line. It is too long if there were more bytes than are held.
+    /// Reads the bytes so far as a line. The line is too long if it has more bytes than are held.
     pub fn reading(&self) -> Result<Option<Event>, LineFault>
         ensures reading { (line : List ℕ) → HoldsLine line self.now → result ≡ reading_of line }
         ensures runnable { IsRunnable result }
@@ -61,7 +61,7 @@ impl Pending {
         }
     }
 
-    /// Returns the reading of the line that ends with these bytes, and empties the beginning for the next line.
+    /// Returns the reading of the line that ends with these bytes, and empties `self` for the next line.
     pub fn end_with(&mut self, bytes: &[u8]) -> Result<Option<Event>, LineFault>
         ensures reading { (line : List ℕ) → HoldsLine line self.old → result ≡ reading_of (line ++ bytes.now) }
         ensures runnable { IsRunnable result }
@@ -77,7 +77,7 @@ impl Pending {
         reading
     }
 
-    /// Empties the beginning for the next line.
+    /// Empties `self` for the next line.
     pub(crate) fn clear(&mut self)
         ensures { HoldsLine [] self.new }
     {

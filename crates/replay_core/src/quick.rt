@@ -1,4 +1,4 @@
-//! Runs quick lines one after another, those that are answered in the drain's buffer and those that are not.
+//! Runs quick lines one after another, both those that are answered in the drain's buffer and those that are not.
 
 ghost use Rattle.std.specs.Prelude.{◌≡◌, ◌+◌, ◌^◌, ◌<◌, ◌≤◌, [], Some, Ok, length, is_err, IfOk, IfSome, MatchResult};
 ghost use Rattle.quick_core.specs.Lines.{ReadsAs};
@@ -19,7 +19,8 @@ use streams::{Drain, Stopped, line_end};
 use words_core::{Addressee, Answer, Refusal, Request};
 
 impl<N: Notes> Run<N> {
-    /// Runs the quick lines of a replay: those that are answered in the drain's buffer, and between them those that are not.
+    /// Runs the quick lines at the front of a piece, both those that are answered in the drain's buffer and those between them
+    /// that are not. Returns the rest of the piece.
     pub fn run_ended_lines<'a, const RETURNS: bool, D: Drain>(
         &mut self,
         piece: &'a [u8],
@@ -54,8 +55,8 @@ impl<N: Notes> Run<N> {
         Ok(rest)
     }
 
-    /// Reads the first line that [`Run::run_in_place`] left as a quick line. A line that could not be read as one is not read
-    /// again.
+    /// Reads the first line that [`Run::run_in_place`] left, if it is a quick line. A line that `run_in_place` has tried to read
+    /// is not read again.
     #[inline(always)]
     fn read_left<'a, const RETURNS: bool, D: Drain>(
         &self,
@@ -74,8 +75,8 @@ impl<N: Notes> Run<N> {
         }
     }
 
-    /// Runs the quick lines at the front of the last bytes of a piece and returns what is left. No beginning of a line may be
-    /// pending.
+    /// Runs the quick lines at the front of the last bytes of a piece and returns the rest of these bytes. No beginning of a line
+    /// may be pending.
     #[cold]
     #[inline(never)]
     pub fn run_last_lines<'a, D: Drain>(
@@ -136,8 +137,8 @@ impl<N: Notes> Run<N> {
     }
 }
 
-/// Reads a single line, without its line feed, as a quick request. Returns `None` if it has `WINDOW` bytes or more, or if it is
-/// not known for sure to be a quick request.
+/// Reads a single line, without its line feed, as a quick request. Returns `None` if the line has `WINDOW` bytes or more, or is
+/// not recognized as a quick request.
 fn read_alone<'a>(line: &[u8], buffer: &'a mut [u8; MOST_BYTES]) -> Option<RequestLine<'a>>
     ensures reads { IfSome result (λ read. reading_of line.now ≡ Ok (Some (Tenant read.tenant (command_of read.request)))) }
     ensures askable { IfSome result (λ read. IsAskable read.request) }
@@ -149,7 +150,8 @@ fn read_alone<'a>(line: &[u8], buffer: &'a mut [u8; MOST_BYTES]) -> Option<Reque
     }
 }
 
-/// [`read_alone`] for a line that ends in LF, or in CR LF if `RETURNS`. Other bytes follow it.
+/// The same as [`read_alone`], for a line that ends in LF, or in CR LF if `RETURNS`. Copies the line into a window, where other
+/// bytes follow it.
 fn read_in_window<'a, const RETURNS: bool>(
     line: &[u8],
     buffer: &'a mut [u8; MOST_BYTES],

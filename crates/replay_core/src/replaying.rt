@@ -12,11 +12,11 @@ use kernel_core::{Kernel, laws};
 use std::mem;
 use streams::{Drain, Feed, ReplayError, Tally};
 
-/// Runs the trace that the feed gives on the kernel, and pushes the replies into the drain: all of them, or with `only`
-/// those to that tenant.
+/// Runs the trace from the feed on the kernel, and pushes the replies into the drain: all replies, or only those to tenant
+/// `only`.
 ///
 /// Lines end at LF; the ends of pieces have no effect, and the last line needs no LF. Each line is answered as soon as it is
-/// complete, and the drain sends what was pushed before the next pull. Allocates nothing.
+/// complete, and before each pull the drain sends what was pushed. Allocates nothing.
 pub fn replay<F: Feed, D: Drain>(
     kernel: &mut Kernel,
     feed: &mut F,
@@ -25,28 +25,28 @@ pub fn replay<F: Feed, D: Drain>(
 ) -> Result<Tally, ReplayError>
     requires feed_fine { F.has_failed feed.old ≡ false }
     requires drain_fine { D.has_failed drain.old ≡ false }
-    // The bytes given and taken during the call and their relation, for any world that the kernel showed. If the bytes of the
-    // feed are not known, their number is.
+    // The bytes given and taken during the call and their relation, for any world that the kernel showed. Even if the bytes of
+    // the feed are not known, the number of bytes given is known.
     ensures ran { (given : List ℕ) × (taken : List ℕ)
         × Consumes (F.remaining feed.old) (F.remaining feed.new) given
         × Appends (D.contents drain.old) (D.contents drain.new) taken
         × Replays (F.has_ended feed.new) only kernel.old kernel.new given taken result
         × OnOk result (HasOwnLines only kernel.old given taken)
         × (F.room_left feed.new + length given ≡ F.room_left feed.old) }
-    // From an opening world each of these replies keeps the promises, including those that are not shown.
+    // From an opening world, each of these replies keeps the promises, including replies that are not shown.
     ensures promises { (given : List ℕ) × (taken : List ℕ)
         × Consumes (F.remaining feed.old) (F.remaining feed.new) given
         × Appends (D.contents drain.old) (D.contents drain.new) taken
         × TakesAllowed (F.has_ended feed.new) only kernel.old given taken result }
     ensures ended { IsDone result (F.has_ended feed.new) }
-    // The bytes given are then all that it had.
+    // The bytes given are then all that the feed had.
     ensures whole { F.has_ended feed.new ≡ true → IsAtEnd (F.remaining feed.new) }
     ensures failed { NamesFailed result (F.has_failed feed.new) (D.has_failed drain.new) }
 {
     replay_noted(kernel, feed, drain, only, &mut NoNotes)
 }
 
-/// The same as [`replay`], and notes the refusals that are shown and the faulty lines.
+/// The same as [`replay`], but also notes the refusals that are shown and the faulty lines.
 pub fn replay_noted<F: Feed, D: Drain, N: Notes>(
     kernel: &mut Kernel,
     feed: &mut F,
@@ -56,8 +56,8 @@ pub fn replay_noted<F: Feed, D: Drain, N: Notes>(
 ) -> Result<Tally, ReplayError>
     requires feed_fine { F.has_failed feed.old ≡ false }
     requires drain_fine { D.has_failed drain.old ≡ false }
-    // The bytes given and taken during the call and their relation, for any world that the kernel showed. If the bytes of the
-    // feed are not known, their number is.
+    // The bytes given and taken during the call and their relation, for any world that the kernel showed. Even if the bytes of
+    // the feed are not known, the number of bytes given is known.
     ensures ran { (given : List ℕ) × (taken : List ℕ)
         × Consumes (F.remaining feed.old) (F.remaining feed.new) given
         × Appends (D.contents drain.old) (D.contents drain.new) taken
@@ -65,20 +65,20 @@ pub fn replay_noted<F: Feed, D: Drain, N: Notes>(
         × OnOk result (HasOwnLines only kernel.old given taken)
         × (F.room_left feed.new + length given ≡ F.room_left feed.old)
         × Noted N.noting (F.has_ended feed.new) only kernel.old given result notes.old notes.new }
-    // From an opening world each of these replies keeps the promises, including those that are not shown.
+    // From an opening world, each of these replies keeps the promises, including replies that are not shown.
     ensures promises { (given : List ℕ) × (taken : List ℕ)
         × Consumes (F.remaining feed.old) (F.remaining feed.new) given
         × Appends (D.contents drain.old) (D.contents drain.new) taken
         × TakesAllowed (F.has_ended feed.new) only kernel.old given taken result }
     ensures ended { IsDone result (F.has_ended feed.new) }
-    // The bytes given are then all that it had.
+    // The bytes given are then all that the feed had.
     ensures whole { F.has_ended feed.new ≡ true → IsAtEnd (F.remaining feed.new) }
     ensures failed { NamesFailed result (F.has_failed feed.new) (D.has_failed drain.new) }
 {
     laws::own_lines();
     laws::own_shown();
-    // Bounds for the proof: of the tenants, whose numbers then differ as text, and of the lines, since each has at least one
-    // byte.
+    // Bounds for the proof: on the number of tenants, whose numbers then differ as text, and on the number of lines, since each
+    // line has at least one byte.
     let _tenants = kernel.tenants();
     let _room = feed.room();
     let mut run = Run::new(only, mem::take(notes));

@@ -16,7 +16,7 @@ use words_core::{
     write_answer_to, write_row,
 };
 
-/// The replies of a replay. Shows all of them or those to one tenant, and counts the bytes that the drain took.
+/// The replies of a replay. Shows all replies or only those to one tenant, and counts the bytes that the drain took.
 #[derive(Debug, Drop)]
 pub struct Replies {
     pub only: Option<u8>,
@@ -24,7 +24,7 @@ pub struct Replies {
 }
 
 impl Replies {
-    /// Makes the replies of a new replay: no byte was pushed.
+    /// Makes the replies of a new replay: no byte has been pushed.
     pub fn new(only: Option<u8>) -> Self
         ensures only { result.only ≡ only }
         ensures none { result.written ≡ 0 }
@@ -58,7 +58,8 @@ impl Replies {
         self.written += len as u128;
     }
 
-    /// Notes an answer to any addressee and pushes it through a buffer for the longest one. Does nothing if it is not shown.
+    /// Notes an answer to any addressee if it is a refusal, and pushes it from a buffer that fits the longest answer. Does
+    /// nothing if the answer is not shown.
     #[cold]
     #[inline(never)]
     pub fn show_to<D: Drain, N: Notes>(
@@ -83,8 +84,8 @@ impl Replies {
         push_all(&text[..len], drain, &mut self.written)
     }
 
-    /// Notes a reply and pushes it line by line. Does nothing if it is not shown. Kept out of line, since its lines need stack
-    /// space that no other answer needs.
+    /// Notes a reply if it is a refusal, and pushes it line by line. Does nothing if the reply is not shown. Not inlined, because
+    /// its lines need stack space that no other answer needs.
     #[cold]
     #[inline(never)]
     pub fn show<D: Drain, N: Notes>(
@@ -139,7 +140,7 @@ impl Text for AnswerText<'_> {
     }
 }
 
-/// Pushes all of the bytes, and counts those that the drain took. If a push takes only some, the rest is pushed again.
+/// Pushes all of the bytes, and counts those that the drain took. If a push takes only some of them, pushes the rest.
 pub fn push_all<D: Drain>(bytes: &[u8], drain: &mut D, written: &mut u128) -> Result<(), Stopped>
     requires { CanWrite (D.has_failed drain.old) written.old (length bytes.now) }
     ensures { HasPushed (D.contents drain.old) (D.contents drain.new) (D.has_failed drain.new)

@@ -76,7 +76,7 @@ impl<N: Notes> Sink for Run<N> {
         kernel: &mut Kernel,
         drain: &mut D,
     ) -> Result<&'a [u8], Stopped> {
-        // The count fits its type.
+        // For the proof: the count fits its type.
         let _lines = self.lines;
         if returns {
             self.run_ended_lines::<CR_LF, D>(piece, kernel, drain)
@@ -99,7 +99,7 @@ impl<N: Notes> Sink for Run<N> {
             .show_to(addressee, answer, drain, &mut self.notes)
     }
 
-    // Kept out of line: a function clears its stack frame on entry, and a reply of several lines takes 1.5 KB.
+    // Not inlined: a function clears its stack frame on entry, and a reply of several lines takes 1.5 KB of it.
     #[cold]
     #[inline(never)]
     fn replied<D: Drain>(

@@ -24,7 +24,7 @@ pub trait Sink {
     // The effect of the beginning of a line whose end could not be read.
     ghost leaves: { Self → List ℕ → Self → Type 0 };
 
-    // At least this number of further lines can be processed.
+    // At least this many more lines can be processed.
     ghost lines_left: { Self → ℕ };
 
     /// Runs and processes the quick lines at the front of a piece and returns the rest of it. The lines end in LF, or in CR LF if
@@ -81,7 +81,7 @@ pub trait Sink {
         ensures left { lines_left self.old ≤ lines_left self.new + 1 }
         ensures failed { D.has_failed drain.new ≡ is_err result };
 
-    /// Processes a faulty line. `front` is the line, or the beginning of one that is too long.
+    /// Processes a faulty line. `front` is the line, or its beginning if it is too long.
     fn faulty<D: Drain>(
         &mut self,
         fault: LineFault,
@@ -102,14 +102,15 @@ pub trait Sink {
             → HasDone does_first (self.old, kernel) line known known (Ok tt) (self.new, kernel) }
         ensures left { lines_left self.old ≤ lines_left self.new + 1 };
 
-    /// Called after each line was run and processed, with the kernel as the line left it. Not called for the lines of
+    /// Called after each line has been run and processed, with the kernel as the line left it. Not called for the lines of
     /// [`Sink::quick_lines`].
     fn ran(&mut self, kernel: &Kernel)
         ensures done { (before : Self × KernelContent) (line : List ℕ) (taken : List ℕ) (rest : List ℕ)
             → does_first before line taken rest (self.old, kernel.now) → does before line taken rest (self.new, kernel.now) }
         ensures left { lines_left self.old ≤ lines_left self.new };
 
-    /// Called with the beginning of a line whose end could not be read, and its reading. The line is not run.
+    /// Called with the beginning of a line whose end could not be read, and with the reading of that beginning. The line is not
+    /// run.
     fn unended(&mut self, reading: Result<Option<Event>, LineFault>, front: &[u8])
         requires more { 0 < lines_left self.old }
         ensures { (line : List ℕ) → reading ≡ reading_of line → IsFrontOf line front.now → leaves self.old line self.new };

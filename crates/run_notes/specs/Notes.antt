@@ -18,7 +18,7 @@ with_fault notes number fault line = if nat_lt (length notes.first.items) 10
     then record notes { first = record { items = notes.first.items ++ faulty_line number fault line ∷ [] } }
     else notes
 
--- the number of times that the refusal with a number was shown; refusals are numbered from 1 on
+-- the number of times that the refusal with this number was shown; refusals are numbered from 1
 abbrev pub times_of : RunNotes → ℕ → ℕ
 times_of notes zero = 0
 times_of notes (suc place) = slice_index_or notes.times place 0

@@ -7,13 +7,13 @@ use arrayvec::ArrayVec;
 use std::fmt;
 use words_core::LineFault;
 
-/// The number of faulty lines that are noted.
+/// The largest number of faulty lines that are noted.
 pub(crate) const MOST_FAULTS: usize = 10;
 
-/// The number of bytes of each faulty line that are noted.
+/// The largest number of bytes that are noted for each faulty line.
 const MOST_SHOWN: usize = 32;
 
-/// A faulty line: its number, from 1, its fault, and its first 32 bytes.
+/// A faulty line: its number, counted from 1, its fault, and its first 32 bytes.
 #[derive(Debug, Drop)]
 pub struct FaultyLine {
     number: u64,

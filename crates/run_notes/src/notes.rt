@@ -10,7 +10,7 @@ use arrayvec::ArrayVec;
 use replay_core::Notes;
 use words_core::{LineFault, REFUSALS, Refusal};
 
-/// The first faulty lines of a trace, and a count of the answers for each refusal.
+/// The first faulty lines of a trace, and the number of times that each refusal was the answer.
 #[derive(Debug, Drop)]
 pub struct RunNotes {
     first: ArrayVec<FaultyLine, MOST_FAULTS>,
@@ -41,7 +41,8 @@ impl RunNotes {
         self.first.as_slice()
     }
 
-    /// Returns the refusal with this number, from 1, and how many answers it was. Returns `None` if no answer was this refusal.
+    /// Returns the refusal with this number, counted from 1, and the number of answers that were this refusal. Returns `None` if
+    /// there was none.
     pub fn told(&self, number: u8) -> Option<Refused>
         ensures { MatchOption result (times_of self.now number ≡ 0)
             (λ refused. (number_of_refusal refused.refusal ≡ number) × (refused.times ≡ times_of self.now number)) }

@@ -1,9 +1,9 @@
-//! The refusals, with a count of the answers for each.
+//! Refusals, each with the number of times that it was the answer.
 
 use std::fmt;
 use words_core::Refusal;
 
-/// The greatest number of a refusal.
+/// The highest number that a refusal has.
 pub const MOST_NUMBER: u8 = 15;
 
 /// A refusal, and the number of answers that were this refusal.

@@ -17,7 +17,7 @@ shown_kept (KeptByte.Object cache byte sure first) = Some (record { holder = Hol
 abbrev pub padded : ℕ → List KeptByte → List KeptByte
 padded places kept = kept ++ replicate (places - length kept) KeptByte.Fresh
 
--- these are stored from a place on
+-- these are stored bytes of consecutive places, from `place` on
 abbrev pub AreKeptFrom : ℕ → List LeftSlot → ℕ → List KeptByte → Type 0
 AreKeptFrom order slots place kept = (j : ℕ) → j < length kept → shown_kept (slice_index_or kept j KeptByte.Fresh) ≡ left_in order slots (place + j)
 
@@ -28,15 +28,15 @@ AreFrom left = AreKeptFrom left.order left.slots
 abbrev pub CellStep : Type 0
 CellStep = ℕ → Option Cell → Option Cell
 
--- the step at the places from `begin` on, below `end`; the others are unchanged
+-- the step at each place from `begin` to `end - 1`; the other places are unchanged
 abbrev pub within : ℕ → ℕ → CellStep → CellStep
 within begin end step place cell = if nat_le begin place && nat_lt place end then step place cell else cell
 
--- bytes of holders that pass are in doubt
+-- the bytes of each holder that passes the test are in doubt
 abbrev pub doubted_of : (Holder → Bool) → CellStep
 doubted_of test place = option_map (λ (cell : Cell). record cell { sure = cell.sure && not (test cell.holder) })
 
--- bytes of holders that pass are forgotten
+-- the bytes of each holder that passes the test are forgotten
 abbrev pub removed_of : (Holder → Bool) → CellStep
 removed_of test place = option_and_then (λ (cell : Cell). if test cell.holder then None else Some cell)
 
@@ -45,7 +45,7 @@ abbrev pub cache_of : Holdings → Holder → Option KnownCache
 cache_of h Holder.Page = None
 cache_of h (Holder.Object number first) = known_cache h number
 
--- a byte of an object lies less than its cache's reach behind the object's first place
+-- the place of an object's byte is at or after the object's first place, at a distance below the reach of the object's cache
 abbrev pub IsHolderNear : List ℕ → ℕ → Holder → Type 0
 IsHolderNear reach place Holder.Page = Unit {0}
 IsHolderNear reach place (Holder.Object number first) = (first ≤ place) × (place < first + slice_index reach number)
@@ -54,7 +54,7 @@ abbrev pub IsNear : List ℕ → ℕ → Option Cell → Type 0
 IsNear reach place None = Unit {0}
 IsNear reach place (Some cell) = IsHolderNear reach place cell.holder
 
--- the step keeps every left byte within its cache's reach
+-- the step keeps every left byte of an object within the reach of the object's cache
 abbrev pub StaysNear : CellStep → Type 0
 StaysNear step = (reach : List ℕ) (place : ℕ) (cell : Option Cell)
     → IsNear reach place cell → IsNear reach place (step place cell)
@@ -64,7 +64,7 @@ pub record IsSlotWhole (order : ℕ) (s : LeftSlot) : Type 0 where
   pub all : length s.cells ≡ slot_places order
   pub low : (s.slot + 1) * slot_places order ≤ 2 ^ 32
 
--- slots of 2 ^ order frames, with every left byte within its cache's reach
+-- slots of 2 ^ order frames, with every left byte of an object within the reach of the object's cache
 pub record AreSlots (order : ℕ) (slots : List LeftSlot) (reach : List ℕ) : Type 0 where
   pub whole : AllByRecursion (IsSlotWhole order) slots
   pub near : (place : ℕ) → IsNear reach place (left_in order slots place)

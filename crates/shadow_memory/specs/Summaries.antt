@@ -23,15 +23,15 @@ IsSummarizedBy summary (Some cell) = MayOwn summary.owners cell.holder × (summa
 abbrev pub any_summary : Summary
 any_summary = record { owners = Owners.Any; sure = true }
 
--- what was left at one of these places, as stored
+-- what was left at index `k` of these stored bytes
 abbrev pub cell_in : List KeptByte → ℕ → Option Cell
 cell_in cells k = shown_kept (slice_index_or cells k KeptByte.Fresh)
 
--- each group of `size` places has a summary
+-- each summary allows what was left in its group of `size` places
 abbrev pub AreSummarized : ℕ → List Summary → List KeptByte → Type 0
 AreSummarized size summaries cells = (k : ℕ) → IsSummarizedBy (slice_index_or summaries (k / size) any_summary) (cell_in cells k)
 
--- a step at the indices from `low` on, below `high`; index 0 is the place `first`, and the other places are unchanged
+-- a step at each index from `low` to `high - 1`; index 0 is the place `first`, and the other places are unchanged
 pub record IsChanged (step : CellStep) (first low high : ℕ) (old new : List KeptByte) : Type 0 where
   pub before : (k : ℕ) → k < low → cell_in new k ≡ cell_in old k
   pub inside : (k : ℕ) → low ≤ k → k < high → cell_in new k ≡ step (first + k) (cell_in old k)

@@ -15,7 +15,7 @@ use judge_core::{LeftByte, RangeHolder};
 pub(crate) trait Change {
     ghost step: { Self → CellStep };
 
-    /// Changes the stored bytes at the indices from `low` on, below `high`. Index 0 is the place `first`.
+    /// Changes the stored bytes at the indices `low..high`. Index 0 is the place `first`.
     fn change_places(&self, cells: &mut [KeptByte], first: u64, low: usize, high: usize)
         requires order { low ≤ high }
         requires most { high ≤ length cells.old }
@@ -30,8 +30,8 @@ pub(crate) trait Change {
     fn leaves(&self, summary: Summary) -> bool
         ensures { result ≡ true → (place : ℕ) (cell : Option Cell) → IsSummarizedBy summary cell → step self.now place cell ≡ cell };
 
-    /// Returns a summary after the change, for places that had this summary. `all` says that all of these places are changed, not
-    /// only some.
+    /// Returns a summary, after the change, of places that had this summary before it. `all` is true if the change is made at all
+    /// of these places, and false if it may be made at only some of them.
     fn summary_after(&self, summary: Summary, all: bool) -> Summary
         ensures changed { (place : ℕ) (cell : Option Cell) → IsSummarizedBy summary cell → IsSummarizedBy result (step self.now place cell) }
         ensures kept { all ≡ false → (cell : Option Cell) → IsSummarizedBy summary cell → IsSummarizedBy result cell };
@@ -151,7 +151,7 @@ pub(crate) struct Put<'a> {
 impl<'a> Change for Put<'a> {
     ghost step = { λ d place cell. with_bytes (shown_holder d.holder) d.begin d.bytes.now (λ _. cell) place };
 
-    // Kept out of line, so that the facts about its ends are not worked out again for each chunk.
+    // Not inlined, so that the facts about `begin` and `end` are not worked out again for each chunk.
     #[inline(never)]
     fn change_places(&self, cells: &mut [KeptByte], first: u64, low: usize, high: usize) {
         let Put {

@@ -21,14 +21,14 @@ pub(crate) trait HolderPredicate {
     fn passes(&self, holder: RangeHolder) -> bool
         ensures { result ≡ test self.now (shown_holder holder) };
 
-    /// Returns the result for the objects of the cache of this number, if it is known to be the same for all. Otherwise it
-    /// returns `None`.
+    /// Returns the result of the test for the objects of the cache with this number, if it is known to be the same for all of
+    /// them. Otherwise returns `None`.
     fn tells_of_cache(&self, number: u8) -> Option<bool>
         ensures { IfSome result (λ told. (first : ℕ) → test self.now (Holder.Object number first) ≡ told) };
 }
 
-/// Returns the result of the test for the holders that these owners allow, if it is known to be the same for all. Otherwise it
-/// returns `None`.
+/// Returns the result of the test for the holders that these owners allow, if it is known to be the same for all of them.
+/// Otherwise returns `None`.
 fn tells_of<T: HolderPredicate>(test: &T, owners: Owners) -> Option<bool>
     ensures { IfSome result (λ told. (h : Holder) → MayOwn owners h → T.test test.now h ≡ told) }
 {
@@ -147,7 +147,7 @@ impl HolderPredicate for IsOfCache {
     }
 }
 
-/// Passes for holders that cannot be in one slab with the object of `size` bytes of this cache that begins at this place.
+/// Passes for holders that cannot be in the same slab as the object of `size` bytes of this cache that begins at this place.
 #[derive(Drop)]
 pub(crate) struct IsNotBeside {
     pub number: u8,
@@ -204,7 +204,7 @@ impl<'a> HolderPredicate for IsInNoSlab<'a> {
     }
 }
 
-/// Returns whether the place is in a slab with a live object of a cache of this number.
+/// Returns whether the place is in a slab with a live object of a cache with this number.
 fn is_in_some_slab(caches: &[HeldCache], number: u8, place: u32) -> bool
     ensures { result ≡ list_any (λ c. c.number == number && list_any (λ q. in_block place (slab_around c q)) c.live) caches.now }
 {

@@ -48,7 +48,7 @@ impl KeptByte {
         }
     }
 
-    /// Returns the left byte, `None` if nothing was left.
+    /// Returns the left byte, or `None` if nothing was left.
     pub fn left(self) -> Option<LeftByte>
         ensures { option_map shown_cell result ≡ shown_kept self }
     {

@@ -25,8 +25,8 @@ use std::marker::Model;
 pub struct ShadowMemory {
     order: u8,
     slots: Vec<SlotBytes>,
-    /// Indexed by cache number: each byte left of an object of the cache lies fewer than this many bytes behind the object's
-    /// first.
+    /// Indexed by cache number: each byte that was left in an object of the cache lies fewer than this many bytes after the
+    /// object's first byte.
     reach: [u64; 256],
 }
 
@@ -92,7 +92,7 @@ impl ShadowMemory {
         self.slots.clear();
     }
 
-    /// Stores bytes that the holder read or wrote from `place` on. All of them are in slots that the tenant holds.
+    /// Stores bytes that were read or written in this holder, from `place` on. All of them are in slots that the tenant holds.
     pub fn put(&mut self, holder: RangeHolder, place: u32, bytes: &[u8])
         requires held { (j : ℕ) → j < length bytes.now → has_place self.old (place + j) ≡ true }
         requires near { (number first : ℕ) → shown_holder holder ≡ Holder.Object number first → first ≤ place }
@@ -109,7 +109,7 @@ impl ShadowMemory {
         change_slots(&mut self.slots, self.order, begin, end, &put);
     }
 
-    /// Follows an alloc of the page block: forgets what was left of objects in it.
+    /// Follows an alloc of the page block: forgets the bytes that objects left in it.
     pub fn alloc(&mut self, block: &FrameBlock)
         ensures { Becomes self.old (left_slots self.old)
             (without (λ place holder. in_block place block.now && not (is_same Holder.Page holder))) self.new }
@@ -117,7 +117,7 @@ impl ShadowMemory {
         self.change(block.first_byte(), block.end_byte(), &Remove(Fails(IsPage)));
     }
 
-    /// Follows a free of the page block: puts what was left of page blocks in it in doubt.
+    /// Follows a free of the page block: the bytes that page blocks left in it are now in doubt.
     pub fn free(&mut self, block: &FrameBlock)
         ensures { Becomes self.old (left_slots self.old)
             (doubted (λ place holder. in_block place block.now && is_same Holder.Page holder)) self.new }
@@ -125,7 +125,7 @@ impl ShadowMemory {
         self.change(block.first_byte(), block.end_byte(), &Doubt(IsPage));
     }
 
-    /// Follows a give of the object at `first` of the cache of this number: puts what was left of it in doubt.
+    /// Follows a give of the object at `first` of the cache with this number: the bytes that the object left are now in doubt.
     pub fn give(&mut self, number: u32, first: u32)
         ensures { Becomes self.old (left_slots self.old) (doubted (λ place. is_same (Holder.Object number first))) self.new }
     {
@@ -134,13 +134,14 @@ impl ShadowMemory {
         self.change(begin, end, &Doubt(IsObject { number, first }));
     }
 
-    /// Follows a take of the object of `size` bytes at `first`, of the cache of this number, in this slab: forgets what was left
-    /// in the slab of holders that cannot be in one slab with the object.
+    /// Follows a take of the object of `size` bytes at `first` of the cache with this number, in this slab: forgets the bytes
+    /// that were left in the slab by holders that cannot be in the same slab as the object.
     pub fn take(&mut self, slab: &FrameBlock, number: u8, first: u32, size: u32)
         ensures { (c : KnownCache) → c.number ≡ number → c.size ≡ size → slab_around c first ≡ slab.now
             → Becomes self.old (left_slots self.old) (with_object first (Some c)) self.new }
     {
-        // Forgets everything that is not of the object's cache. Of its cache, only other objects that overlap it are forgotten.
+        // First forgets every byte in the slab that is not of the object's cache, and then the bytes of other objects of the
+        // cache that overlap the object.
         let own = u32::from(number);
         let low = u64::from(first.saturating_sub(size));
         let end_of_own = u64::from(first) + u64::from(size);
@@ -156,21 +157,21 @@ impl ShadowMemory {
         self.change(begin.max(low), end.min(high), &Remove(test));
     }
 
-    /// Follows a destroy of the cache of this number: forgets what was left of its objects.
+    /// Follows a destroy of the cache with this number: forgets the bytes that its objects left.
     pub fn destroy(&mut self, number: u32)
         ensures { Becomes self.old (left_slots self.old) (without (λ place. is_object (λ n p. n == number))) self.new }
     {
         self.change(0, 1u64 << 32, &Remove(IsOfCache { number }));
     }
 
-    /// Follows a reap: forgets what was left of objects that lie in no slab with a live object of their cache.
+    /// Follows a reap: forgets the bytes that were left by objects that lie in no slab with a live object of their cache.
     pub fn reap(&mut self, held: &Held)
         ensures { Becomes self.old (left_slots self.old) (without (λ place. is_object (is_in_no_slab held.now))) self.new }
     {
         self.change(0, 1u64 << 32, &Remove(IsInNoSlab { held }));
     }
 
-    /// Returns what was left at a place. Returns `None` if nothing was, or if the tenant does not hold the slot.
+    /// Returns what was left at a place. Returns `None` if nothing was left there, or if the tenant does not hold the slot.
     pub fn at(&self, place: u32) -> Option<LeftByte>
         ensures { option_map shown_cell result ≡ left_at self.now place }
     {
@@ -191,7 +192,7 @@ impl ShadowMemory {
         let _slots = &self.slots;
     }
 
-    /// Changes what was left at the places from `begin` on, below `end`.
+    /// Changes what was left at the places in `begin..end`.
     fn change<C: Change>(&mut self, begin: u64, end: u64, change: &C)
         requires { StaysNear (C.step change.now) }
         ensures order { self.new.order ≡ self.old.order }
@@ -201,14 +202,14 @@ impl ShadowMemory {
     }
 }
 
-/// Returns the reach of the cache of this number, 0 if the number is too large.
+/// Returns the reach of the cache with this number, or 0 if the number is too large.
 fn reach_of(reach: &[u64; 256], number: u32) -> u64
     ensures { result ≡ slice_index reach.now number }
 {
     reach.get(number as usize).copied().unwrap_or(0)
 }
 
-/// Raises the reach of the holder's cache, so that bytes of the holder may lie anywhere below `end`.
+/// If the holder is an object, raises the reach of its cache, so that bytes of the object may lie anywhere below `end`.
 fn extend_reach(reach: &mut [u64; 256], holder: RangeHolder, end: u64)
     ensures more { (n : ℕ) → slice_index reach.old n ≤ slice_index reach.new n }
     ensures near { (number first : ℕ) → shown_holder holder ≡ Holder.Object number first

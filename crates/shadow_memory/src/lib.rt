@@ -1,5 +1,5 @@
-//! Shadow memory: for each place of a tenant's slots, the byte that was left there, its holder, and whether the byte is sure. It
-//! decides which bytes a read may report.
+//! Shadow memory: for each place of a tenant's slots, the byte that was left there, its holder, and whether the byte is surely
+//! still there. It decides which bytes a read may report.
 #![tactic(auto)]
 
 mod change;

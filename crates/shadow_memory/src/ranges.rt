@@ -1,4 +1,4 @@
-//! Changes of the stored bytes of a range of places. Parts that a change leaves as they are, by their summaries, are skipped.
+//! Changes the stored bytes of a range of places. It skips the parts that a change does not affect, according to their summaries.
 
 ghost use Rattle.std.specs.Prelude.{◌≡◌, ℕ, ◌+◌, ◌*◌, ◌^◌, ◌<◌, ◌≤◌, length};
 ghost use Rattle.shadow_memory.specs.Inside.{within};
@@ -15,8 +15,8 @@ pub(crate) const CHUNK: usize = 64;
 /// The number of places in a frame.
 pub(crate) const FRAME: usize = FRAME_BYTES as usize;
 
-/// Changes the places from index `low` on, below `high`, one chunk at a time. Skips each chunk that the change leaves as it is,
-/// by its summary.
+/// Changes the places at the indices `low..high`, one chunk at a time. Skips each chunk that the change does not affect,
+/// according to its summary.
 fn change_chunks<C: Change>(
     cells: &mut [KeptByte],
     chunks: &mut [Summary],
@@ -48,8 +48,8 @@ fn change_chunks<C: Change>(
     }
 }
 
-/// Changes the places from index `low` on, below `high`, one frame at a time. Skips each frame that the change leaves as it is,
-/// by its summary.
+/// Changes the places at the indices `low..high`, one frame at a time. Skips each frame that the change does not affect,
+/// according to its summary.
 fn change_frames<C: Change>(
     cells: &mut [KeptByte],
     chunks: &mut [Summary],
@@ -84,7 +84,7 @@ fn change_frames<C: Change>(
     }
 }
 
-/// Changes the places from `begin` on, below `end`. Index 0 is the place `first`.
+/// Changes the places in `begin..end`. Index 0 is the place `first`.
 pub(crate) fn change_range<C: Change>(
     cells: &mut [KeptByte],
     chunks: &mut [Summary],

@@ -23,14 +23,14 @@ impl ShadowMemory {
         self.may_read_all(held, holder, place, bytes)
     }
 
-    // Kept out of line, which gives its loop all registers.
+    // Not inlined, so that its loop can use all registers.
     #[inline(never)]
     fn may_read_all(&self, held: &Held, holder: RangeHolder, place: u32, bytes: &[u8]) -> bool
         requires { place + length bytes.now ≤ 2 ^ 32 }
         ensures { result ≡ may_all_be held.now (left_at self.now) (shown_holder holder) place bytes.now }
     {
         let cache = cache_of(held, holder);
-        // These are usually all of the bytes, since a page block or an object lies in one slot.
+        // `kept` usually covers all of the bytes, since a page block or an object lies in one slot.
         let kept = self.kept_from(place);
         for (i, byte) in bytes.iter().enumerate() {
             let left = self.left_behind(kept, place, i as u32);
@@ -41,7 +41,7 @@ impl ShadowMemory {
         true
     }
 
-    /// Returns what was left `i` places behind `place`, where `kept` is stored from `place` on.
+    /// Returns what was left `i` places after `place`. `kept` has the stored bytes from `place` on.
     fn left_behind(&self, kept: &[KeptByte], place: u32, i: u32) -> Option<LeftByte>
         requires kept { AreFrom self.now place kept.now }
         requires low { place + i < 2 ^ 32 }
@@ -64,7 +64,8 @@ fn cache_of(held: &Held, holder: RangeHolder) -> Option<&HeldCache>
     }
 }
 
-/// Returns whether a read in this holder, of this cache, may report the byte at a place with this left byte.
+/// Returns whether a read in this holder may report `byte` at a place where `left` was left. `cache` is the holder's cache, if
+/// the holder is an object.
 fn may_be_read(
     holder: RangeHolder,
     cache: Option<&HeldCache>,
@@ -83,14 +84,14 @@ fn may_be_read(
     }
 }
 
-/// Returns whether the byte is the one that the holder left. The fresh byte is then not needed.
+/// Returns whether the byte is the one that the holder left. If so, the fresh byte is not needed.
 fn is_left(holder: RangeHolder, left: LeftByte, byte: u8) -> bool
     ensures { (fresh : ℕ) → result ≡ true → may_be (shown_holder holder) fresh (Some (shown_cell left)) byte ≡ true }
 {
     left.holder.is_same(&holder) && byte == left.byte
 }
 
-/// Returns the byte that fresh memory has at a place of this holder, of this cache.
+/// Returns the byte that fresh memory has at a place of this holder. `cache` is the holder's cache, if the holder is an object.
 fn fresh_byte(holder: RangeHolder, cache: Option<&HeldCache>, place: u32) -> u8
     ensures { (h : Holdings) → option_copied cache.entry ≡ cache_of h (shown_holder holder)
         → result ≡ known_fresh_byte h (shown_holder holder) place }

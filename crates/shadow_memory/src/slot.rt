@@ -65,14 +65,14 @@ impl SlotBytes {
         self.slot
     }
 
-    /// Returns what was left `index` places behind the slot's first, `None` if nothing was.
+    /// Returns what was left `index` places after the slot's first place, or `None` if nothing was left there.
     pub fn at(&self, index: usize) -> Option<LeftByte>
         ensures { option_map shown_cell result ≡ slice_index_or self.now.cells index None }
     {
         kept_at(&self.cells, index).left()
     }
 
-    /// Returns the stored bytes from `index` places behind the slot's first on, maybe fewer than the places.
+    /// Returns the stored bytes from `index` places after the slot's first place on. They may end before the slot does.
     pub fn kept_from(&self, index: usize) -> &[KeptByte]
         ensures len { length result.now ≤ length self.now.cells - index }
         ensures kept { (j : ℕ) → j < length result.now → shown_kept (slice_index_or result.now j Kept.Fresh)
@@ -84,7 +84,7 @@ impl SlotBytes {
         }
     }
 
-    /// Changes what was left at the places from `begin` on, below `end`. The slot begins at the place `first`.
+    /// Changes what was left at the places in `begin..end`. The slot begins at the place `first`.
     pub fn change<C: Change>(&mut self, first: u64, begin: u64, end: u64, change: &C)
         requires { first + length self.old.cells ≤ 2 ^ 32 }
         ensures slot { self.new.slot ≡ self.old.slot }
@@ -108,7 +108,8 @@ impl SlotBytes {
     }
 }
 
-/// Extends the stored bytes to all places below `end` at which the change may leave a byte. The slot begins at the place `first`.
+/// If the change may leave a byte where nothing was left, extends the stored bytes to all places of the slot below `end`. The
+/// slot begins at the place `first`.
 fn make_room<C: Change>(cells: &mut Vec<KeptByte>, places: usize, first: u64, end: u64, change: &C)
     requires few { length cells.old.items ≤ places }
     requires room { places ≤ vec_capacity cells.old }
@@ -125,7 +126,7 @@ fn make_room<C: Change>(cells: &mut Vec<KeptByte>, places: usize, first: u64, en
     grow(cells, wanted);
 }
 
-/// Extends the stored bytes to `wanted`, if they are fewer. Nothing was left at the new places.
+/// Extends the stored bytes to `wanted` places, if there are fewer. Nothing was left at the new places.
 fn grow(cells: &mut Vec<KeptByte>, wanted: usize)
     requires { wanted ≤ vec_capacity cells.old }
     ensures items { cells.new.items ≡ padded wanted cells.old.items }
@@ -136,7 +137,7 @@ fn grow(cells: &mut Vec<KeptByte>, wanted: usize)
     }
 }
 
-/// Returns the stored byte at the index, `Fresh` if the index is past the end.
+/// Returns the stored byte at the index, or `Fresh` if the index is past the end.
 fn kept_at(cells: &[KeptByte], index: usize) -> KeptByte
     ensures { result ≡ slice_index_or cells.now index Kept.Fresh }
 {

@@ -22,8 +22,8 @@ pub(crate) fn places_of(order: u8) -> u64
     (1u64 << order) * u64::from(FRAME_BYTES)
 }
 
-/// Returns what was left at a place of these slots of `2^order` frames. Returns `None` if nothing was, or if none of the slots
-/// has the place.
+/// Returns what was left at a place of these slots of `2^order` frames. Returns `None` if nothing was left there, or if the place
+/// is in none of the slots.
 pub(crate) fn left_in(slots: &[SlotBytes], order: u8, place: u32) -> Option<LeftByte>
     requires { order ≤ MOST_ORDER }
     ensures { option_map shown_cell result ≡ left_in order slots.now place }
@@ -39,7 +39,8 @@ pub(crate) fn left_in(slots: &[SlotBytes], order: u8, place: u32) -> Option<Left
     None
 }
 
-/// Returns the stored bytes from a place on, at most to the end of its slot. Returns none if no slot has the place.
+/// Returns the stored bytes from a place on, at most to the end of its slot. Returns no bytes if the place is in none of the
+/// slots.
 pub(crate) fn kept_from(slots: &[SlotBytes], order: u8, place: u32) -> &[KeptByte]
     requires order { order ≤ MOST_ORDER }
     requires whole { AllByRecursion (IsSlotWhole order) slots.now }
@@ -56,7 +57,7 @@ pub(crate) fn kept_from(slots: &[SlotBytes], order: u8, place: u32) -> &[KeptByt
     &[]
 }
 
-/// Changes what was left at the places from `begin` on, below `end`, of slots of `2^order` frames.
+/// Changes what was left at the places in `begin..end` of these slots of `2^order` frames.
 pub(crate) fn change_slots<C: Change>(
     slots: &mut [SlotBytes],
     order: u8,
@@ -75,7 +76,7 @@ pub(crate) fn change_slots<C: Change>(
     }
 }
 
-/// Removes the slot of this number.
+/// Removes the slot with this number.
 pub(crate) fn drop_slot(slots: &mut Vec<SlotBytes>, slot: u32)
     ensures { slots.new.items ≡ filter (λ s. not (s.slot == slot)) slots.old.items }
 {

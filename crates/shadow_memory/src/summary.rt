@@ -14,7 +14,7 @@ pub(crate) enum Owners {
     Nobody,
     /// One holder.
     One(RangeHolder),
-    /// Any object of the cache of this number.
+    /// Any object of the cache with this number.
     Objects(u8),
     /// Any holder.
     Any,
@@ -89,14 +89,14 @@ fn both(one: RangeHolder, other: RangeHolder) -> Owners
     }
 }
 
-/// Returns the summary of this number, or `Summary::ANY` if there is none.
+/// Returns the summary with this number, or `Summary::ANY` if there is none.
 pub(crate) fn summary_at(summaries: &[Summary], number: usize) -> Summary
     ensures { result ≡ slice_index_or summaries.now number any_summary }
 {
     summaries.get(number).copied().unwrap_or(Summary::ANY)
 }
 
-/// Sets the summary of this number, if there is one.
+/// Sets the summary with this number, if there is one.
 pub(crate) fn set_summary(summaries: &mut [Summary], number: usize, summary: Summary)
     ensures { summaries.new ≡ slice_set summaries.old number summary }
 {

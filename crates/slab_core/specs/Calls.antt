@@ -1,4 +1,4 @@
--- What the steps inside the calls do, for use by the calls.
+-- What the internal steps of the calls do.
 use Rattle.std.specs.Prelude.{◌≡◌, ◌≢◌, ℕ, ◌+◌, ◌/◌, ◌<◌, ◌==◌, ◌&&◌, Bool, true, false, Option, Some, None, List, length, slice_index}
 use Rattle.model_core.specs.Layouts.{is_small, object_place, pattern_byte}
 use Rattle.model_core.specs.Machine.{Cache}
@@ -13,7 +13,7 @@ use Rattle.slab_tables.specs.Content.{Content, kept_at, head_of, layout_numbers}
 use Rattle.slab_tables.specs.Changes.{made_more}
 use Rattle.machine_changes.specs.Shows.{machine_frame_of, is_inside, record_byte, IsSlab}
 
--- the range of tenant t is filled with the pattern, repeated, and all else of the memory is as before
+-- the range of tenant t is filled with the pattern, repeated, and the rest of the memory is as before
 pub record IsFilled (r r' : spaces.Content) (t place len : ℕ) (pattern : List ℕ) : Type 0 where
   pub bytes : List ℕ
   pub long : length bytes ≡ len
@@ -21,8 +21,8 @@ pub record IsFilled (r r' : spaces.Content) (t place len : ℕ) (pattern : List 
   pub filled : r' ≡ with_window r t place len bytes
 
 -- The first n objects of the block at frame `first` of tenant t are constructed, as in a slab of the cache with this colour
--- offset. The control record is clear, if it is in the frame. All else is as before: the bytes of t outside the block, all that
--- others have, and the superblocks without owner.
+-- offset. The control record is clear, if it is in the frame. Everything else is as before: the bytes of t outside the block, all
+-- that other tenants have, and the superblocks without an owner.
 pub record IsConstructed (r r' : spaces.Content) (t : ℕ) (cache : own.Cache) (first colour n : ℕ) : Type 0 where
   pub space : r' ≡ record r { banks = r'.banks }
   pub others : (u : ℕ) → u ≢ t → IsSameFor u r r'

@@ -1,4 +1,4 @@
--- What a caller of a lend knows about the object.
+-- What a caller that lends bytes knows about the object or the page block.
 use Rattle.std.specs.Prelude.{◌≡◌, ℕ, false, Some, Ok}
 use Rattle.model_core.specs.Machine.{Cache, Machine}
 use Rattle.model_core.specs.Slabs.{cache_of}
@@ -15,7 +15,7 @@ pub record HasObject (m : Machine) (c place bytes : ℕ) : Type 0 where
   pub size : cache.size ≡ bytes
   pub given : (give_step c place m).answer ≡ Ok tt
 
--- a page block of 2 ^ k frames of tenant t begins at frame f
+-- a page block of order k of tenant t begins at frame f
 pub record IsPageAt (r : spaces.Content) (b : buddies.Content) (s : Content) (t f k : ℕ) : Type 0 where
   pub taken : buddies.taken_of (buddies.holding_of t b) f ≡ Some k
   pub page : has_slab s (machine_frame_of s.top r.slots t f) ≡ false

@@ -17,7 +17,7 @@ use Rattle.machine_changes.specs.Objects.{Standing}
 use Rattle.slab_core.specs.declared.objects.Slab.{Slab}
 use Rattle.slab_core.specs.declared.objects.Object.{Object}
 
--- a slab and an object, as the definitions name them
+-- a slab and an object of the code, as the laws write them
 abbrev pub standing : Slab → Standing
 standing slab = record { first = slab.first; machine_frame = slab.machine_frame }
 
@@ -25,8 +25,8 @@ abbrev pub found_in : own.Cache → Object → Found
 found_in cache o = found cache o.slab.first o.slab.machine_frame o.index
 
 -- The bit of object o of tenant t is flipped in the record of its slab: o is live if it was free, and free if it was live. No
--- other object's bit has changed, and no byte of the memory outside the record. The stored states changed only in the record,
--- if it is outside.
+-- other object's bit has changed, and no byte of the memory outside the record. In the stored states, only that record has
+-- changed, if it is stored there.
 pub record IsTurned (r r' : spaces.Content) (s s' : Content) (t : ℕ) (o : Found) : Type 0 where
   pub turned : is_live r' t o.cache (kept_at s'.kept o.machine_frame) o.first o.index
       ≡ not (is_live r t o.cache (kept_at s.kept o.machine_frame) o.first o.index)
@@ -44,8 +44,8 @@ pub record IsTurned (r r' : spaces.Content) (s s' : Content) (t : ℕ) (o : Foun
   pub colour : (kept_at s'.kept o.machine_frame).colour ≡ (kept_at s.kept o.machine_frame).colour
   pub live : (kept_at s'.kept o.machine_frame).live ≡ (kept_at s.kept o.machine_frame).live
 
--- The bit of object o of a slab of cache c of tenant t is flipped, and its slab's number of live objects is not yet updated.
--- Before, in r and s, the parts agreed, and the object was free if it is now `live`, or live if it is not.
+-- The bit of object o of a slab of cache c of tenant t is flipped, and its slab's number of live objects is not yet updated. In r
+-- and s, before the flip, the parts agreed, and the object was free if `live` is true, or live if `live` is false.
 pub record IsToCount (r r' : spaces.Content) (b : buddies.Content) (s s' : Content) (t c : ℕ) (o : Found) (live : Bool) : Type 0 where
   pub tenant : t < length r.slots
   pub laws : SpaceLaws r
@@ -75,7 +75,7 @@ pub record IsRaised (before after : List ℕ) (k : ℕ) : Type 0 where
   pub clear : is_set (slice_index before (k / 8)) (k % 8) ≡ false
   pub turned : after ≡ slice_set before (k / 8) (bit_xor (slice_index before (k / 8)) (2 ^ (k % 8)))
 
--- the same of the control record at a place of tenant t; all else of the memory is as before
+-- the same for the control record at a place of tenant t; the rest of the memory is as before
 pub record IsRecordRaised (r r' : spaces.Content) (t place k : ℕ) : Type 0 where
   pub before : List ℕ
   pub after : List ℕ

@@ -6,7 +6,7 @@ use Rattle.machine_changes.specs.Changes.{Found}
 use Rattle.machine_changes.specs.Objects.{IsLiveObject}
 use Rattle.slab_core.specs.declared.reaching.ObjectSpan.{ObjectSpan}
 
--- o is a live object of tenant t, and the range has a byte and lies inside the object
+-- o is a live object of tenant t, and the range is not empty and lies inside the object
 pub record IsAround (r : spaces.Content) (s : Content) (t place len : ℕ) (o : ObjectSpan) : Type 0 where
   pub object : Found
   pub live : IsLiveObject r s t o.cache o.place object

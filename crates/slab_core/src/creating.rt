@@ -14,10 +14,10 @@ use layout_core::{Layout, Pattern};
 use model_core::limits::MOST_CACHES;
 
 impl Slabs {
-    /// Makes a cache of tenant `t` for objects of this layout, constructed with the pattern. Returns its number, the least that
-    /// no cache of the tenant has.
+    /// Makes a cache of tenant `t` for objects of this layout, which are constructed with the pattern. Returns the number of the
+    /// cache: the lowest that no other cache of the tenant has.
     ///
-    /// Returns `None` if the tenant has `MOST_CACHES` caches. Accesses no memory.
+    /// Returns `None` if the tenant already has `MOST_CACHES` caches. Accesses no memory of the tenant.
     pub fn create(&mut self, t: u8, layout: Layout, pattern: Pattern) -> Option<u8>
         requires tenant { IsTenant self.old t }
         ensures answer { (r : spaces.Content) (b : buddies.Content) (m : Machine) → ShowsMachine r b self.old t m

@@ -58,7 +58,8 @@ impl Slabs {
         has_free(buddy, t, k) || view.would_fit_in_slabs(&mut [0; MOST_WORDS], k)
     }
 
-    /// The same as [`Slabs::would_fit`] if no free block is large enough. It stores the set of refused blocks in `self`.
+    /// The same as [`Slabs::would_fit`], for a caller that knows that no free block is large enough. Stores the set of refused
+    /// blocks in `self`, not on the stack.
     #[cold]
     #[inline(never)]
     pub(crate) fn fits_by_need(&mut self, space: &Space, buddy: &Buddy, t: u8, k: u8) -> bool
@@ -120,7 +121,8 @@ impl View<'_> {
         false
     }
 
-    /// Returns true if a block of order `k` would fit around an empty slab. Walks each block of that order in which one begins.
+    /// Returns true if a block of order `k` would fit around an empty slab. Walks each block of that order in which an empty slab
+    /// begins.
     #[inline(never)]
     fn would_fit_around(self, refused: &mut [u64], k: u8) -> bool
         requires tenant { self.tenant < length self.space.now.slots }
@@ -143,7 +145,7 @@ impl View<'_> {
         false
     }
 
-    /// The same as `would_fit_around` for cache `c` alone. Skips the blocks that were refused, and adds those that it refuses.
+    /// The same as `would_fit_around`, for cache `c` alone. Skips the blocks in `refused`, and adds the blocks that it refuses.
     fn would_fit_in_cache(self, refused: &mut [u64], c: u32, k: u8) -> bool
         requires tenant { self.tenant < length self.space.now.slots }
         requires cache { c < MOST_CACHES }
@@ -194,8 +196,8 @@ impl View<'_> {
         true
     }
 
-    /// Returns a frame above this one. No frame from this one up to the returned one is taken, except by empty slabs. Returns
-    /// `None` if this frame is taken by anything else. `begins` is the order of the taken block that begins at this frame, if
+    /// Returns a frame above `frame`. No frame from `frame` to the one before the returned frame is taken, except by empty slabs.
+    /// Returns `None` if `frame` is taken by anything else. `begins` is the order of the taken block that begins at `frame`, if
     /// one does.
     #[inline(always)]
     fn past_unused(self, frame: u32, begins: Option<u8>) -> Option<u32>

@@ -13,10 +13,10 @@ use model_core::refusals::GiveRefusal;
 use space_core::Space;
 
 impl Slabs {
-    /// Gives back the object of cache `c` of tenant `t` that begins at `place`. Its bytes stay as they are.
+    /// Gives back the object of cache `c` of tenant `t` that begins at `place`. The bytes of the object do not change.
     ///
     /// Refuses with `NoCache` if the tenant has no such cache, then with `NotAnObject` if no live object of the cache begins at
-    /// `place`. Then nothing changes.
+    /// `place`. A refused call changes nothing.
     // Always inlined, so that a give of the kernel is one call.
     #[inline(always)]
     pub fn give(

@@ -1,4 +1,4 @@
-//! Makes a slab of a block: clears its control record and constructs each of its objects.
+//! Makes a slab out of a block: clears its control record and constructs each of its objects.
 
 ghost use Rattle.std.specs.Prelude.{◌≡◌, ◌↔◌, ℕ, ◌+◌, ◌*◌, ◌^◌, ◌<◌, length, option_map, Some, IsSome, IfSome, IfNone};
 ghost use Rattle.model_core.specs.Layouts.{IsLayout};
@@ -26,8 +26,8 @@ use space_core::Space;
 impl Slabs {
     /// Makes the next slab of a cache whose slabs are all full.
     ///
-    /// Frees the tenant's empty slabs first if a block is found only then. Returns `None` and changes nothing if no block would
-    /// be found even then.
+    /// If a block is found only after all empty slabs of the tenant are freed, frees them first. Returns `None` and changes
+    /// nothing if no block would be found even then.
     #[inline(always)]
     pub(crate) fn grow(
         &mut self,
@@ -62,7 +62,7 @@ impl Slabs {
         self.make_slab(space, buddy, cache)
     }
 
-    /// Makes the next slab of the cache on a free block. Returns `None` and changes nothing if no free block is large enough.
+    /// Makes the next slab of the cache out of a free block. Returns `None` and changes nothing if no free block is large enough.
     /// Frees no slab.
     #[inline(always)]
     fn make_slab(
@@ -116,7 +116,7 @@ fn fill(space: &mut Space, cache: TenantCache<'_>, place: u32)
 
 /// Makes the block at frame `first` an empty slab, with every object constructed.
 ///
-/// Writes each byte of an object once, and the control record.
+/// Writes each byte of each object once, and clears the control record if it is in the frame.
 pub(crate) fn construct(space: &mut Space, cache: TenantCache<'_>, first: u32, colour: u32)
     requires tenant { cache.tenant < length space.old.slots }
     requires laws { SpaceLaws space.old }
@@ -152,7 +152,7 @@ fn clear_record(space: &mut Space, cache: TenantCache<'_>, first: u32)
     }
 }
 
-/// Constructs object `i` of the block at frame `first`, after all objects before it.
+/// Constructs object `i` of the block at frame `first`. The caller constructs the objects in order.
 fn construct_one(space: &mut Space, cache: TenantCache<'_>, first: u32, colour: u32, i: u32)
     requires tenant { cache.tenant < length space.old.slots }
     requires layout { IsLayout cache.kept.now.layout.size cache.kept.now.layout.align (layout_numbers cache.kept.now) }

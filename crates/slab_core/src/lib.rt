@@ -1,10 +1,11 @@
 //! Slab caches over the buddy systems and the memory of all tenants (Bonwick, "The Slab Allocator", USENIX Summer 1994).
 //!
-//! A slab is a block of frames cut into objects of one size. The control record of a slab of small objects is in the last
-//! 32 bytes of its frame: one bit for each object, 1 if it is live. The record of a slab of large objects is stored outside it.
+//! A slab is a block of frames cut into objects of one size. The control record of a slab of small objects is in the last 32
+//! bytes of its frame: one bit for each object, 1 if the object is live. The record of a slab of large objects is stored outside
+//! the slab.
 //!
-//! Each call for a tenant's command is proved to do the step of the tenant's private machine, and to leave all other tenants
-//! unchanged. The private machine is the one that the memory, the buddy systems and the caches show for the tenant.
+//! Each call that runs a tenant's command is proved to take the step of the tenant's private machine, and to leave all other
+//! tenants unchanged. The private machine is the one that the memory, the buddy systems and the caches show for the tenant.
 //!
 //! Only [`Slabs::new`] allocates.
 //!
@@ -79,7 +80,7 @@ impl Model for Slabs {
 impl Slabs {
     /// Makes the tables of a machine on which no tenant has a cache.
     ///
-    /// Allocates all memory that will ever be used. Returns `AllocError` if the allocator refuses it.
+    /// Allocates all memory that the caches and slabs will ever use. Returns `AllocError` if the allocator refuses it.
     pub fn new(alloc: Global, order: u8, superblocks: u16, tenants: u8) -> Result<Slabs, AllocError>
         requires order { order ≤ MOST_ORDER }
         requires superblocks { superblocks ≤ MOST_SUPERBLOCKS }
@@ -107,8 +108,8 @@ impl Slabs {
         self.tables.order()
     }
 
-    /// Returns the lists of all caches' slabs, by first frame, with their machine frames. A [`slab_tables::ListId`] has the
-    /// number of each list.
+    /// Returns the lists of the slabs of all caches. A node of a list is the machine frame at which a slab begins, and its key is
+    /// the slab's first frame. [`slab_tables::ListId`] has the number of each list.
     pub fn lists(&self) -> &Lists
         ensures same { result.now ≡ self.now.lists }
         ensures hold { ListsHold self.now }

@@ -24,11 +24,11 @@ impl Slabs {
         self.tables.reset(t);
     }
 
-    /// Moves all slabs of superblock `from` to superblock `to`, which has none, frame by frame with their state. All caches stay,
-    /// and the slabs keep their first frames in the numbering of tenant `t`.
+    /// Moves all slabs of superblock `from`, with their state, to the same frames of superblock `to`, which has no slab. The
+    /// caches do not change, and the slabs keep their first frames in the numbering of tenant `t`.
     ///
     /// Changes no byte of memory. Call [`space_core::Space::move_slot`] and [`buddy_core::Buddy::move_slot`] first, with the same
-    /// tenant and superblocks: the three agree again afterwards.
+    /// tenant and superblocks. The memory, the buddy systems and the slabs then agree again.
     pub fn move_slot(&mut self, t: u8, from: u16, to: u16)
         requires tenant { IsTenant self.old t }
         requires from { (from + 1) * 2 ^ self.old.top ≤ length self.old.lists.places }

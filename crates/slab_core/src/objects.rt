@@ -43,7 +43,7 @@ pub(crate) struct Object {
     pub(crate) index: u32,
 }
 
-/// Returns the place of the byte with an object's bit in the control record of the slab at a frame.
+/// Returns the place of the byte that has the bit of object `index`, in the control record of the slab at frame `frame`.
 pub(crate) fn record_place(frame: u32, index: u32) -> u32
     requires frame { frame < 65536 }
     requires index { index < 256 }
@@ -52,7 +52,8 @@ pub(crate) fn record_place(frame: u32, index: u32) -> u32
     FRAME_BYTES * frame + RECORD_OFFSET + index / 8
 }
 
-/// Returns true if the bit is 1 in these bits of a control record.
+/// Returns true if bit `bit` of `bits` is 1. `bits` is a byte of a control record, or a whole record that is stored outside its
+/// slab.
 #[inline(always)]
 fn is_bit_set(bits: u32, bit: u32) -> bool
     requires { bit < 16 }
@@ -75,7 +76,8 @@ fn lower(bytes: &mut [u8], bit: u32) -> bool
     true
 }
 
-/// Clears a bit of the control record at a place of tenant `t`, which lies in this superblock, and returns true if it was set.
+/// Clears a bit of the control record at place `place` of tenant `t` and returns true if it was set. The record lies in this
+/// superblock.
 #[inline(always)]
 fn lower_in_record(space: &mut Space, superblock: u16, t: u8, place: u32, bit: u32) -> bool
     requires home { home_of space.old t place 32 ≡ Some superblock }
@@ -108,10 +110,10 @@ pub(crate) fn machine_frame_in(tables: &Tables, space: &Space, t: u8, frame: u32
     Some(machine_frame_under(frame, slot, m, order))
 }
 
-/// Returns the machine frame at a frame in a slot that this superblock of `2^order` frames is in.
+/// Returns the machine frame at a frame in slot `slot`, which has this superblock of `2^order` frames.
 ///
-/// It moves the frame by the distance of the two numbers, down or up: the difference may wrap, and the sum wraps back. That
-/// takes fewer instructions than to cut off the frame's index in the slot and to add it.
+/// Moves the frame up or down by the difference between the two numbers. If the difference wraps, the sum wraps back. This takes
+/// fewer instructions than computing the frame's index in the slot and adding it.
 #[inline(always)]
 fn machine_frame_under(frame: u32, slot: u32, superblock: u16, order: u8) -> u32
     requires slot { slot ≡ frame / 2 ^ order }
@@ -157,8 +159,8 @@ impl Slabs {
         }
     }
 
-    /// Returns true if a slab begins at a machine frame. It is [`Slabs::is_slab`] for a caller that has looked up the
-    /// superblock.
+    /// Returns true if a slab begins at a machine frame. The same as [`Slabs::is_slab`], for a caller that has already looked up
+    /// the superblock.
     #[inline(always)]
     pub fn is_slab_in(&self, machine_frame: u32) -> bool
         requires { machine_frame < length self.now.lists.places }
@@ -167,7 +169,7 @@ impl Slabs {
         self.tables.place_of(machine_frame).is_some()
     }
 
-    /// Returns true if the slab exists and is of the cache.
+    /// Returns true if the slab exists and belongs to the cache.
     fn is_of_cache(&self, cache: TenantCache<'_>, slab: Slab) -> bool
         requires cache { cache.number < MOST_CACHES }
         requires machine_frame { slab.machine_frame < length self.now.lists.places }
@@ -208,8 +210,8 @@ impl Slabs {
         }
     }
 
-    /// Returns the object of the cache that begins at a place, live or not, or `None` if none begins there. It is always
-    /// inlined: a give takes a third more instructions with a call.
+    /// Returns the object of the cache that begins at a place, live or not, or `None` if none begins there. Always inlined: with
+    /// a call, a give takes a third more instructions.
     #[inline(always)]
     pub(crate) fn locate(&self, space: &Space, cache: TenantCache<'_>, place: u32) -> Option<Object>
         requires tenant { cache.tenant < length space.now.slots }
@@ -292,8 +294,8 @@ impl Slabs {
         }
     }
 
-    /// Updates the number of live objects in a slab after one of them was marked: adds 1 if it is now live, or subtracts 1 if
-    /// it is now free.
+    /// Updates the number of live objects in a slab after an object was marked: adds 1 if the object is now live, or subtracts 1
+    /// if it is now free.
     #[inline(always)]
     pub(crate) fn recount(&mut self, cache: TenantCache<'_>, object: Object, live: bool)
         requires { (r : spaces.Content) × (r' : spaces.Content) × (b : buddies.Content) × (s : Content)

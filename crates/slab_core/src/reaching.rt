@@ -22,11 +22,11 @@ use space_core::Space;
 /// The bytes of a tenant's live object.
 #[derive(Clone, Copy, Debug, PartialEq, Eq)]
 pub struct ObjectSpan {
-    /// The number of its cache.
+    /// The number of the object's cache.
     pub cache: u32,
-    /// The place of its first byte.
+    /// The place of the object's first byte.
     pub place: u32,
-    /// The number of its bytes.
+    /// The object's size in bytes.
     pub bytes: u32,
 }
 
@@ -47,8 +47,9 @@ impl Slabs {
         self.object_in(space, buddy, t, first, machine_frame, order, place, len)
     }
 
-    /// Returns true if a range lies inside one live object. It is [`Slabs::object_at`] for a caller that has looked up the
-    /// taken block around `place`. The block has `2^order` frames and begins at frame `first`, which is `machine_frame`.
+    /// Returns true if a range lies inside one live object. The same as [`Slabs::object_at`], for a caller that has already
+    /// looked up the taken block around `place`. The block has `2^order` frames and begins at frame `first` of the tenant, which
+    /// is machine frame `machine_frame`.
     pub fn object_in(
         &self,
         space: &Space,
@@ -72,7 +73,7 @@ impl Slabs {
             .is_some()
     }
 
-    /// Returns the live object that a range lies inside, or `None` if there is none or `len` is 0. The caller has looked up the
+    /// Returns the live object that contains a range, or `None` if none does or `len` is 0. The caller has already looked up the
     /// taken block around `place`, as for [`Slabs::object_in`].
     #[inline(always)]
     pub fn object_around(
@@ -121,8 +122,8 @@ impl Slabs {
         })
     }
 
-    /// Returns the number of the cache whose slab begins at these frames of tenant `t`, or `None` if no slab does. Only the
-    /// contract uses `space` and `t`.
+    /// Returns the number of the cache that `slab` of tenant `t` belongs to, or `None` if no slab begins there. Only the contract
+    /// uses `space` and `t`.
     fn slab_at(&self, space: &Space, t: u8, slab: Slab) -> Option<u32>
         requires steady { (b : buddies.Content) × IsSteady space.now b self.now t }
         requires machine_frame { machine_frame_of self.now.top space.now.slots t slab.first ≡ Some slab.machine_frame }

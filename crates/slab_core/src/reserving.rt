@@ -1,4 +1,4 @@
-//! Allocates page blocks, and frees empty slabs if a block is found only then.
+//! Allocates page blocks, and frees empty slabs first if that is needed to find a block.
 
 ghost use Rattle.std.specs.Prelude.{◌≡◌, ◌≤◌, ◌<◌, ◌↔◌, length, IsSome, IfSome, IfNone};
 ghost use Rattle.model_core.specs.Blocks.{block};

@@ -96,7 +96,7 @@ impl Slabs {
         }
     }
 
-    /// Frees all empty slabs of tenant `t` and returns the number of their frames.
+    /// Frees all empty slabs of tenant `t` and returns the number of frames freed.
     pub fn reap(&mut self, space: &mut Space, buddy: &mut Buddy, t: u8) -> u32
         requires tenant { t < length space.old.slots }
         requires agree { Agree space.old buddy.old self.old }
@@ -113,10 +113,10 @@ impl Slabs {
         frames
     }
 
-    /// Destroys cache `c` of tenant `t`, frees its slabs and returns the number of their frames.
+    /// Destroys cache `c` of tenant `t`, frees its slabs and returns the number of frames freed.
     ///
-    /// Refuses with `NoCache` if there is no such cache, then with `CacheInUse` if an object of it is live. Then nothing
-    /// changes.
+    /// Refuses with `NoCache` if there is no such cache, then with `CacheInUse` if one of its objects is live. A refused call
+    /// changes nothing.
     pub fn destroy(
         &mut self,
         space: &mut Space,

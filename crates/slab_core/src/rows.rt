@@ -1,4 +1,4 @@
-//! The rows of a report for its caches.
+//! The rows of a report: one for each cache.
 
 ghost use Rattle.std.specs.Prelude.{◌≡◌, ◌<◌, length, option_map};
 ghost use Rattle.model_core.specs.declared.limits.TheConstants.{MOST_CACHES};

@@ -76,8 +76,8 @@ fn raise(bytes: &mut [u8]) -> u32
     bit
 }
 
-/// Sets the first clear bit of the control record at a place of tenant `t`, which lies in this superblock, and returns its
-/// index.
+/// Sets the first clear bit of the control record at place `place` of tenant `t` and returns the index of the bit. The record
+/// lies in this superblock.
 #[inline(always)]
 fn raise_in_record(space: &mut Space, superblock: u16, t: u8, place: u32) -> u32
     requires home { home_of space.old t place 32 ≡ Some superblock }
@@ -94,19 +94,19 @@ pub struct Taken {
     pub place: u32,
     /// Its size in bytes.
     pub size: u32,
-    /// The superblock of its bytes.
+    /// The superblock that contains its bytes.
     pub superblock: u16,
 }
 
 impl Slabs {
     /// Takes an object of cache `c` of tenant `t` and returns its first place.
     ///
-    /// It is the first free object of the first partial slab. If no slab is partial, it is the first object of the first empty
-    /// slab, and if none is empty, of a new slab. If a block for the new slab is found only after all empty slabs of the tenant
-    /// are freed, they are freed first.
+    /// The object is the first free one of the first partial slab. If no slab is partial, it is the first object of the first
+    /// empty slab. If no slab is empty either, it is the first object of a new slab. If a block for the new slab is found only
+    /// after all empty slabs of the tenant are freed, they are freed first.
     ///
-    /// Refuses with `NoCache` if the tenant has no such cache, then with `NoFrames` if a new slab is needed and no block would
-    /// be found for it even after freeing. Then nothing changes.
+    /// Refuses with `NoCache` if the tenant has no such cache, then with `NoFrames` if a new slab is needed and no block would be
+    /// found for it even then. A refused call changes nothing.
     pub fn take(
         &mut self,
         space: &mut Space,
@@ -130,8 +130,8 @@ impl Slabs {
         }
     }
 
-    /// The same as [`Slabs::take`]. It also returns the object's size and superblock, which the take has looked up. So a caller
-    /// that lends the bytes need not look up the cache and the slot again.
+    /// The same as [`Slabs::take`], but also returns the object's size and superblock, so that a caller that lends the bytes need
+    /// not look up the cache and the slot again.
     #[inline(always)]
     pub fn take_object(
         &mut self,
@@ -164,10 +164,10 @@ impl Slabs {
         self.take_new(space, buddy, t, c)
     }
 
-    /// The same as [`Slabs::take_object`] if every slab of the cache is full. The object is the first of a new slab.
+    /// The same as [`Slabs::take_object`], for a cache whose slabs are all full. The object is the first of a new slab.
     ///
-    /// It is a separate function because it passes a borrow of the cache to a call. So `take_object` keeps no copy of the cache
-    /// in memory.
+    /// This is a separate function because it passes a borrow of its copy of the cache to a call, so that this copy has to be in
+    /// memory. The copy in `take_object` then need not be in memory.
     #[cold]
     #[inline(never)]
     fn take_new(
@@ -197,7 +197,7 @@ impl Slabs {
             kept: &before,
         };
         let slab = self.grow(space, buddy, cache).ok_or(TakeRefusal::NoFrames)?;
-        // The cache has now made one slab more.
+        // The cache has now made one more slab.
         let after = *self.tables.cache(t, c).unwrap();
         let cache = TenantCache {
             kept: &after,
@@ -285,8 +285,8 @@ impl Slabs {
         self.laws_with(space, buddy, cache.tenant);
         let superblock = self.superblock(slab.machine_frame);
         let index = self.mark_least_free(space, cache, slab);
-        // Read here, next to the count that `recount` reads. If it were read before the mark, its address would be computed
-        // twice.
+        // Read here, next to the count that `recount` reads. If it were read before the object is marked, its address would be
+        // computed twice.
         let colour = u32::from(self.tables.kept_of(slab.machine_frame).colour);
         self.recount(cache, Object { slab, index }, true);
         Taken {

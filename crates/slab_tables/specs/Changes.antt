@@ -16,7 +16,7 @@ fresh_kept cache = record { colour = colour_offset cache.layout.align cache.made
 abbrev pub made_more : Cache → Cache
 made_more cache = record cache { made = (cache.made + 1) % (layout_numbers cache).colours }
 
--- a new empty slab of cache c of tenant t, its next one, begins at frame `first`, machine frame n
+-- a new empty slab, the next one of cache c of tenant t, begins at frame `first`, whose machine frame is n
 abbrev pub with_new_slab : Content → ℕ → ℕ → Cache → ℕ → ℕ → Content
 with_new_slab s t c cache first n = record s {
   lists = inserted s.lists (head_of t c 2) n first;
@@ -50,7 +50,7 @@ pub record IsLeastNumber (s : Content) (t c : ℕ) : Type 0 where
   pub vacant : cache_at s t c ≡ None
   pub least : (d : ℕ) → d < c → IsSome (cache_at s t d)
 
--- tenant t has a cache of each number
+-- tenant t has a cache with each number
 abbrev pub IsAllUsed : Content → ℕ → Type 0
 IsAllUsed s t = (d : ℕ) → d < MOST_CACHES → IsSome (cache_at s t d)
 
@@ -69,7 +69,7 @@ abbrev pub unless_gone : (ℕ → Bool) → Option (ℕ × ℕ) → Option (ℕ 
 unless_gone gone None = None
 unless_gone gone (Some p) = if gone (p.0 / 3) then None else Some p
 
--- the caches whose indexes satisfy `gone` are removed with their slabs, and all else but the totals is as before
+-- the caches whose indexes satisfy `gone` are removed with their slabs, and all else except the totals is as before
 pub record IsCleared (s s' : Content) (gone : ℕ → Bool) : Type 0 where
   pub top : s'.top ≡ s.top
   pub heads : s'.lists.heads ≡ s.lists.heads
@@ -79,7 +79,7 @@ pub record IsCleared (s s' : Content) (gone : ℕ → Bool) : Type 0 where
   pub tenants : length s'.caches ≡ length s.caches
   pub caches : (n : ℕ) → cache_in s'.caches n ≡ (if gone n then None else cache_in s.caches n)
 
--- tenant t has no cache and no slab, and all else but the totals is as before
+-- tenant t has no cache and no slab, and all else except the totals is as before
 abbrev pub IsReset : Content → Content → ℕ → Type 0
 IsReset s s' t = IsCleared s s' (λ n. n / MOST_CACHES == t)
 

@@ -17,9 +17,9 @@ pub record Content : Type 0 where
   pub lists : Placed
   -- for each machine frame, the stored state of the slab that begins there, if one does
   pub kept : List Kept
-  -- for each tenant and number, its cache
+  -- for each tenant and cache number, the cache
   pub caches : List (Option Cache)
-  -- for each tenant and number, how many objects of the cache are live
+  -- for each tenant and cache number, how many objects of the cache are live
   pub live : List ℕ
 
 -- the stored state of a machine frame at which no slab has begun yet
@@ -40,7 +40,7 @@ index_of_cache t c = MOST_CACHES * t + c
 abbrev pub cache_at : Content → ℕ → ℕ → Option Cache
 cache_at s t c = if nat_lt c MOST_CACHES then cache_in s.caches (index_of_cache t c) else None
 
--- the tables are those of more than t tenants
+-- the tables have a tenant t
 abbrev pub IsTenant : Content → ℕ → Type 0
 IsTenant s t = index_of_cache t MOST_CACHES ≤ length s.caches
 
@@ -48,7 +48,7 @@ IsTenant s t = index_of_cache t MOST_CACHES ≤ length s.caches
 abbrev pub layout_numbers : Cache → Layout
 layout_numbers c = numbers_of c.layout
 
--- the kind of a slab of `count` objects with `live` live ones: 0 full, 1 partial, 2 empty
+-- the kind of a slab that has `count` objects, `live` of them live: 0 full, 1 partial, 2 empty
 abbrev pub kind_of : ℕ → ℕ → ℕ
 kind_of count live = if live == count then 0 else (if live == 0 then 2 else 1)
 
@@ -62,7 +62,7 @@ kind_number Kind.Empty = 2
 abbrev pub head_of : ℕ → ℕ → ℕ → ℕ
 head_of t c kind = 3 * index_of_cache t c + kind
 
--- the stored state of a slab of the cache fits the layout, and its kind is that of the list
+-- the stored state of a slab fits the layout of its cache, and the slab's kind is that of the list with number `head`
 pub record IsListed (kept : Kept) (cache : Cache) (head : ℕ) : Type 0 where
   pub kind : head % 3 ≡ kind_of (layout_numbers cache).count kept.live
   pub few : kept.live ≤ (layout_numbers cache).count
@@ -105,12 +105,12 @@ pub record AreBelow (caches : List (Option Cache)) (below : List ℕ) : Type 0 w
   pub few : (t : ℕ) → slice_index below t ≤ MOST_CACHES
   pub none : (n : ℕ) → slice_index below (n / MOST_CACHES) ≤ n % MOST_CACHES → cache_in caches n ≡ None
 
--- the invariant of the tables with these numbers
+-- the invariant of the tables, with `below` as the numbers above the caches
 pub record AreTables (s : Content) (below : List ℕ) : Type 0 where
   pub slabs : IsSlabs s
   pub ends : AreBelow s.caches below
 
--- tables without caches and slabs
+-- tables without caches or slabs
 abbrev pub empty_tables : ℕ → ℕ → ℕ → Content
 empty_tables top superblocks tenants = record {
   top = top;
@@ -120,7 +120,7 @@ empty_tables top superblocks tenants = record {
   live = replicate (MOST_CACHES * tenants) 0;
 }
 
--- a slab of cache c of tenant t begins at frame `first`, machine frame n
+-- a slab of cache c of tenant t begins at frame `first`, whose machine frame is n
 pub record IsPlacedIn (s : Content) (t c first n : ℕ) : Type 0 where
   pub kind : ℕ
   pub few : kind < 3

@@ -4,30 +4,31 @@ ghost use Rattle.std.specs.Prelude.{◌≡◌};
 
 use layout_core::{Layout, Pattern};
 
-/// A cache: the layout of its slabs, the pattern of its constructed objects, and the number of slabs that it made.
+/// A cache: the layout of its slabs, the pattern of its constructed objects, and the count that gives its next slab's colour.
 #[derive(Clone, Copy, Debug)]
 pub struct Cache {
     pub layout: Layout,
     pub pattern: Pattern,
-    /// The number of slabs made since its creation, modulo the number of its colours.
+    /// The number of slabs made since the cache was created, modulo the number of its colours.
     pub made: u32,
 }
 
-/// The state of a slab, except its list.
+/// The state of a slab, except for its list.
 #[derive(Clone, Copy, Debug)]
 pub struct Kept {
     /// The offset of its first object, in bytes.
     pub colour: u16,
     /// The number of its live objects.
     pub live: u16,
-    /// For a slab of large objects, at most 16: one bit for each, 1 if it is live. Object 0 is the lowest bit.
+    /// For a slab of large objects, one bit for each of its at most 16 objects: 1 if the object is live. The lowest bit is for
+    /// object 0.
     pub outside: u16,
 }
 
 impl Cache {
     ghost use Rattle.slab_tables.specs.Changes.{fresh_kept};
 
-    /// Returns the state of the slab that it makes next.
+    /// Returns the state of the slab that the cache makes next.
     pub(crate) fn next_slab(&self) -> Kept
         ensures { result ≡ fresh_kept self.now }
     {

@@ -1,4 +1,4 @@
-//! Hints where to look for the slabs of a list. Only the cost of a change of a list depends on them.
+//! Hints about where to look for the slabs of a list. Only the cost of changing a list depends on them.
 
 ghost use Rattle.std.specs.Prelude.{◌≡◌, ◌^◌, ◌<◌, ◌≤◌};
 ghost use Rattle.model_core.specs.declared.limits.TheConstants.{MOST_ORDER};
@@ -6,11 +6,11 @@ ghost use Rattle.model_core.specs.declared.limits.TheConstants.{MOST_ORDER};
 use model_core::limits::{MOST_CACHES, MOST_SUPERBLOCKS};
 use std::alloc::{AllocError, Global};
 
-/// The order of a group of frames. It is a superblock's order if that is less, so a group lies in one slot.
+/// The order of a group of frames. If superblocks have a lower order, a group has that order, so it always lies in one slot.
 const GROUP_ORDER: u8 = 5;
 
 /// For each list that is kept, one bit for each group of its tenant's frames: 1 if the list has slabs there. For each slot of a
-/// tenant, the superblock that was in it when a slab was last made there.
+/// tenant, the superblock that was in it when a slab was last made in the slot or moved with it.
 #[derive(Debug, Drop)]
 pub(crate) struct Groups {
     /// A superblock has `2^order` frames.
@@ -31,7 +31,7 @@ pub(crate) struct Groups {
 }
 
 impl Groups {
-    /// Makes the hints of a machine of `superblocks` superblocks of `2^order` frames for `tenants` tenants, without slabs.
+    /// Makes the hints for a machine without slabs, which has `superblocks` superblocks of `2^order` frames and `tenants` tenants.
     pub(crate) fn new(
         alloc: Global,
         order: u8,
@@ -71,7 +71,7 @@ impl Groups {
         frame & self.inside
     }
 
-    /// Returns true if two frames are in one group.
+    /// Returns true if the two frames are in the same group.
     pub(crate) fn is_one(&self, frame: u32, other: u32) -> bool {
         frame >> self.group == other >> self.group
     }
@@ -83,7 +83,7 @@ impl Groups {
         i < self.kept.len() && self.kept[i]
     }
 
-    /// Keeps the list from now on. It has no slab.
+    /// Begins to keep the list, at first with no slab noted.
     pub(crate) fn keep(&mut self, list: u32) {
         let i = list as usize;
         if i < self.kept.len() {
@@ -147,14 +147,14 @@ impl Groups {
         None
     }
 
-    /// Returns the machine frame that a frame of the list's tenant had when a slab was last made in its slot, or `None` if the
-    /// slot is out of range.
+    /// Returns the machine frame that a frame of the list's tenant had when a slab was last made in its slot or moved with it, or
+    /// `None` if the slot is out of range.
     pub(crate) fn seen_at(&self, list: u32, frame: u32) -> Option<u32> {
         let superblock = *self.superblocks.get(self.slot_of(list, frame))?;
         Some(superblock << self.order | frame % (1 << self.order))
     }
 
-    /// Returns the first frame of the last group whose bit in word `i` of its list is 1.
+    /// Returns the first frame of the last group whose bit is 1 in `word`, which is word `i` of a list.
     fn last_of(&self, i: u32, word: u64) -> u32
         requires { i < 2 ^ 26 }
     {

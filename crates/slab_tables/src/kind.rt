@@ -16,7 +16,7 @@ pub enum Kind {
 impl Kind {
     ghost use Rattle.slab_tables.specs.Content.{kind_number, kind_of};
 
-    /// Returns the kind of a slab with `live` live objects of `count`.
+    /// Returns the kind of a slab that has `count` objects, `live` of them live.
     pub fn of(count: u32, live: u32) -> Kind
         ensures { kind_number result ≡ kind_of count live }
     {
@@ -54,7 +54,7 @@ impl Counts {
 
     /// Returns true if the slab is partial before and after the change.
     ///
-    /// A take adds 1 and a give subtracts 1, so the compiler knows which count is the lesser, and compares only what is left.
+    /// A take adds 1 and a give subtracts 1. So the compiler knows which count is less, and only two comparisons are left.
     #[inline(always)]
     pub(crate) fn stay_partial(self) -> bool
         ensures before { result ≡ true → kind_of self.total self.before ≡ 1 }

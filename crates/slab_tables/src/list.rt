@@ -8,8 +8,8 @@ use crate::kind::Kind;
 use crate::places::index_of;
 use model_core::limits::MOST_CACHES;
 
-/// The list of the slabs of one kind of one cache of one tenant: `3 * (32 * tenant + cache)` for the full ones, and the next two
-/// numbers for the partial and the empty ones.
+/// The list of a cache's slabs of one kind. Its number is `3 * (32 * tenant + cache)` for the full slabs. The next two numbers are
+/// those of the partial and the empty slabs.
 ///
 /// So the lists of full slabs are loose ([`klist_core`]): slabs fill up often, and no call needs the first full one.
 #[derive(Clone, Copy, Debug, PartialEq, Eq)]
@@ -18,7 +18,7 @@ pub struct ListId {
 }
 
 impl ListId {
-    /// Returns the list of the slabs of a kind of cache `c` of tenant `t`.
+    /// Returns the list of the slabs of this kind in cache `c` of tenant `t`.
     #[inline(always)]
     pub fn of(t: u8, c: u32, kind: Kind) -> ListId
         requires { c < MOST_CACHES }
@@ -29,16 +29,16 @@ impl ListId {
         }
     }
 
-    /// Returns the number of its cache among those of its tenant.
+    /// Returns the number of the list's cache among those of its tenant.
     pub fn cache(self) -> u32
         ensures { result ≡ self.number / 3 % MOST_CACHES }
     {
         self.number / 3 % u32::from(MOST_CACHES)
     }
 
-    /// Returns true if it is one of the lists of cache `c` of tenant `t`.
+    /// Returns true if this is one of the three lists of cache `c` of tenant `t`.
     ///
-    /// One subtraction shows that it is none of the lists before them or after them.
+    /// The subtraction wraps around, so one comparison excludes the lists before these three as well as those after them.
     #[inline(always)]
     pub fn is_of(self, t: u8, c: u32) -> bool
         requires { c < MOST_CACHES }
@@ -47,7 +47,7 @@ impl ListId {
         self.number.wrapping_sub(3 * index_of(t, c) as u32) < 3
     }
 
-    /// Returns the kind of its slabs.
+    /// Returns the kind of the list's slabs.
     pub fn kind(self) -> Kind
         ensures { kind_number result ≡ self.number % 3 }
     {

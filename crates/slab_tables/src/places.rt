@@ -31,7 +31,7 @@ pub(crate) fn machine_frame_at(order: u8, superblock: u16, i: u32) -> u32
     (u32::from(superblock) << order) + i
 }
 
-/// A list of fewer slabs is walked without using groups.
+/// A list of fewer slabs than this is walked without using groups.
 const SHORT: u32 = 8;
 
 /// A list that grows to this number of slabs is kept in groups. For fewer slabs a walk costs no more than a lookup in the groups.
@@ -41,7 +41,7 @@ const LONG: u32 = 128;
 /// has to be walked each time it is put into groups.
 const NOT_LONG: u32 = 64;
 
-/// The lists of the slabs of all caches, with hints where to look for their slabs.
+/// The lists of the slabs of all caches, with hints about where to look for the slabs.
 #[derive(Debug, Drop)]
 pub(crate) struct SlabLists {
     lists: Lists,
@@ -84,7 +84,7 @@ impl SlabLists {
         &self.lists
     }
 
-    /// The same as [`Lists::any`].
+    /// Returns the same as [`Lists::any`].
     pub(crate) fn any(&self, head: u32) -> Option<u32>
         requires { head < self.now.heads }
         ensures { MatchOption result (IsEmpty self.now.places head) (λ n. is_in head (place_at self.now.places n) ≡ true) }
@@ -92,7 +92,7 @@ impl SlabLists {
         self.lists.any(head)
     }
 
-    /// The same as [`Lists::insert`] for a list that is not loose.
+    /// Does the same as [`Lists::insert`] for a list that is not loose, and keeps the hints up to date.
     pub(crate) fn insert(&mut self, head: u32, machine_frame: u32, key: u32)
         requires head { head < self.old.heads }
         requires by_key { IsByKey head }
@@ -106,7 +106,7 @@ impl SlabLists {
         self.note(head, key);
     }
 
-    /// The same as [`Lists::remove`].
+    /// Does the same as [`Lists::remove`], and keeps the hints up to date.
     #[inline(always)]
     pub(crate) fn remove(&mut self, machine_frame: u32)
         requires machine_frame { machine_frame < length self.old.places }
@@ -123,7 +123,7 @@ impl SlabLists {
         self.lists.remove(machine_frame);
     }
 
-    /// Notes that a slab is in the list under the key.
+    /// Notes that a slab is in the list under the key, if the list is kept in groups or has become long.
     #[inline(always)]
     fn note(&mut self, head: u32, key: u32)
         requires head { head < self.old.heads }
@@ -136,7 +136,7 @@ impl SlabLists {
         }
     }
 
-    /// The same as `note` for a list that is kept in groups or has become long. It is kept in groups from then on.
+    /// Does the work of `note` for a list that is kept in groups or has become long. The list is kept in groups from then on.
     #[inline(never)]
     fn note_in_groups(&mut self, head: u32, key: u32)
         requires head { head < self.old.heads }
@@ -165,7 +165,7 @@ impl SlabLists {
         }
     }
 
-    /// Returns true if the slab's neighbours in its list are in other groups than its key.
+    /// Returns true if neither of the slab's neighbours in its list is in its group. `key` is the slab's first frame.
     fn is_alone(&self, machine_frame: u32, key: u32) -> bool
         requires machine_frame { machine_frame < length self.now.places }
         requires placed { IsPlacedByKey self.now.places machine_frame }
@@ -181,12 +181,12 @@ impl SlabLists {
         }
     }
 
-    /// Moves the slab of cache `c` of tenant `t` from the list of its kind before to the list of its kind after, under the same
-    /// key.
+    /// Moves a slab of cache `c` of tenant `t` from the list of its kind before the change to the list of its kind after it, under
+    /// the same key.
     ///
-    /// Most slabs stay partial, and then nothing is done. The counts alone show it, so no list is computed for them.
+    /// Most slabs stay partial, and then nothing is done. The counts alone show this, so no list number is computed for them.
     ///
-    /// `slab` is its order. Only the cost depends on it.
+    /// `slab` is the order of the slab. Only the cost depends on it.
     #[inline(always)]
     pub(crate) fn relist(
         &mut self,
@@ -215,7 +215,7 @@ impl SlabLists {
     /// Moves the slab from its list to the list `head` under the same key.
     ///
     /// If the list is loose, the slab is appended. A short list is walked, unless the slab belongs at an end of it. In a longer
-    /// list the function searches for a slab that comes before it.
+    /// list the function first searches for a nearby slab that comes before this one.
     #[inline(never)]
     fn move_to(&mut self, head: u32, machine_frame: u32, key: u32, slab: u8)
         requires head { head < self.old.heads }
@@ -235,8 +235,8 @@ impl SlabLists {
         }
     }
 
-    /// The same as [`Lists::insert`] for a list that is not short. Inserts the slab behind one that comes before it, if it
-    /// finds one nearby.
+    /// Does the same as [`Lists::insert`] for a list that is not short. The search for the slab's position begins at a nearby slab
+    /// of the list, if the function finds one.
     #[inline(always)]
     fn insert_among(&mut self, head: u32, machine_frame: u32, key: u32, step: u32)
         requires head { head < self.old.heads }
@@ -255,12 +255,12 @@ impl SlabLists {
         }
     }
 
-    /// Returns the machine frame of a slab of the list, most likely with a key that is below this one and not far from it.
-    /// Returns `None` if it finds none.
+    /// Returns the machine frame of a slab of the list, most likely one whose key is a little below `key`. Returns `None` if it
+    /// finds none.
     ///
-    /// It searches below `machine_frame` in its group first. The number of frames that it tries there is at most a quarter of
-    /// the list's length, since a walk over a short list costs less. Then it searches in the last earlier group with a slab of
-    /// the list.
+    /// It first searches below `machine_frame` in the same group. The number of frames that it tries there is at most a quarter of
+    /// the list's length, since a walk over a short list costs less. Then, if the list is kept in groups, it searches the last
+    /// earlier group with a slab of the list.
     fn near(&self, head: u32, machine_frame: u32, key: u32, step: u32) -> Option<u32>
         requires head { head < self.now.heads }
         requires machine_frame { machine_frame < length self.now.places }
@@ -278,8 +278,8 @@ impl SlabLists {
         self.near_in_groups(head, key, step)
     }
 
-    /// Searches the last group before the key's that has a slab of the list, from its end. Returns the machine frame of the
-    /// first slab of the list that it finds, or `None` if it finds none.
+    /// Searches the last group that comes before the key's and has a slab of the list, beginning at the end of that group. Returns
+    /// the machine frame of the first slab of the list that it finds, or `None` if it finds none.
     #[inline(never)]
     fn near_in_groups(&self, head: u32, key: u32, step: u32) -> Option<u32>
         requires head { head < self.now.heads }
@@ -338,8 +338,8 @@ fn keep(lists: &Lists, groups: &mut Groups, head: u32)
     }
 }
 
-/// Returns the first of `above - step`, `above - 2 * step` and so on that is in the list. It tries at most `most` frames, and
-/// none more than `reach` below `above`.
+/// Returns the first of `above - step`, `above - 2 * step` and so on that is in the list. It tries at most `most` of them, and
+/// none that is more than `reach` below `above`. Returns `None` if it finds none.
 fn near_below(lists: &Lists, head: u32, above: u32, step: u32, reach: u32, most: u32) -> Option<u32>
     requires head { head < lists.now.heads }
     requires above { above ≤ length lists.now.places }

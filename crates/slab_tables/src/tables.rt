@@ -1,4 +1,4 @@
-//! The tables.
+//! The tables as callers use them.
 
 ghost use Rattle.std.specs.Prelude.{◌≡◌, ◌≢◌, ℕ, ◌<◌, ◌≤◌, ◌==◌, ◌^◌, ◌*◌, ◌+◌, Some, None, length, is_none, slice_index, option_map, IfOk, IfSome, IfNone, IsSome, MatchOption};
 ghost use Rattle.klist_core.specs.Places.{ArePlaces, IsEmpty, IsFirst, place_at, inserted};
@@ -40,7 +40,7 @@ impl Model for Tables {
 }
 
 impl Tables {
-    /// Makes tables without caches and slabs for `superblocks` superblocks of `2^order` frames and `tenants` tenants, within the
+    /// Makes tables without caches or slabs, for `superblocks` superblocks of `2^order` frames and `tenants` tenants, within the
     /// limits of a machine.
     ///
     /// Allocates all memory that will ever be used. Returns `AllocError` if the allocator refuses it.
@@ -87,15 +87,15 @@ impl Tables {
         self.order
     }
 
-    /// Returns the lists of the slabs of all caches, by first frame, with their machine frames. A [`ListId`] has the number of
-    /// each.
+    /// Returns the lists of the slabs of all caches. The node of a slab is its first machine frame, and the key is its first frame
+    /// in the numbering of its tenant. A [`ListId`] has the number of a list.
     pub fn lists(&self) -> &Lists
         ensures { result.now ≡ self.now.lists }
     {
         self.lists.lists()
     }
 
-    /// Returns cache `c` of tenant `t`, if there is one. Accepts any number.
+    /// Returns cache `c` of tenant `t`, if there is one. `c` may be any number.
     pub fn cache(&self, t: u8, c: u32) -> Option<&Cache>
         requires { IsTenant self.now t }
         ensures { option_map (λ x. x.now) result ≡ cache_at self.now t c }
@@ -106,7 +106,7 @@ impl Tables {
         self.caches[index_of(t, c)].as_ref()
     }
 
-    /// Returns a number above those of all caches of tenant `t`. Loops over them end there.
+    /// Returns a number above those of all caches of tenant `t`, at most 32. Loops over the caches end there.
     pub fn caches_below(&self, t: u8) -> u32
         requires { IsTenant self.now t }
         ensures few { result ≤ MOST_CACHES }
@@ -123,7 +123,7 @@ impl Tables {
         self.kept[machine_frame as usize]
     }
 
-    /// Returns the list and the first frame of the slab that begins at the machine frame, or `None` if none does.
+    /// Returns the list and the first frame of the slab that begins at the machine frame, or `None` if no slab begins there.
     pub fn place_of(&self, machine_frame: u32) -> Option<(u32, u32)>
         requires { machine_frame < length self.now.lists.places }
         ensures { result ≡ place_at self.now.lists.places machine_frame }
@@ -131,8 +131,8 @@ impl Tables {
         self.lists.lists().place_of(machine_frame)
     }
 
-    /// Returns the frame and the machine frame of the first slab of one kind of cache `c` of tenant `t`. For full slabs it
-    /// searches all frames.
+    /// Returns the first frame and the first machine frame of the first slab of this kind in cache `c` of tenant `t`, or `None` if
+    /// there is none. For full slabs it searches all machine frames.
     pub fn first(&self, t: u8, c: u32, kind: Kind) -> Option<(u32, u32)>
         requires tenant { IsTenant self.now t }
         requires cache { c < MOST_CACHES }
@@ -147,7 +147,7 @@ impl Tables {
         }
     }
 
-    /// Returns the number of slabs of one kind of cache `c` of tenant `t`.
+    /// Returns the number of slabs of this kind in cache `c` of tenant `t`.
     pub fn count(&self, t: u8, c: u32, kind: Kind) -> u32
         requires tenant { IsTenant self.now t }
         requires cache { c < MOST_CACHES }
@@ -165,7 +165,7 @@ impl Tables {
         self.live[index_of(t, c)]
     }
 
-    /// Makes a cache of tenant `t` without slabs and returns its number, the least that no cache of the tenant has. Returns
+    /// Makes a cache without slabs for tenant `t` and returns its number, the least that no cache of the tenant has. Returns
     /// `None` and changes nothing if all numbers are used.
     pub fn create(&mut self, t: u8, layout: Layout, pattern: Pattern) -> Option<u8>
         requires { IsTenant self.old t }
@@ -189,7 +189,7 @@ impl Tables {
         Some(c)
     }
 
-    /// Returns the least number that no cache of tenant `t` has.
+    /// Returns the least number that no cache of tenant `t` has, or `None` if all numbers are used.
     fn free_number(&self, t: u8) -> Option<u8>
         requires { IsTenant self.now t }
         ensures { MatchOption result (IsAllUsed self.now t) (IsLeastNumber self.now t) }
@@ -212,7 +212,7 @@ impl Tables {
         self.caches[index_of(t, c)] = None;
     }
 
-    /// Lowers [`Tables::caches_below`] of tenant `t` to the number above its highest cache.
+    /// Lowers [`Tables::caches_below`] of tenant `t` to the number after that of its highest cache, or to 0 if it has none.
     pub fn lower(&mut self, t: u8)
         requires { IsTenant self.old t }
         ensures { self.new ≡ self.old }
@@ -224,8 +224,8 @@ impl Tables {
         self.below[usize::from(t)] = below;
     }
 
-    /// Adds the next slab of cache `c` of tenant `t`, an empty one, at frame `first`, which is `machine_frame`. The cache then has
-    /// made one slab more, so values read from it before are out of date.
+    /// Adds the next slab of cache `c` of tenant `t`, which is empty, at frame `first`. The machine frame of `first` is
+    /// `machine_frame`. The cache has then made one more slab, so a copy of it that was read before is out of date.
     pub fn add_slab(&mut self, t: u8, c: u32, cache: &Cache, first: u32, machine_frame: u32)
         requires tenant { IsTenant self.old t }
         requires cache { cache_at self.old t c ≡ Some cache.now }
@@ -242,8 +242,9 @@ impl Tables {
         self.caches[index_of(t, c)] = Some(Cache { made, ..*cache });
     }
 
-    /// Sets the number of live objects in the slab of cache `c` of tenant `t` at frame `first`, which is `machine_frame`. If its
-    /// kind changes, it moves to the list of the new kind, in a number of steps that does not grow with the list.
+    /// Sets the number of live objects in the slab of cache `c` of tenant `t` at frame `first`. The machine frame of `first` is
+    /// `machine_frame`. If the slab's kind changes, the slab moves to the list of the new kind, in a number of steps that does not
+    /// grow with the list.
     #[inline(always)]
     pub fn set_count(
         &mut self,
@@ -319,8 +320,8 @@ impl Tables {
         self.caches[i] = None;
     }
 
-    /// Moves all slabs of superblock `from` to superblock `to`, which has none, frame by frame with their state. Their tenants'
-    /// frames stay the same.
+    /// Moves all slabs of superblock `from`, with their state, to the same frames of superblock `to`, which has no slabs. Their
+    /// frames in the numbering of their tenant stay the same.
     pub fn move_slot(&mut self, from: u16, to: u16)
         requires from { (from + 1) * 2 ^ self.old.top ≤ length self.old.lists.places }
         requires to { (to + 1) * 2 ^ self.old.top ≤ length self.old.lists.places }
@@ -337,7 +338,7 @@ impl Tables {
         }
     }
 
-    /// Moves the slab at machine frame `from`, if one begins there, to machine frame `to`, at which none begins.
+    /// Moves the slab that begins at machine frame `from`, if there is one, to machine frame `to`, where no slab begins.
     fn move_slab(&mut self, from: u32, to: u32)
         requires from { from < length self.old.lists.places }
         requires to { to < length self.old.lists.places }

@@ -8,7 +8,7 @@ pub record IsLeastSlot (slots : List (List (Option ℕ))) (t u : ℕ) : Type 0 w
   pub vacant : superblock_at slots t u ≡ None
   pub below : (v : ℕ) → v < u → IsSome (superblock_at slots t v)
 
--- the slots, with the entry of tenant t and slot u replaced
+-- the slots, with the entry for slot u of tenant t replaced by x
 abbrev pub with_entry : List (List (Option ℕ)) → ℕ → ℕ → Option ℕ → List (List (Option ℕ))
 with_entry slots t u x = slice_set slots t (slice_set (slots_of slots t) u x)
 
@@ -21,7 +21,7 @@ with_grant s t u m = record s {
   marks = slice_set s.marks m false;
 }
 
--- superblock m, slot u of tenant t, loses its owner: it keeps its bytes and gets a mark
+-- superblock m, which is in slot u of tenant t, loses its owner: it keeps its bytes and gets a mark
 abbrev pub with_take_back : Content → ℕ → ℕ → ℕ → Content
 with_take_back s t u m = record s {
   owners = slice_set s.owners m None;

@@ -1,4 +1,4 @@
--- What the equations of the calls say of each tenant's slots and bytes.
+-- What the equations of the calls say about each tenant's slots and bytes.
 use Rattle.std.specs.Prelude.{◌≡◌, ◌≢◌, ℕ, ◌+◌, ◌-◌, ◌/◌, ◌<◌, ◌==◌, ◌&&◌, nat_lt, nat_le, if◌then◌else◌, List, Some, None, IsSome, length, slice_index}
 use Rattle.model_core.specs.Owners.{owned_by}
 use Rattle.space_core.specs.Content.{Content, IsSpace, bank, superblock_at, owner_at}
@@ -31,11 +31,11 @@ pub record OthersStay (s : Content) : Type 0 where
   pub take_back : (t u m other : ℕ) → other ≢ t → IsSameFor other s (with_take_back s t u m)
   pub move : (t u from to other : ℕ) → owner_at s.owners to ≡ None → other ≢ t → IsSameFor other s (with_move s t u from to)
 
--- a superblock without owner in s' has the bytes that it has in s
+-- a superblock that has no owner in s' has the same bytes there as in s
 abbrev pub SpareStays : Content → Content → Type 0
 SpareStays s s' = (m : ℕ) → owner_at s'.owners m ≡ None → bank s'.banks m ≡ bank s.banks m
 
--- a call writes only superblocks that have an owner after it
+-- a call changes no byte of a superblock that has no owner after the call
 pub record SpareBytes (s : Content) : Type 0 where
   pub window : (t place len : ℕ) (w : List ℕ) → SpareStays s (with_window s t place len w)
   pub byte : (t place b : ℕ) → SpareStays s (with_byte s t place b)
@@ -72,7 +72,7 @@ pub record OwnSlots (s : Content) : Type 0 where
   pub move : (t u from to : ℕ) → superblock_at s.slots t u ≡ Some from
       → (v : ℕ) → superblock_at (with_move s t u from to).slots t v ≡ (if v == u then Some to else superblock_at s.slots t v)
 
--- what is true of every space, and what the calls do to the tenants of one
+-- what is true of every space, and what the calls do to its tenants
 pub record SpaceLaws (s : Content) : Type 0 where
   pub facts : IsSpace s
   pub apart : IsOneToOne s

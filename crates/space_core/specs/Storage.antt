@@ -1,5 +1,5 @@
--- How the bytes of RAM are stored: a superblock has no stored bytes from a grant to the first write, and reads as zero until
--- then.
+-- How the bytes of RAM are stored. After a grant a superblock has no stored bytes, and reads as zero, until it is first written or
+-- lent for writing.
 use Rattle.std.specs.Prelude.{◌≡◌, ℕ, ◌^◌, ◌<◌, ◌≤◌, List, [], ◌∷◌, map, replicate}
 use Rattle.std.specs.List.{All}
 use Rattle.std.specs.Global.{Vec}
@@ -17,7 +17,7 @@ shown_banks unit stored = map (or_zeros unit) stored
 abbrev pub HaveCapacity : ℕ → List (Vec ℕ) → Type 0
 HaveCapacity unit banks = All (λ bank. unit ≤ vec_capacity bank) banks
 
--- what is true of the vectors of every `Space`, and of the number of bits of an offset in a superblock
+-- what is true of the vectors of every `Space`, and of `bits`, the number of bits of an offset in a superblock
 pub record IsStored (unit bits : ℕ) (banks : List (Vec ℕ)) (zeros : List ℕ) : Type 0 where
   pub few : bits < 32
   pub size : unit ≡ 2 ^ bits

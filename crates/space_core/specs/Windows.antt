@@ -1,4 +1,4 @@
--- The bytes of a tenant: place p lies in slot p / unit, at p % unit of the superblock there.
+-- The bytes of a tenant: place p lies in slot p / unit, at offset p % unit of the superblock there.
 use Rattle.std.specs.Prelude.{ℕ, ◌+◌, ◌/◌, ◌%◌, Bool, ◌&&◌, nat_lt, nat_le, if◌then◌else◌, List, ◌++◌, Option, Some, None, option_map, length, take, drop, slice_index, slice_range, slice_set}
 use Rattle.space_core.specs.Content.{Content, bank, superblock_at}
 
@@ -6,11 +6,11 @@ use Rattle.space_core.specs.Content.{Content, bank, superblock_at}
 abbrev pub slot_bytes : Content → ℕ → ℕ → Option (List ℕ)
 slot_bytes s t u = option_map (bank s.banks) (superblock_at s.slots t u)
 
--- a range of len bytes from place on is not empty and lies in one slot
+-- the range of `len` bytes from `place` on is not empty and lies in one slot
 abbrev pub is_in_slot : ℕ → ℕ → ℕ → Bool
 is_in_slot unit place len = nat_lt 0 len && nat_le (place % unit + len) unit
 
--- the superblock of such a range of tenant t, if t holds the slot
+-- the superblock that such a range of tenant t lies in, if t holds the slot
 abbrev pub home_of : Content → ℕ → ℕ → ℕ → Option ℕ
 home_of s t place len = if is_in_slot s.unit place len then superblock_at s.slots t (place / s.unit) else None
 

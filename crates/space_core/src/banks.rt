@@ -1,4 +1,4 @@
-//! The stored bytes of the superblocks: one vector for each, empty while its superblock reads as zero.
+//! The stored bytes of the superblocks, in one vector for each. If the vector is empty, the superblock reads as zero.
 
 ghost use Rattle.std.specs.Prelude.{◌≡◌, ◌≢◌, ◌^◌, ◌<◌, ◌≤◌, length, replicate, IfOk, slice_set, vec_len, vec_capacity, ℕ, []};
 ghost use Rattle.space_core.specs.Content.{bank};
@@ -87,8 +87,8 @@ pub(crate) fn set_byte_at(banks: &mut Vec<Vec<u8>>, m: usize, i: usize, byte: u8
     banks[m][i] = byte;
 }
 
-/// Makes an empty vector for each of `count` superblocks, with a capacity of exactly `unit` bytes. The allocator below recognizes
-/// a superblock by this size.
+/// Makes an empty vector for each of `count` superblocks, with a capacity of exactly `unit` bytes. The allocator of `partmem_c`
+/// recognizes a superblock by this size.
 pub(crate) fn make_banks(
     alloc: Global,
     count: usize,

@@ -2,11 +2,11 @@
 //! in the pool or in a slot of one tenant. A tenant can access only the bytes of its own slots.
 //!
 //! Scrubbing is lazy: a superblock that is taken back, or that a slot moves away from, keeps its bytes
-//! and gets a mark. A marked superblock is emptied before it is granted again, and overwritten as a
-//! whole if a slot moves to it. So no tenant reads what another one left.
+//! and gets a mark. A marked superblock is emptied when it is granted again, and completely overwritten
+//! if a slot moves to it. So no tenant reads what another one left.
 //!
 //! Memory for the bytes of every superblock is reserved at boot. A granted superblock reads as zero; the
-//! zeros are written only when one of its bytes is first written or lent to be written. So a grant fills no memory.
+//! zeros are written only when one of its bytes is first written or lent for writing. So a grant fills no memory.
 //!
 //! Only [`Space::new`] allocates.
 #![tactic(auto)]
@@ -50,8 +50,8 @@ pub enum MoveRefusal {
 
 /// The RAM, with its pool and the mapping between superblocks and slots in both directions.
 ///
-/// Superblocks and slots are numbered from 0 up to the number of superblocks, tenants from 0. A place of a tenant is a byte
-/// number: it lies in slot `place / unit`, where `unit` is the number of bytes of a superblock.
+/// Superblocks, tenants and the slots of a tenant are numbered from 0. The number of a slot is below the number of superblocks. A
+/// place is the number of a byte of a tenant: it lies in slot `place / unit`, where `unit` is the number of bytes of a superblock.
 #[derive(Debug, Drop)]
 pub struct Space {
     unit: u32,
@@ -60,8 +60,8 @@ pub struct Space {
     bits: u8,
     owners: Vec<Option<Owner>>,
     slots: Vec<Vec<Option<u16>>>,
-    // The bytes of each superblock. After a grant the vector is empty, with its full capacity, until a byte is written or lent to
-    // be written.
+    // The bytes of each superblock. After a grant the vector is empty, with its full capacity, until a byte is written or lent for
+    // writing.
     banks: Vec<Vec<u8>>,
     marks: Vec<bool>,
     // The bytes that a superblock with an empty vector reads as.

@@ -11,8 +11,8 @@ use model_core::owner::Owner;
 use std::alloc::{AllocError, Global};
 
 impl Space {
-    /// Gives the least superblock without an owner to tenant `t`, as the least slot that it does not hold,
-    /// and returns slot and superblock. The slot reads as zero.
+    /// Gives the least superblock without an owner to tenant `t`, as the least slot that the tenant does not
+    /// hold, and returns the slot and the superblock. The slot reads as zero.
     ///
     /// Refused with `PoolEmpty` if every superblock has an owner.
     pub fn grant(&mut self, t: u8) -> Result<(u16, u16), PoolEmpty>
@@ -34,7 +34,7 @@ impl Space {
         Ok((u, m))
     }
 
-    /// Takes a slot of tenant `t` back and returns its superblock. The superblock keeps its bytes and is
+    /// Takes back a slot of tenant `t` and returns its superblock. The superblock keeps its bytes and is
     /// marked, so it is scrubbed before it is granted again.
     ///
     /// Refused with `NoSlot` if the tenant does not hold the slot.
@@ -81,7 +81,7 @@ impl Space {
         Ok((from, to))
     }
 
-    /// Returns the superblock in a slot of tenant `t`, or `None` if it does not hold the slot.
+    /// Returns the superblock in a slot of tenant `t`, or `None` if the tenant does not hold the slot.
     pub fn machine_of(&self, t: u8, slot: u32) -> Option<u16>
         requires { t < length self.now.slots }
         ensures value { result ≡ superblock_at self.now.slots t slot }
@@ -153,7 +153,7 @@ impl Space {
         self.slots[usize::from(t)].as_slice()
     }
 
-    /// Returns the least superblock without an owner.
+    /// Returns the least superblock without an owner, or `None` if every superblock has one.
     fn least_unowned(&self) -> Option<u16>
         ensures value { result ≡ position is_none self.now.owners }
         ensures below { IfSome result (λ m. m < length self.now.owners) }
@@ -162,7 +162,7 @@ impl Space {
         Some(m as u16)
     }
 
-    /// Returns the least slot that tenant `t` does not hold. It exists if a superblock has no owner.
+    /// Returns the least slot that tenant `t` does not hold. There is one if some superblock has no owner.
     fn least_slot(&self, t: u8) -> u16
         requires tenant { t < length self.now.slots }
         requires pool { IsSome (position is_none self.now.owners) }
@@ -174,7 +174,7 @@ impl Space {
     }
 }
 
-/// Returns the index of the first `None`.
+/// Returns the index of the first `None`, or `None` if there is none.
 fn first_none<T>(items: &[Option<T>]) -> Option<usize>
     ensures value { result ≡ position is_none items.now }
     ensures below { IfSome result (λ i. i < length items.now) }

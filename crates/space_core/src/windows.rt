@@ -1,4 +1,4 @@
-//! Access to a tenant's bytes by place: windows that are borrowed to read or write, and single bytes.
+//! Access to a tenant's bytes by place: windows that are borrowed for reading or writing, and single bytes.
 
 ghost use Rattle.std.specs.Prelude.{◌≡◌, ◌≢◌, ◌+◌, ◌/◌, ◌%◌, ◌<◌, ◌≤◌, Some, None, length, replicate, option_map, IsSome, IfSome, slice_range};
 ghost use Rattle.std.specs.Borrow.{sem};
@@ -25,7 +25,7 @@ impl Space {
         Some(part(self.bytes(usize::from(m)), at as usize, len as usize))
     }
 
-    /// Borrows the `len` bytes of tenant `t` from `place` on to write them. When the borrow ends, the range has
+    /// Borrows the `len` bytes of tenant `t` from `place` on for writing. When the borrow ends, the range has
     /// the written bytes, and the rest of RAM is unchanged.
     pub fn window_mut(&mut self, t: u8, place: u32, len: u32) -> &mut [u8]
         requires tenant { t < length self.old.slots }
@@ -38,8 +38,8 @@ impl Space {
         self.window_in(m, t, place, len)
     }
 
-    /// Does the same as [`Space::window_mut`] if the caller knows that superblock `m` is in that slot. Only the contract uses
-    /// `t`.
+    /// Does the same as [`Space::window_mut`], for a caller that knows that superblock `m` is in the slot of `place`. Only the
+    /// contract uses `t`.
     #[inline(always)]
     pub fn window_in(&mut self, m: u16, t: u8, place: u32, len: u32) -> &mut [u8]
         requires { home_of self.old t place len ≡ Some m }
@@ -72,7 +72,8 @@ impl Space {
         self.byte_in(m, t, place)
     }
 
-    /// Returns the same as [`Space::byte`] if the caller knows that superblock `m` is in that slot. Only the contract uses `t`.
+    /// Returns the same as [`Space::byte`], for a caller that knows that superblock `m` is in the slot of `place`. Only the
+    /// contract uses `t`.
     #[inline(always)]
     pub fn byte_in(&self, m: u16, t: u8, place: u32) -> u8
         requires { superblock_at self.now.slots t (place / self.now.unit) ≡ Some m }
@@ -85,7 +86,7 @@ impl Space {
         self.bytes(m)[at as usize]
     }
 
-    /// Writes one byte at a place of tenant `t`, which is in superblock `m`. Only the contract uses `t`.
+    /// Writes one byte at a place of tenant `t`. Superblock `m` is in the slot of the place. Only the contract uses `t`.
     #[inline(always)]
     pub fn set_byte_in(&mut self, m: u16, t: u8, place: u32, byte: u8)
         requires { superblock_at self.old.slots t (place / self.old.unit) ≡ Some m }
@@ -154,7 +155,7 @@ impl Space {
         }
     }
 
-    /// Borrows `len` bytes of superblock `m` from `from` on to write them.
+    /// Borrows the `len` bytes of superblock `m` from offset `from` on for writing.
     fn part_mut(&mut self, m: usize, from: usize, len: usize) -> &mut [u8]
         requires in_bounds { m < length self.old.owners }
         requires owned { owner_at self.old.owners m ≢ None }
@@ -169,7 +170,7 @@ impl Space {
     }
 }
 
-/// Returns `len` bytes from `from` on.
+/// Returns the `len` bytes from index `from` on.
 fn part(bytes: &[u8], from: usize, len: usize) -> &[u8]
     requires { from + len ≤ length bytes.now }
     ensures value { result.now ≡ slice_range bytes.now from (from + len) }

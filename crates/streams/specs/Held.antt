@@ -12,7 +12,7 @@ abbrev pub held_bytes : Option HeldBytes → List ℕ
 held_bytes None = []
 held_bytes (Some held) = held.bytes
 
--- one more text fits, of up to `TEXT_BYTES` bytes
+-- one more text of up to `TEXT_BYTES` bytes fits
 abbrev pub has_space : Option HeldBytes → Bool
 has_space None = false
 has_space (Some held) = nat_le TEXT_BYTES held.free

@@ -1,7 +1,7 @@
 -- Lines end with an LF, byte 10.
 use Rattle.std.specs.Prelude.{◌≡◌, ℕ, ◌==◌, false, List, [], ◌∷◌}
 
--- no LF is among the bytes
+-- none of the bytes is an LF
 abbrev pub IsOneLine : List ℕ → Type 0
 IsOneLine [] = Unit {0}
 IsOneLine (b ∷ bytes) = ((b == 10) ≡ false) × IsOneLine bytes

@@ -7,7 +7,7 @@ abbrev pub moved_count : {E : Type 0} → Result ℕ E → ℕ
 moved_count (Ok n) = n
 moved_count (Err e) = 0
 
--- the bytes still to give: a byte that was read and not given, if any, and then those that the reader still has
+-- the bytes yet to be given: a byte that was read and not given, if there is one, and then those that the reader still has
 abbrev pub put_back : Option ℕ → Option (List ℕ) → Option (List ℕ)
 put_back None known = known
 put_back (Some b) known = prepend_known (b ∷ []) known

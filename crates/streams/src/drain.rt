@@ -3,26 +3,26 @@ ghost use Rattle.std.specs.Io.KnownBytes.{Appends, Keeps, WriteAppends};
 
 use crate::feed::Stopped;
 
-/// An upper bound on the bytes of a [`Text`].
+/// An upper bound on the number of bytes in a [`Text`].
 pub const TEXT_BYTES: usize = 160;
 
 /// A text that is written straight into a drain's buffer.
 pub trait Text {
     ghost bytes: { Self → List ℕ };
 
-    /// Writes its bytes to the front of the buffer and returns their number. The bytes after them may change.
+    /// Writes the text to the front of the buffer and returns its length in bytes. The bytes after the text may change.
     fn write(self, buffer: &mut [u8]) -> usize
         requires space { TEXT_BYTES ≤ length buffer.old }
         ensures text { take result buffer.new ≡ bytes self }
         ensures short { result ≤ TEXT_BYTES };
 }
 
-/// A sink for replies, which takes them in pieces.
+/// A sink that takes replies in pieces.
 pub trait Drain {
     // The bytes that it has taken, if they are known.
     ghost contents: { Self → Option (List ℕ) } = { λ _. None };
 
-    // The last of these bytes, which it has not passed on yet.
+    // The last of these bytes: those that it has not passed on yet.
     ghost held_back: { Self → List ℕ } = { λ _. [] };
 
     // True if a push has failed.
@@ -34,7 +34,7 @@ pub trait Drain {
     // True if a send has failed.
     ghost has_failed_to_send: { Self → Bool } = { λ _. false };
 
-    /// Offers bytes, and returns how many of them, from the first on, it took: at least one. Fails at once if a send has failed.
+    /// Takes a prefix of these bytes, at least one byte, and returns its length. Fails at once if a send has failed.
     fn push(&mut self, bytes: &[u8]) -> Result<usize, Stopped>
         requires some { 0 < length bytes.now }
         requires fine { has_failed self.old ≡ false }
@@ -49,7 +49,7 @@ pub trait Drain {
         ensures space { result ≡ is_roomy self.now }
         ensures stopped { has_failed_to_send self.now ≡ true → result ≡ false };
 
-    /// Takes a text, which is written into its buffer, and returns the number of its bytes.
+    /// Takes a text, which is written straight into the drain's buffer, and returns the length of the text in bytes.
     fn take_text<T: Text>(&mut self, text: T) -> usize
         requires space { is_roomy self.old ≡ true }
         ensures taken { Appends (contents self.old) (contents self.new) (T.bytes text) }
@@ -58,8 +58,8 @@ pub trait Drain {
         ensures failed { has_failed self.new ≡ has_failed self.old }
         ensures sends { has_failed_to_send self.new ≡ has_failed_to_send self.old };
 
-    /// Passes on the pushed bytes that it still holds back. Call this before a wait that may be long. Reports no failure: if it
-    /// fails, the next push fails. After a failed push or send it passes nothing on.
+    /// Passes on the bytes that the drain still holds back. Call this before a wait that may be long. A failure is not reported
+    /// here, but makes the next push fail. After a failed push or send, nothing is passed on.
     fn send(&mut self)
         ensures bytes { Keeps (contents self.old) (contents self.new) }
         ensures failed { has_failed self.new ≡ has_failed self.old }

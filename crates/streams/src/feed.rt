@@ -6,19 +6,20 @@ ghost use Rattle.streams.specs.Moves.{moved_count};
 #[derive(Clone, Copy, Debug, PartialEq, Eq)]
 pub struct Stopped;
 
-/// A source of a trace, which gives it in pieces.
+/// A source that gives a trace in pieces.
 pub trait Feed {
-    // The bytes that it still has, if they are known. It gives them in order, and all of them before the end.
+    // The bytes that it has yet to give, if they are known. It gives them in order, and all of them before it ends.
     ghost remaining: { Self → Option (List ℕ) } = { λ _. None };
 
-    // The largest number of bytes that it will give.
+    // The largest number of bytes that it may still give.
     ghost room_left: { Self → ℕ };
 
     ghost has_ended: { Self → Bool };
 
     ghost has_failed: { Self → Bool };
 
-    /// Fills the first bytes of `into` and returns their number, at most `room`. Returns 0 at the end, and in all later calls.
+    /// Writes the next bytes to the front of `into` and returns how many it wrote, at most `room`. Returns 0 at the end, and in
+    /// all later calls.
     fn pull(&mut self, into: &mut [u8]) -> Result<usize, Stopped>
         requires space { 0 < length into.old }
         requires fine { has_failed self.old ≡ false }
@@ -30,7 +31,7 @@ pub trait Feed {
         ensures not_yet { OnErr result (has_ended self.new ≡ has_ended self.old) }
         ensures failed { has_failed self.new ≡ is_err result };
 
-    /// Returns the largest number of bytes that it will give.
+    /// Returns the largest number of bytes that it may still give.
     fn room(&self) -> u64
         ensures { result ≡ room_left self.now };
 

@@ -33,7 +33,7 @@ impl Held {
         Held { bytes, len: 0 }
     }
 
-    /// Appends bytes if they fit. Returns true if they did.
+    /// Appends these bytes and returns true if all of them fit. Otherwise appends nothing and returns false.
     #[inline(always)]
     pub fn append(&mut self, more: &[u8]) -> bool
         ensures fits { result ≡ nat_le (length more.now) self.old.free }
@@ -58,7 +58,7 @@ impl Held {
         self.bytes.len() - self.len >= TEXT_BYTES
     }
 
-    /// Appends a text and returns the number of its bytes.
+    /// Appends a text and returns its length in bytes.
     #[inline(always)]
     pub fn append_text<T: Text>(&mut self, text: T) -> usize
         requires { TEXT_BYTES ≤ self.old.free }

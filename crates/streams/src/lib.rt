@@ -1,5 +1,6 @@
-//! The source of a trace and the sink for its replies, in pieces: a [`Feed`] over one of std's readers, with a limit of lines if
-//! wanted, and a [`Drain`] over one of std's writers. Neither interprets the bytes.
+//! The source of a trace and the sink for its replies, both in pieces. A [`Feed`] is a source: [`ReaderFeed`] reads from one of
+//! std's readers, and [`LineLimit`] limits the line feeds of another feed. A [`Drain`] is a sink: [`WriterDrain`] writes to one of
+//! std's writers. Only line feeds have a meaning here; other bytes are not interpreted.
 #![tactic(auto)]
 
 mod drain;

@@ -2,7 +2,7 @@ ghost use Rattle.std.specs.Prelude.{◌≡◌, ◌<◌, ◌==◌, length, positi
 
 use memchr::memchr;
 
-/// Returns the index of the first LF.
+/// Returns the index of the first LF, or `None` if there is none.
 pub fn line_end(bytes: &[u8]) -> Option<usize>
     ensures at { result ≡ position (λ b. b == 10) bytes.now }
     ensures within { IfSome result (λ end. end < length bytes.now) }

@@ -4,27 +4,27 @@ ghost use Rattle.std.specs.Option.{ForSome};
 use crate::feed::{Feed, Stopped};
 use std::io::Read;
 
-/// The largest number of bytes that a feed over a reader gives: 1 GiB.
+/// The largest number of bytes that a feed made with [`ReaderFeed::new`] gives: 1 GiB.
 const MOST_TRACE_BYTES: u64 = 1 << 30;
 
-/// A feed over one of std's readers, of at most 1 GiB.
+/// A feed over one of std's readers, with a limit on the number of its bytes: 1 GiB by default.
 ///
-/// An interrupted read is a failure too. When the limit of bytes is used up, a pull returns the end if the reader is at its
-/// end, and fails otherwise.
+/// An interrupted read also counts as a failure. When the limit is used up, a pull returns 0 if the reader is at its end, and
+/// fails otherwise.
 #[derive(Debug, Drop)]
 pub struct ReaderFeed<R: Read> {
     reader: R,
     room: u64,
     ended: bool,
     failed: bool,
-    // A byte that was read after the limit was used up: the reader had more.
+    // The byte that was read after the limit was used up, if the reader still had one.
     beyond: Option<u8>,
     ghost kept: { failed ≡ false → beyond ≡ None },
     ghost whole: { ended ≡ true → ForSome (R.remaining reader) (λ rest. rest ≡ []) },
 }
 
 impl<R: Read> ReaderFeed<R> {
-    /// Makes a feed over this reader.
+    /// Makes a feed over this reader, of at most 1 GiB.
     pub fn new(reader: R) -> Self
         ensures remaining { ⟦<ReaderFeed<R> as Feed>⟧.remaining result ≡ R.remaining reader }
         ensures room { ⟦<ReaderFeed<R> as Feed>⟧.room_left result ≡ 2 ^ 30 }

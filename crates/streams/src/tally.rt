@@ -7,21 +7,21 @@ use thiserror::Error;
 pub struct Tally {
     /// The number of lines run, including blank lines and comments.
     pub lines: u64,
-    /// The number of these that were events.
+    /// The number of these lines that were events.
     pub events: u64,
-    /// The number of these that were faulty.
+    /// The number of these lines that were faulty.
     pub faults: u64,
-    /// The number of bytes pushed.
+    /// The number of bytes that the drain took.
     pub written: u128,
 }
 
-/// The end that failed, with the counts up to then.
+/// Which of the feed and the drain failed, with the counts up to then.
 #[derive(Clone, Copy, Debug, PartialEq, Eq, Drop, Error)]
 pub enum ReplayError {
-    /// The feed. All lines that ended in LF were run and all their replies pushed; the unfinished line was not run.
+    /// The feed failed. All lines that ended in LF were run, and all their replies were pushed. An unfinished line was not run.
     #[error("the trace could not be read")]
     Feed(Tally),
-    /// The drain. A prefix of the replies was pushed. The line whose reply was cut was the last to run.
+    /// The drain failed. A prefix of the replies was pushed. The last line that was run is the one whose reply was cut.
     #[error("the replies could not be written")]
     Drain(Tally),
 }

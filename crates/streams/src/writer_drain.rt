@@ -7,16 +7,16 @@ use crate::feed::Stopped;
 use crate::held::Held;
 use std::io::Write;
 
-/// A drain over one of std's writers. It may have a buffer, whose bytes are written at a send, at a flush, and when no more
-/// bytes fit.
+/// A drain over one of std's writers. It may have a buffer, whose bytes are written at a send, at a flush, and when the next bytes
+/// do not fit.
 ///
 /// A write that takes no byte is a failure, and so is an interrupted write. If a write or a flush fails during a send, the
-/// next push or `flush` fails. The drain then holds exactly the bytes that it took and the writer did not. So no byte is lost or
-/// written twice; the drain does not try them again.
+/// next push or `flush` fails. The drain then holds exactly the bytes that it took and the writer did not take. So no byte is lost
+/// or written twice. The drain does not try to write these bytes again.
 #[derive(Debug, Drop)]
 pub struct WriterDrain<W> {
     writer: W,
-    // The bytes that were taken and are not written yet. Without a buffer each push is a write.
+    // The bytes that were taken and are not written yet. `None` means that there is no buffer, and each push is a write.
     held: Option<Held>,
     // True if bytes were written since the last flush.
     unsent: bool,
@@ -43,7 +43,7 @@ impl<W: Write> WriterDrain<W> {
         }
     }
 
-    /// Makes a drain into this writer that buffers as many bytes as the capacity of `buffer`, which is empty.
+    /// Makes a drain into this writer that buffers as many bytes as the capacity of `buffer`, which has to be empty.
     pub fn holding(writer: W, buffer: Vec<u8>) -> Self
         requires { vec_len buffer ≡ 0 }
         ensures contents { ⟦<WriterDrain<W> as Drain>⟧.contents result ≡ W.contents writer }
@@ -61,12 +61,11 @@ impl<W: Write> WriterDrain<W> {
         }
     }
 
-    /// Writes the buffered bytes and flushes the writer. Returns `Stopped` if a write or the flush fails, or if one failed
-    /// before.
+    /// Writes the buffered bytes and flushes the writer. Returns `Stopped` if a write or the flush fails, or if a send has failed.
     pub fn flush(&mut self) -> Result<(), Stopped>
         requires { ⟦<WriterDrain<W> as Drain>⟧.has_failed self.old ≡ false }
         ensures bytes { Keeps (⟦<WriterDrain<W> as Drain>⟧.contents self.old) (⟦<WriterDrain<W> as Drain>⟧.contents self.new) }
-        // The writer then has all bytes that were taken.
+        // If it succeeds, the writer has all bytes that the drain took.
         ensures written { OnOk result (Keeps (⟦<WriterDrain<W> as Drain>⟧.contents self.old) (W.contents self.new.writer)) }
         ensures empty { OnOk result (⟦<WriterDrain<W> as Drain>⟧.held_back self.new ≡ []) }
         ensures failed { ⟦<WriterDrain<W> as Drain>⟧.has_failed self.new ≡ is_err result }
@@ -82,7 +81,7 @@ impl<W: Write> WriterDrain<W> {
         Ok(())
     }
 
-    /// Returns the number of bytes that it took and the writer has not.
+    /// Returns the number of bytes that the drain took and that the writer has not taken.
     pub fn unwritten(&self) -> usize
         ensures { result ≡ length (⟦<WriterDrain<W> as Drain>⟧.held_back self.now) }
     {
@@ -99,7 +98,7 @@ impl<W: Write> WriterDrain<W> {
         self.send_failed
     }
 
-    /// Takes bytes that did not fit, after it has written the buffered ones.
+    /// Writes the buffered bytes, and then takes these bytes, which did not fit. Fails at once if a send has failed.
     #[cold]
     #[inline(never)]
     fn push_beyond(&mut self, bytes: &[u8]) -> Result<usize, Stopped>
@@ -124,7 +123,7 @@ impl<W: Write> WriterDrain<W> {
         self.write_through(bytes)
     }
 
-    /// Writes bytes to the writer. No bytes are buffered.
+    /// Writes bytes straight to the writer. The buffer has to be empty.
     fn write_through(&mut self, bytes: &[u8]) -> Result<usize, Stopped>
         requires empty { held_bytes self.old.held ≡ [] }
         requires fine { ⟦<WriterDrain<W> as Drain>⟧.has_failed self.old ≡ false }
@@ -226,7 +225,7 @@ impl<W: Write> Drain for WriterDrain<W> {
         ensures sends { ⟦<WriterDrain<W> as Drain>⟧.has_failed_to_send self.old ≡ true
             → (⟦<WriterDrain<W> as Drain>⟧.has_failed_to_send self.new ≡ true)
             × (⟦<WriterDrain<W> as Drain>⟧.held_back self.new ≡ ⟦<WriterDrain<W> as Drain>⟧.held_back self.old) }
-        // The writer then has all bytes that were taken.
+        // If nothing has failed, the writer has all bytes that the drain took.
         ensures sent { ⟦<WriterDrain<W> as Drain>⟧.has_failed self.old ≡ false → ⟦<WriterDrain<W> as Drain>⟧.has_failed_to_send self.new ≡ false
             → ⟦<WriterDrain<W> as Drain>⟧.held_back self.new ≡ [] }
     {

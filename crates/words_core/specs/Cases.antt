@@ -1,5 +1,5 @@
--- The eight cases of a line, in the order in which it is judged: the first that applies decides. Each case gives the
--- meaning of any words that the line is made of. A law says that each line is in exactly one case.
+-- The eight cases of a line, in the order in which they are tested: the first that applies decides. Cases 2 to 8 say
+-- what the words of the line mean. A law says that each line is in exactly one case.
 use Rattle.std.specs.Prelude.{◌≡◌, ◌<◌, ◌≤◌, ◌⊎◌, ℕ, List, [], ◌∷◌, length, slice_index, codes, Option, Some, None, Result, Ok, Err}
 use Rattle.std.specs.List.{Contains}
 use Rattle.std.specs.Str.Lines.{strip_carriage_return}
@@ -38,7 +38,7 @@ AllMake (form ∷ forms) makes (word ∷ words) command =
 AllMake [] made (_ ∷ _) command = ⊥
 AllMake (_ ∷ _) makes [] command = ⊥
 
--- The cases of words: a number, the words, and what they say.
+-- The cases of words: the number of the case, the words, and what they say.
 pub data CaseOfWords : ℕ → List (List ℕ) → Result (Option Event) LineFault → Type 0 where
   -- 2. no word, or the first begins with `#`: nothing
   blank : CaseOfWords 2 [] (Ok None)
@@ -65,11 +65,11 @@ pub data CaseOfWords : ℕ → List (List ℕ) → Result (Option Event) LineFau
       → AllMake row.forms row.makes arguments command
       → CaseOfWords 8 (first ∷ word ∷ arguments) (Ok (Some (event_by actor command)))
 
--- The cases of a line: a number, the line without the carriage return at its end, and what it says.
+-- The cases of a line: the number of the case, the line without a carriage return at its end, and what the line says.
 pub data CaseOfBytes : ℕ → List ℕ → Result (Option Event) LineFault → Type 0 where
   -- 1. too long, even if it is a comment
   too_long : {bytes : List ℕ} → MOST_LINE_BYTES < length bytes → CaseOfBytes 1 bytes (Err LineFault.Long)
-  -- 2 to 8, of words that the line is made of
+  -- 2 to 8: the case of the line's words
   of_words : {number : ℕ} {bytes : List ℕ} {reading : Result (Option Event) LineFault} → length bytes ≤ MOST_LINE_BYTES
       → (words : List (List ℕ)) → HasWords bytes words → CaseOfWords number words reading → CaseOfBytes number bytes reading
 

@@ -25,12 +25,12 @@ abbrev pub bytes_or_fault : Result (List ℕ) FromHexError → Result (ArrayVec 
 bytes_or_fault (Ok bytes) = Ok (record { items = bytes })
 bytes_or_fault (Err _) = Err LineFault.Hex
 
--- an argument that has to be bytes in hex, at least one and at most `most`: two digits of either case for each
+-- an argument that has to be bytes in hex, at least one and at most `most`, each written as two digits of either case
 abbrev pub bytes_argument : ℕ → List ℕ → Result (ArrayVec ℕ) LineFault
 bytes_argument most word =
     if nat_le 2 (length word) && nat_le (length word) (2 * most) then bytes_or_fault (decode_of word) else Err LineFault.Hex
 
--- the form of an argument: a number, or bytes in hex, up to a largest number of them
+-- the form of an argument: a number, or at most this number of bytes in hex
 pub data Form : Type 0 where
   number : Form
   hex : ℕ → Form
@@ -40,12 +40,12 @@ abbrev pub Given : Form → Type 0
 Given number = ℕ
 Given (hex most) = ArrayVec ℕ
 
--- an argument, read as this form
+-- an argument, read in this form
 abbrev pub read_as : (form : Form) → List ℕ → Result (Given form) LineFault
 read_as number word = argument word
 read_as (hex most) word = bytes_argument most word
 
--- a function that makes a command of arguments of these forms
+-- the type of a function that makes a command from arguments of these forms
 abbrev pub Maker : List Form → Type 0 → Type 0
 Maker [] C = C
 Maker (form ∷ forms) C = Given form → Maker forms C
@@ -130,6 +130,6 @@ abbrev pub event_by : (actor : Actor) → CommandOf actor → Event
 event_by administrator command = Event.Admin command
 event_by (tenant t) command = Event.Tenant t command
 
--- the fault of a first word that names nobody
+-- the fault of a line whose first word names nobody
 abbrev pub nobody_fault : List ℕ → LineFault
 nobody_fault word = if is_ascii_digit (slice_index word 0) then LineFault.Number else LineFault.Unknown

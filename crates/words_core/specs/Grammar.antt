@@ -10,7 +10,7 @@ use Rattle.words_core.specs.Words.{words_of}
 use Rattle.words_core.specs.declared.event.Event.{Event}
 use Rattle.words_core.specs.declared.event.LineFault.{LineFault}
 
--- `?` in the logic: the second step, if the first found no fault
+-- The `?` operator of the logic: if the first step found no fault, the second step is applied to its value.
 infixl 10 ◌>>=◌
 abbrev pub ◌>>=◌ : {A B : Type 0} → Result A LineFault → (A → Result B LineFault) → Result B LineFault
 Ok x >>= f = f x
@@ -35,7 +35,7 @@ made_of (form ∷ forms) makes (word ∷ words) = do
 abbrev pub command_by : {C : Type 0} → CommandRow C → List (List ℕ) → Result C LineFault
 command_by row arguments = if are_as_many row.forms arguments then made_of row.forms row.makes arguments else Err LineFault.Words
 
--- the command that this word names
+-- the command that this word names, with these arguments, or the fault
 abbrev pub command_of : {C : Type 0} → List (CommandRow C) → List ℕ → List (List ℕ) → Result C LineFault
 command_of [] word arguments = Err LineFault.Unknown
 command_of (row ∷ rows) word arguments =

@@ -9,7 +9,7 @@ abbrev pub top_text : Option ℕ → List ℕ
 top_text None = codes "none"
 top_text (Some order) = decimal order
 
--- the frames of the slots, the taken ones, the free ones, and how the free ones are split
+-- the numbers of frames in the slots, of taken and of free frames, the greatest order of a free block, and the split share
 abbrev pub frames_text : List ℕ → Report → List ℕ
 frames_text front report =
     front ++ codes "frames " ++ decimal report.frames ++ codes " live " ++ decimal report.live ++ codes " free "

@@ -1,4 +1,4 @@
--- The values of the small forms of commands and answers.
+-- The commands and replies that the borrowed forms `Request`, `Answer` and `Table` mean, and tests of these forms.
 use Rattle.std.specs.Prelude.{◌≡◌, ℕ, ◌≤◌, Bool, true, false, if◌then◌else◌, length}
 use Rattle.model_core.specs.declared.limits.TheConstants.{MOST_BYTES, MOST_SUPERBLOCKS}
 use Rattle.model_core.specs.Layouts.{is_pattern}
@@ -77,7 +77,7 @@ abbrev pub HasFewRows : Table → Type 0
 HasFewRows (Table.Owners owners) = length owners.now ≤ MOST_SUPERBLOCKS
 HasFewRows (Table.Report tenant report) = Unit {0}
 
--- an answer has at most as many bytes as one read may have
+-- if the answer has bytes that were read, they are at most as many as one read may return
 abbrev pub HasFewBytes : Answer → Type 0
 HasFewBytes (Answer.Bytes bytes) = length bytes.now ≤ MOST_BYTES
 HasFewBytes (Answer.Frame frame) = Unit {0}
@@ -108,7 +108,7 @@ AsksPattern (Command.Give cache place) = Unit {0}
 AsksPattern Command.Reap = Unit {0}
 AsksPattern Command.Report = Unit {0}
 
--- a write has at most as many bytes as a line can have, and the pattern of a cache has 1 to 16
+-- a write has at most 64 bytes, and the pattern of a cache has 1 to 16 bytes
 abbrev pub IsAskable : Request → Type 0
 IsAskable (Request.Write place bytes) = length bytes.now ≤ MOST_BYTES
 IsAskable (Request.Cache size align pattern) = is_pattern pattern.now ≡ true
@@ -150,7 +150,7 @@ has_bytes (Answer.WasReset tenant superblocks) = false
 has_bytes (Answer.Moved tenant slot superblock) = false
 has_bytes (Answer.Fault fault) = false
 
--- the text of the answer may need the large buffer: bytes of a read, the layout of a cache, or a superblock
+-- the text of the answer may need the large buffer: it has bytes that were read, or is about a new cache or about superblocks
 abbrev pub is_long : Answer → Bool
 is_long (Answer.Bytes bytes) = true
 is_long (Answer.Cache cache chunk order objects colours) = true

@@ -30,7 +30,7 @@ IsBlanks bytes = All IsBlank bytes
 abbrev pub IsWord : List ℕ → Type 0
 IsWord word = (0 < length word) × All IsLetter word
 
--- what may follow a word: nothing, or a blank
+-- what may follow a word: nothing, or bytes that begin with a blank
 abbrev pub StartsBlank : List ℕ → Type 0
 StartsBlank [] = Unit {0}
 StartsBlank (b ∷ _) = IsBlank b

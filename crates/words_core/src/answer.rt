@@ -1,4 +1,4 @@
-//! Answers of one line: as a small value that borrows the bytes of a read, and as text.
+//! One-line answers, as small values that borrow the bytes of a read, and as text.
 
 ghost use Rattle.std.specs.Prelude.{◌≡◌, ◌+◌, ◌*◌, ◌<◌, ◌≤◌, [], ◌∷◌, ◌++◌, codes, decimal, length, take, not, is_some, IfSome};
 ghost use Rattle.hex.specs.Hex.{encode_lower};
@@ -13,8 +13,8 @@ use crate::window::{put_front, put_labelled, put_number, put_number_quickly, put
 use arrayvec::ArrayVec;
 use model_core::limits::MOST_BYTES;
 
-/// What a reply of one line says: a [`Body`] that borrows its bytes. Reports and the table of owners have more lines and are not
-/// among them.
+/// What a one-line reply says: a [`Body`] that borrows its bytes. A report and the table of owners have several lines, so they are
+/// not answers.
 #[derive(Clone, Copy, Debug)]
 pub enum Answer<'a> {
     Frame(u32),
@@ -51,17 +51,17 @@ pub enum Answer<'a> {
     Fault(LineFault),
 }
 
-/// Size in bytes of a buffer for the text of any answer with its line feed. The longest has 64 bytes that were read.
+/// Size in bytes of a buffer for the text of any answer, including its line feed. The longest text has 64 bytes that were read.
 pub const MOST_ANSWER_BYTES: usize = 160;
 
-/// Size in bytes of a buffer for the text of an answer that is not [`Answer::is_long`].
+/// Size in bytes of a buffer for the text of an answer that is not long, see [`Answer::is_long`].
 pub const SHORT_ANSWER_BYTES: usize = 32;
 
 /// The largest number of bytes before the body in a line of a reply.
 pub(crate) const MOST_FRONT_BYTES: usize = 7;
 
 impl Answer<'_> {
-    /// Converts it to a [`Body`], with a copy of its bytes.
+    /// Converts the answer to a [`Body`], which has a copy of the bytes.
     pub fn into_body(self) -> Body
         requires { HasFewBytes self }
         ensures { result ≡ body_of_answer self.entry }
@@ -119,7 +119,8 @@ impl Answer<'_> {
         }
     }
 
-    /// Returns true if the text needs `MOST_ANSWER_BYTES`: for bytes that were read, a new cache, and a superblock.
+    /// Returns true if the text needs a buffer of `MOST_ANSWER_BYTES` bytes: if the answer has bytes that were read, or is about a
+    /// new cache or about superblocks.
     #[inline(always)]
     pub fn is_long(&self) -> bool
         ensures { result ≡ is_long self.now }
@@ -137,7 +138,7 @@ impl Answer<'_> {
 }
 
 impl Body {
-    /// Borrows it as an [`Answer`]. Returns `None` for a report and for the table of owners.
+    /// Returns the body as an [`Answer`] that borrows it, or `None` for a report or the table of owners.
     pub fn answer(&self) -> Option<Answer<'_>>
         ensures same { IfSome result (λ answer. body_of_answer answer ≡ self.now) }
         ensures few { IfSome result (λ answer. HasFewBytes answer) }
@@ -209,8 +210,8 @@ fn copied(bytes: &[u8]) -> ArrayVec<u8, MOST_BYTES>
     copied
 }
 
-/// Writes the text of an answer to a tenant, one line with its line feed, and returns its length in bytes. The buffer has
-/// `MOST_ANSWER_BYTES` bytes if the answer is long, else `SHORT_ANSWER_BYTES`.
+/// Writes the text of an answer to a tenant, which is one line with its line feed, and returns its length in bytes. The buffer
+/// needs at least `MOST_ANSWER_BYTES` bytes if the answer is long, and at least `SHORT_ANSWER_BYTES` otherwise.
 #[inline(always)]
 pub fn write_answer(tenant: u8, answer: Answer<'_>, out: &mut [u8]) -> usize
     requires few { HasFewBytes answer }
@@ -231,7 +232,7 @@ pub fn write_answer(tenant: u8, answer: Answer<'_>, out: &mut [u8]) -> usize
     put_text(b"\n", end, out)
 }
 
-/// The rest of [`write_answer`]: answers that are rare or are not one word and one number.
+/// The rest of [`write_answer`]: answers that are rare, or that are not one word and one number.
 #[inline(always)]
 fn write_other(tenant: u8, answer: Answer<'_>, out: &mut [u8]) -> usize
     requires few { HasFewBytes answer }
@@ -263,7 +264,7 @@ pub fn write_answer_to(addressee: Addressee, answer: Answer<'_>, out: &mut [u8])
     put_text(b"\n", at, out)
 }
 
-/// Writes the line of an answer without its line feed and returns its end.
+/// Writes the line of an answer without its line feed and returns the index of its end.
 #[cold]
 #[inline(never)]
 fn put_line(addressee: Addressee, answer: Answer<'_>, out: &mut [u8]) -> usize
@@ -276,7 +277,7 @@ fn put_line(addressee: Addressee, answer: Answer<'_>, out: &mut [u8]) -> usize
     put_answer(answer, at, out)
 }
 
-/// Writes the addressee of a line and returns the end of the text.
+/// Writes the addressee of a line and returns the index of its end.
 #[tactic(auto, using(crate::proofs::DigitLemmas::length_short))]
 #[inline(always)]
 pub(crate) fn put_addressee(addressee: Addressee, out: &mut [u8]) -> usize
@@ -294,7 +295,7 @@ pub(crate) fn put_addressee(addressee: Addressee, out: &mut [u8]) -> usize
     }
 }
 
-/// Writes the answer after the first `at` bytes and returns its end.
+/// Writes the answer after the first `at` bytes and returns the index of its end. The functions below do the same.
 #[inline(always)]
 pub(crate) fn put_answer(answer: Answer<'_>, at: usize, out: &mut [u8]) -> usize
     requires few { HasFewBytes answer }
@@ -374,7 +375,7 @@ fn put_bytes(bytes: &[u8], at: usize, out: &mut [u8]) -> usize
     put_digits(bytes, at, out)
 }
 
-/// [`put_hex`], kept out of line.
+/// [`put_hex`], not inlined.
 #[inline(never)]
 fn put_digits(bytes: &[u8], at: usize, out: &mut [u8]) -> usize
     requires { at + 2 * length bytes.now ≤ length out.old }
@@ -384,7 +385,7 @@ fn put_digits(bytes: &[u8], at: usize, out: &mut [u8]) -> usize
     put_hex(bytes, at, out)
 }
 
-/// Writes a slot of a tenant and its superblock.
+/// Writes a tenant, one of its slots, and the superblock in that slot.
 #[cold]
 #[inline(never)]
 fn put_slot(tenant: u8, slot: u16, superblock: u16, at: usize, out: &mut [u8]) -> usize
@@ -439,7 +440,7 @@ fn put_refused(refusal: Refusal, at: usize, out: &mut [u8]) -> usize
     put_text(refusal.name().as_bytes(), at, out)
 }
 
-/// Writes that a line is faulty.
+/// Writes that a line is faulty, with the name of the fault.
 #[cold]
 #[inline(never)]
 fn put_fault(fault: LineFault, at: usize, out: &mut [u8]) -> usize

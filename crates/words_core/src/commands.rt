@@ -1,5 +1,5 @@
-//! The commands, each read from its arguments. A wrong number of words is the fault `Words`; else the first argument that is
-//! malformed determines the fault.
+//! Reads each command from its arguments. If the number of arguments is wrong, the fault is `Words`; otherwise the first malformed
+//! argument determines the fault.
 
 ghost use Rattle.std.specs.Prelude.{◌≡◌, ◌<◌, ◌^◌, map};
 ghost use Rattle.words_core.specs.Commands.{argument, bytes_argument, grant_row, take_back_row, reset_row, move_row, pool_row, alloc_row, free_row, read_row, write_row, cache_row, destroy_row, take_row, give_row, reap_row, report_row};
@@ -16,7 +16,7 @@ fn argument(word: &[u8]) -> Result<u32, LineFault>
     number(word).ok_or(LineFault::Number)
 }
 
-/// Reads a word as bytes in hex. They have to be at least one and at most `N`.
+/// Reads a word as bytes in hex: at least one byte, and at most `N` bytes.
 fn bytes_argument<const N: usize>(word: &[u8]) -> Result<ArrayVec<u8, N>, LineFault>
     requires { N < 2 ^ 32 }
     ensures { result ≡ bytes_argument N word.now }

@@ -5,7 +5,7 @@ ghost use Rattle.std.specs.Prelude.{◌≡◌, ◌≤◌, length};
 use arrayvec::ArrayVec;
 use model_core::limits::{MOST_BYTES, MOST_PATTERN};
 
-/// What a line without a fault requests.
+/// What a line requests, unless it is faulty, blank or a comment.
 #[derive(Debug, Drop, PartialEq, Eq)]
 pub enum Event {
     /// A command of the administrator.
@@ -19,7 +19,7 @@ pub enum Event {
 pub enum AdminCommand {
     /// `admin grant T`: gives the tenant a superblock.
     Grant { tenant: u32 },
-    /// `admin takeback T SLOT`: takes the superblock in this slot of the tenant back.
+    /// `admin takeback T SLOT`: takes back the superblock in this slot of the tenant.
     TakeBack { tenant: u32, slot: u32 },
     /// `admin reset T`: takes back everything that the tenant has.
     Reset { tenant: u32 },
@@ -76,7 +76,7 @@ pub enum Command {
     Report,
 }
 
-/// A [`Command`] that borrows its bytes. A report is not among them.
+/// A [`Command`] other than a report, in a form that borrows its bytes.
 #[derive(Clone, Copy, Debug)]
 pub enum Request<'a> {
     Alloc {
@@ -116,7 +116,7 @@ impl Command {
     ghost use Rattle.words_core.specs.declared.event.Command.TheVariants.{Report};
     ghost use Rattle.words_core.specs.Requests.{command_of, AsksPattern, IsAskable};
 
-    /// Borrows it as a [`Request`]. Returns `None` for a report.
+    /// Returns the command as a [`Request`] that borrows it, or `None` for a report.
     pub fn request(&self) -> Option<Request<'_>>
         ensures same { MatchOption result (self.now ≡ Report) (λ request. command_of request ≡ self.now) }
         ensures askable { IfSome result (λ request. AsksPattern self.now → IsAskable request) }
@@ -158,13 +158,13 @@ impl Command {
 pub enum LineFault {
     /// The line has more than 255 bytes.
     Long,
-    /// The first word names no actor, or the second no command of that actor.
+    /// The first word is not `admin` and does not begin with a digit, or the second word is not a command of the actor.
     Unknown,
-    /// The command takes another number of words.
+    /// The line has no command, or the command takes a different number of arguments.
     Words,
-    /// An argument is not a number.
+    /// An argument is not a number, or the first word begins with a digit and is not a number.
     Number,
-    /// An argument is not bytes in hex.
+    /// An argument is not bytes in hex, or has too many of them.
     Hex,
 }
 

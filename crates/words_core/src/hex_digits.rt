@@ -5,8 +5,8 @@ ghost use Rattle.hex.specs.Hex.{encode_lower};
 
 use crate::window::put_text;
 
-/// Writes the bytes in hex after the first `at` bytes and returns the end. It does four bytes at a time: their eight digits are
-/// one store.
+/// Writes the bytes in hex after the first `at` bytes of `out` and returns the index of the end. Four bytes are converted at a
+/// time, so that their eight digits are one store.
 #[inline(always)]
 pub fn put_hex(bytes: &[u8], at: usize, out: &mut [u8]) -> usize
     requires { at + 2 * length bytes.now ≤ length out.old }
@@ -56,7 +56,7 @@ fn hex_of(byte: u8) -> [u8; 2]
     HEX_PAIRS[byte as usize]
 }
 
-/// Each byte in hex.
+/// The two hex digits of each byte.
 static HEX_PAIRS: [[u8; 2]; 256] = [
     *b"00", *b"01", *b"02", *b"03", *b"04", *b"05", *b"06", *b"07", *b"08", *b"09", *b"0a", *b"0b",
     *b"0c", *b"0d", *b"0e", *b"0f", *b"10", *b"11", *b"12", *b"13", *b"14", *b"15", *b"16", *b"17",

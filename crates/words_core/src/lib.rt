@@ -1,9 +1,9 @@
 //! The language of traces: what a line means, and the text of a reply.
 //!
 //! [`read_line`] reads one line as an [`Event`], as nothing, or as a [`LineFault`]; [`write_line`]
-//! writes one line of a [`Reply`]. A [`Request`] is a tenant's command that borrows its bytes, and an
-//! [`Answer`] is a small value for a reply of one line, which [`write_answer`] writes. No function of
-//! this crate allocates.
+//! writes one line of a [`Reply`]. A [`Request`] is a tenant's command that borrows its bytes. An
+//! [`Answer`] is the body of a one-line reply as a small value, and [`write_answer`] writes it. No
+//! function of this crate allocates.
 //!
 //! # Example
 //!

@@ -3,7 +3,7 @@
 ghost use Rattle.std.specs.Prelude.{◌≡◌, ◌≤◌, decimal, length};
 ghost use Rattle.words_core.specs.Numbers.{number_of};
 
-/// The largest number of decimal digits of a number, including leading zeros. Each number below `2^32` fits.
+/// The largest number of decimal digits in a number, including leading zeros. That is enough for every number below `2^32`.
 pub const MOST_DIGITS: usize = 10;
 
 /// Reads a word of 1 to 10 decimal digits as a number. Returns `None` for any other word, and for a value of `2^32` or more.

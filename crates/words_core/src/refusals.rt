@@ -1,4 +1,5 @@
-//! Converts each refusal of the private machine to the [`Refusal`] of a reply, so that `?` works in functions that return one.
+//! Converts each refusal of the private machine to the [`Refusal`] of a reply, so that `?` works in functions whose error is a
+//! [`Refusal`].
 
 ghost use Rattle.std.specs.Prelude.{◌≡◌};
 ghost use Rattle.words_core.specs.Refusals.{alloc_refusal, read_refusal, cache_refusal, destroy_refusal, take_refusal, give_refusal, take_back_refusal};

@@ -61,8 +61,8 @@ pub enum Body {
     Bytes(ArrayVec<u8, MOST_BYTES>),
     /// The number of bytes written, 1 to 64.
     Written(u32),
-    /// The number of a new cache, and its layout: the bytes from one object to the next, the order of the
-    /// block of a slab, the number of objects in a slab, and the number of colour offsets.
+    /// The number of a new cache, and its layout: the number of bytes from one object to the next, the
+    /// order of a slab's block, the number of objects in a slab, and the number of colour offsets.
     Cache {
         cache: u8,
         chunk: u32,
@@ -89,7 +89,8 @@ pub enum Body {
 /// Why a command was refused. A reply has both the number and the name of the refusal.
 #[derive(Clone, Copy, Debug, PartialEq, Eq)]
 pub enum Refusal {
-    /// The tenant has no free block of the requested order or above.
+    /// No free block of the tenant is large enough for the page block, or for the new slab that an object needs, even after empty
+    /// slabs are freed.
     NoFrames = 1,
     /// The order is above that of a superblock.
     BadOrder,
@@ -103,7 +104,7 @@ pub enum Refusal {
     BadSize,
     /// The alignment is not 8, 16, 32, 64, 128 or 256.
     BadAlign,
-    /// The tenant has 32 caches, the largest number.
+    /// The tenant already has 32 caches, the most that it may have.
     NoCacheSlot,
     /// The tenant has no cache with that number.
     NoCache,

@@ -11,33 +11,33 @@ use arrayvec::ArrayVec;
 use model_core::limits::{MOST_CACHES, MOST_ORDER};
 use model_core::report::{CacheRow, OrderRow};
 
-/// Capacity for a row of each order that a block may have.
+/// Capacity of a list with one row for each order that a block may have.
 pub const ORDERS: usize = MOST_ORDER as usize + 1;
 
-/// Capacity for a row of each cache of a tenant.
+/// Capacity of a list with one row for each cache of a tenant.
 pub const CACHES: usize = MOST_CACHES as usize;
 
 /// The figures of a tenant's memory.
 #[derive(Debug, Drop, PartialEq, Eq)]
 pub struct Report {
-    /// The number of frames of the tenant's slots.
+    /// The number of frames in the tenant's slots.
     pub frames: u32,
-    /// The number of these frames in taken blocks: page blocks and slabs, empty slabs too.
+    /// The number of these frames that are in taken blocks: page blocks and slabs, including empty slabs.
     pub live: u32,
-    /// The number of these frames in free blocks.
+    /// The number of these frames that are in free blocks.
     pub free: u32,
     /// The greatest order of a free block, if there is one.
     pub top: Option<u8>,
-    /// The share of the free frames that lie outside one greatest free block, in thousandths.
+    /// The share of the free frames that lie outside one of the largest free blocks, in thousandths.
     pub split: u32,
-    /// The blocks of each order, from order 0 on.
+    /// The numbers of free and taken blocks of each order, from order 0 on.
     pub orders: ArrayVec<OrderRow, ORDERS>,
-    /// The slabs and objects of each cache, in ascending order of cache numbers.
+    /// The numbers of slabs and live objects of each cache, in ascending order of cache numbers.
     pub caches: ArrayVec<CacheRow, CACHES>,
 }
 
-/// Writes the line of this row of a report after the first `at` bytes and returns its end. The other functions here do the same.
-/// Rows count from 0.
+/// Writes one row of a report after the first `at` bytes, as a line without its line feed, and returns the index of its end. The
+/// functions below do the same. Rows are counted from 0.
 pub(crate) fn put_report(report: &Report, row: usize, at: usize, out: &mut [u8]) -> usize
     requires row { row < length (report_texts (take at out.old) report.now) }
     requires front { at ≤ MOST_FRONT_BYTES }
@@ -83,7 +83,7 @@ fn put_top(top: Option<u8>, at: usize, out: &mut [u8]) -> usize
     }
 }
 
-/// Writes the numbers of blocks of an order.
+/// Writes the numbers of free and taken blocks of an order.
 #[inline(never)]
 fn put_order(order: u32, row: OrderRow, at: usize, out: &mut [u8]) -> usize
     requires front { at ≤ MOST_FRONT_BYTES }

@@ -12,10 +12,10 @@ use arrayvec::ArrayVec;
 use model_core::limits::MOST_SUPERBLOCKS;
 use model_core::owner::Owner;
 
-/// Size in bytes of a buffer for the longest line of a reply with its line feed.
+/// Size in bytes of a buffer for any line of a reply, including its line feed.
 pub const MOST_REPLY_BYTES: usize = 256;
 
-/// The largest number of lines of a reply, that of the table of owners.
+/// The largest number of lines in a reply: a first line, and one for each superblock in the table of owners.
 pub const MOST_ROWS: usize = 1 + OWNERS;
 
 /// Returns the number of lines of a reply.
@@ -31,7 +31,7 @@ pub fn rows(reply: &Reply) -> usize
     }
 }
 
-/// Writes one line of a reply, with its line feed, in place of what `out` held. Rows count from 0.
+/// Replaces the contents of `out` with one line of a reply, including its line feed. Rows are counted from 0.
 pub fn write_line(reply: &Reply, row: usize, out: &mut ArrayVec<u8, MOST_REPLY_BYTES>)
     requires { row < length (lines_of reply.now) }
     ensures { slice_get (lines_of reply.now) row ≡ Some out.new.items }
@@ -43,7 +43,7 @@ pub fn write_line(reply: &Reply, row: usize, out: &mut ArrayVec<u8, MOST_REPLY_B
     prove!(taken.is_ok());
 }
 
-/// The same as [`write_line`] into the front of some bytes. Returns the length of the line.
+/// The same as [`write_line`], but writes to the front of a slice. Returns the length of the line in bytes.
 pub fn write_row(reply: &Reply, row: usize, out: &mut [u8]) -> usize
     requires row { row < length (lines_of reply.now) }
     requires space { MOST_REPLY_BYTES ≤ length out.old }
@@ -65,7 +65,7 @@ pub enum Table<'a> {
 }
 
 impl Table<'_> {
-    /// Returns the number of its lines.
+    /// Returns the number of lines of this reply.
     #[tactic(auto, using(crate::proofs::TextLemmas::table_rows))]
     pub fn rows(self) -> usize
         requires { HasFewRows self }
@@ -116,7 +116,7 @@ impl Table<'_> {
     }
 }
 
-/// Writes one line of the body after the first `at` bytes and returns its end. The other functions here do the same.
+/// Writes one line of the body after the first `at` bytes and returns the index of its end. The functions below do the same.
 #[tactic(auto, using(crate::proofs::TextLemmas::table_rows))]
 fn put_body(body: &Body, row: usize, at: usize, out: &mut [u8]) -> usize
     requires row { row < length (body_texts (take at out.old) body.now) }

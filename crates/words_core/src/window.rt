@@ -1,11 +1,12 @@
-//! Writes text and numbers one after another into the front of some bytes.
+//! Writes texts and numbers, one after another, to the front of a buffer.
 
 ghost use Rattle.std.specs.Prelude.{◌≡◌, ◌+◌, ◌<◌, ◌≤◌, [], ◌∷◌, ◌++◌, take, drop, decimal, length, slice_range};
 ghost use Rattle.words_core.specs.Digits.{two_digits, five_digits};
 
 use crate::numbers::{MOST_DIGITS, digits_of};
 
-/// Writes the text after the first `at` bytes and returns its end. The other functions here do the same.
+/// Writes the text after the first `at` bytes of the buffer and returns the index of its end. The other functions here that take
+/// `at` do the same.
 #[inline(always)]
 pub fn put_text(text: &[u8], at: usize, out: &mut [u8]) -> usize
     requires { at + length text.now ≤ length out.old }
@@ -17,11 +18,11 @@ pub fn put_text(text: &[u8], at: usize, out: &mut [u8]) -> usize
     end
 }
 
-/// A front of any length is stored as this number of bytes.
+/// The number of bytes in which each front of a line is stored. A shorter front is padded.
 const FRONT_BYTES: usize = 16;
 
-/// Writes the number of a tenant and the first `len` bytes of `front` without the first of them. If the number has one digit, it
-/// takes the place of that first byte, and all is one store. Returns the end.
+/// Writes the number of a tenant, and then bytes 1 to `len - 1` of `front`. Returns the index of the end. Byte 0 of `front` is a
+/// placeholder: for a number with one digit the whole front is written with one store, and the digit then replaces byte 0.
 #[inline(always)]
 pub fn put_front(tenant: u8, front: &[u8; FRONT_BYTES], len: usize, out: &mut [u8]) -> usize
     requires some { 0 < len }
@@ -38,7 +39,7 @@ pub fn put_front(tenant: u8, front: &[u8; FRONT_BYTES], len: usize, out: &mut [u
     len
 }
 
-/// [`put_front`] for a number of several digits.
+/// [`put_front`] for a number with several digits.
 #[inline(never)]
 fn put_long_front(tenant: u8, front: &[u8; FRONT_BYTES], len: usize, out: &mut [u8]) -> usize
     requires some { 0 < len }
@@ -75,7 +76,7 @@ fn put_digit(digit: u32, at: usize, out: &mut [u8]) -> usize
     at + 1
 }
 
-/// Writes the two digits of a number below 100, the first of which may be 0.
+/// Writes a number below 100 as two digits, with a leading zero if it is below 10.
 #[inline(always)]
 fn put_two(number: u32, at: usize, out: &mut [u8]) -> usize
     requires two { number < 100 }
@@ -89,7 +90,7 @@ fn put_two(number: u32, at: usize, out: &mut [u8]) -> usize
     at + 2
 }
 
-/// The two digits of each number below 100, one after the other.
+/// The two digits of each number below 100, in ascending order of the numbers.
 static PAIRS: [u8; 200] = *b"\
     00010203040506070809\
     10111213141516171819\
@@ -102,7 +103,7 @@ static PAIRS: [u8; 200] = *b"\
     80818283848586878889\
     90919293949596979899";
 
-/// Writes a number of at most three digits.
+/// Writes a number with at most three digits.
 #[tactic(auto, using(crate::proofs::DigitLemmas::digit_rules))]
 #[inline(always)]
 fn put_up_to_three(number: u32, at: usize, out: &mut [u8]) -> usize
@@ -121,7 +122,7 @@ fn put_up_to_three(number: u32, at: usize, out: &mut [u8]) -> usize
     put_two(number % 100, at, out)
 }
 
-/// Writes a number of at most five digits.
+/// Writes a number with at most five digits.
 #[tactic(auto, using(crate::proofs::DigitLemmas::digit_rules))]
 #[inline(always)]
 fn put_up_to_five(number: u32, at: usize, out: &mut [u8]) -> usize
@@ -140,7 +141,7 @@ fn put_up_to_five(number: u32, at: usize, out: &mut [u8]) -> usize
     put_five(number, at, out)
 }
 
-/// Writes the five digits of a number below 100,000, the first of which may be 0.
+/// Writes a number below 100,000 as five digits, with leading zeros if it has fewer.
 #[inline(always)]
 fn put_five(number: u32, at: usize, out: &mut [u8]) -> usize
     requires five { number < 100000 }
@@ -154,8 +155,8 @@ fn put_five(number: u32, at: usize, out: &mut [u8]) -> usize
     put_two(rest % 100, at, out)
 }
 
-/// Writes a number in fewer instructions than [`put_number`], for the frequent lines. Inlined at one call only: with several, the
-/// function around them grows too large to be inlined.
+/// Writes a number in fewer instructions than [`put_number`], for the frequent lines. It is always inlined, and has only one call:
+/// with several calls, the function around them grows too large to be inlined.
 #[tactic(auto, using(crate::proofs::DigitLemmas::digit_rules))]
 #[inline(always)]
 pub fn put_number_quickly(number: u32, at: usize, out: &mut [u8]) -> usize
@@ -170,7 +171,7 @@ pub fn put_number_quickly(number: u32, at: usize, out: &mut [u8]) -> usize
     put_five(number % 100_000, at, out)
 }
 
-/// Writes a number by `itoa`. That writes backwards, so the digits are counted first.
+/// Writes a number with `itoa`, which writes backwards. So the digits are counted first.
 #[inline(always)]
 pub fn put_number(number: u32, at: usize, out: &mut [u8]) -> usize
     requires space { at + MOST_DIGITS ≤ length out.old }

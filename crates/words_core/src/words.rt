@@ -5,7 +5,8 @@ ghost use Rattle.words_core.specs.Words.{is_blank, words_of};
 
 use arrayvec::ArrayVec;
 
-/// The number of words of a line that are read. No command has that many, so a line with more words has too many in any case.
+/// The largest number of words that are read from a line. No command has that many words, so further words cannot change what the
+/// line means.
 pub const MOST_WORDS: usize = 6;
 
 fn is_blank(byte: u8) -> bool
@@ -28,7 +29,7 @@ fn blanks_len(bytes: &[u8]) -> usize
     bytes.len()
 }
 
-/// Returns the number of bytes before the first blank.
+/// Returns the number of bytes before the first blank, or of all bytes if there is no blank.
 fn word_len(bytes: &[u8]) -> usize
     ensures fits { result ≤ length bytes.now }
     ensures word { (k : ℕ) → k < result → is_blank (slice_index bytes.now k) ≡ false }
@@ -53,7 +54,7 @@ fn next_word(bytes: &[u8]) -> Option<(&[u8], &[u8])>
     Some(bytes.split_at(word_len(bytes)))
 }
 
-/// Returns the first six words of a line, in order.
+/// Returns the first six words of a line, in order, or all words if there are fewer.
 pub fn split_words(line: &[u8]) -> ArrayVec<&[u8], MOST_WORDS>
     ensures { map (λ word. word.now) result.items ≡ take MOST_WORDS (words_of line.now) }
 {

@@ -70,7 +70,7 @@ OwnLines = (limit order superblocks tenants t : ℕ) (trace : List ℕ) → tena
     lines_for t (output_of limit order trace (opening_world superblocks tenants))
     ≡ private_lines limit order superblocks tenants t trace
 
--- So two traces in which a tenant's own lists are equal have the same lines for it.
+-- So if a tenant's own lists are equal in two traces, it gets the same lines in both outputs.
 abbrev pub SameLines : Type 0
 SameLines = (limit order superblocks tenants superblocks' tenants' t : ℕ) (trace trace' : List ℕ) →
     tenants ≤ 2 ^ 64 → tenants' ≤ 2 ^ 64 →
@@ -94,12 +94,12 @@ abbrev pub OwnLinesShown : Type 0
 OwnLinesShown = (limit order t : ℕ) (trace : List ℕ) (w : World) → length w.machines ≤ 2 ^ 64 → t < length w.machines →
     lines_of_trace (shown_lines (Some t) limit order (lines_of_trace trace) w) ≡ lines_for t (output_of limit order trace w)
 
--- a trace is its lines that end in LF, and then a tail without LF
+-- a trace consists of its lines that end in LF, followed by a tail without LF
 abbrev pub EndedAllButTail : Type 0
 EndedAllButTail = (given : List ℕ) →
     (tail : List ℕ) × (given ≡ with_line_feeds (ended_lines given) ++ tail) × (Contains tail line_feed → ⊥)
 
--- The lines of a prefix that end in LF are the first lines of the whole trace, however it goes on ..
+-- In a prefix of a trace, the lines that end in LF are the first lines of the whole trace, however the trace goes on ..
 abbrev pub EndedLinesStay : Type 0
 EndedLinesStay = (given more : List ℕ) → (rest : List (List ℕ)) × (lines_of_trace (given ++ more) ≡ ended_lines given ++ rest)
 

@@ -12,7 +12,7 @@ use Rattle.words_core.specs.Grammar.{reading_of}
 use Rattle.words_core.specs.Texts.{addressee_text, body_texts, text_of}
 use Rattle.world_core.specs.World.{World, world_step, world_after}
 
--- the event that a line reads as, if it does
+-- the event in this reading of a line, if there is one
 abbrev pub event_in : Result (Option Event) LineFault → List Event
 event_in (Ok None) = []
 event_in (Ok (Some event)) = event ∷ []
@@ -23,7 +23,7 @@ abbrev pub events_of : List (List ℕ) → List Event
 events_of [] = []
 events_of (line ∷ lines) = event_in (reading_of line) ++ events_of lines
 
--- True if a reply to this addressee is shown: all replies are, or with a tenant only those to it.
+-- True if a reply to this addressee is shown. If no tenant is named, all replies are shown; otherwise only those to that tenant.
 abbrev pub is_shown : Option ℕ → Addressee → Bool
 is_shown None addressee = true
 is_shown (Some t) Addressee.Admin = false
@@ -50,7 +50,7 @@ shown_lines only limit order (line ∷ lines) w =
     shown_line only limit order line w
     ++ shown_lines only limit order lines (world_after limit order w (event_in (reading_of line)))
 
--- the whole output of a trace, from a world on
+-- the whole output of a trace that is run in this world
 unfoldable pub output_of : ℕ → ℕ → List ℕ → World → List ℕ
 output_of limit order trace w = shown_lines None limit order (lines_of_trace trace) w
 
@@ -70,7 +70,7 @@ line_feed = 10
 abbrev pub with_line_feeds : List (List ℕ) → List ℕ
 with_line_feeds lines = concat (map (λ line. line ++ line_feed ∷ []) lines)
 
--- one more byte in front of lines that end in LF: it extends the first of them; if there is none, the byte is in no ended line
+-- the lines with one more byte in front of the first; the lines end in LF, so if there are none, the byte is in no ended line
 abbrev pub onto_ended : ℕ → List (List ℕ) → List (List ℕ)
 onto_ended b [] = []
 onto_ended b (line ∷ lines) = (b ∷ line) ∷ lines

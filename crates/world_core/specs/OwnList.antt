@@ -35,7 +35,7 @@ abbrev pub if_granted : ℕ → ℕ → Body → Entry → List Entry
 if_granted t named body entry = if is_refused body then [] else if_named t named entry
 
 -- The entries of an event and its reply for the machine of tenant t. An entry has no superblock number, so a move, which
--- changes nothing else, is no entry for any machine.
+-- changes nothing else, is not an entry for any machine.
 abbrev pub own_entries : ℕ → Event → Body → List Entry
 own_entries t (Event.Tenant named command) body = if_named t named (Ask command)
 own_entries t (Event.Admin (AdminCommand.Grant named)) body = if_granted t named body Grant
@@ -44,7 +44,7 @@ own_entries t (Event.Admin (AdminCommand.Reset named)) body = if_named t named R
 own_entries t (Event.Admin (AdminCommand.Move named slot)) body = []
 own_entries t (Event.Admin AdminCommand.Pool) body = []
 
--- the tenant's own list: its commands, and its grants, take-backs and resets
+-- the tenant's own list: its commands, the grants and take-backs for it that were not refused, and its resets
 abbrev pub own_list : ℕ → List Exchange → List Entry
 own_list t [] = []
 own_list t (e ∷ es) = own_entries t e.event e.reply.body ++ own_list t es

@@ -40,7 +40,7 @@ operations_in Entry.Grant = Operation.Grant ∷ []
 operations_in (Entry.TakeBack slot) = Operation.TakeBack slot ∷ []
 operations_in Entry.Reset = Operation.Reset ∷ []
 
--- a run of operations leaves the same machine as a private run
+-- the operations for a list of entries leave the same machine as the private run of the entries
 abbrev pub EntriesAreOperations : Type 0
 EntriesAreOperations = (limit order : ℕ) (entries : List Entry) (m : Machine) →
     (private_run limit order entries m).machine ≡ run limit order (flat_map operations_in entries) m
@@ -63,7 +63,7 @@ abbrev pub ReachedWellFormed : Type 0
 ReachedWellFormed = (limit order : ℕ) (entries : List Entry) → AreRequests entries
     → IsWellFormed limit order (reached_machine limit order entries)
 
--- .. so its taken blocks (page blocks and the blocks of slabs) are aligned, in held slots and apart
+-- .. so its taken blocks (page blocks and the blocks of slabs) are aligned, lie in held slots and share no frame.
 abbrev pub ReachedSound : Type 0
 ReachedSound = (limit order : ℕ) (entries : List Entry) → AreRequests entries →
     IsSound order (holds (reached_machine limit order entries)) (taken_in (reached_machine limit order entries))
@@ -96,12 +96,12 @@ ReachedJoins = (limit order first k : ℕ) (entries : List Entry) → AreRequest
     (j : ℕ) × JoinsTo order (holds m) (taken_in m) first k j × ((b : Block) →
     (IsFreeIn order (free_step first m).machine b ↔ IsFreeOnceJoined (IsFreeIn order m) first k j b))
 
--- Two objects of its slabs that share a byte are the same ..
+-- Two objects of the machine's slabs that share a byte are the same ..
 abbrev pub ReachedApart : Type 0
 ReachedApart = (limit order : ℕ) (entries : List Entry) → AreRequests entries → let m = reached_machine limit order entries in
     (a b : Object) → IsObject m a → IsObject m b → (place : ℕ) → HasByte a place → HasByte b place → a ≡ b
 
--- .. and those of small slabs stay below the control record of their frame.
+-- .. and the objects of small slabs lie below the control record of their frame.
 abbrev pub ReachedRecordsFree : Type 0
 ReachedRecordsFree = (limit order : ℕ) (entries : List Entry) → AreRequests entries → let m = reached_machine limit order entries in
     (object : Object) → IsObject m object → is_small (layout object.cache).chunk ≡ true
@@ -136,8 +136,8 @@ ReachedObject = (limit order number : ℕ) (entries : List Entry) (c : Cache) �
     cache_of m number ≡ Some c → IsAmple order (layout c).order m
     → (place : ℕ) × ((command_step limit order (Command.Take number) m).answer ≡ Body.Object place)
 
--- So nobody is starved by others: after any trace a tenant whose machine has that much space gets a frame, whatever all
--- others did.
+-- So nobody is starved by others: after any trace, a tenant whose machine meets this condition gets a block of that order,
+-- whatever all others did.
 abbrev pub NobodyStarves : Type 0
 NobodyStarves = (limit order superblocks tenants t k : ℕ) (trace : List ℕ) (m : Machine) → t < tenants →
     let w = world_after limit order (opening_world superblocks tenants) (events_of (lines_of_trace trace)) in

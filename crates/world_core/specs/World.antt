@@ -21,7 +21,7 @@ pub record World : Type 0 where
   pub owners : List (Option Owner)
   pub machines : List Machine
 
--- no superblock has an owner, and no machine has anything
+-- no superblock has an owner, and every machine is empty
 unfoldable pub opening_world : ℕ → ℕ → World
 opening_world superblocks tenants = record {
   owners = replicate superblocks None;
@@ -101,7 +101,7 @@ tenant_step limit order t command w (Some m) = record {
   world = record w { machines = slice_set w.machines t (command_step limit order command m).machine };
 }
 
--- the reply to one event, and the world after it; `limit` is on a tenant's caches, `order` is that of a superblock
+-- the reply to one event, and the world after it; a tenant may have `limit` caches, and slots have 2 ^ order frames
 unfoldable pub world_step : ℕ → ℕ → Event → World → WorldStep
 world_step limit order (Event.Tenant t command) w = tenant_step limit order t command w (slice_get w.machines t)
 world_step limit order (Event.Admin (AdminCommand.Grant t)) w = grant_step order t w (slice_get w.machines t) (position is_none w.owners)

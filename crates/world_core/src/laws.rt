@@ -15,9 +15,9 @@ pub fn own_lines()
     ensures { OwnLines }
 {}
 
-/// If a tenant's own lists are equal in two runs of worlds of one order, it gets the same replies in both, so the same texts,
-/// and for two traces the same lines of output. The numbers of superblocks and tenants may differ, and all others may do
-/// anything.
+/// If a tenant's own lists are equal in two runs, in worlds with the same order of superblocks and the same limit on caches, it
+/// gets the same replies in both. So it gets the same texts, and for two traces the same lines of output. The numbers of
+/// superblocks and tenants may differ, and all others may do anything.
 pub fn non_interference()
     ensures replies { SameReplies }
     ensures texts { SameTexts }
@@ -32,7 +32,7 @@ pub fn own_shown()
     ensures lines { OwnLinesShown }
 {}
 
-/// The lines of a prefix of a trace that end in LF are the first lines of the whole trace, and what they show is a prefix of
+/// In any prefix of a trace, the lines that end in LF are the first lines of the whole trace, and what they show is a prefix of
 /// what the whole trace shows.
 pub fn shown_stays()
     ensures ended { EndedAllButTail }
@@ -51,15 +51,15 @@ pub fn more_caches()
     ensures { MoreCaches }
 {}
 
-/// Each cache in a tenant's own list of a trace is made with a pattern. So the laws of reached machines hold for every tenant's
-/// machine after every trace.
+/// Each cache in a tenant's own list of a trace is made with a pattern of 1 to 16 bytes. So the laws of reached machines hold for
+/// every tenant's machine after every trace.
 pub fn own_lists_are_requests()
     ensures { OwnListsAreRequests }
 {}
 
-/// The machine after a private run is well formed, and its taken blocks, including those of slabs, are aligned, in held slots
-/// and apart. So the laws of blocks hold there: each frame that is held and not taken is in exactly one free block, `alloc`
-/// splits the chosen block, and `free` joins buddies.
+/// The machine after a private run is well formed, and its taken blocks, including those of slabs, are aligned, lie in held slots
+/// and share no frame. So the laws of blocks hold there: each frame that is held and not taken is in exactly one free block,
+/// `alloc` splits the chosen block, and `free` joins buddies.
 pub fn reached_machines()
     ensures well_formed { ReachedWellFormed }
     ensures sound { ReachedSound }
@@ -68,8 +68,9 @@ pub fn reached_machines()
     ensures joins { ReachedJoins }
 {}
 
-/// The objects of the machine after a private run share no byte, and those of small slabs stay below the control record of their
-/// frame. An object that was not taken since its slab was made is in constructed state, and so is one at its first `take`.
+/// The objects of the machine after a private run share no byte, and those of small slabs lie below the control record of their
+/// frame. An object that was not taken since its slab was made is in its constructed state, and so is an object that a `take`
+/// returns for the first time since then.
 pub fn reached_objects()
     ensures apart { ReachedApart }
     ensures records { ReachedRecordsFree }
@@ -78,8 +79,8 @@ pub fn reached_objects()
 {}
 
 /// If a tenant holds more aligned blocks of some order than it has taken frames outside empty slabs, then its private machine
-/// refuses it neither a block of that order nor an object of a cache whose slabs have that order. After any trace the world
-/// refuses it no such block either.
+/// refuses it neither a block of that order nor an object of a cache whose slabs have that order. After any trace, the world does
+/// not refuse it such a block either.
 pub fn nobody_starves()
     ensures block { ReachedBlock }
     ensures object { ReachedObject }

@@ -20,13 +20,13 @@ pub static ROWS: [Row; 9] = [
             0> order 1 free 1 taken 0\n0> order 2 free 1 taken 0\n0> order 3 free 0 taken 0\n\
             0> cache 0 full 1 partial 1 empty 0 live 21\n",
     },
-    // The greatest chunk whose slabs have a record behind their objects, and the least chunk whose slabs have none.
+    // The greatest chunk whose slabs have a record after their objects, and the least chunk whose slabs have none.
     Row {
         trace: b"0 cache 504 8 01\n0 cache 505 8 01\n",
         output: b"0> cache 0 chunk 504 order 0 objects 8 colours 5\n\
             0> cache 1 chunk 512 order 0 objects 8 colours 1\n",
     },
-    // A slab of several frames, and the next one in another colour. Sizes are refused before alignments.
+    // A slab of several frames, and the next one in another colour. Sizes are checked before alignments.
     Row {
         trace: b"admin grant 0\n0 cache 3000 8 01\n0 take 0\n0 take 0\n0 take 0\n0 take 0\n\
             0 take 0\n0 take 0\n0 cache 4097 8 00\n0 cache 1 12 00\n0 cache 0 12 00\n",
@@ -35,7 +35,7 @@ pub static ROWS: [Row; 9] = [
             0> object 6000\n0> object 9000\n0> object 12000\n0> object 16392\n\
             0> refused 6 BadSize\n0> refused 7 BadAlign\n0> refused 6 BadSize\n",
     },
-    // Objects read as the pattern. A read must be within one object, and the object live.
+    // Objects read as the pattern. A read must be within one object, and the object must be live.
     Row {
         trace: b"admin grant 0\n0 cache 100 8 5a\n0 take 0\n0 read 0 2\n0 read 99 2\n0 give 0 0\n\
             0 read 0 1\n",

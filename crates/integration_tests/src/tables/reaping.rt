@@ -50,7 +50,7 @@ pub static ROWS: [Row; 7] = [
             0> order 0 free 0 taken 2\n0> order 1 free 1 taken 0\n0> order 2 free 1 taken 0\n\
             0> order 3 free 0 taken 0\n0> cache 0 full 0 partial 0 empty 1 live 0\n",
     },
-    // A cache that grows takes the frames of another one's empty slabs.
+    // A cache that grows takes the frames of another cache's empty slabs.
     Row {
         trace: b"admin grant 0\n0 cache 4096 8 11\n0 take 0\n0 take 0\n0 take 0\n0 take 0\n\
             0 take 0\n0 take 0\n0 take 0\n0 take 0\n0 give 0 0\n0 give 0 4096\n0 give 0 8192\n\

@@ -62,7 +62,8 @@ pub static ROWS: [Row; 10] = [
             admin> refused 15 SlotBusy\nadmin> reset 0 superblocks 1\n0> refused 4 OutOfReach\n\
             admin> granted 0 slot 0 superblock 0\n0> frame 0\n0> bytes 00\n",
     },
-    // Take-backs are refused in the order: no tenant, no slot, busy. A reset is refused if the tenant does not exist.
+    // Take-backs are refused for these reasons, in this order: no tenant, no slot, busy. A reset is refused if the tenant does
+    // not exist.
     Row {
         trace: b"admin grant 0\n0 alloc 0\nadmin takeback 2 0\nadmin takeback 0 1\n\
             admin takeback 0 0\nadmin takeback 1 0\nadmin reset 2\nadmin takeback 0 4294967295\n\
