@@ -128,7 +128,7 @@ impl Space {
     fn within(&self, place: u32) -> u32
         ensures { result ≡ place % self.now.unit }
     {
-        place % (1 << self.bits)
+        place & (self.unit - 1)
     }
 
     /// Returns the superblock in a slot that the tenant holds.
