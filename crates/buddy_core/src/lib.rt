@@ -48,6 +48,15 @@ use std::marker::Model;
 #[derive(Clone, Copy, Debug, PartialEq, Eq)]
 pub struct SlotBusy;
 
+/// A page block that a reservation has taken.
+#[derive(Clone, Copy, Debug, PartialEq, Eq)]
+pub struct ReservedBlock {
+    /// The first frame.
+    pub first: u32,
+    /// The superblock in the block's slot.
+    pub superblock: u16,
+}
+
 /// The buddy systems of all tenants.
 #[derive(Debug, Drop)]
 pub struct Buddy {
@@ -210,6 +219,26 @@ impl Buddy {
             × (IsChoice self.old.top (is_held (holding_of t self.old)) (taken_of (holding_of t self.old)) k (block f j)
             × (self.new ≡ with_holding t (with_block f k (holding_of t self.old)) self.old))) }
     {
+        match self.reserve_block(t, k) {
+            Some(reserved) => Some(reserved.first),
+            None => None,
+        }
+    }
+
+    /// Does the same as [`Buddy::reserve`]. It also returns the superblock in the block's slot, so a caller that needs it looks up
+    /// no slot.
+    // Always inlined: its result is then kept in registers, not written to memory and read again.
+    #[inline(always)]
+    pub fn reserve_block(&mut self, t: u8, k: u8) -> Option<ReservedBlock>
+        requires tenant { t < length self.old.tenants }
+        requires order { k ≤ self.old.top }
+        ensures refused { IfNone result (IsWithout self.old.top (is_held (holding_of t self.old)) (taken_of (holding_of t self.old)) k
+            × (self.new ≡ self.old)) }
+        ensures done { IfSome result (λ b. (j : ℕ)
+            × (IsChoice self.old.top (is_held (holding_of t self.old)) (taken_of (holding_of t self.old)) k (block b.first j)
+            × (self.new ≡ with_holding t (with_block b.first k (holding_of t self.old)) self.old))) }
+        ensures under { IfSome result (λ b. superblock_at (holding_of t self.old) (b.first / 2 ^ self.old.top) ≡ Some b.superblock) }
+    {
         let summaries = &mut self.summaries[t as usize];
         let source = find::find(&self.superblocks, &self.tenants[t as usize], summaries, k)?;
         let superblock = &mut self.superblocks[source.superblock as usize];
@@ -218,7 +247,10 @@ impl Buddy {
         let slot = u32::from(source.slot);
         summaries.note_halves(slot, k, source.order);
         self.tenants[t as usize].count_reserved(source.order, k);
-        Some((slot << self.order) + first)
+        Some(ReservedBlock {
+            first: (slot << self.order) + first,
+            superblock: source.superblock,
+        })
     }
 
     /// Frees the taken block of tenant `t` that begins at `frame` and returns its order, or `None` if no

@@ -2,10 +2,10 @@ use Rattle.std.proofs.Common.{inl, inr, ◌≡◌, sym, ◌∙◌, ap, subst, �
 use Rattle.std.specs.Int.{bit_at}
 use Rattle.std.specs.Prelude.{slice_index, IfNone}
 use Rattle.std.proofs.lemmas.List.{get_or_read}
-use Rattle.std.proofs.lemmas.Nat.{shl_whole, mul-le}
+use Rattle.std.proofs.lemmas.Nat.{shl_whole, mul-le, div-mul-add}
 use Rattle.std.proofs.Math.Pow.{pow_mono}
 use Rattle.model_core.specs.Blocks.{block, IsChoice, IsWithout}
-use Rattle.buddy_core.specs.Content.{holding_of, is_held, taken_of, with_holding, with_block}
+use Rattle.buddy_core.specs.Content.{holding_of, superblock_at, is_held, taken_of, with_holding, with_block}
 use Rattle.buddy_core.specs.Counts.{CanCountMore}
 use Rattle.buddy_core.specs.Summary.{IsBounded}
 use Rattle.buddy_core.specs.Roots.{IsCounted, IsThere, IsSource, IsWithoutOrder}
@@ -16,8 +16,8 @@ use Rattle.buddy_core.proofs.TenantChanged.{kept_changed, shown_changed}
 use Rattle.buddy_core.proofs.BlockSteps.{IsStep, step_change, holding_now}
 use Rattle.buddy_core.proofs.Reserving.{reserved_orders, Reserved, source_at, counted, none_without, order_within, IsFound, found_at, superblock_lt, is_choice, some_free, reserved_step}
 use Rattle.buddy_core.proofs.SummaryBounds.{bounded_by, bounded_noted}
-use Rattle.buddy_core.proofs.Buddy.reserve.Goals as goal
-use Rattle.buddy_core.proofs.Buddy.reserve.Goals.{After-find, After-index, After-index_mut-superblock, After-search-first, After-index_mut, After-count_reserved}
+use Rattle.buddy_core.proofs.Buddy.reserve_block.Goals as goal
+use Rattle.buddy_core.proofs.Buddy.reserve_block.Goals.{After-find, After-index, After-index_mut-superblock, After-search-first, After-index_mut, After-count_reserved}
 
 -- the tenant as it is
 shown : (c : After-index) → IsShown c.self.inside.order c.self.inside.superblocks.items c.self.inside.tenants.items c.args.t c.args.self.now
@@ -55,7 +55,7 @@ returns-in_err-source-clause-refused c =
       c.self.view_is,
     )
   where
-    if_none : (o : Option ℕ) (P : Type 0) → P → IfNone o P
+    if_none : {A : Type 0} (o : Option A) (P : Type 0) → P → IfNone o P
     if_none None P p = p
     if_none (Some x) P p = tt
 
@@ -272,3 +272,20 @@ returns-clause-done c =
             ∙ ap (λ n. with_holding c.args.t (with_block n c.args.k (holding_of c.args.t c.args.self.now)) c.args.self.now) (sym f_is),
       ),
     )
+
+-- the block's slot is the one that was found
+pub returns-clause-under : goal.returns-clause-under
+returns-clause-under c =
+    let a = c.self.inside in
+    let p = c.in_ok-source.source in
+    let x = c.search-first.result in
+    let g = goal.at.returns-clause-under c in
+    let s = shown g.After-index in
+    let at = found g.After-search-first s.listed (source g.After-index_mut-superblock (tenant_read g.After-index)) in
+    let top = s.order in
+    let slot_lt : p.slot < 256 = slot_small a.order a.superblocks.items a.tenants.items c.self.invariant.0 c.args.t s.listed p.slot p.superblock at.source.at in
+    let f_is : c.from-slot.result * 2 ^ a.order % 4294967296 + x ≡ p.slot * 2 ^ a.order + x
+    = ap (λ n. n * 2 ^ a.order % 4294967296 + x) c.from-slot.ensures ∙ ap (λ n. n + x) (shl_whole p.slot 8 a.order 32 (omega arith) (let small = c.self.invariant.0.small in omega arith)) in
+    let slot : (c.from-slot.result * 2 ^ a.order % 4294967296 + x) / 2 ^ c.args.self.now.top ≡ p.slot
+    = ap (λ n. n / 2 ^ c.args.self.now.top) f_is ∙ ap (λ n. (p.slot * 2 ^ a.order + x) / 2 ^ n) top ∙ div-mul-add p.slot (2 ^ a.order) x at.inside in
+    ap (superblock_at (holding_of c.args.t c.args.self.now)) slot ∙ ap (λ h. superblock_at h p.slot) s.holding ∙ at.source.at
