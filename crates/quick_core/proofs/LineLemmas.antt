@@ -19,7 +19,8 @@ use Rattle.words_core.specs.declared.event.Event.{Event}
 use Rattle.words_core.specs.declared.event.Event.TheVariants.{Tenant}
 use Rattle.words_core.specs.declared.event.LineFault.{LineFault}
 use Rattle.words_core.specs.declared.event.LineFault.TheVariants.{Number}
-use Rattle.quick_core.specs.Lines.{EndsLine, ReadsAs}
+use Rattle.quick_core.specs.Lines.{EndsLine, ReadsAs, IsLastNumber, NamesTenant}
+use Rattle.quick_core.specs.declared.number.Number.{Number as ReadNumber}
 use Rattle.quick_core.proofs.WindowLemmas.{cut, front, one_more, first_line_feed}
 
 -- ---- bytes
@@ -265,36 +266,39 @@ three_words window a i b j d k e i_is ib j_is jd k_is ke fits blank_a blank_b bl
     ∙ ap (λ rest. slice_range window j d ++ rest) (blank_first window d k e k_is (omega arith) fits blank_d
     ∙ ap (λ rest. 32 ∷ rest) (sym (append-nil (slice_range window k e))))))))
 
--- a command with one number
-pub is_read_one : SomeCase → OneCase → (window : List ℕ) (a i b j e len t n : ℕ) (row : CommandRow Command) (command : Command)
-    → i ≡ a + 1 → i < b → j ≡ b + 1 → j < e → e ≤ length window → e ≤ 255
-    → number_of (slice_range window 0 a) ≡ Some t → get_or window a 0 ≡ 32 → slice_range window i b ≡ row.word → get_or window b 0 ≡ 32
-    → number_of (slice_range window j e) ≡ Some n → EndsLine window e len
-    → Contains tenant_rows row → IsPlainWord row.word → AllMake row.forms row.makes (slice_range window j e ∷ []) command
-    → ReadsAs window t command len
-is_read_one some only window a i b j e len t n row command i_is ib j_is je fits few first_is blank_a word_is blank_b number_is ends has plain make =
-    is_read some only window (slice_range window 0 a) (slice_range window j e ∷ []) e len t row command fits few ends
-    (two_words window a i b j e i_is ib j_is je fits blank_a blank_b
+-- a command with one number: its word ends at b, and its number begins at j
+pub is_read_one : SomeCase → OneCase → (window : List ℕ) (tenant : ReadNumber) (b j n len : ℕ) (row : CommandRow Command) (command : Command)
+    → 32 ≤ length window → NamesTenant window tenant → tenant.end + 1 < b → b ≤ tenant.end + 6 → j ≡ b + 1
+    → slice_range window (tenant.end + 1) b ≡ row.word → get_or window b 0 ≡ 32 → (last : IsLastNumber window j n len)
+    → Contains tenant_rows row → IsPlainWord row.word → AllMake row.forms row.makes (slice_range window j last.end ∷ []) command
+    → ReadsAs window tenant.value command len
+is_read_one some only window tenant b j n len row command size names ib near j_is word_is blank last has plain make =
+    let a = tenant.end in
+    let e = last.end in
+    is_read some only window (slice_range window 0 a) (slice_range window j e ∷ []) e len tenant.value row command (omega (arith, names.short, last.short)) (omega (arith, names.short, last.short)) last.ended
+    (two_words window a (a + 1) b j e refl ib j_is last.some (omega (arith, names.short, last.short)) names.blank blank
     ∙ ap (λ word. slice_range window 0 a ++ spaced (word ∷ slice_range window j e ∷ [])) word_is)
-    first_is has plain
-    (All-cons IsPlainWord (slice_range window j e) [] (plain_number (slice_range window j e) n number_is) (All-nil IsPlainWord))
+    names.number has plain
+    (All-cons IsPlainWord (slice_range window j e) [] (plain_number (slice_range window j e) n last.number) (All-nil IsPlainWord))
     make
 
--- a command with two numbers
-pub is_read_two : SomeCase → OneCase → (window : List ℕ) (a i b j d k e len t m n : ℕ) (row : CommandRow Command) (command : Command)
-    → i ≡ a + 1 → i < b → j ≡ b + 1 → j < d → k ≡ d + 1 → k < e → e ≤ length window → e ≤ 255
-    → number_of (slice_range window 0 a) ≡ Some t → get_or window a 0 ≡ 32 → slice_range window i b ≡ row.word → get_or window b 0 ≡ 32
-    → number_of (slice_range window j d) ≡ Some m → get_or window d 0 ≡ 32 → number_of (slice_range window k e) ≡ Some n → EndsLine window e len
+-- a command with two numbers: the first ends at d, and the second begins at k
+pub is_read_two : SomeCase → OneCase → (window : List ℕ) (tenant : ReadNumber) (b j d k m n len : ℕ) (row : CommandRow Command) (command : Command)
+    → 32 ≤ length window → NamesTenant window tenant → tenant.end + 1 < b → b ≤ tenant.end + 6 → j ≡ b + 1 → j < d → d ≤ j + 9 → k ≡ d + 1
+    → slice_range window (tenant.end + 1) b ≡ row.word → get_or window b 0 ≡ 32
+    → number_of (slice_range window j d) ≡ Some m → get_or window d 0 ≡ 32 → (last : IsLastNumber window k n len)
     → Contains tenant_rows row → IsPlainWord row.word
-    → AllMake row.forms row.makes (slice_range window j d ∷ slice_range window k e ∷ []) command
-    → ReadsAs window t command len
-is_read_two some only window a i b j d k e len t m n row command i_is ib j_is jd k_is ke fits few first_is blank_a word_is blank_b m_is blank_d n_is ends has plain make =
-    is_read some only window (slice_range window 0 a) (slice_range window j d ∷ slice_range window k e ∷ []) e len t row command fits few ends
-    (three_words window a i b j d k e i_is ib j_is jd k_is ke fits blank_a blank_b blank_d
+    → AllMake row.forms row.makes (slice_range window j d ∷ slice_range window k last.end ∷ []) command
+    → ReadsAs window tenant.value command len
+is_read_two some only window tenant b j d k m n len row command size names ib near j_is jd short k_is word_is blank m_is second last has plain make =
+    let a = tenant.end in
+    let e = last.end in
+    is_read some only window (slice_range window 0 a) (slice_range window j d ∷ slice_range window k e ∷ []) e len tenant.value row command (omega (arith, names.short, last.short)) (omega (arith, names.short, last.short)) last.ended
+    (three_words window a (a + 1) b j d k e refl ib j_is jd k_is last.some (omega (arith, names.short, last.short)) names.blank blank second
     ∙ ap (λ word. slice_range window 0 a ++ spaced (word ∷ slice_range window j d ∷ slice_range window k e ∷ [])) word_is)
-    first_is has plain
+    names.number has plain
     (All-cons IsPlainWord (slice_range window j d) (slice_range window k e ∷ []) (plain_number (slice_range window j d) m m_is)
-    (All-cons IsPlainWord (slice_range window k e) [] (plain_number (slice_range window k e) n n_is) (All-nil IsPlainWord)))
+    (All-cons IsPlainWord (slice_range window k e) [] (plain_number (slice_range window k e) n last.number) (All-nil IsPlainWord)))
     make
 
 -- ---- arguments

@@ -9,17 +9,12 @@ returns-clause-reads g c =
     let window = c.args.bytes.now in
     let a = c.args.tenant.end in
     let cache = c.in_ok-cache.cache in
-    let cache_within = c.in_ok-cache.ensures.within in
-    let number = c.in_ok-place.ensures in
-    let short = number.short in
+    let first = c.in_ok-cache.ensures in
     let place = c.in_ok-place.place in
+    let number = c.in_ok-place.ensures in
     let blank : get_or window (a + 5) 0 ≡ 32 = omega arith in
     let second : get_or window cache.end 0 ≡ 32 = omega arith in
-    is_read_two c.one_case.ensures.some c.one_case.ensures.only window a (a + 1) (a + 5) (a + 5 + 1) cache.end (cache.end + 1) number.end place.len
-    c.args.tenant.value cache.value place.value give_row (Command.Give cache.value place.value)
-    refl (omega arith) refl c.in_ok-cache.ensures.some refl number.some (omega arith) (omega arith)
-    c.requires.begins.names.number c.requires.begins.names.blank c.requires.begins.letters blank c.in_ok-cache.ensures.value second number.number
-    number.ended
-    (7, omega arith, refl) give_plain
-    (two_numbers Command.Give (slice_range window (a + 5 + 1) cache.end) (slice_range window (cache.end + 1) number.end)
-    cache.value place.value c.in_ok-cache.ensures.value number.number)
+    is_read_two c.one_case.ensures.some c.one_case.ensures.only window c.args.tenant (a + 5) (a + 5 + 1) cache.end (cache.end + 1) cache.value place.value place.len give_row
+    (Whole.Give cache.value place.value) (omega arith) c.requires.begins.names (omega arith) (omega arith) refl first.some first.within refl
+    c.requires.begins.letters blank first.value second number (7, omega arith, refl) give_plain
+    (two_numbers Whole.Give (slice_range window (a + 5 + 1) cache.end) (slice_range window (cache.end + 1) number.end) cache.value place.value first.value number.number)

@@ -9,17 +9,12 @@ returns-clause-reads g c =
     let window = c.args.bytes.now in
     let a = c.args.tenant.end in
     let place = c.in_ok-place.place in
-    let place_within = c.in_ok-place.ensures.within in
-    let number = c.in_ok-len.ensures in
-    let short = number.short in
+    let first = c.in_ok-place.ensures in
     let len = c.in_ok-len.len in
+    let number = c.in_ok-len.ensures in
     let blank : get_or window (a + 5) 0 ≡ 32 = omega arith in
     let second : get_or window place.end 0 ≡ 32 = omega arith in
-    is_read_two c.one_case.ensures.some c.one_case.ensures.only window a (a + 1) (a + 5) (a + 5 + 1) place.end (place.end + 1) number.end len.len
-    c.args.tenant.value place.value len.value read_row (Command.Read place.value len.value)
-    refl (omega arith) refl c.in_ok-place.ensures.some refl number.some (omega arith) (omega arith)
-    c.requires.begins.names.number c.requires.begins.names.blank c.requires.begins.letters blank c.in_ok-place.ensures.value second number.number
-    number.ended
-    (2, omega arith, refl) read_plain
-    (two_numbers Command.Read (slice_range window (a + 5 + 1) place.end) (slice_range window (place.end + 1) number.end)
-    place.value len.value c.in_ok-place.ensures.value number.number)
+    is_read_two c.one_case.ensures.some c.one_case.ensures.only window c.args.tenant (a + 5) (a + 5 + 1) place.end (place.end + 1) place.value len.value len.len read_row
+    (Whole.Read place.value len.value) (omega arith) c.requires.begins.names (omega arith) (omega arith) refl first.some first.within refl
+    c.requires.begins.letters blank first.value second number (2, omega arith, refl) read_plain
+    (two_numbers Whole.Read (slice_range window (a + 5 + 1) place.end) (slice_range window (place.end + 1) number.end) place.value len.value first.value number.number)

@@ -8,13 +8,9 @@ pub returns-clause-reads : goal.returns-clause-reads
 returns-clause-reads g c =
     let window = c.args.bytes.now in
     let a = c.args.tenant.end in
-    let number = c.in_ok-cache.ensures in
-    let short = number.short in
     let last = c.in_ok-cache.cache in
+    let number = c.in_ok-cache.ensures in
     let blank : get_or window (a + 5) 0 ≡ 32 = omega arith in
-    is_read_one c.one_case.ensures.some c.one_case.ensures.only window a (a + 1) (a + 5) (a + 5 + 1) number.end last.len c.args.tenant.value last.value
-    take_row (Command.Take last.value)
-    refl (omega arith) refl number.some (omega arith) (omega arith)
-    c.requires.begins.names.number c.requires.begins.names.blank c.requires.begins.letters blank number.number number.ended
-    (6, omega arith, refl) take_plain
-    (one_number Command.Take (slice_range window (a + 5 + 1) number.end) last.value number.number)
+    is_read_one c.one_case.ensures.some c.one_case.ensures.only window c.args.tenant (a + 5) (a + 5 + 1) last.value last.len take_row (Whole.Take last.value)
+    (omega arith) c.requires.begins.names (omega arith) (omega arith) refl c.requires.begins.letters blank number (6, omega arith, refl) take_plain
+    (one_number Whole.Take (slice_range window (a + 5 + 1) number.end) last.value number.number)
