@@ -1,4 +1,5 @@
 pub mod DoingLemmas
+pub mod FrontLemmas
 pub mod LineLemmas
 pub mod OwnLemmas
 pub mod PendingLemmas

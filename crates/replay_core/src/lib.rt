@@ -19,6 +19,7 @@
 mod answer_line;
 mod answering;
 mod engine;
+mod front;
 mod notes;
 mod pending;
 mod quick;
@@ -29,6 +30,7 @@ mod sink;
 
 pub use answering::reply_in_rows;
 pub use engine::{EndFailed, do_lines};
+pub use front::{QuickSink, do_front};
 pub use notes::{NoNotes, Notes};
 pub use pending::Pending;
 pub use replaying::{replay, replay_noted};
