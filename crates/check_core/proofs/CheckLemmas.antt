@@ -1,5 +1,5 @@
 -- From the verdicts on replies to the finding.
-use Rattle.std.proofs.Common.{◌≡◌, ℕ, suc, ◌+◌, ◌-◌, ◌≤◌, true, false, List, [], ◌∷◌, ◌++◌, Option, Some, None, Result, Ok, Err, length, refl, sym, ap, subst, ◌∙◌, append_assoc, arith}
+use Rattle.std.proofs.Common.{◌≡◌, ℕ, suc, ◌+◌, ◌-◌, ◌≤◌, true, false, List, [], ◌∷◌, ◌++◌, Option, Some, None, Result, Ok, Err, length, refl, sym, ap, subst, ◌∙◌, append-nil, append_assoc, arith}
 use Rattle.std.specs.Prelude.{◌==◌}
 use Rattle.std.specs.Option.{option_map_or}
 use Rattle.std.proofs.lemmas.Bool.{eqb-true}
@@ -15,9 +15,10 @@ use Rattle.words_core.specs.declared.reply.Refusal.{Refusal}
 use Rattle.promise_core.specs.declared.promise.Promise.{Promise}
 use Rattle.promise_core.specs.Promises.{allowed}
 use Rattle.promise_core.specs.State.{Known}
+use Rattle.check_core.specs.declared.finding.Breach.{Breach}
 use Rattle.check_core.specs.declared.finding.Finding.TheVariants.{Broken, Kept}
 use Rattle.check_core.specs.declared.gathered.Gathered.{Gathered}
-use Rattle.check_core.specs.Checking.{ComesToAdd, HasGathered}
+use Rattle.check_core.specs.Checking.{ComesToAdd, HasGathered, IsBreachAt, IsLineOrNone}
 use Rattle.check_core.specs.declared.shown.TheConstants.{MOST_TEXT_BYTES}
 use Rattle.check_core.specs.Forms.{◌>>=◌}
 use Rattle.check_core.specs.Gathered.{whole_of}
@@ -25,7 +26,7 @@ use Rattle.check_core.specs.Reading.{readings_of}
 use Rattle.check_core.specs.Replies.{◌or_else◌, answer_of}
 use Rattle.check_core.specs.Tables.{table_of, reply_of_text}
 use Rattle.check_core.specs.Reading.{HasEnded, HasGiven, MayFollow, Source}
-use Rattle.check_core.proofs.ReadingLemmas.{follows, none_follows, none_later, stand_first}
+use Rattle.check_core.proofs.ReadingLemmas.{follows, lines_behind, none_follows, none_later, stand_first}
 use Rattle.check_core.proofs.TableLemmas.{table_takes}
 use Rattle.check_core.specs.Finding.{after_lines, lines_at, broken_by, finding, finding_of, refusal_read, lines_to, more_lines, or_broken, refusal_told, reply_in, text_read, verdict_at}
 
@@ -39,9 +40,10 @@ pub read_there : {k : ℕ} {came : List ℕ} {text : Gathered MOST_TEXT_BYTES} (
     → (more : List ℕ) → reply_in (suc (more_lines event w)) (came ++ more) ≡ text_read came
 read_there {came = came} event w come count more = ap (λ n. reply_in n (came ++ more)) (sym count) ∙ read_first come more
 
--- behind the gathered lines comes what follows
-pub left_after : {k : ℕ} {came : List ℕ} {text : Gathered MOST_TEXT_BYTES} → HasGathered k came text → (more : List ℕ) → after_lines k (came ++ more) ≡ more
-left_after come more = ap (λ (found : Option (List ℕ × List ℕ)). option_map_or (λ parts. parts.1) found []) (stand_first come more)
+-- behind these lines comes what follows
+pub left_after : (k : ℕ) (part more : List ℕ) → lines_at k part ≡ Some (part, []) → after_lines k (part ++ more) ≡ more
+left_after k part more whole =
+    ap (λ (found : Option (List ℕ × List ℕ)). option_map_or (λ parts. parts.1) found []) (lines_behind k part more (part, []) whole)
 
 -- if the lines of a reply have not come at the end, they never come
 pub none_there : (new : Source) (n : ℕ) (part : List ℕ) (event : Event) (w : Known) → HasEnded new → lines_at n part ≡ None → n ≤ suc (more_lines event w)
@@ -139,3 +141,28 @@ behind_parts w asked told part answer is given more later may =
           subst (λ bytes. ComesToAdd (readings_of ((asked ++ part) ++ more)) bytes w) (sym tells)
           (subst (λ bytes. ComesToAdd (readings_of bytes) (told ++ (answer ++ later)) w) (sym asks) (adds more_adds)),
     )
+
+-- ---- the line and the reply of a breach
+
+-- a line without a reply breaks no promise
+pub has_reply : (reading : Line) (bytes : List ℕ) (w : Known) (promise : Promise) → verdict_at reading bytes w ≡ Err promise → IsLineOrNone (reading ∷ [])
+has_reply (Ok None) bytes w promise is = absurd cc
+has_reply (Ok (Some event)) bytes w promise is = tt
+has_reply (Err fault) bytes w promise is = tt
+
+-- the next line, or none, is that of the breach
+pub breach_at : {now : Known} {line at : ℕ} (trace : Source) (w : Known) (asked told part answer : List ℕ) (breach : Breach) (readings : List Line)
+    → IsBehind w asked told line at trace now → lines_at at told ≡ Some (told, []) → readings_of part ≡ readings → breach.line ≡ line + length readings
+    → breach.reply ≡ at + 1 → IsLineOrNone readings → IsBreachAt w breach (asked ++ part) (told ++ answer) part answer
+breach_at {line = line} {at = at} trace w asked told part answer breach readings behind whole read number reply one =
+    let size : length (readings_of part) ≡ length readings = ap length read in
+    record {
+      earlier = asked;
+      answers = told;
+      asked_is = refl;
+      told_is = refl;
+      kept = (λ i. finding_of w (sym (append-nil asked) i) (sym (append-nil told) i)) ∙ (behind [] [] (λ ended. refl)).0
+          ∙ ap (λ n. Kept n) (let e : line ≡ breach.line - length (readings_of part) = omega (arith, size, number) in e);
+      whole = ap (λ n. lines_at n told) (let e : breach.reply - 1 ≡ at = omega (arith, reply) in e) ∙ whole;
+      one = subst IsLineOrNone (sym read) one;
+    }

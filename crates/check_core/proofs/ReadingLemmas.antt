@@ -1,5 +1,5 @@
 -- Pulled bytes, and the lines that are read from them.
-use Rattle.std.proofs.Common.{◌≡◌, ℕ, zero, suc, ◌+◌, ◌-◌, ◌<◌, ◌==◌, Bool, true, false, List, [], ◌∷◌, ◌++◌, Option, Some, None, Result, Ok, Err, length, take, map, refl, sym, ap, subst, ◌∙◌, arith, append_assoc, length-append}
+use Rattle.std.proofs.Common.{◌≡◌, ℕ, zero, suc, ◌+◌, ◌-◌, ◌<◌, ◌==◌, Bool, true, false, List, [], ◌∷◌, ◌++◌, Option, Some, None, Result, Ok, Err, length, take, map, refl, sym, ap, subst, ◌∙◌, arith, append_assoc, length-append, add-zero, add-suc}
 use Rattle.std.specs.Prelude.{is_err, nat_lt, slice_index, if◌then◌else◌}
 use Rattle.std.specs.List.{onto_first}
 use Rattle.std.specs.Io.KnownBytes.{Consumes, IsAtEnd, Keeps, prepend_known}
@@ -21,7 +21,7 @@ use Rattle.check_core.specs.declared.shown.TheConstants.{MOST_TEXT_BYTES}
 use Rattle.check_core.specs.Checking.{HasGathered}
 use Rattle.check_core.specs.Finding.{line_at, lines_at}
 use Rattle.check_core.specs.Forms.{◌>>=◌}
-use Rattle.check_core.specs.Gathered.{Gathers, whole_of}
+use Rattle.check_core.specs.Gathered.{Gathers, HasAdded, whole_of}
 use Rattle.check_core.specs.Reading.{HasEnded, HasGiven, IsPartAtOk, IsNextReading, MayFollow, Source, readings_of, without_line_feed}
 use Rattle.check_core.proofs.FormLemmas.{bind_some}
 
@@ -78,6 +78,15 @@ at_end bytes (Some xs) none h = ap (λ front. front ++ xs) none ∙ h
 pub part_at_err : {E : Type 0} (r : Result Bool E) (part : List ℕ) (new : Source) → IsErr r → IsPartAtOk r part new
 part_at_err (Ok ended) part new h = absurd cc
 part_at_err (Err e) part new h = tt
+
+-- bytes that are added in turn
+pub added_nothing : (text : Gathered MOST_TEXT_BYTES) → HasAdded MOST_TEXT_BYTES [] text text
+added_nothing text front gathers = subst (λ xs. Gathers MOST_TEXT_BYTES xs text) (sym (append-nil front)) gathers
+
+pub added_more : (a b c : Gathered MOST_TEXT_BYTES) (xs ys : List ℕ) → HasAdded MOST_TEXT_BYTES xs a b → HasAdded MOST_TEXT_BYTES ys b c
+    → HasAdded MOST_TEXT_BYTES (xs ++ ys) a c
+added_more a b c xs ys first later front gathers =
+    subst (λ zs. Gathers MOST_TEXT_BYTES zs c) (append_assoc front xs ys) (later (front ++ xs) (first front gathers))
 
 -- the bytes up to and with an LF
 pub with_feed : (bytes rest : List ℕ) (at : ℕ) → at < length bytes → bytes ≡ (take at bytes ++ 10 ∷ []) ++ rest
@@ -211,7 +220,7 @@ line_behind (b ∷ bytes) more found is =
           ∙ ap (λ f. Some (before_more more f)) (same_Some (b ∷ last.0, last.1) found end)
     ] is
 
-lines_behind : (k : ℕ) (bytes more : List ℕ) (found : List ℕ × List ℕ) → lines_at k bytes ≡ Some found → lines_at k (bytes ++ more) ≡ Some (before_more more found)
+pub lines_behind : (k : ℕ) (bytes more : List ℕ) (found : List ℕ × List ℕ) → lines_at k bytes ≡ Some found → lines_at k (bytes ++ more) ≡ Some (before_more more found)
 lines_behind zero bytes more found is = ap (λ f. Some (before_more more f)) (same_Some ([], bytes) found is)
 lines_behind (suc k) bytes more found is =
     let (front, front_is, next) = bind_some (lines_at k bytes) (λ front. line_at front.1 >>= (λ last. Some (front.0 ++ last.0, last.1))) found is in
@@ -219,6 +228,18 @@ lines_behind (suc k) bytes more found is =
     ap (λ (f : Option (List ℕ × List ℕ)). f >>= (λ front. line_at front.1 >>= (λ last. Some (front.0 ++ last.0, last.1)))) (lines_behind k bytes more front front_is)
     ∙ ap (λ (f : Option (List ℕ × List ℕ)). f >>= (λ last. Some (front.0 ++ last.0, last.1))) (line_behind front.1 more last last_is)
     ∙ ap (λ f. Some (before_more more f)) (same_Some (front.0 ++ last.0, last.1) found end)
+
+-- the first lines, and more lines behind them
+pub lines_more : (j k : ℕ) (front bytes : List ℕ) (found : List ℕ × List ℕ) → lines_at j front ≡ Some (front, []) → lines_at k bytes ≡ Some found
+    → lines_at (j + k) (front ++ bytes) ≡ Some (front ++ found.0, found.1)
+lines_more j zero front bytes found first is =
+    rw add-zero (lines_behind j front bytes (front, []) first ∙ ap (λ xs. Some (xs, bytes)) (sym (append-nil front))
+    ∙ ap (λ f. Some (front ++ f.0, f.1)) (same_Some ([], bytes) found is))
+lines_more j (suc k) front bytes found first is =
+    let (before, before_is, next) = bind_some (lines_at k bytes) (λ before. line_at before.1 >>= (λ last. Some (before.0 ++ last.0, last.1))) found is in
+    let (last, last_is, end) = bind_some (line_at before.1) (λ last. Some (before.0 ++ last.0, last.1)) found next in
+    rw add-suc (rw (lines_more j k front bytes before first before_is, last_is, append_assoc)
+    (ap (λ f. Some (front ++ f.0, f.1)) (same_Some (before.0 ++ last.0, last.1) found end)))
 
 -- the gathered lines are the first lines, whatever follows
 pub stand_first : {k : ℕ} {came : List ℕ} {text : Gathered MOST_TEXT_BYTES} → HasGathered k came text → (more : List ℕ) → lines_at k (came ++ more) ≡ Some (came, more)

@@ -1,5 +1,5 @@
--- The verdict on the reply to each line of a trace, how a check ends, and when memory may run out.
-use Rattle.std.specs.Prelude.{◌≡◌, ℕ, suc, Bool, true, false, List, [], ◌∷◌, ◌++◌, Option, Some, None, Result, Ok, Err, ◌⊎◌}
+-- The verdict on the reply to each line of a trace, how a check ends, what it shows, and when memory may run out.
+use Rattle.std.specs.Prelude.{◌≡◌, ℕ, suc, ◌-◌, Bool, true, false, List, [], ◌∷◌, ◌++◌, length, Option, Some, None, Result, Ok, Err, ◌⊎◌}
 use Rattle.promise_core.specs.declared.promise.Promise.{Promise}
 use Rattle.words_core.specs.declared.event.Event.{Event}
 use Rattle.words_core.specs.declared.event.LineFault.{LineFault}
@@ -8,13 +8,15 @@ use Rattle.promise_core.specs.Promises.{allowed}
 use Rattle.promise_core.specs.State.{Known}
 use Rattle.judge.specs.Adding.{is_addition}
 use Rattle.judge.specs.KnownMachine.{SeenMachine, ShowsKnown, IsVerdict}
+use Rattle.check_core.specs.declared.finding.Breach.{Breach}
 use Rattle.check_core.specs.declared.finding.Finding.{Finding}
 use Rattle.check_core.specs.declared.finding.Unchecked.{Unchecked}
 use Rattle.check_core.specs.declared.gathered.Gathered.{Gathered}
-use Rattle.check_core.specs.declared.shown.TheConstants.{MOST_TEXT_BYTES}
-use Rattle.check_core.specs.Finding.{after_lines, lines_at, lines_to, more_lines, reply_in, verdict_at}
+use Rattle.check_core.specs.declared.shown.Shown.{Shown}
+use Rattle.check_core.specs.declared.shown.TheConstants.{MOST_PART_BYTES, MOST_TEXT_BYTES}
+use Rattle.check_core.specs.Finding.{after_lines, finding_of, lines_at, lines_to, more_lines, reply_in, verdict_at}
 use Rattle.check_core.specs.Gathered.{Gathers}
-use Rattle.check_core.specs.Reading.{HasEnded, MayFollow, Source}
+use Rattle.check_core.specs.Reading.{HasEnded, MayFollow, Source, readings_of}
 
 -- these bytes were gathered, and they are exactly this many whole lines
 pub record HasGathered (lines : ℕ) (came : List ℕ) (text : Gathered MOST_TEXT_BYTES) : Type 0 where
@@ -25,8 +27,8 @@ pub record HasGathered (lines : ℕ) (came : List ℕ) (text : Gathered MOST_TEX
 -- follows. If the reply is allowed, its lines are `part`, the verdict is their number, and the machine shows what is known after
 -- the reply. Otherwise the verdict is the first promise that the reply breaks.
 abbrev pub IsLineVerdict : Result ℕ Promise → Result (Option Event) LineFault → List ℕ → Known → SeenMachine → Source → Type 0
-IsLineVerdict (Ok lines) reading part w new replies = (lines ≡ lines_to reading w) × ((after : Known) × ShowsKnown new after
-    × ((more : List ℕ) → (verdict_at reading (part ++ more) w ≡ Ok after) × (after_lines lines (part ++ more) ≡ more)))
+IsLineVerdict (Ok lines) reading part w new replies = (lines ≡ lines_to reading w) × (lines_at lines part ≡ Some (part, []))
+    × ((after : Known) × ShowsKnown new after × ((more : List ℕ) → verdict_at reading (part ++ more) w ≡ Ok after))
 IsLineVerdict (Err promise) reading part w new replies =
     (more : List ℕ) → MayFollow replies more → verdict_at reading (part ++ more) w ≡ Err promise
 
@@ -40,6 +42,36 @@ IsTextVerdict None event found w new = (found ≡ None) × ShowsKnown new w
 abbrev pub IsKeptAtEnd : Finding → (trace replies : Source) → Type 0
 IsKeptAtEnd (Finding.Kept lines) trace replies = HasEnded trace × HasEnded replies
 IsKeptAtEnd (Finding.Broken breach) trace replies = Unit {0}
+
+-- no line, or one line that has a reply
+abbrev pub IsLineOrNone : List (Result (Option Event) LineFault) → Type 0
+IsLineOrNone [] = Unit {0}
+IsLineOrNone (Ok (Some event) ∷ []) = Unit {0}
+IsLineOrNone (Err fault ∷ []) = Unit {0}
+IsLineOrNone (Ok None ∷ []) = ⊥
+IsLineOrNone (reading ∷ next ∷ readings) = ⊥
+
+-- The line and the reply of a breach are the last of what was read. Each earlier line has an allowed reply among the earlier
+-- replies, and nothing is left of these. If the reply of the breach is left over, the line is empty.
+pub record IsBreachAt (w : Known) (breach : Breach) (asked told line reply : List ℕ) : Type 0 where
+  pub earlier : List ℕ
+  pub answers : List ℕ
+  pub asked_is : asked ≡ earlier ++ line
+  pub told_is : told ≡ answers ++ reply
+  pub kept : finding_of w earlier answers ≡ Finding.Kept (breach.line - length (readings_of line))
+  pub whole : lines_at (breach.reply - 1) answers ≡ Some (answers, [])
+  pub one : IsLineOrNone (readings_of line)
+
+-- these bytes were read as a line of the trace, and as its reply, and are shown as far as the buffers hold them
+pub record HasRead (asked told : List ℕ) (shown : Shown) : Type 0 where
+  pub line : Gathers MOST_PART_BYTES asked shown.line
+  pub reply : Gathers MOST_TEXT_BYTES told shown.reply
+
+-- if the finding is a breach, its line and its reply are shown
+abbrev pub ShowsFinding : Known → Finding → (asked told : List ℕ) → Shown → Type 0
+ShowsFinding w (Finding.Kept lines) asked told shown = Unit {0}
+ShowsFinding w (Finding.Broken breach) asked told shown =
+    (line : List ℕ) × (reply : List ℕ) × IsBreachAt w breach asked told line reply × HasRead line reply shown
 
 -- Why there is no finding: the reader of the trace failed (`unread` is true), the reader of the replies failed (`untold` is
 -- true), or neither failed, but memory ran out, and `short` holds.

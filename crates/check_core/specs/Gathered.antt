@@ -1,11 +1,15 @@
 -- Bytes that come in pieces.
-use Rattle.std.specs.Prelude.{◌≡◌, ℕ, nat_lt, if◌then◌else◌, List, length, take, Option, Some, None}
+use Rattle.std.specs.Prelude.{◌≡◌, ℕ, nat_lt, if◌then◌else◌, List, ◌++◌, length, take, Option, Some, None}
 use Rattle.check_core.specs.declared.gathered.Gathered.{Gathered}
 
 -- these bytes have come, and the first `most` of them are held
 pub record Gathers (most : ℕ) (came : List ℕ) (g : Gathered most) : Type 0 where
   pub front : g.held.items ≡ take most came
   pub longer : g.longer ≡ nat_lt most (length came)
+
+-- these bytes were added to what had come
+abbrev pub HasAdded : (most : ℕ) → List ℕ → (old new : Gathered most) → Type 0
+HasAdded most bytes old new = (front : List ℕ) → Gathers most front old → Gathers most (front ++ bytes) new
 
 -- the bytes, if there are at most `most`
 abbrev pub whole_of : ℕ → List ℕ → Option (List ℕ)

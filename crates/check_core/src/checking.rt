@@ -3,8 +3,9 @@
 ghost use Rattle.std.specs.Prelude.{◌≡◌, ℕ, ◌+◌, ◌^◌, ◌<◌, ◌==◌, List, IfOk, true, false, length};
 ghost use Rattle.promise_core.specs.State.{Known};
 ghost use Rattle.judge.specs.KnownMachine.{ShowsKnown};
-ghost use Rattle.check_core.specs.Checking.{ComesToAdd, IsEndedBy, IsKeptAtEnd};
+ghost use Rattle.check_core.specs.Checking.{ComesToAdd, IsEndedBy, IsKeptAtEnd, ShowsFinding};
 ghost use Rattle.check_core.specs.Finding.{finding_of};
+ghost use Rattle.check_core.specs.Gathered.{Gathers};
 ghost use Rattle.check_core.specs.Reading.{HasEnded, HasGiven, WhateverFollows, readings_of};
 
 use crate::finding::{Breach, Finding, Unchecked};
@@ -20,8 +21,8 @@ use streams::{Feed, Stopped};
 /// Checks the replies to a trace, each against what earlier replies reported, up to the first that is not allowed. Returns `Err`
 /// if the trace or the replies cannot be read, or if memory runs out.
 ///
-/// Afterwards `shown` holds the last line that was read, and what was read as its reply. If a reply is left over after the reply
-/// to the last line, `shown` holds that reply and no line.
+/// If a reply is not allowed, `shown` holds its line and what was read as this reply. If a reply is left over behind the last
+/// line's, `shown` holds this reply and no line.
 pub fn check<T: Feed, R: Feed>(
     machine: &mut KnownMachine,
     trace: &mut LineReader<T>,
@@ -30,10 +31,11 @@ pub fn check<T: Feed, R: Feed>(
 ) -> Result<Finding, Unchecked>
     requires trace_fine { trace.old.failed ≡ false }
     requires replies_fine { replies.old.failed ≡ false }
-    // The finding is right for all texts that begin with what was read of the trace and of the replies.
+    // What was read of the trace and of the replies. The finding is right for all texts that begin so, and its breach is shown.
     ensures found { (asked : List ℕ) × (told : List ℕ) × HasGiven trace.old trace.new asked × HasGiven replies.old replies.new told
         × ((w : Known) → ShowsKnown machine.old w → IfOk result (λ finding. WhateverFollows trace.new replies.new asked told
-        (λ trace replies. finding ≡ finding_of w trace replies))) }
+        (λ trace replies. finding ≡ finding_of w trace replies)))
+        × ((w : Known) → ShowsKnown machine.old w → IfOk result (λ finding. ShowsFinding w finding asked told shown.new)) }
     ensures kept { IfOk result (λ finding. IsKeptAtEnd finding trace.new replies.new) }
     // Memory runs out only if an allowed reply adds something and no promise was broken before it.
     ensures end { IsEndedBy result trace.new.failed replies.new.failed ((asked : List ℕ) × (told : List ℕ)
@@ -78,7 +80,8 @@ fn has_ended<R: Feed>(
 ) -> Result<bool, Unchecked>
     requires fine { replies.old.failed ≡ false }
     ensures none { (part : List ℕ) × HasGiven replies.old replies.new part
-        × IfOk result (λ ended. (ended ≡ (length part == 0)) × (ended ≡ true → HasEnded replies.new)) }
+        × IfOk result (λ ended. (ended ≡ (length part == 0)) × (ended ≡ true → HasEnded replies.new))
+        × Gathers MOST_TEXT_BYTES part text.new }
     ensures end { IsEndedBy result false replies.new.failed ⊥ }
 {
     text.clear();

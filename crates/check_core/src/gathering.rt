@@ -4,7 +4,7 @@ ghost use Rattle.std.specs.Prelude.{◌≡◌, ℕ, ◌+◌, ◌≤◌, List, �
 ghost use Rattle.std.specs.Str.{bytes_eq};
 ghost use Rattle.check_core.specs.Checking.{HasGathered, IsEndedBy};
 ghost use Rattle.check_core.specs.Finding.{lines_at};
-ghost use Rattle.check_core.specs.Gathered.{Gathers};
+ghost use Rattle.check_core.specs.Gathered.{Gathers, HasAdded};
 ghost use Rattle.check_core.specs.Reading.{HasEnded, HasGiven};
 
 use crate::finding::Unchecked;
@@ -33,7 +33,8 @@ pub fn gather<F: Feed>(
     requires fine { replies.old.failed ≡ false }
     ensures come { (part : List ℕ) × HasGiven replies.old replies.new part
         × ((k n : ℕ) (came : List ℕ) → k + lines ≡ n → HasGathered k came text.old → IfOk result (λ all. MatchBool all
-        (HasGathered n (came ++ part) text.new) (HasEnded replies.new × (lines_at n (came ++ part) ≡ None)))) }
+        (HasGathered n (came ++ part) text.new) (HasEnded replies.new × (lines_at n (came ++ part) ≡ None))))
+        × HasAdded MOST_TEXT_BYTES part text.old text.new }
     ensures room { result ≡ Ok true → replies.new.room + lines ≤ replies.old.room }
     ensures end { IsEndedBy result false replies.new.failed ⊥ }
 {

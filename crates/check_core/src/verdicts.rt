@@ -7,7 +7,7 @@ ghost use Rattle.judge.specs.Adding.{IsAllowedAddition};
 ghost use Rattle.judge.specs.KnownMachine.{SeenMachine, ShowsKnown};
 ghost use Rattle.check_core.specs.Checking.{AddsAt, HasGathered, IsEndedBy, IsLineVerdict, IsTextVerdict};
 ghost use Rattle.check_core.specs.Finding.{broken_by, lines_to, more_lines, refusal_read, reply_in, text_read};
-ghost use Rattle.check_core.specs.Gathered.{Gathers};
+ghost use Rattle.check_core.specs.Gathered.{Gathers, HasAdded};
 ghost use Rattle.check_core.specs.Reading.{HasGiven, Source};
 ghost use Rattle.check_core.specs.Tables.{table_of};
 
@@ -39,7 +39,8 @@ pub(crate) fn judge_line<R: Feed>(
 ) -> Result<LineVerdict, Unchecked>
     requires fine { replies.old.failed ≡ false }
     ensures judged { (part : List ℕ) × HasGiven replies.old replies.new part × ((w : Known) → ShowsKnown machine.old w
-        → IfOk result (λ verdict. IsLineVerdict verdict reading.now part w machine.new replies.new)) }
+        → IfOk result (λ verdict. IsLineVerdict verdict reading.now part w machine.new replies.new))
+        × Gathers MOST_TEXT_BYTES part text.new }
     ensures room { IfOk result (λ verdict. IfOk verdict (λ lines. replies.new.room + lines ≤ replies.old.room)) }
     ensures end { IsEndedBy result false replies.new.failed ((part : List ℕ) × HasGiven replies.old replies.new part
         × ((w : Known) (more : List ℕ) → ShowsKnown machine.old w → AddsAt reading.now (part ++ more) w)) }
@@ -64,7 +65,8 @@ fn judge_fault<R: Feed>(
     requires fine { replies.old.failed ≡ false }
     ensures judged { (part : List ℕ) × HasGiven replies.old replies.new part
         × ((w : Known) (kept : SeenMachine) → ShowsKnown kept w → Gathers MOST_TEXT_BYTES [] text.old
-        → IfOk result (λ verdict. IsLineVerdict verdict (Err fault) part w kept replies.new)) }
+        → IfOk result (λ verdict. IsLineVerdict verdict (Err fault) part w kept replies.new))
+        × HasAdded MOST_TEXT_BYTES part text.old text.new }
     ensures room { IfOk result (λ verdict. IfOk verdict (λ lines. replies.new.room + lines ≤ replies.old.room)) }
     ensures end { IsEndedBy result false replies.new.failed ⊥ }
 {
@@ -90,7 +92,8 @@ fn judge_event<R: Feed>(
     requires fine { replies.old.failed ≡ false }
     ensures judged { (part : List ℕ) × HasGiven replies.old replies.new part
         × ((w : Known) → ShowsKnown machine.old w → Gathers MOST_TEXT_BYTES [] text.old
-        → IfOk result (λ verdict. IsLineVerdict verdict (Ok (Some event.now)) part w machine.new replies.new)) }
+        → IfOk result (λ verdict. IsLineVerdict verdict (Ok (Some event.now)) part w machine.new replies.new))
+        × HasAdded MOST_TEXT_BYTES part text.old text.new }
     ensures room { IfOk result (λ verdict. IfOk verdict (λ lines. replies.new.room + lines ≤ replies.old.room)) }
     ensures end { IsEndedBy result false replies.new.failed ((part : List ℕ) × HasGiven replies.old replies.new part
         × ((w : Known) (more : List ℕ) → ShowsKnown machine.old w → Gathers MOST_TEXT_BYTES [] text.old
@@ -120,7 +123,8 @@ fn judge_lines<R: Feed>(
     requires some { more + 1 < 2 ^ 128 }
     ensures judged { (part : List ℕ) × HasGiven replies.old replies.new part
         × ((w : Known) (came : List ℕ) → ShowsKnown machine.old w → more_lines event.now w ≡ more → HasGathered 1 came text.old
-        → IfOk result (λ verdict. IsLineVerdict verdict (Ok (Some event.now)) (came ++ part) w machine.new replies.new)) }
+        → IfOk result (λ verdict. IsLineVerdict verdict (Ok (Some event.now)) (came ++ part) w machine.new replies.new))
+        × HasAdded MOST_TEXT_BYTES part text.old text.new }
     ensures room { IfOk result (λ verdict. IfOk verdict (λ lines. replies.new.room + lines ≤ replies.old.room + 1)) }
     ensures end { IsEndedBy result false replies.new.failed ((part : List ℕ) × HasGiven replies.old replies.new part
         × ((w : Known) (came later : List ℕ) → ShowsKnown machine.old w → more_lines event.now w ≡ more

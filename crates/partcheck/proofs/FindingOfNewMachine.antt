@@ -1,13 +1,18 @@
--- The meaning of a finding on a new machine.
+-- The meaning of a finding on a new machine, and what is shown of it.
 use Rattle.std.proofs.Common.{◌≡◌, ℕ, List, ◌++◌, Some, subst, sym}
 use Rattle.model_core.specs.declared.config.Config.{Config}
 use Rattle.model_core.specs.declared.limits.TheConstants.{MOST_CACHES}
 use Rattle.check_core.specs.declared.finding.Finding.{Finding}
 use Rattle.check_core.specs.declared.finding.Finding.TheVariants.{Kept, Broken}
+use Rattle.check_core.specs.declared.shown.Shown.{Shown}
+use Rattle.check_core.specs.declared.shown.TheConstants.{MOST_PART_BYTES, MOST_TEXT_BYTES}
+use Rattle.check_core.specs.Checking.{ShowsFinding}
 use Rattle.check_core.specs.Finding.{finding_of}
+use Rattle.check_core.specs.Gathered.{Gathers}
 use Rattle.check_core.specs.Laws.{BrokenIsNotAllowed, KeptIsAllowed}
 use Rattle.check_core.specs.Reading.{HasGiven, Source, WhateverFollows}
 use Rattle.check_core.proofs.ReadingLemmas.{known_rest}
+use Rattle.promise_core.specs.State.{Known}
 use Rattle.partcheck.specs.Checked.{IsFindingOf, IsSoundFinding, opening_of}
 
 pub sound : KeptIsAllowed → BrokenIsNotAllowed → (config : Config) (finding : Finding) (asked told : List ℕ)
@@ -27,3 +32,17 @@ known_texts {told = told} IsSo asks tells so whole answers whole_is answers_is =
     let (more, same, may) = known_rest asks whole whole_is in
     let (later, alike, might) = known_rest tells answers answers_is in
     subst (λ xs. IsSo whole xs) (sym alike) (subst (λ xs. IsSo xs (told ++ later)) (sym same) (so more later may might))
+
+-- the same line and reply are shown
+pub still_shown : (w : Known) (finding : Finding) (asked told : List ℕ) (old new : Shown) → new.line ≡ old.line → new.reply ≡ old.reply
+    → ShowsFinding w finding asked told old → ShowsFinding w finding asked told new
+still_shown w (Kept lines) asked told old new line_is reply_is shows = tt
+still_shown w (Broken breach) asked told old new line_is reply_is (line, reply, is, read) = (
+  line,
+  reply,
+  is,
+  record {
+    line = subst (λ text. Gathers MOST_PART_BYTES line text) (sym line_is) read.line;
+    reply = subst (λ text. Gathers MOST_TEXT_BYTES reply text) (sym reply_is) read.reply;
+  },
+)

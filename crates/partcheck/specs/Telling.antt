@@ -7,7 +7,7 @@ use Rattle.std.specs.Str.{bytes_eq}
 use Rattle.std.specs.Str.Lines.{strip_carriage_return}
 use Rattle.promise_core.specs.Names.{name_of_promise}
 use Rattle.promise_core.specs.declared.promise.Promise.{Promise}
-use Rattle.check_core.specs.Gathered.{Gathers}
+use Rattle.check_core.specs.Checking.{HasRead}
 use Rattle.check_core.specs.Reading.{without_line_feed}
 use Rattle.check_core.specs.declared.finding.Breach.{Breach}
 use Rattle.check_core.specs.declared.finding.Finding.{Finding}
@@ -111,11 +111,6 @@ reason_text Promise.Owners taken = words_of_promise Promise.Owners
 reason_text Promise.Bytes taken = words_of_promise Promise.Bytes
 reason_text Promise.Report taken = words_of_promise Promise.Report
 reason_text Promise.Still taken = words_of_promise Promise.Still
-
--- these bytes were read as a line of the trace, and as its reply
-pub record HasRead (asked told : List ℕ) (shown : Shown) : Type 0 where
-  pub line : Gathers MOST_PART_BYTES asked shown.line
-  pub reply : Gathers MOST_TEXT_BYTES told shown.reply
 
 -- the line if a reply is not allowed; it shows at most 255 bytes of the trace's line, and at most 200 of the reply
 unfoldable pub breach_text : Breach → (asked told : List ℕ) → Option TakenFrame → List ℕ

@@ -2,7 +2,7 @@
 
 ghost use Rattle.std.specs.Prelude.{◌≡◌, ℕ, List, true, false, Some, IfOk, ◌⊎◌};
 ghost use Rattle.model_core.specs.Booting.{is_bootable};
-ghost use Rattle.check_core.specs.Checking.{ComesToAdd, IsEndedBy, IsKeptAtEnd};
+ghost use Rattle.check_core.specs.Checking.{ComesToAdd, IsEndedBy, IsKeptAtEnd, ShowsFinding};
 ghost use Rattle.check_core.specs.Reading.{HasGiven, WhateverFollows, readings_of};
 ghost use Rattle.partcheck.specs.Checked.{IsFindingOf, opening_of};
 
@@ -25,9 +25,11 @@ pub fn run<T: Feed, R: Feed>(
     requires bootable { is_bootable config ≡ true }
     requires trace_fine { trace.old.failed ≡ false }
     requires replies_fine { replies.old.failed ≡ false }
-    // The finding, with its meaning, is the one for all texts that begin with what was read of the trace and of the replies.
+    // What was read of the trace and of the replies. The finding, with its meaning, is that of all texts that begin so, and its
+    // breach is shown.
     ensures found { (asked : List ℕ) × (told : List ℕ) × HasGiven trace.old trace.new asked × HasGiven replies.old replies.new told
-        × IfOk result (λ finding. WhateverFollows trace.new replies.new asked told (IsFindingOf config finding)) }
+        × IfOk result (λ finding. WhateverFollows trace.new replies.new asked told (IsFindingOf config finding))
+        × IfOk result (λ finding. ShowsFinding (opening_of config) finding asked told shown.new) }
     ensures kept { IfOk result (λ finding. IsKeptAtEnd finding trace.new replies.new) }
     // If the two texts are known, the finding is the one for these texts.
     ensures known { (asked told : List ℕ) → trace.old.left ≡ Some asked → replies.old.left ≡ Some told
@@ -47,10 +49,18 @@ pub fn run<T: Feed, R: Feed>(
         config.tenants as u8,
     )?;
     let found = check(&mut machine, trace, replies, shown);
-    if let Ok(Finding::Broken(_)) = &found {
-        shown.look_for_taken(&machine);
-    }
+    note_taken(&found, &machine, shown);
     // The machine is not dropped: the process ends soon, and the system frees its memory faster than drops would.
     mem::forget(machine);
     found
+}
+
+/// After a breach, looks for a live page block that overlaps the page block of the shown reply.
+fn note_taken(found: &Result<Finding, Unchecked>, machine: &KnownMachine, shown: &mut Shown)
+    ensures line { shown.new.line ≡ shown.old.line }
+    ensures reply { shown.new.reply ≡ shown.old.reply }
+{
+    if let Ok(Finding::Broken(_)) = found {
+        shown.look_for_taken(machine);
+    }
 }

@@ -5,8 +5,9 @@ ghost use Rattle.std.specs.Char.Escape.{escape_ascii};
 ghost use Rattle.std.specs.Io.KnownBytes.{Appends};
 ghost use Rattle.std.specs.List.{list_all};
 ghost use Rattle.std.specs.Str.Lines.{strip_carriage_return};
+ghost use Rattle.check_core.specs.Checking.{HasRead};
 ghost use Rattle.check_core.specs.Reading.{without_line_feed};
-ghost use Rattle.partcheck.specs.Telling.{AppendsFinding, HasRead, begin_text, breach_text, counted_word, cut_mark, excerpt_of, excerpt_text};
+ghost use Rattle.partcheck.specs.Telling.{AppendsFinding, begin_text, breach_text, counted_word, cut_mark, excerpt_of, excerpt_text};
 ghost use Rattle.partcheck.specs.Telling.{has_filled_ends, if_read, is_plain_text, is_reply_byte, is_shown_plain, kept_text, plain_byte};
 ghost use Rattle.partcheck.specs.Telling.{reason_text, trace_line, words_of_promise};
 

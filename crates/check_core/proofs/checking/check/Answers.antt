@@ -1,19 +1,20 @@
-use Rattle.std.proofs.Common.{ℕ, ◌+◌, ◌<◌, ◌≤◌, [], ◌++◌, Option, Result, IfOk, IfSome, inl, refl, ap, sym, subst, ◌∙◌, arith}
+use Rattle.std.proofs.Common.{ℕ, ◌+◌, ◌<◌, ◌≤◌, [], ◌∷◌, ◌++◌, Option, Result, IfOk, IfSome, inl, refl, ap, sym, subst, add-zero, append-nil, ◌∙◌, arith}
 use Rattle.std.proofs.lemmas.Result.{IfOk-from_err}
 use Rattle.words_core.specs.declared.event.Event.{Event}
 use Rattle.words_core.specs.declared.event.LineFault.{LineFault}
 use Rattle.promise_core.specs.declared.promise.Promise.{Promise}
+use Rattle.check_core.specs.declared.finding.Breach.{Breach}
 use Rattle.check_core.specs.Checking.{ComesToAdd, IsLineVerdict}
 use Rattle.check_core.specs.Finding.{finding}
 use Rattle.check_core.specs.Reading.{IsNextReading, readings_of}
-use Rattle.check_core.proofs.CheckLemmas.{behind_parts, breaks, ends_broken, ends_kept, goes_on}
+use Rattle.check_core.proofs.CheckLemmas.{behind_parts, breach_at, breaks, ends_broken, ends_kept, goes_on, has_reply, left_after}
 use Rattle.check_core.proofs.Ending.{adds_later, stopped_reading, stopped_telling}
-use Rattle.check_core.proofs.ReadingLemmas.{gives_more, gives_nothing, none_behind, some_behind}
+use Rattle.check_core.proofs.ReadingLemmas.{gives_more, gives_nothing, lines_more, none_behind, some_behind}
 use Rattle.check_core.proofs.checking.check.Goals as goal
 
 pub lines-init : goal.lines-init
 lines-init g c = record {
-  given = ([], [], gives_nothing _, gives_nothing _, λ w shows. (w, shows, λ more later may. (refl, λ adds. adds)));
+  given = ([], [], gives_nothing _, gives_nothing _, λ w shows. (w, shows, λ more later may. (refl, λ adds. adds), refl));
   trace_fine = c.requires.trace_fine;
   replies_fine = c.requires.replies_fine;
   lines = omega arith;
@@ -37,15 +38,16 @@ lines-preserved g c =
         gives_more here.2 part.1,
         gives_more here.3 answer.1,
         λ w shows.
-            let (now, showing, behind) = here.4 w shows in
-            let (count, (after, shown, is)) = subst
+            let (now, showing, behind, whole) = here.4 w shows in
+            let (count, lines, (after, shown, is)) = subst
             (λ (verdict : Result ℕ Promise). IsLineVerdict verdict c.in-Some.reading answer.0 now c.judge_line.new.machine c.judge_line.new.replies)
             c.in-Ok.is (answer.2 now showing) in (
               after,
               shown,
               λ more later may.
                   let (found, adds) = behind_parts w here.0 here.1 part.0 answer.0 behind part.1 more later may in
-                  let (verdict, left) = is later in (
+                  let verdict = is later in
+                  let left = left_after c.in-Ok.lines answer.0 later lines in (
                     found ∙ ap (λ readings. finding c.lines.line c.lines.reply readings (answer.0 ++ later) now) (read more may)
                         ∙ goes_on c.lines.line c.lines.reply c.in-Ok.lines c.in-Some.reading (readings_of more) (answer.0 ++ later) now after verdict count
                         ∙ ap (λ bytes. finding (c.lines.line + 1) (c.lines.reply + c.in-Ok.lines) (readings_of more) bytes after) left,
@@ -53,6 +55,7 @@ lines-preserved g c =
                         (adds_later c.in-Ok.lines c.in-Some.reading (readings_of more) (answer.0 ++ later) now after verdict count
                         (subst (λ bytes. ComesToAdd (readings_of more) bytes after) (sym left) adds_more))),
                   ),
+              lines_more c.lines.reply c.in-Ok.lines here.1 answer.0 (answer.0, []) whole lines,
             ),
       );
       trace_fine = c.in_ok-reading.ensures.end.0;
@@ -65,7 +68,7 @@ pub returns-in_err-reading-clause-found : goal.returns-in_err-reading-clause-fou
 returns-in_err-reading-clause-found g c =
     let here = c.lines.invariant.given in
     let part = c.in_err-reading.ensures.reading in
-    (here.0 ++ part.0, here.1, gives_more here.2 part.1, here.3, λ w shows. IfOk-from_err _ _ c.from_residual.ensures.0)
+    (here.0 ++ part.0, here.1, gives_more here.2 part.1, here.3, λ w shows. IfOk-from_err _ _ c.from_residual.ensures.0, λ w shows. IfOk-from_err _ _ c.from_residual.ensures.0)
 
 pub returns-in_err-lines-clause-found : goal.returns-in_err-lines-clause-found
 returns-in_err-lines-clause-found g c =
@@ -76,6 +79,8 @@ returns-in_err-lines-clause-found g c =
       here.1 ++ answer.0,
       gives_more here.2 part.1,
       gives_more here.3 answer.1,
+      λ w shows.
+          IfOk-from_err _ _ c.from_residual-in_err-lines.ensures.0,
       λ w shows.
           IfOk-from_err _ _ c.from_residual-in_err-lines.ensures.0,
     )
@@ -91,6 +96,8 @@ returns-in_err-has_ended-clause-found g c =
       gives_more here.3 answer.1,
       λ w shows.
           IfOk-from_err _ _ c.from_residual-in_err-has_ended.ensures.0,
+      λ w shows.
+          IfOk-from_err _ _ c.from_residual-in_err-has_ended.ensures.0,
     )
 
 pub returns-in-Err-clause-found : goal.returns-in-Err-clause-found
@@ -104,7 +111,7 @@ returns-in-Err-clause-found g c =
       gives_more here.2 part.1,
       gives_more here.3 answer.1,
       λ w shows.
-          let (now, showing, behind) = here.4 w shows in
+          let (now, showing, behind, whole) = here.4 w shows in
           let judged = subst
           (λ (verdict : Result ℕ Promise). IsLineVerdict verdict c.in-Some.reading answer.0 now c.judge_line.new.machine c.judge_line.new.replies)
           c.in-Err.is (answer.2 now showing) in
@@ -112,6 +119,20 @@ returns-in-Err-clause-found g c =
           ∙ sym ((behind_parts w here.0 here.1 part.0 answer.0 behind part.1 more later may).0
           ∙ ap (λ readings. finding c.lines.line c.lines.reply readings (answer.0 ++ later) now) (read more may)
           ∙ breaks c.lines.line c.lines.reply c.in-Err.promise c.in-Some.reading (readings_of more) (answer.0 ++ later) now (judged later may_later)),
+      λ w shows.
+          let (now, showing, behind, whole) = here.4 w shows in
+          let judged = subst
+          (λ (verdict : Result ℕ Promise). IsLineVerdict verdict c.in-Some.reading answer.0 now c.judge_line.new.machine c.judge_line.new.replies)
+          c.in-Err.is (answer.2 now showing) in
+          let breach : Breach = record { line = c.lines.line + 1; reply = c.lines.reply + 1; promise = c.in-Err.promise } in
+          rw c.broken.ensures (
+            part.0,
+            answer.0,
+            breach_at c.lines.trace w here.0 here.1 part.0 answer.0 breach (c.in-Some.reading ∷ []) behind whole
+                (ap readings_of (sym (append-nil part.0)) ∙ read [] (λ ended. refl)) refl refl
+                (has_reply c.in-Some.reading (answer.0 ++ []) now c.in-Err.promise (judged [] (λ ended. refl))),
+            record { line = part.3; reply = answer.3 },
+          ),
     )
 
 pub returns-then-branch-clause-found : goal.returns-then-branch-clause-found
@@ -125,10 +146,11 @@ returns-then-branch-clause-found g c =
       gives_more here.2 part.1,
       gives_more here.3 answer.1,
       λ w shows.
-          let (now, showing, behind) = here.4 w shows in
+          let (now, showing, behind, whole) = here.4 w shows in
           λ more later may may_later. sym ((behind_parts w here.0 here.1 part.0 answer.0 behind part.1 more later may).0
           ∙ ends_kept c.lines.line c.lines.reply (part.0 ++ more) (answer.0 ++ later) now (ap (λ xs. xs ++ more) none ∙ may ended)
           (none_behind answer.0 later (sym answer.2.0 ∙ c.if-branch.true) (may_later (answer.2.1 c.if-branch.true)))),
+      λ w shows. tt,
     )
 
 pub returns-then-branch-clause-kept : goal.returns-then-branch-clause-kept
@@ -148,10 +170,19 @@ returns-else-branch-clause-found g c =
       gives_more here.2 part.1,
       gives_more here.3 answer.1,
       λ w shows.
-          let (now, showing, behind) = here.4 w shows in
+          let (now, showing, behind, whole) = here.4 w shows in
           λ more later may may_later. c.broken-else-branch.ensures ∙ sym ((behind_parts w here.0 here.1 part.0 answer.0 behind part.1 more later may).0
           ∙ ends_broken c.lines.line c.lines.reply (part.0 ++ more) (answer.0 ++ later) now (ap (λ xs. xs ++ more) none ∙ may ended)
           (some_behind answer.0 later (sym answer.2.0 ∙ c.if-branch.false))),
+      λ w shows.
+          let (now, showing, behind, whole) = here.4 w shows in
+          let breach : Breach = record { line = c.lines.line; reply = c.lines.reply + 1; promise = Promise.Form } in
+          rw c.broken-else-branch.ensures (
+            part.0,
+            answer.0,
+            breach_at c.lines.trace w here.0 here.1 part.0 answer.0 breach [] behind whole (ap readings_of none) (sym (add-zero c.lines.line)) refl tt,
+            record { line = part.3; reply = answer.3 },
+          ),
     )
 
 pub returns-in-Err-clause-kept : goal.returns-in-Err-clause-kept
@@ -175,7 +206,7 @@ returns-in_err-lines-clause-end g c =
       gives_more here.2 part.1,
       gives_more here.3 answer.1,
       λ w shows.
-          let (now, showing, behind) = here.4 w shows in
+          let (now, showing, behind, whole) = here.4 w shows in
           λ more later may may_later. (behind_parts w here.0 here.1 part.0 answer.0 behind part.1 more later may).1
           (subst (λ readings. ComesToAdd readings (answer.0 ++ later) now) (sym (read more may)) (inl (answer.2 now later showing))),
     )) c.in_err-lines.ensures.end

@@ -1,6 +1,7 @@
-use Rattle.std.proofs.Common.{◌≡◌, ℕ, ◌+◌, ◌≤◌, List, false}
+use Rattle.std.proofs.Common.{◌≡◌, ℕ, ◌+◌, ◌≤◌, List, [], Some, false}
 use Rattle.promise_core.specs.State.{Known}
 use Rattle.judge.specs.KnownMachine.{ShowsKnown}
+use Rattle.check_core.specs.Finding.{lines_at}
 use Rattle.check_core.specs.Reading.{HasGiven}
 use Rattle.check_core.proofs.CheckLemmas.{IsBehind}
 use Rattle.check_core.proofs.checking.check.Given as goal
@@ -9,7 +10,7 @@ abbrev pub invariant-lines : goal.invariant-lines
 invariant-lines g l = record {
   given : (asked : List ℕ) × (told : List ℕ) × HasGiven l.fn.trace l.trace asked × HasGiven l.fn.replies l.replies told
       × ((w : Known) → ShowsKnown l.fn.machine w
-      → (now : Known) × ShowsKnown l.machine now × IsBehind w asked told l.line l.reply l.trace now);
+      → (now : Known) × ShowsKnown l.machine now × IsBehind w asked told l.line l.reply l.trace now × (lines_at l.reply told ≡ Some (told, [])));
   trace_fine : l.trace.failed ≡ false;
   replies_fine : l.replies.failed ≡ false;
   lines : l.trace.room + l.line ≤ l.fn.trace.room;

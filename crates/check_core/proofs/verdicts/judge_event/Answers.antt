@@ -4,12 +4,12 @@ use Rattle.std.proofs.lemmas.Result.{IfOk-from_err}
 use Rattle.check_core.specs.Finding.{more_lines, refusal_read}
 use Rattle.check_core.proofs.CheckLemmas.{no_reply_judged, none_there}
 use Rattle.check_core.proofs.Ending.{ended_so, ended_where}
-use Rattle.check_core.proofs.ReadingLemmas.{gives_more, none_come, none_follows}
+use Rattle.check_core.proofs.ReadingLemmas.{added_more, gives_more, none_come, none_follows}
 use Rattle.check_core.proofs.verdicts.judge_event.Goals as goal
 
 pub returns-in_err-gather-clause-judged : goal.returns-in_err-gather-clause-judged
 returns-in_err-gather-clause-judged g c =
-    let come = c.in_err-gather.ensures.come in (come.0, come.1, λ w shown none. IfOk-from_err _ _ c.from_residual.ensures.0)
+    let come = c.in_err-gather.ensures.come in (come.0, come.1, λ w shown none. IfOk-from_err _ _ c.from_residual.ensures.0, come.3)
 
 pub returns-then-not-branch-clause-judged : goal.returns-then-not-branch-clause-judged
 returns-then-not-branch-clause-judged g c =
@@ -20,6 +20,7 @@ returns-then-not-branch-clause-judged g c =
           let (ended, gone) = MatchBool-at_false _ _ c.if-not-branch.true (come.2 0 1 [] refl (none_come none)) in
           no_reply_judged c.args.event.now (come.0 ++ more) w _ (none_there c.gather.new.replies 1 come.0 c.args.event.now w ended gone (omega arith) more may)
           (rw (none_follows 1 come.0 more c.gather.new.replies ended gone may) refl),
+      come.3,
     )
 
 pub returns-then-more-eq0-clause-judged : goal.returns-then-more-eq0-clause-judged
@@ -31,6 +32,7 @@ returns-then-more-eq0-clause-judged g c =
           let come = MatchBool-at_true _ _ c.if-not-branch.false (given.2 0 1 [] refl (none_come none)) in
           let few : more_lines c.args.event.now w ≡ 0 = sym (c.more_lines-more.ensures.lines w shown) ∙ c.if-more-eq0.true in
           c.judge_gathered.ensures.judged w given.0 _ shown (ap suc (sym few)) come (λ more gone. sym (ap refusal_read gone)),
+      given.3,
     )
 
 pub returns-then-more-eq0-clause-end : goal.returns-then-more-eq0-clause-end
@@ -54,6 +56,7 @@ returns-else-more-eq0-clause-judged g c =
       λ w shown none.
           later.2 w given.0 shown (sym (c.more_lines-more.ensures.lines w shown))
           (MatchBool-at_true _ _ c.if-not-branch.false (given.2 0 1 [] refl (none_come none))),
+      added_more c.args.text.now c.gather.new.text c.judge_lines.new.text given.0 later.0 given.3 later.3,
     )
 
 pub returns-else-more-eq0-clause-end : goal.returns-else-more-eq0-clause-end

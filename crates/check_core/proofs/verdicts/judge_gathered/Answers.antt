@@ -2,7 +2,7 @@ use Rattle.std.proofs.Common.{◌++◌, Option, Some, Result, Err, ap, sym, subs
 use Rattle.promise_core.specs.declared.promise.Promise.{Promise}
 use Rattle.check_core.specs.Checking.{IsTextVerdict}
 use Rattle.check_core.specs.Finding.{broken_by, reply_in, text_read}
-use Rattle.check_core.proofs.CheckLemmas.{by_reply, left_after, no_reply_judged, read_there}
+use Rattle.check_core.proofs.CheckLemmas.{by_reply, no_reply_judged, read_there}
 use Rattle.check_core.proofs.Ending.{adds_at, stopped_on, stopped_so}
 use Rattle.check_core.proofs.verdicts.judge_gathered.Goals as goal
 
@@ -17,11 +17,11 @@ returns-in-Some-Ok-clause-judged c w came replies shown count come told =
     let (reply, found, after) = subst (λ (verdict : Option (Result Unit Promise)). IsTextVerdict verdict c.args.event.now (text_read came) w c.judge_text.new.machine)
     (c.in-Some-Ok.is ∙ ap (λ (v : Result Unit Promise). Some v) c.in-Some-Ok.field-0-is) (c.in_ok-judge_text.ensures.judged w came shown come.gathers) in (
       count,
+      come.are,
       (
         after.0,
         after.2,
-        λ more.
-            (by_reply c.args.event.now (came ++ more) w (Some reply) (read_there c.args.event.now w come count more ∙ found) ∙ after.1, left_after come more),
+        λ more. by_reply c.args.event.now (came ++ more) w (Some reply) (read_there c.args.event.now w come count more ∙ found) ∙ after.1,
       ),
     )
 

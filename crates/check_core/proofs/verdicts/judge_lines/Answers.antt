@@ -8,11 +8,11 @@ use Rattle.check_core.proofs.verdicts.judge_lines.Goals as goal
 
 pub returns-in_err-gather-clause-judged : goal.returns-in_err-gather-clause-judged
 returns-in_err-gather-clause-judged g c =
-    let given = c.in_err-gather.ensures.come in (given.0, given.1, λ w came shown count first. IfOk-from_err _ _ c.from_residual.ensures.0)
+    let given = c.in_err-gather.ensures.come in (given.0, given.1, λ w came shown count first. IfOk-from_err _ _ c.from_residual.ensures.0, given.3)
 
 pub returns-in_err-broken_by-clause-judged : goal.returns-in_err-broken_by-clause-judged
 returns-in_err-broken_by-clause-judged g c =
-    let given = c.in_ok-gather.ensures.come in (given.0, given.1, λ w came shown count first. IfOk-from_err _ _ c.from_residual-in_err-broken_by.ensures.0)
+    let given = c.in_ok-gather.ensures.come in (given.0, given.1, λ w came shown count first. IfOk-from_err _ _ c.from_residual-in_err-broken_by.ensures.0, given.3)
 
 pub returns-then-not-branch-clause-judged : goal.returns-then-not-branch-clause-judged
 returns-then-not-branch-clause-judged g c =
@@ -26,6 +26,7 @@ returns-then-not-branch-clause-judged g c =
           (c.in_ok-broken_by.ensures.broken w shown ∙ ap (λ refused. broken_by c.args.event.now refused w)
           (c.refusal_in-refused.ensures came first.gathers
           ∙ ap refusal_read (sym (read_first first (given.0 ++ more)) ∙ ap (reply_in 1) (sym (append_assoc came given.0 more))))),
+      given.3,
     )
 
 pub returns-clause-judged : goal.returns-clause-judged
@@ -38,6 +39,7 @@ returns-clause-judged g c =
           let total : c.args.more + 1 ≡ suc (more_lines c.args.event.now w) = omega (arith, count) in
           c.judge_gathered.ensures.judged w (came ++ given.0) _ shown total come (λ more gone. c.refusal_in-refused.ensures came first.gathers
           ∙ ap refusal_read (sym (read_first first (given.0 ++ more)) ∙ ap (reply_in 1) (sym (append_assoc came given.0 more)))),
+      given.3,
     )
 
 pub returns-clause-end : goal.returns-clause-end

@@ -3,11 +3,11 @@ use Rattle.std.proofs.lemmas.Result.{IfOk-from_err, IfOk-weaker}
 use Rattle.check_core.proofs.Ending.{ended_so, ran_out}
 use Rattle.check_core.proofs.ReadingLemmas.{gives_nothing}
 use Rattle.partcheck.specs.Checked.{IsFindingOf, opening_of}
-use Rattle.partcheck.proofs.FindingOfNewMachine.{finds, known_texts}
+use Rattle.partcheck.proofs.FindingOfNewMachine.{finds, known_texts, still_shown}
 use Rattle.partcheck.proofs.run.run.Goals as goal
 
 pub returns-in_err-machine-clause-found : goal.returns-in_err-machine-clause-found
-returns-in_err-machine-clause-found g c = ([], [], gives_nothing _, gives_nothing _, IfOk-from_err _ _ c.from_residual.ensures.0)
+returns-in_err-machine-clause-found g c = ([], [], gives_nothing _, gives_nothing _, IfOk-from_err _ _ c.from_residual.ensures.0, IfOk-from_err _ _ c.from_residual.ensures.0)
 
 pub returns-in_err-machine-clause-end : goal.returns-in_err-machine-clause-end
 returns-in_err-machine-clause-end g c =
@@ -23,6 +23,8 @@ returns-clause-found g c =
       IfOk-weaker c.check-found.result _ _ (λ finding so more later may might.
           finds c.kept_is_allowed.ensures c.broken_is_not_allowed.ensures c.args.config finding _ _ (so more later may might))
           (given.4 (opening_of c.args.config) c.in_ok-machine.ensures),
+      IfOk-weaker c.check-found.result _ _ (λ finding so. still_shown (opening_of c.args.config) finding given.0 given.1 c.check-found.new.shown c.note_taken.new.shown
+          c.note_taken.ensures.line c.note_taken.ensures.reply so) (given.5 (opening_of c.args.config) c.in_ok-machine.ensures),
     )
 
 pub returns-clause-known : goal.returns-clause-known

@@ -1,8 +1,9 @@
 use Rattle.std.proofs.Common.{◌≡◌, ◌∙◌, ap, subst, append_assoc, take, codes}
 use Rattle.std.specs.Io.KnownBytes.{Appends}
 use Rattle.std.specs.Prelude.{option_copied}
+use Rattle.check_core.specs.Checking.{HasRead}
 use Rattle.check_core.specs.Reading.{without_line_feed}
-use Rattle.partcheck.specs.Telling.{HasRead, breach_text, excerpt_text, if_read, trace_line}
+use Rattle.partcheck.specs.Telling.{breach_text, excerpt_text, if_read, trace_line}
 use Rattle.partcheck.proofs.JoinedTexts.{each_read, first_text, last_text, then_text}
 use Rattle.partcheck.proofs.telling.write_breach.Goals as goal
 
