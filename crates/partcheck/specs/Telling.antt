@@ -74,18 +74,18 @@ if_read cut (byte ∷ bytes) = Some (cut (byte ∷ bytes))
 
 -- what a promise requires
 abbrev pub words_of_promise : Promise → List ℕ
-words_of_promise Promise.Form = codes "a reply is for whom it has to be, and a refusal or the reply to that command"
-words_of_promise Promise.Refusals = codes "a refusal comes where its condition stands, the first of several, and no other"
-words_of_promise Promise.Room = codes "no frames only where no block, and no object, can be had"
-words_of_promise Promise.Busy = codes "a slot is busy only where a frame of it is taken, or an empty slab may stand"
-words_of_promise Promise.Blocks = codes "a block is aligned, in a held slot, and apart from what is taken"
-words_of_promise Promise.Objects = codes "an object is aligned, lies in a slab of its cache and is apart from its live ones"
-words_of_promise Promise.Layout = codes "a new cache has a number of its own, and its objects fit into its slabs"
-words_of_promise Promise.Gives = codes "no more frames come back than were there to come back"
-words_of_promise Promise.Owners = codes "a superblock has one owner, and each change of owners is told as it is"
-words_of_promise Promise.Bytes = codes "a byte that is read is one that was left there, or that of something fresh"
-words_of_promise Promise.Report = codes "a report tells what the tenant has"
-words_of_promise Promise.Still = codes "what a report told stands until something is changed"
+words_of_promise Promise.Form = codes "a reply has the right addressee, and is a refusal or an answer to that command"
+words_of_promise Promise.Refusals = codes "the first refusal whose condition holds is the reply, and no other refusal comes"
+words_of_promise Promise.Room = codes "nothing is refused for lack of frames while it can be allocated"
+words_of_promise Promise.Busy = codes "a slot is busy only if a frame of it is taken, or if an empty slab may be in it"
+words_of_promise Promise.Blocks = codes "a block is aligned, lies in a held slot and overlaps nothing that is taken"
+words_of_promise Promise.Objects = codes "an object is aligned, lies in a slab of its cache and overlaps no live object"
+words_of_promise Promise.Layout = codes "a new cache has an unused number, and its objects fit into its slabs"
+words_of_promise Promise.Gives = codes "a free reports its block's order, and a reap or destroy at most the frames of empty slabs"
+words_of_promise Promise.Owners = codes "a superblock has one owner, and each change of owners is reported correctly"
+words_of_promise Promise.Bytes = codes "a byte that is read is the one that was left there, or a fresh one"
+words_of_promise Promise.Report = codes "a report has the tenant's own figures"
+words_of_promise Promise.Still = codes "the figures of a report stay valid until a command changes something"
 
 -- the frame that two page blocks share
 abbrev pub taken_text : TakenFrame → List ℕ

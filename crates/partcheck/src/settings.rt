@@ -24,13 +24,14 @@ pub const REPLIES_PROGRAM: Program<'static> = Program {
 
 /// What `--help` prints below the arguments.
 const AFTER_HELP: &str = "\
-The sizes are those of the machine that ran the trace. Lines of both files are those of partmem
---help; any choice of frames, objects and superblocks is allowed. What is found is a line
-on standard output, as
+Give the sizes of the machine that ran the trace. Both files have the lines that partmem --help
+describes; any choice of frames, objects and superblocks is allowed. The finding is one line on
+standard output:
   kept: 218508 lines, 6 tenants
   line 391, reply 402: 0 alloc 0, answered 0> frame 12: Blocks: frame 12 lies in the block of order 1 at frame 12
-of the first reply that breaks a promise: the number of its line in TRACE and in REPLIES, the
-line, the reply, the promise, and what it asks or the block in the way. What follows is not judged.
+The second form is for the first reply that breaks a promise. It has the number of the line in
+TRACE and of the reply in REPLIES, both texts, the promise, and what the promise requires or which
+block is in the way. Later replies are not judged.
 
 Exit status:
   0  every reply keeps every promise; or --help or --version

@@ -250,22 +250,23 @@ fn words_of(promise: Promise) -> &'static str
 {
     match promise {
         Promise::Form =>
-            "a reply is for whom it has to be, and a refusal or the reply to that command",
+            "a reply has the right addressee, and is a refusal or an answer to that command",
         Promise::Refusals =>
-            "a refusal comes where its condition stands, the first of several, and no other",
-        Promise::Room => "no frames only where no block, and no object, can be had",
+            "the first refusal whose condition holds is the reply, and no other refusal comes",
+        Promise::Room => "nothing is refused for lack of frames while it can be allocated",
         Promise::Busy =>
-            "a slot is busy only where a frame of it is taken, or an empty slab may stand",
-        Promise::Blocks => "a block is aligned, in a held slot, and apart from what is taken",
+            "a slot is busy only if a frame of it is taken, or if an empty slab may be in it",
+        Promise::Blocks =>
+            "a block is aligned, lies in a held slot and overlaps nothing that is taken",
         Promise::Objects =>
-            "an object is aligned, lies in a slab of its cache and is apart from its live ones",
-        Promise::Layout =>
-            "a new cache has a number of its own, and its objects fit into its slabs",
-        Promise::Gives => "no more frames come back than were there to come back",
-        Promise::Owners => "a superblock has one owner, and each change of owners is told as it is",
-        Promise::Bytes =>
-            "a byte that is read is one that was left there, or that of something fresh",
-        Promise::Report => "a report tells what the tenant has",
-        Promise::Still => "what a report told stands until something is changed",
+            "an object is aligned, lies in a slab of its cache and overlaps no live object",
+        Promise::Layout => "a new cache has an unused number, and its objects fit into its slabs",
+        Promise::Gives =>
+            "a free reports its block's order, and a reap or destroy at most the frames of empty slabs",
+        Promise::Owners =>
+            "a superblock has one owner, and each change of owners is reported correctly",
+        Promise::Bytes => "a byte that is read is the one that was left there, or a fresh one",
+        Promise::Report => "a report has the tenant's own figures",
+        Promise::Still => "the figures of a report stay valid until a command changes something",
     }
 }
