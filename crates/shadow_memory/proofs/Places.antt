@@ -12,7 +12,7 @@ places_apart : (u m r f q place : ℕ) → u * m + r ≡ f → r < m → 4096 * 
     → (u * (m * 4096) ≤ place) × (place - u * (m * 4096) < m * 4096)
 places_apart u m r f q place ef lr ep lq = (omega arith, omega arith)
 
--- a place of a slot lies from the slot's first place on, within the slot's number of places
+-- a place of a slot is not below the slot's first place, and its offset from there is below the slot's number of places
 pub inside_slot : (order place u : ℕ) → slot_of order place ≡ u
     → (u * slot_places order ≤ place) × (place - u * slot_places order < slot_places order)
 inside_slot order place u e = subst (λ (v : ℕ). (v * slot_places order ≤ place) × (place - v * slot_places order < slot_places order)) e
@@ -23,7 +23,7 @@ stays_inside : (u m f r place j : ℕ) → u * (m * 4096) ≤ place → place - 
     → (u * m ≤ f) × (f < (u + 1) * m)
 stays_inside u m f r place j low inside is few = (omega arith, omega arith)
 
--- a later place within that number is in the same slot
+-- if the offset of place + j is below the slot's number of places too, place + j is in the same slot
 pub inside_behind : (order place u j : ℕ) → slot_of order place ≡ u → place - u * slot_places order + j < slot_places order
     → slot_of order (place + j) ≡ u
 inside_behind order place u j e lt =
@@ -36,11 +36,11 @@ leb_scaled a p = grind (arith, nat_tests)
 ltb_scaled : (c p : ℕ) → ltb p (4096 * c) ≡ ltb (p / 4096) c
 ltb_scaled c p = grind (arith, nat_tests)
 
--- the places of a block
+-- a place lies in a block if it is between the block's first place and its end
 pub in_frames : (b : Block) (place : ℕ) → (nat_le (4096 * b.first) place && nat_lt place (4096 * (b.first + 2 ^ b.order))) ≡ in_block place b
 in_frames b place = ap (λ (t : Bool). t && ltb place (4096 * (b.first + 2 ^ b.order))) (leb_scaled b.first place)
     ∙ ap (λ (t : Bool). leb b.first (place / 4096) && t) (ltb_scaled (b.first + 2 ^ b.order) place)
 
--- the places below 2 ^ 32 are all places
+-- every place below 2 ^ 32 lies in the range from 0 to 2 ^ 32
 pub in_all : (place : ℕ) → place < 2 ^ 32 → (nat_le 0 place && nat_lt place (2 ^ 32)) ≡ true
 in_all place lt = grind (arith, nat_tests)

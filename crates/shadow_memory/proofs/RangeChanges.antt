@@ -12,7 +12,7 @@ use Rattle.shadow_memory.specs.declared.summary.Summary.{Summary}
 use Rattle.shadow_memory.specs.Inside.{CellStep, shown_kept, within}
 use Rattle.shadow_memory.specs.Summaries.{IsSummarizedBy, any_summary, cell_in, AreSummarized, IsChanged}
 
--- one place more
+-- if the byte at index k is then set to the result of the step, the step is made up to index k
 pub changed_more : (step : CellStep) (first low k : ℕ) (old new : List KeptByte) (kept : KeptByte) → low ≤ k → k < length new
     → IsChanged step first low k old new → shown_kept kept ≡ step (first + k) (cell_in new k)
     → IsChanged step first low (k + 1) old (set new k kept)
@@ -31,7 +31,7 @@ changed_more step first low k old new kept le lt was is = record {
     here : cell_in (set new k kept) k ≡ step (first + k) (cell_in old k)
     here = ap shown_kept (get_or-set_same new k kept Kept.Fresh lt) ∙ (is ∙ ap (step (first + k)) (was.behind k (omega arith)))
 
--- two adjacent ranges
+-- a step in each of two adjacent ranges is a step in the range that they form
 pub changed_join : (step : CellStep) (first low m high : ℕ) (old mid new : List KeptByte) → low ≤ m → m ≤ high
     → IsChanged step first low m old mid → IsChanged step first m high mid new → IsChanged step first low high old new
 changed_join step first low m high old mid new le more one two = record {
@@ -43,7 +43,7 @@ changed_join step first low m high old mid new le more one two = record {
   behind = λ k ge. two.behind k ge ∙ one.behind k (omega arith);
 }
 
--- a range that a step leaves unchanged
+-- if the step leaves a range unchanged, the old bytes are also the bytes after the step
 pub changed_left : (step : CellStep) (first low high : ℕ) (old : List KeptByte)
     → ((k : ℕ) → low ≤ k → k < high → step (first + k) (cell_in old k) ≡ cell_in old k) → IsChanged step first low high old old
 changed_left step first low high old same = record {
@@ -52,7 +52,7 @@ changed_left step first low high old same = record {
   behind = λ k ge. refl;
 }
 
--- one more part of `size` places
+-- if the step is then made in the next part of `size` places, it is made up to the end of that part, but not beyond `high`
 pub changed_part : (step : CellStep) (first size part low high begin end : ℕ) (old mid new : List KeptByte) → low < part * size + size → part * size < high
     → low ≤ high → begin ≡ max (part * size) low → end ≡ min (part * size + size) high
     → IsChanged step first low (max low (min (part * size) high)) old mid → IsChanged step first begin end mid new
@@ -68,7 +68,7 @@ any_marked : (cell : Option Cell) → IsSummarizedBy any_summary cell
 any_marked None = tt
 any_marked (Some cell) = (tt, λ e. absurd (cc))
 
--- setting the summary of a part
+-- if a summary allows what was left, the part's summary does too, once it is set to this one
 mark_set : (summaries : List Summary) (part : ℕ) (after : Summary) (cell : Option Cell) → IsSummarizedBy after cell → IsSummarizedBy (get_or (set summaries part after) part any_summary) cell
 mark_set summaries part after cell marked = elim (cases_lt part (length summaries)) [
   | inl lt ↦ subst (λ (m : Summary). IsSummarizedBy m cell) (sym (get_or-set_same summaries part after any_summary lt)) marked
@@ -76,7 +76,7 @@ mark_set summaries part after cell marked = elim (cases_lt part (length summarie
       (sym (ap (λ (ms : List Summary). get_or ms part any_summary) (set_past summaries part after ge) ∙ get_or_past summaries part any_summary ge)) (any_marked cell)
 ]
 
--- summaries still hold if some places of a part are changed and its summary is set
+-- the summaries still hold if places of a part are changed and the part's summary is set to one that holds after the change
 pub marked_part : (step : CellStep) (first size part low high : ℕ) (summaries : List Summary) (summary after : Summary) (all : Bool) (old new : List KeptByte)
     → ((k : ℕ) → part * size ≤ k → k < part * size + size → k / size ≡ part)
     → ((k : ℕ) → k / size ≡ part → (part * size ≤ k) × (k < part * size + size))
@@ -116,7 +116,7 @@ marked_part step first size part low high summaries summary after all old new he
       ]
     ]
 
--- a part that the step leaves unchanged, by its summary
+-- if the part's summary shows that the step leaves the part unchanged, the old bytes are also the bytes after the step
 pub left_part : (step : CellStep) (first size part low high : ℕ) (summaries : List Summary) (summary : Summary) (old : List KeptByte)
     → ((k : ℕ) → part * size ≤ k → k < part * size + size → k / size ≡ part)
     → part * size ≤ low → high ≤ part * size + size → summary ≡ get_or summaries part any_summary
@@ -126,7 +126,7 @@ left_part step first size part low high summaries summary old here begins ends i
     (λ k from below. same (first + k) (cell_in old k) (subst (λ (m : Summary). IsSummarizedBy m (cell_in old k)) (sym is)
     (subst (λ (n : ℕ). IsSummarizedBy (get_or summaries n any_summary) (cell_in old k)) (here k (omega arith) (omega arith)) (were k))))
 
--- so the change of all places is the step within the range
+-- a step at the indices of the places from `begin` to `end - 1` changes all places as the step within this range does
 pub changed_within : (step : CellStep) (first low high begin end : ℕ) (old new : List KeptByte) → low ≡ min (begin - first) (length old)
     → high ≡ max (min (end - first) (length old)) low → IsChanged step first low high old new
     → (k : ℕ) → k < length old → cell_in new k ≡ within begin end step (first + k) (cell_in old k)
@@ -168,7 +168,7 @@ module _ (holder : Holder) (begin first low high from to : ℕ) (bytes : List �
   put_before order = changed_left put_step first low from old
       (λ k over under. put_beside holder begin (first + k) bytes (cell_in old k) (inl (omega arith)))
 
-  -- one more byte
+  -- if one more byte is put, the step is made at one more place
   pub put_more : (k : ℕ) (new : List KeptByte) (kept : KeptByte) → low ≤ high → from ≤ k → k < to → k < length new
       → IsChanged put_step first low k old new
       → shown_kept kept ≡ Some (record { holder = holder; byte = get_or bytes (first + k - begin) 0; sure = true })

@@ -51,7 +51,7 @@ removed_part true test place x = refl
 removed_part false test place None = refl
 removed_part false test place (Some cell) = refl
 
--- doubting and forgetting the bytes of holders that pass, in a block
+-- in a block, doubting or forgetting the bytes of holders that pass the test is a step within the block's places
 pub doubted_in : (b : Block) (begin end : ℕ) → begin ≡ 4096 * b.first → end ≡ 4096 * (b.first + 2 ^ b.order)
     → (test : Holder → Bool) (place : ℕ) (cells : Cells)
     → within begin end (doubted_of test) place (cells place) ≡ doubted (λ place holder. in_block place b && test holder) cells place
@@ -68,12 +68,12 @@ removed_in b begin end is_begin is_end test place cells =
     (ap (λ (n : ℕ). nat_le n place && nat_lt place end) is_begin ∙ (ap (λ (n : ℕ). nat_le (4096 * b.first) place && nat_lt place n) is_end ∙ in_frames b place))
     ∙ removed_part (in_block place b) test place (cells place)
 
--- and at all places
+-- forgetting the bytes at all places is a step within the places below 2 ^ 32
 pub removed_all : (test : Holder → Bool) (place : ℕ) (cells : Cells) → place < 2 ^ 32
     → within 0 (2 ^ 32) (removed_of test) place (cells place) ≡ without (λ place. test) cells place
 removed_all test place cells lt = ap (λ (t : Bool). if t then removed_of test place (cells place) else cells place) (in_all place lt)
 
--- a place outside an object's reach has no byte of the object
+-- if the range from `first` to `end - 1` covers an object's reach, no place outside it has a byte of the object
 not_there : (reach : List ℕ) (number first end place : ℕ) (holder : Holder) → IsHolderNear reach place holder
     → (place < first + slice_index reach number → place < end) → (leb first place && ltb place end) ≡ false
     → is_same (Holder.Object number first) holder ≡ false
@@ -135,7 +135,7 @@ put_there holder begin bytes from end is_from is_end place cells =
     go true = refl
     go false = refl
 
--- what was left, after bytes are put
+-- a step that puts bytes into held slots adds these bytes to what was left
 pub put : (old new : Left) (holder : Holder) (begin : ℕ) (bytes : List ℕ) (from end : ℕ) → from ≡ begin → end ≡ begin + length bytes
     → new.order ≡ old.order → ((j : ℕ) → j < length bytes → has_place old (begin + j) ≡ true)
     → AreStepped old.order (within from end (λ place cell. with_bytes holder begin bytes (λ _. cell) place)) old.slots new.slots
@@ -172,7 +172,7 @@ near_holder more begin end place (Holder.Object n p) before far le lt =
     let f = far n p refl in
     (omega (arith, b), omega (arith, f))
 
--- put bytes lie within the reach, if it was extended to their end
+-- what was left stays within the reach when bytes are put, if the reach was extended to their end
 pub near_put : (reach more : List ℕ) (holder : Holder) (begin : ℕ) (bytes : List ℕ) (from end : ℕ) → ((n : ℕ) → slice_index reach n ≤ slice_index more n)
     → ((n p : ℕ) → holder ≡ Holder.Object n p → p ≤ begin)
     → ((n p : ℕ) → holder ≡ Holder.Object n p → begin + length bytes ≤ p + slice_index more n) → (place : ℕ) (cell : Option Cell)
@@ -187,12 +187,12 @@ near_put reach more holder begin bytes from end grows before far place cell near
     go true false b le lt = near_more reach more place cell grows near
     go false a b le lt = near_more reach more place cell grows near
 
--- holders that cannot be in one slab with an object
+-- the holder cannot share a slab with the object of `size` bytes at `first` of this cache
 abbrev pub not_beside : ℕ → ℕ → ℕ → Holder → Bool
 not_beside number first size holder =
     not (is_object (λ n p. n == number && (p == first || (nat_le (first + size) p || nat_le (p + size) first))) holder)
 
--- their bytes in the slab are forgotten when the object is taken
+-- a take of the object forgets the bytes that these holders left in its slab
 pub taken : (number first size : ℕ) (slab : Block) (begin end : ℕ) → begin ≡ 4096 * slab.first → end ≡ 4096 * (slab.first + 2 ^ slab.order)
     → (c : KnownCache) → c.number ≡ number → c.size ≡ size → slab_around c first ≡ slab → (place : ℕ) (cells : Cells)
     → within begin end (removed_of (not_beside number first size)) place (cells place) ≡ with_object first (Some c) cells place
@@ -202,11 +202,11 @@ taken number first size slab begin end is_begin is_end c is_number is_size is_sl
     (removed_in (slab_around c first) begin end (is_begin ∙ ap (λ (b : Block). 4096 * b.first) (sym is_slab))
     (is_end ∙ ap (λ (b : Block). 4096 * (b.first + 2 ^ b.order)) (sym is_slab)) (not_beside c.number first c.size) place cells))
 
--- holders that are not objects of a cache
+-- the holder is not an object of this cache
 abbrev pub elsewhere : ℕ → Holder → Bool
 elsewhere number holder = not (is_object (λ n p. n == number) holder)
 
--- these cannot be in one slab with an object of the cache
+-- a holder that is not an object of the cache cannot share a slab with one
 not_beside_else : (number first size : ℕ) (h : Holder) → elsewhere number h ≡ true → not_beside number first size h ≡ true
 not_beside_else number first size Holder.Page is = refl
 not_beside_else number first size (Holder.Object n p) is = go (n == number) is
@@ -226,7 +226,7 @@ is_beside first size p apart = elim (cases_lt p (first + size)) [
   ]
 ]
 
--- far from the object, only holders outside its cache cannot be in one slab with it
+-- outside the places from `low` to `high - 1`, exactly the holders outside the object's cache cannot share a slab with it
 far_beside : (reach : List ℕ) (number first size begin end low high place : ℕ) (h : Holder) → place < 2 ^ 32
     → low ≡ max begin (first - size) → high ≡ min end (min (first + size + slice_index reach number) (2 ^ 64 - 1)) → begin ≤ place → place < end
     → (leb low place && ltb place high) ≡ false → IsHolderNear reach place h → not_beside number first size h ≡ elsewhere number h
@@ -247,7 +247,7 @@ far_beside reach number first size begin end low high place (Holder.Object n p) 
     go true e = ap not (is_beside first size p (apart (eqb-true n number e)))
     go false e = refl
 
--- so once everything outside its cache is forgotten, only places near the object have to be searched
+-- so after the bytes outside the object's cache are forgotten, only places from `low` to `high - 1` are left to be searched
 narrowed : (reach : List ℕ) (number first size begin end low high place : ℕ) (x : Option Cell) → place < 2 ^ 32
     → low ≡ max begin (first - size) → high ≡ min end (min (first + size + slice_index reach number) (2 ^ 64 - 1)) → IsNear reach place x
     → within low high (removed_of (not_beside number first size)) place (within begin end (removed_of (elsewhere number)) place x)
@@ -288,7 +288,7 @@ narrowed reach number first size begin end low high place (Some cell) small is_l
         (sym (far_beside reach number first size begin end low high place cell.holder small is_low is_high (over is) (under is) far near))
     go false false far off = refl
 
--- so a take is these two steps
+-- so these two steps are a take
 pub taken_twice : (reach : List ℕ) (number first size : ℕ) (slab : Block) (begin end low high : ℕ) → begin ≡ 4096 * slab.first
     → end ≡ 4096 * (slab.first + 2 ^ slab.order) → low ≡ max begin (first - size)
     → high ≡ min end (min (first + size + slice_index reach number) (2 ^ 64 - 1))

@@ -42,7 +42,7 @@ kept : (x : Option Cell) → option_and_then (λ (cell : Cell). if false then No
 kept None = refl
 kept (Some cell) = refl
 
--- what was left in slot `u` is gone, and nothing else is
+-- without slot `u`, what was left in it is gone, and nothing else is
 left_less : (order u place : ℕ) (ss : List LeftSlot)
     → left_in order (less u ss) place ≡ option_and_then (λ (cell : Cell). if slot_of order place == u then None else Some cell) (left_in order ss place)
 left_less order u place [] = refl
@@ -78,7 +78,7 @@ taken_back old u = record {
   cells = λ i place. left_less old.order u place old.slots i;
 }
 
--- adding a slot in which nothing was left
+-- if a slot in which nothing was left is added, the slots keep their invariant
 pub slots_granted : (order u : ℕ) (ss : List LeftSlot) (reach : List ℕ) → AreSlots order ss reach → (u + 1) * 2 ^ order * 4096 ≤ 2 ^ 32
     → AreSlots order (record { slot = u; cells = replicate (slot_places order) None } ∷ ss) reach
 slots_granted order u ss reach are low = record {

@@ -33,7 +33,7 @@ stepped_at order step s t x y place true more is w here has rest =
     (omega arith, here.cells k within_cells ∙ ap (λ (p : ℕ). step p (get_or s.cells k None)) back)
 stepped_at order step s t x y place false more is w here has rest = rest has
 
--- if each slot is stepped, all slots are
+-- if each slot is stepped, the list of slots is stepped
 pub stepped : (order : ℕ) (step : CellStep) (ss ts : List LeftSlot) → length ts ≡ length ss
     → ((k : ℕ) (d : LeftSlot) → k < length ss → IsStepped order step (get_or ss k d) (get_or ts k d))
     → AllByRecursion (IsSlotWhole order) ss → AreStepped order step ss ts
@@ -54,7 +54,7 @@ stepped order step (s ∷ ss) (t ∷ ts) len each w =
           (list_any (λ u. u == slot_of order place) (slots_in ss)) refl w.0 here has (rest.cells place));
     }
 
--- two steps, one after the other
+-- two steps, one after the other, are one step
 pub stepped_twice : (order : ℕ) (one two : CellStep) (ss ts us : List LeftSlot) → AreStepped order one ss ts → AreStepped order two ts us
     → AreStepped order (λ place cell. two place (one place cell)) ss us
 stepped_twice order one two ss ts us before after = record {
@@ -77,7 +77,7 @@ none_left order place (s ∷ ss) off = go (s.slot == slot_of order place) (none_
     go true rest off = absurd (false≢true (sym off))
     go false rest off = rest off
 
--- what was left stays within the reach, if the step keeps it there
+-- if the step takes everything within `reach` into `more`, what was left is within `more` after the step
 pub near_after : (order : ℕ) (reach more : List ℕ) (step : CellStep) (ss ts : List LeftSlot) → AreStepped order step ss ts
     → ((place : ℕ) → IsNear reach place (left_in order ss place))
     → ((place : ℕ) (cell : Option Cell) → IsNear reach place cell → IsNear more place (step place cell))
@@ -95,7 +95,7 @@ near_within begin end step keeps reach place cell near = go (leb begin place && 
     go true = keeps reach place cell near
     go false = near
 
--- a step at each place of the slots, as a change of what was left
+-- if a step is a change at each place, and the change adds nothing outside the slots, the step makes this change
 pub becomes : (old new : Left) (step : CellStep) (change : Cells → Cells) → new.order ≡ old.order → AreStepped old.order step old.slots new.slots
     → ((place : ℕ) → place < 2 ^ 32 → step place (left_at old place) ≡ change (left_at old) place)
     → ((place : ℕ) → has_place old place ≡ false → left_at old place ≡ None → change (left_at old) place ≡ None)
@@ -111,7 +111,7 @@ becomes old new step change e after same none = record {
     go place false off = none_left old.order place new.slots (ap (list_any (λ u. u == slot_of old.order place)) after.slots ∙ off)
         ∙ sym (none place off (none_left old.order place old.slots off))
 
--- finding a place in the slots from slot `i` on, if this slot has the place or does not have it
+-- a search from slot `i` on for a place of this slot finds the slot's cell
 pub found_slot : (order place i : ℕ) (ss : List LeftSlot) (s : LeftSlot) → i < length ss → s ≡ get_or ss i s → (s.slot == slot_of order place) ≡ true
     → left_in order (drop i ss) place ≡ get_or s.cells (place - s.slot * slot_places order) None
 found_slot order place i ss s lt is here = at_drop_more (λ (xs : List LeftSlot). left_in order xs place) ss i s lt
@@ -134,7 +134,7 @@ low_place order place (s ∷ ss) w has = go (s.slot == slot_of order place) refl
         omega arith
     go false is rest has = rest has
 
--- the slots keep their invariant
+-- if the step takes everything within `reach` into `more`, the slots keep their invariant, with the reach `more`
 pub slots_after : (order : ℕ) (reach more : List ℕ) (step : CellStep) (ss ts : List LeftSlot) → AreStepped order step ss ts → AreSlots order ss reach
     → ((place : ℕ) (cell : Option Cell) → IsNear reach place cell → IsNear more place (step place cell)) → AreSlots order ts more
 slots_after order reach more step ss ts after are keeps = record {
@@ -147,7 +147,7 @@ whole_at order i [] d w lt = absurd (omega arith)
 whole_at order zero (s ∷ ss) d w lt = w.0
 whole_at order (suc i) (s ∷ ss) d w lt = whole_at order i ss d w.1 (omega arith)
 
--- the places of a slot end by 2 ^ 32
+-- the places of a slot end at or before 2 ^ 32
 pub slot_ends : (order i : ℕ) (ss ts : List LeftSlot) (d : LeftSlot) (slot places : ℕ) → AllByRecursion (IsSlotWhole order) ss → i < length ss
     → get_or ts i d ≡ get_or ss i d → slot ≡ (get_or ts i d).slot → places ≡ slot_places order
     → slot * places + length (get_or ts i d).cells ≤ 2 ^ 32
@@ -158,7 +158,7 @@ slot_ends order i ss ts d slot places w lt same is_slot is_places =
     let product : slot * places ≡ (get_or ts i d).slot * slot_places order = ap (λ (n : ℕ). n * places) is_slot ∙ ap (λ (n : ℕ). (get_or ts i d).slot * n) is_places in
     omega (arith, product, all, low)
 
--- the cells of a slot from a place on, if the slot is found behind others
+-- if a place is in slot `i` and in no earlier slot, the slot's cells from the place on are what was left
 pub kept_behind : (order place i index : ℕ) (ss : List LeftSlot) (s : LeftSlot) → AllByRecursion (IsSlotWhole order) ss → i < length ss
     → s ≡ get_or ss i s → s.slot ≡ slot_of order place → index ≡ place - s.slot * slot_places order
     → ((p : ℕ) → slot_of order p ≡ slot_of order place → left_in order (drop i ss) p ≡ left_in order ss p)

@@ -34,7 +34,7 @@ shown_at n k xs = map_at k (padded n xs) ∙ ap shown_kept (padded_at n k xs)
 pub shown_len : (n : ℕ) (xs : List KeptByte) → length xs ≤ n → length (map shown_kept (padded n xs)) ≡ n
 shown_len n xs le = length-map (padded n xs) shown_kept ∙ padded_len n xs le
 
--- storing more places is padding
+-- extending the stored bytes to n places pads them
 pub grown : (n : ℕ) (xs : List KeptByte) → length xs ≤ n → take n xs ++ replicate (n - length xs) Kept.Fresh ≡ padded n xs
 grown n xs le = ap (λ (ys : List KeptByte). ys ++ replicate (n - length xs) Kept.Fresh) (take_all n xs le)
 

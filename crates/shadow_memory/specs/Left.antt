@@ -19,7 +19,7 @@ pub record Left : Type 0 where
 abbrev pub slot_places : ℕ → ℕ
 slot_places order = 2 ^ order * FRAME_BYTES
 
--- what was left at a place of these slots
+-- what was left at a place; None if nothing was left there or the place is in none of these slots
 abbrev pub left_in : ℕ → List LeftSlot → Cells
 left_in order [] place = None
 left_in order (s ∷ ss) place =

@@ -31,7 +31,7 @@ cell_in cells k = shown_kept (slice_index_or cells k KeptByte.Fresh)
 abbrev pub AreSummarized : ℕ → List Summary → List KeptByte → Type 0
 AreSummarized size summaries cells = (k : ℕ) → IsSummarizedBy (slice_index_or summaries (k / size) any_summary) (cell_in cells k)
 
--- a step at each index from `low` to `high - 1`; index 0 is the place `first`, and the other places are unchanged
+-- `new` is `old` after a step at each index from `low` to `high - 1`; index 0 is the place `first`
 pub record IsChanged (step : CellStep) (first low high : ℕ) (old new : List KeptByte) : Type 0 where
   pub before : (k : ℕ) → k < low → cell_in new k ≡ cell_in old k
   pub inside : (k : ℕ) → low ≤ k → k < high → cell_in new k ≡ step (first + k) (cell_in old k)

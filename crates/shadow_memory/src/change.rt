@@ -30,14 +30,14 @@ pub(crate) trait Change {
     fn leaves(&self, summary: Summary) -> bool
         ensures { result ≡ true → (place : ℕ) (cell : Option Cell) → IsSummarizedBy summary cell → step self.now place cell ≡ cell };
 
-    /// Returns a summary, after the change, of places that had this summary before it. `all` is true if the change is made at all
-    /// of these places, and false if it may be made at only some of them.
+    /// Returns a summary that holds after the change, for places where `summary` held before it. `all` is true if the change is
+    /// made at all of these places, and false if it may be made at only some of them.
     fn summary_after(&self, summary: Summary, all: bool) -> Summary
         ensures changed { (place : ℕ) (cell : Option Cell) → IsSummarizedBy summary cell → IsSummarizedBy result (step self.now place cell) }
         ensures kept { all ≡ false → (cell : Option Cell) → IsSummarizedBy summary cell → IsSummarizedBy result cell };
 }
 
-/// Puts the bytes of every holder that passes the test in doubt.
+/// The change that puts the bytes of every holder that passes the test in doubt.
 #[derive(Drop)]
 pub(crate) struct Doubt<T>(pub T);
 
@@ -92,7 +92,7 @@ impl<T: HolderPredicate> Change for Doubt<T> {
     }
 }
 
-/// Forgets the bytes of every holder that passes the test.
+/// The change that forgets the bytes of every holder that passes the test.
 #[derive(Drop)]
 pub(crate) struct Remove<T>(pub T);
 
@@ -140,7 +140,7 @@ impl<T: HolderPredicate> Change for Remove<T> {
     }
 }
 
-/// Leaves these bytes of the holder at the places from `begin` on.
+/// The change that leaves these bytes of the holder at the places from `begin` on.
 #[derive(Drop)]
 pub(crate) struct Put<'a> {
     pub holder: RangeHolder,

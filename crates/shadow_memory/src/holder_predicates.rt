@@ -40,7 +40,7 @@ fn tells_of<T: HolderPredicate>(test: &T, owners: Owners) -> Option<bool>
     }
 }
 
-/// Returns true only if each holder that these owners allow passes.
+/// Returns true only if all holders that these owners allow pass.
 pub(crate) fn passes_all<T: HolderPredicate>(test: &T, owners: Owners) -> bool
     ensures { result ≡ true → (h : Holder) → MayOwn owners h → T.test test.now h ≡ true }
 {
@@ -50,7 +50,7 @@ pub(crate) fn passes_all<T: HolderPredicate>(test: &T, owners: Owners) -> bool
     }
 }
 
-/// Returns true only if each holder that these owners allow fails.
+/// Returns true only if all holders that these owners allow fail.
 pub(crate) fn fails_all<T: HolderPredicate>(test: &T, owners: Owners) -> bool
     ensures { result ≡ true → (h : Holder) → MayOwn owners h → T.test test.now h ≡ false }
 {
@@ -60,7 +60,7 @@ pub(crate) fn fails_all<T: HolderPredicate>(test: &T, owners: Owners) -> bool
     }
 }
 
-/// Passes if the given test fails.
+/// The test that passes if the given test fails.
 #[derive(Drop)]
 pub(crate) struct Fails<T>(pub T);
 
@@ -79,7 +79,7 @@ impl<T: HolderPredicate> HolderPredicate for Fails<T> {
     }
 }
 
-/// Passes for page blocks.
+/// The test that passes for page blocks.
 #[derive(Drop)]
 pub(crate) struct IsPage;
 
@@ -98,7 +98,7 @@ impl HolderPredicate for IsPage {
     }
 }
 
-/// Passes for the object of this cache that begins at this place.
+/// The test that passes for the object of this cache that begins at this place.
 #[derive(Drop)]
 pub(crate) struct IsObject {
     pub number: u32,
@@ -126,7 +126,7 @@ impl HolderPredicate for IsObject {
     }
 }
 
-/// Passes for the objects of this cache.
+/// The test that passes for the objects of this cache.
 #[derive(Drop)]
 pub(crate) struct IsOfCache {
     pub number: u32,
@@ -147,7 +147,8 @@ impl HolderPredicate for IsOfCache {
     }
 }
 
-/// Passes for holders that cannot be in the same slab as the object of `size` bytes of this cache that begins at this place.
+/// The test that passes for holders that cannot share a slab with a given object. The object begins at `first`, has `size` bytes
+/// and belongs to the cache with this number.
 #[derive(Drop)]
 pub(crate) struct IsNotBeside {
     pub number: u8,
@@ -181,7 +182,7 @@ impl HolderPredicate for IsNotBeside {
     }
 }
 
-/// Passes for objects that lie in no slab with a live object of their cache.
+/// The test that passes for objects outside all slabs that have a live object of their cache.
 #[derive(Drop)]
 pub(crate) struct IsInNoSlab<'a> {
     pub held: &'a Held,
@@ -204,7 +205,7 @@ impl<'a> HolderPredicate for IsInNoSlab<'a> {
     }
 }
 
-/// Returns whether the place is in a slab with a live object of a cache with this number.
+/// Returns whether the place is in a slab with a live object of the cache with this number.
 fn is_in_some_slab(caches: &[HeldCache], number: u8, place: u32) -> bool
     ensures { result ≡ list_any (λ c. c.number == number && list_any (λ q. in_block place (slab_around c q)) c.live) caches.now }
 {

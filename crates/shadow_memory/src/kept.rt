@@ -1,4 +1,4 @@
-//! A left byte, as it is stored.
+//! The stored form of a byte that was left at a place.
 
 ghost use Rattle.std.specs.Prelude.{◌≡◌, Some, option_map};
 ghost use Rattle.judge_core.specs.Holders.{shown_cell};
@@ -26,7 +26,7 @@ pub(crate) enum KeptByte {
     },
 }
 
-// A slot has one of these for each of its bytes, so its size matters.
+// There is one of these for each byte of a slot, so its size matters.
 const _: () = prove!(size_of::<KeptByte>() == 8);
 
 impl KeptByte {

@@ -77,7 +77,7 @@ impl ShadowMemory {
         Ok(())
     }
 
-    /// Removes the slot, with what was left in it.
+    /// Removes the slot, if the tenant holds it, with what was left in it.
     pub fn take_back(&mut self, slot: u32)
         ensures { Becomes self.old (filter (λ v. not (v == slot)) (left_slots self.old))
             (without (λ place holder. slot_of self.old.order place == slot)) self.new }
@@ -85,7 +85,7 @@ impl ShadowMemory {
         drop_slot(&mut self.slots, slot);
     }
 
-    /// Removes all slots.
+    /// Removes all slots, with what was left in them.
     pub fn reset(&mut self)
         ensures { self.new ≡ record self.old { slots = [] } }
     {
@@ -140,8 +140,8 @@ impl ShadowMemory {
         ensures { (c : KnownCache) → c.number ≡ number → c.size ≡ size → slab_around c first ≡ slab.now
             → Becomes self.old (left_slots self.old) (with_object first (Some c)) self.new }
     {
-        // First forgets every byte in the slab that is not of the object's cache, and then the bytes of other objects of the
-        // cache that overlap the object.
+        // The first change forgets the bytes in the slab that objects of the cache did not leave. The second forgets the bytes of
+        // other objects of the cache that overlap the object.
         let own = u32::from(number);
         let low = u64::from(first.saturating_sub(size));
         let end_of_own = u64::from(first) + u64::from(size);
@@ -209,7 +209,7 @@ fn reach_of(reach: &[u64; 256], number: u32) -> u64
     reach.get(number as usize).copied().unwrap_or(0)
 }
 
-/// If the holder is an object, raises the reach of its cache, so that bytes of the object may lie anywhere below `end`.
+/// If the holder is an object, raises the reach of its cache so that it covers the object's bytes below `end`.
 fn extend_reach(reach: &mut [u64; 256], holder: RangeHolder, end: u64)
     ensures more { (n : ℕ) → slice_index reach.old n ≤ slice_index reach.new n }
     ensures near { (number first : ℕ) → shown_holder holder ≡ Holder.Object number first

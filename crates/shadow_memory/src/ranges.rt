@@ -1,4 +1,5 @@
-//! Changes the stored bytes of a range of places. It skips the parts that a change does not affect, according to their summaries.
+//! Changes of the stored bytes of a range of places. They skip the parts that a change does not affect, according to their
+//! summaries.
 
 ghost use Rattle.std.specs.Prelude.{◌≡◌, ℕ, ◌+◌, ◌*◌, ◌^◌, ◌<◌, ◌≤◌, length};
 ghost use Rattle.shadow_memory.specs.Inside.{within};
@@ -15,8 +16,8 @@ pub(crate) const CHUNK: usize = 64;
 /// The number of places in a frame.
 pub(crate) const FRAME: usize = FRAME_BYTES as usize;
 
-/// Changes the places at the indices `low..high`, one chunk at a time. Skips each chunk that the change does not affect,
-/// according to its summary.
+/// Changes the places at the indices `low..high`, one chunk at a time. Index 0 is the place `first`. Skips each chunk that the
+/// change does not affect, according to its summary.
 fn change_chunks<C: Change>(
     cells: &mut [KeptByte],
     chunks: &mut [Summary],
@@ -48,8 +49,8 @@ fn change_chunks<C: Change>(
     }
 }
 
-/// Changes the places at the indices `low..high`, one frame at a time. Skips each frame that the change does not affect,
-/// according to its summary.
+/// Changes the places at the indices `low..high`, one frame at a time. Index 0 is the place `first`. Skips each frame that the
+/// change does not affect, according to its summary.
 fn change_frames<C: Change>(
     cells: &mut [KeptByte],
     chunks: &mut [Summary],

@@ -54,7 +54,7 @@ impl ShadowMemory {
     }
 }
 
-/// Returns the cache of the holder, if the holder is an object.
+/// Returns the cache of the holder, if the holder is an object and the cache exists.
 fn cache_of(held: &Held, holder: RangeHolder) -> Option<&HeldCache>
     ensures { option_copied result ≡ cache_of held.now (shown_holder holder) }
 {

@@ -72,7 +72,7 @@ impl SlotBytes {
         kept_at(&self.cells, index).left()
     }
 
-    /// Returns the stored bytes from `index` places after the slot's first place on. They may end before the slot does.
+    /// Returns the stored bytes from the slot's place number `index` on. They may end before the slot does.
     pub fn kept_from(&self, index: usize) -> &[KeptByte]
         ensures len { length result.now ≤ length self.now.cells - index }
         ensures kept { (j : ℕ) → j < length result.now → shown_kept (slice_index_or result.now j Kept.Fresh)

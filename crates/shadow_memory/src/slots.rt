@@ -76,7 +76,7 @@ pub(crate) fn change_slots<C: Change>(
     }
 }
 
-/// Removes the slot with this number.
+/// Removes the slot with this number, if there is one.
 pub(crate) fn drop_slot(slots: &mut Vec<SlotBytes>, slot: u32)
     ensures { slots.new.items ≡ filter (λ s. not (s.slot == slot)) slots.old.items }
 {

@@ -28,13 +28,13 @@ pub(crate) struct Summary {
 }
 
 impl Summary {
-    /// Nothing was left.
+    /// The summary of places where nothing was left.
     pub const FRESH: Summary = Summary {
         owners: Owners::Nobody,
         sure: false,
     };
 
-    /// Anything may have been left.
+    /// The summary that allows anything.
     pub const ANY: Summary = Summary {
         owners: Owners::Any,
         sure: true,
