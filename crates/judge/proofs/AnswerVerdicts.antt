@@ -21,7 +21,7 @@ use Rattle.shadow_memory.specs.Left.{left_at}
 use Rattle.judge.specs.Judged.{broken, known_at, tenant_verdict}
 use Rattle.judge.specs.Seen.{Seen, state_of}
 
--- A page block
+-- An answer that allocates a page block
 
 module _ (t k f : ℕ) (w : Known) (x : Seen) where
   pub too_large : x.left.order < k → tenant_verdict (On.Tenant t (Command.Alloc k)) (Say.Frame f) w x ≡ Err Promise.Refusals
@@ -34,7 +34,7 @@ module _ (t k f : ℕ) (w : Known) (x : Seen) where
   unfolding due state_after
   stands le b is = λ i. broken ((Promise.Refusals, is_none (first_due ((le-ltb x.left.order k le i, Refusal.BadOrder) ∷ []))) ∷ (Promise.Blocks, is i) ∷ [])
 
--- .. that is freed
+-- An answer that frees a page block
 
 module _ (t f k : ℕ) (w : Known) (x : Seen) where
   pub freed_if : (o : Option Block) → find (λ b. b.first == f) x.has.pages ≡ o → tenant_verdict (On.Tenant t (Command.Free f)) (Say.Freed k) w x
@@ -49,7 +49,7 @@ module _ (t f k : ℕ) (w : Known) (x : Seen) where
       go None = refl
       go (Some b) = refl
 
--- An object
+-- An answer to a take
 
 module _ (t number : ℕ) (w : Known) (x : Seen) (o : Option KnownCache) (is : known_cache x.has number ≡ o) where
   pub taken_if : (place : ℕ) → tenant_verdict (On.Tenant t (Command.Take number)) (Say.Object place) w x
@@ -59,7 +59,7 @@ module _ (t number : ℕ) (w : Known) (x : Seen) (o : Option KnownCache) (is : k
   taken_if place = ap (λ p. broken ((Promise.Refusals, is_none (first_due ((is_none p, Refusal.NoCache) ∷ [])))
       ∷ (Promise.Objects, option_map_or (λ c. can_be_taken x.left.order x.has c place) p false) ∷ [])) is
 
--- Bytes
+-- Answers to a read and to a write
 
 module _ (t place len : ℕ) (bytes : ArrayVec ℕ) (w : Known) (x : Seen) where
   pub read_if : (o : Option Holder) → holder_of x.has place len ≡ o → tenant_verdict (On.Tenant t (Command.Read place len)) (Say.Bytes bytes) w x
@@ -74,12 +74,12 @@ module _ (t place len : ℕ) (bytes : ArrayVec ℕ) (w : Known) (x : Seen) where
   unfolding due state_after
   written_if o is = ap (λ p. broken ((Promise.Refusals, is_none (first_due ((is_none p, Refusal.OutOfReach) ∷ []))) ∷ (Promise.Bytes, length bytes.items == len) ∷ [])) is
 
--- bytes that no holder has
+-- if a range has no holder, an answer with bytes breaks the promise `Refusals`
 pub unread : (b is_right : Bool) → broken ((Promise.Refusals, is_none (first_due ((not b, Refusal.BadLength) ∷ (true, Refusal.OutOfReach) ∷ []))) ∷ (Promise.Bytes, is_right) ∷ []) ≡ Err Promise.Refusals
 unread true is_right = refl
 unread false is_right = refl
 
--- A slot
+-- The refusal that is due in reply to a take-back
 
 module _ (t slot : ℕ) (w : Known) (x : Seen) (b : Bool) (is : has_slot x.has slot ≡ b) where
   pub due_of_slot : first_due ((not b, Refusal.NoSlot) ∷ (is_slot_busy x.left.order x.has slot, Refusal.SlotBusy) ∷ [])

@@ -7,7 +7,7 @@ use Rattle.promise_core.proofs.LeftInHeldSlots.{range_held}
 use Rattle.shadow_memory.specs.Left.{Left, has_place}
 use Rattle.judge.specs.Seen.{LieInSlots}
 
--- bytes with a holder are in held slots
+-- bytes that have a holder are in slots that the tenant holds
 pub places_held : (h : Holdings) (left : Left) → LieInSlots h left → (place len : ℕ) (holder : Holder) → holder_of h place len ≡ Some holder
     → (j : ℕ) → j < len → has_place left (place + j) ≡ true
 places_held h left sound place len holder is j lt =

@@ -107,7 +107,7 @@ pub granted_back : (u : ℕ) (h g k : Holdings) → has_slot h u ≡ false → g
 granted_back u h g k new granted back = back ∙ (ap (λ (y : Holdings). record y { slots = filter (λ v. not (v == u)) y.slots }) granted
     ∙ ap (λ us. record h { slots = us }) (drop_put u h.slots new))
 
--- A slot taken back
+-- A take-back
 
 any_dropped : (u n : ℕ) (xs : List ℕ) → list_any (λ v. v == n) (filter (λ v. not (v == u)) xs) ≡ (not (n == u) && list_any (λ v. v == n) xs)
 any_dropped u n [] = and_false (not (n == u))
@@ -165,7 +165,7 @@ pub moved : (t u told slot m : ℕ) (w : Known) (x : Seen) → tenant_verdict (O
 unfolding state_after
 moved t u told slot m w x kept = record { kept = kept; order = refl; state = refl }
 
--- The owners after an answer, from the tenant and the slot of the command
+-- The owners that the judge stores after an answer are those of `owners_after`
 
 pub owner_granted : (t told u m : ℕ) (w : Known) (x : Seen) (os : List (Option Owner))
     → tenant_verdict (On.Admin (Do.Grant t)) (Say.Granted told u m) w x ≡ Ok tt

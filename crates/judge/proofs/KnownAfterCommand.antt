@@ -142,7 +142,7 @@ given t number place w old h l kept has left = record {
   state = λ i. Some (record { has = sym has i; cells = sym left.cells i; may_have_empty = λ n. slice_index_or old.may_have_empty n false; told = None });
 }
 
--- no cache has a number at or above the limit
+-- no cache with a number at or above the limit is in use
 in_use_below : (h : Holdings) (n : ℕ) → AreNumbered h → (nat_lt n MOST_CACHES && is_in_use (known_cache h n)) ≡ is_in_use (known_cache h n)
 in_use_below h n low = go (nat_lt n MOST_CACHES) refl (known_cache h n) refl
   where

@@ -12,7 +12,7 @@ pub all_from : (p : ℕ → Bool) (k n : ℕ) → k < n
     → list_all p (range_with_len k (n - k)) ≡ (p k && list_all p (range_with_len (k + 1) (n - (k + 1))))
 all_from p k n lt = let e : n - k ≡ suc (n - (k + 1)) = omega arith in ap (λ m. list_all p (range_with_len k m)) e
 
--- testing a report in groups is testing it one by one
+-- testing in groups gives the same result as testing one by one
 pub grouped : (a b c d e f g h i j k : Bool) → list_all (λ x. x) ((a && b) ∷ ((c && d) && (e && f)) ∷ (g && h) ∷ i ∷ j ∷ k ∷ [])
     ≡ list_all (λ x. x) (a ∷ b ∷ c ∷ d ∷ e ∷ f ∷ g ∷ h ∷ i ∷ j ∷ k ∷ [])
 grouped false b c d e f g h i j k = refl
@@ -24,7 +24,7 @@ grouped true true true true true false g h i j k = refl
 grouped true true true true true true false h i j k = refl
 grouped true true true true true true true h i j k = refl
 
--- the reported share is tested alike with either of two equal orders
+-- if two orders are equal, the reported share can be tested with either of them
 pub same_share : (a b : Option ℕ) (free split : ℕ) → (option_eq (λ i j. i == j) a b && split == split_share free b)
     ≡ (option_eq (λ i j. i == j) a b && split == split_share free a)
 same_share None None free split = refl

@@ -15,7 +15,7 @@ use Rattle.model_core.specs.declared.owner.Owner.{Owner}
 use Rattle.promise_core.specs.State.{State, state_after}
 use Rattle.judge.specs.Judged.{IsUnfit}
 
--- the answer is of the event's kind; tables are not answers
+-- the answer has the kind that the event requires; tables are not answers
 abbrev pub IsKindOf : Event → Answer → Type 0
 IsKindOf (On.Tenant t (Command.Alloc k)) a = (f : ℕ) × (a ≡ Answer.Frame f)
 IsKindOf (On.Tenant t (Command.Free f)) a = (k : ℕ) × (a ≡ Answer.Freed k)
@@ -53,7 +53,7 @@ unfit (On.Admin (Do.Reset t)) (Answer.WasReset named m) other order s not_refuse
 unfit (On.Admin (Do.Move t u)) (Answer.Moved named told m) other order s not_refused = absurd (other (named, told, m, refl))
 unfit e a other order s not_refused = refl
 
--- a table that does not fit the event
+-- a table that does not fit the event leads to no state
 
 pub no_pool_table : (order : ℕ) (s : State) (b : Body) → is_table b ≡ true → ((os : ArrayVec (Option Owner)) → b ≡ Say.Owners os → ⊥)
     → state_after order (On.Admin Do.Pool) b s ≡ None
@@ -77,7 +77,7 @@ unfolding state_after
 no_report_asked t order s Command.Report r not_asked = absurd (not_asked refl)
 no_report_asked t order s m r not_asked = refl
 
--- a table is no refusal
+-- a table is not the refusal `NoTenant`
 pub no_row : (b : Body) → is_table b ≡ true → false ≡ is_no_tenant b
 no_row (Say.Refused r) table = absurd (cc)
 no_row b table = refl

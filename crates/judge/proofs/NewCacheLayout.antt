@@ -45,7 +45,7 @@ module _ (size align t number chunk q n colours : ℕ) (p : ArrayVec ℕ) (w : K
   abbrev inside : Bool
   inside = nat_le (align * (colours - 1) + n * chunk) (FRAME_BYTES * 2 ^ q)
 
-  -- no cache had the number of the new cache ..
+  -- if the answer is allowed, no cache had the number of the new cache
   pub new_where_allowed : tenant_verdict (On.Tenant t (Command.Cache size align p)) (Say.Cache number chunk q n colours) w x ≡ Ok tt
       → known_cache x.has number ≡ None
   new_where_allowed ok = none_is (known_cache x.has number)
@@ -62,7 +62,7 @@ module _ (size align t number chunk q n colours : ℕ) (p : ArrayVec ℕ) (w : K
             (first_due ((nat_le MOST_CACHES (length x.has.caches), Refusal.NoCacheSlot) ∷ [])) a.1).0,
       )
 
-  -- .. and its objects fit into a slab
+  -- if the answer is allowed, the new cache has a layout that a cache may have; its objects fit into a slab
   pub cut_where_allowed : x.left.order ≤ MOST_ORDER
       → tenant_verdict (On.Tenant t (Command.Cache size align p)) (Say.Cache number chunk q n colours) w x ≡ Ok tt
       → IsKnownLayout size align chunk q n

@@ -1,4 +1,4 @@
--- The verdict on a reply and what is known after it, by its addressee and by the verdict on its body.
+-- The verdict on a reply and what is known after it, from the reply's addressee and the verdict on its body.
 use Rattle.std.proofs.Common.{◌≡◌, ℕ, zero, suc, ◌<◌, Bool, true, false, ◌&&◌, List, [], ◌∷◌, length, drop, map, Option, Some, None, Result, Ok, Err, is_some, unwrap_or, slice_get, slice_set, refl, ap, sym, subst, ◌∙◌, inl, inr, arith}
 use Rattle.std.specs.Prelude.{if◌then◌else◌, option_map}
 use Rattle.std.specs.Option.{option_map_or}
@@ -52,7 +52,7 @@ module _ (event : Event) (reply : Reply) (w : Known) where
   unfolding allowed
   found t o name is = ap (λ n. judged event reply w (option_map_or (slice_get w.states) n (Some opening_state))) name ∙ ap (judged event reply w) is
 
-  -- a reply with the wrong addressee
+  -- a reply with the wrong addressee breaks the promise `Form`
   astray : (s : State) → is_for event true reply.addressee ≡ false → judged event reply w (Some s) ≡ Err Promise.Form
   astray s wrong =
       ap (λ b. verdict ((Promise.Form, b && is_some (state_after w.order event reply.body s)) ∷ drop 1 (kept event reply w s))
@@ -65,7 +65,7 @@ module _ (event : Event) (reply : Reply) (w : Known) where
       verdict_is (kept event reply w s) after
       ∙ ap (λ b. turn (broken ((Promise.Form, b && is_some (state_after w.order event reply.body s)) ∷ drop 1 (kept event reply w s))) after) right
 
--- judging that changes nothing
+-- if a reply leaves what is known unchanged, the unchanged machine is judged right
 unchanged : (event : Event) (reply : Reply) (x : SeenMachine) (v : Result (Unit {0}) Promise) → allowed event reply (known_of x) ≡ turn v (known_of x)
     → IsJudged event reply x x (failing v)
 unchanged event reply x (Ok u) is = (is, record { order = refl; superblocks = refl; tenants = refl })
@@ -92,7 +92,7 @@ misled event reply x t name within wrong =
     let y : (y : Seen) × (slice_get x.tenants t ≡ Some y) = some_at x.tenants t within in
     found event reply (known_of x) t (Some (state_of y.0)) name (slice_get-map state_of x.tenants t ∙ ap (option_map state_of) y.1) ∙ astray event reply (known_of x) (state_of y.0) wrong
 
--- a reply that does not fit the event
+-- a reply that does not fit the event breaks the promise `Form`
 pub misjudged : (event : Event) (reply : Reply) (x : SeenMachine) (t : ℕ) → named event ≡ Some t → t < length x.tenants
     → is_for event true reply.addressee ≡ true → ((s : State) → state_after x.order event reply.body s ≡ None)
     → IsJudged event reply x x (Err (Of.Broken Promise.Form))
@@ -122,7 +122,7 @@ still_fits x owners t y z fits many here same = record {
   ];
 }
 
--- replacing a tenant and the owners by themselves changes nothing
+-- replacing a tenant and the owners by equal ones changes nothing
 as_before : (x : SeenMachine) (t : ℕ) (y z : Seen) (owners : List (Option Owner)) → slice_get x.tenants t ≡ Some y → z ≡ y → owners ≡ x.owners
     → with_tenant x owners t z ≡ x
 as_before x t y z owners here same is =
@@ -153,7 +153,7 @@ module _ (event : Event) (reply : Reply) (x : SeenMachine) (t : ℕ) (y z : Seen
             ∙ sym (map-set state_of x.tenants t z)) i;
       }))
 
-  -- the same after a command that may change the owners
+  -- a verdict for the tenant and its owners is a verdict for the machine
   pub tenant_judged : (result : Result (Unit {0}) Failure) (owners : List (Option Owner)) → IsVerdictFor event reply.body (known_of x) y z result
       → length (owners_after event reply.body x.owners) ≡ length x.owners → AreOwnersAfter event reply.body x.owners owners result
       → IsJudged event reply x (with_tenant x owners t z) result
@@ -174,7 +174,7 @@ module _ (event : Event) (reply : Reply) (x : SeenMachine) (t : ℕ) (y z : Seen
     as_before x t y z owners here same is,
   )
 
--- The order of a slot and the number of superblocks stay the same after any command
+-- The order of a slot stays the same after any reply
 
 pub order_kept : (event : Event) (body : Body) (w : Known) (y z : Seen) (result : Result (Unit {0}) Failure) → IsVerdictFor event body w y z result
     → z.left.order ≡ y.left.order
@@ -203,7 +203,7 @@ unfolding allowed owners_after
 pool_judged reply x v right is = unchanged (On.Admin Do.Pool) reply x v
     (addressed (On.Admin Do.Pool) reply (known_of x) opening_state right ∙ ap (λ r. turn r (known_of x)) (sym is))
 
--- an answer to the pool command, which concerns no tenant
+-- a result that is right for every tenant after a pool command is right for the machine
 pub pool_answered : (reply : Reply) (x : SeenMachine) (result : Result (Unit {0}) Failure) → is_for (On.Admin Do.Pool) true reply.addressee ≡ true
     → ((w : Known) (y : Seen) → IsVerdictFor (On.Admin Do.Pool) reply.body w y y result) → IsJudged (On.Admin Do.Pool) reply x x result
 pool_answered reply x result right judged = go result (judged (known_of x) nobody)

@@ -37,7 +37,7 @@ all_kept ((promise, kept) ∷ rest) ok = go kept refl ok (all_kept rest)
     go true is ok more = (is, more ok)
     go false is ok more = absurd (cc)
 
--- some of the promises
+-- the reply keeps these promises
 pub record AreKept (event : Event) (body : Body) (w : Known) (s : State) : Type 0 where
   pub refusals : refusals event body w s ≡ true
   pub blocks : blocks event body w s ≡ true

@@ -26,7 +26,7 @@ use Rattle.judge.specs.declared.verdict.Failure.TheVariants as Of
 use Rattle.judge.specs.Judged.{broken, on_refusal, verdict_on, known_at, tenant_verdict, failing, IsVerdictFor}
 use Rattle.judge.specs.Seen.{Seen, state_of}
 
--- the verdict on a reply that changes nothing
+-- if a reply leaves the tenant's state unchanged, its verdict is right for the unchanged tenant
 pub settled : (event : Event) (body : Body) (w : Known) (x : Seen) (result : Result (Unit {0}) Failure) → result ≡ failing (tenant_verdict event body w x)
     → state_after x.left.order event body (state_of x) ≡ Some (state_of x) → IsVerdictFor event body w x x result
 settled event body w x result is stays = subst (IsVerdictFor event body w x x) (sym is) (go (tenant_verdict event body w x) refl)
@@ -44,7 +44,7 @@ pub misfit : (event : Event) (body : Body) (w : Known) (x : Seen) → state_afte
     → IsVerdictFor event body w x x (Err (Of.Broken Promise.Form))
 misfit event body w x none = (formless event body (known_at x w) (state_of x) none, refl)
 
--- a result that is a failure is judged as that failure
+-- if the result is this failure, a verdict for the failure is a verdict for the result
 pub failed_by : (event : Event) (body : Body) (w : Known) (x y : Seen) (f : Failure) (result : Result (Unit {0}) Failure) → IsErrAnd result (λ e. e ≡ f)
     → IsVerdictFor event body w x y (Err f) → IsVerdictFor event body w x y result
 failed_by event body w x y f (Ok u) fails judged = absurd fails
@@ -54,7 +54,7 @@ pub broken_off : (event : Event) (body : Body) (w : Known) (x : Seen) (promise :
     → IsErrAnd result (λ e. e ≡ Of.Broken promise) → Err promise ≡ tenant_verdict event body w x → IsVerdictFor event body w x x result
 broken_off event body w x promise result is broken = failed_by event body w x x (Of.Broken promise) result is (sym broken, refl)
 
--- the verdict on a refusal ..
+-- the verdict on a refusal depends on the refusal that is due, and on whether `NoFrames` and `SlotBusy` may come
 refusal_is : (event : Event) (r : Refusal) (w : Known) (s : State) → verdict_on event (Say.Refused r) w s
     ≡ on_refusal r (due event w s) (room event (Say.Refused Refusal.NoFrames) w s) (busy event (Say.Refused Refusal.SlotBusy) w s)
 unfolding state_after
@@ -73,7 +73,7 @@ unfolding state_after
 refused event r w x result asked full taken is is_due is_full is_taken = settled event (Say.Refused r) w x result
     (is ∙ ap failing ((λ i. on_refusal r (is_due i) (is_full i) (is_taken i)) ∙ sym (refusal_is event r (known_at x w) (state_of x)))) refl
 
--- .. and on a refusal of an administrator's command that is no grant, take-back or move
+-- no refusal is due in reply to a reset or a pool command, and neither `NoFrames` nor `SlotBusy` may come
 pub admin_refused : (m : AdminCommand) (r : Refusal) (w : Known) (x : Seen) (result : Result (Unit {0}) Failure) → ((t : ℕ) → m ≡ Do.Grant t → ⊥)
     → ((t u : ℕ) → m ≡ Do.TakeBack t u → ⊥) → ((t u : ℕ) → m ≡ Do.Move t u → ⊥) → result ≡ failing (on_refusal r None false false)
     → IsVerdictFor (On.Admin m) (Say.Refused r) w x x result
@@ -84,7 +84,7 @@ admin_refused (Do.Reset t) r w x result grant back move is = refused (On.Admin (
 admin_refused (Do.Move t u) r w x result grant back move is = absurd (move t u refl)
 admin_refused Do.Pool r w x result grant back move is = refused (On.Admin Do.Pool) r w x result None false false is refl refl refl
 
--- `NoFrames` is never due in reply to a tenant's command ..
+-- the refusal is not `NoFrames`
 abbrev pub IsPlain : Refusal → Type 0
 IsPlain r = is_one Refusal.NoFrames r ≡ false
 
@@ -110,7 +110,7 @@ plain_due t (Command.Give number place) w s = let cache = known_cache s.has numb
 plain_due t Command.Reap w s = tt
 plain_due t Command.Report w s = tt
 
--- .. so whether frames are left matters only if no refusal is due
+-- if the refusal that is due is not `NoFrames`, whether frames are left matters only if none is due
 pub full_or_due : (r : Refusal) (asked : Option Refusal) (full room busy : Bool) → IfSome asked IsPlain → (asked ≡ None → full ≡ room)
     → on_refusal r asked full busy ≡ on_refusal r asked room busy
 full_or_due r None full room busy plain same = ap (λ b. on_refusal r None b busy) (same refl)
@@ -119,7 +119,7 @@ full_or_due Refusal.NoFrames (Some d) full room busy plain same =
     ap (λ is. test is full) plain ∙ sym (ap (λ is. test is room) plain)
 full_or_due r (Some d) full room busy plain same = refl
 
--- if another refusal is due, it does not matter whether the slot is busy
+-- if `NoSlot` is due, it does not matter whether the slot is busy
 pub late_busy : (r : Refusal) (busy : Bool) → on_refusal r (Some Refusal.NoSlot) false false ≡ on_refusal r (Some Refusal.NoSlot) false busy
 late_busy Refusal.SlotBusy busy = refl
 late_busy r busy = refl

@@ -41,12 +41,12 @@ abbrev pub only_verdict : {A : Type 0} → Result A Promise → Result (Unit {0}
 only_verdict (Ok _) = Ok tt
 only_verdict (Err promise) = Err promise
 
--- a broken promise is a failure
+-- the verdict, with a broken promise as a failure
 abbrev pub failing : Result (Unit {0}) Promise → Result (Unit {0}) Failure
 failing (Ok _) = Ok tt
 failing (Err promise) = Err (Failure.Broken promise)
 
--- what is known of a machine, with the sizes of this tenant
+-- what is known of a machine, with the largest number of caches and with this tenant's order
 abbrev pub known_at : Seen → Known → Known
 known_at x w = record w { limit = MOST_CACHES; order = x.left.order }
 

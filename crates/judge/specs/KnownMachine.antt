@@ -19,7 +19,7 @@ known_of x = record { limit = MOST_CACHES; order = x.order; owners = x.owners; s
 abbrev pub ShowsKnown : SeenMachine → Known → Type 0
 ShowsKnown x w = w ≡ known_of x
 
--- the verdict is the one that the definitions give, and after an allowed reply the new state is what is known then
+-- the verdict is the one that the definitions give; after an allowed reply, the new machine shows what is known then
 abbrev pub IsVerdict : Result (Unit {0}) Promise → Result Known Promise → SeenMachine → Type 0
 IsVerdict (Ok _) allowed new = (after : Known) × (allowed ≡ Ok after) × ShowsKnown new after
 IsVerdict (Err promise) allowed new = allowed ≡ Err promise

@@ -67,7 +67,8 @@ impl KnownMachine {
         }
     }
 
-    /// Judges an answer to an event that names no tenant. Such an event requires a table of owners, and no refusal is due.
+    /// Judges an answer to an event that names no tenant, which is the pool command. That command requires a table of owners, and
+    /// no refusal is due.
     fn judge_unnamed(
         &self,
         event: &Event,
