@@ -46,7 +46,7 @@ pub whole_is : {A : Type 0} (found : A × List ℕ) (x : A) → whole found ≡ 
 whole_is (y, []) x e = (same_Some y x e, refl)
 whole_is (y, b ∷ rest) x e = absurd cc
 
--- a line in parts, with its line feed
+-- the parts behind `front`, joined, with a line feed at the end
 abbrev ended : List ℕ → List (List ℕ) → List ℕ
 ended front [] = front ++ 10 ∷ []
 ended front (part ∷ parts) = ended (front ++ part) parts
@@ -93,7 +93,7 @@ alone_of who said = whole said >>= (λ alone. Some (record { addressee = who; bo
 abbrev pub said_of : Addressee × List ℕ → Option Reply
 said_of front = said_at front.1 >>= alone_of front.0
 
--- the answer that was read has this text
+-- if an answer is read from a text, it has this text
 pub answer_takes : (text : List ℕ) (reply : Reply) → answer_of text ≡ Some reply
     → (text_of reply ≡ text) × IsAnswer reply.body
 unfolding answer_of

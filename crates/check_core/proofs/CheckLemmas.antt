@@ -32,7 +32,7 @@ use Rattle.check_core.specs.Finding.{after_lines, lines_at, broken_by, finding, 
 
 -- Lines that are read as a reply
 
--- whatever follows
+-- the gathered lines are read as the same reply, whatever follows them
 pub read_first : {k : ℕ} {came : List ℕ} {text : Gathered MOST_TEXT_BYTES} → HasGathered k came text → (more : List ℕ) → reply_in k (came ++ more) ≡ text_read came
 read_first come more = ap (λ (found : Option (List ℕ × List ℕ)). found >>= (λ parts. text_read parts.0)) (stand_first come more)
 
@@ -40,12 +40,12 @@ pub read_there : {k : ℕ} {came : List ℕ} {text : Gathered MOST_TEXT_BYTES} (
     → (more : List ℕ) → reply_in (suc (more_lines event w)) (came ++ more) ≡ text_read came
 read_there {came = came} event w come count more = ap (λ n. reply_in n (came ++ more)) (sym count) ∙ read_first come more
 
--- behind these lines comes what follows
+-- if a part is `k` whole lines, what follows the first `k` lines is what follows the part
 pub left_after : (k : ℕ) (part more : List ℕ) → lines_at k part ≡ Some (part, []) → after_lines k (part ++ more) ≡ more
 left_after k part more whole =
     ap (λ (found : Option (List ℕ × List ℕ)). option_map_or (λ parts. parts.1) found []) (lines_behind k part more (part, []) whole)
 
--- if the lines of a reply have not come at the end, they never come
+-- if the replies have ended before all lines of a reply have come, the missing lines never come
 pub none_there : (new : Source) (n : ℕ) (part : List ℕ) (event : Event) (w : Known) → HasEnded new → lines_at n part ≡ None → n ≤ suc (more_lines event w)
     → (more : List ℕ) → MayFollow new more → reply_in (suc (more_lines event w)) (part ++ more) ≡ None
 none_there new n part event w ended none few more may =
@@ -59,12 +59,12 @@ pub by_reply : (event : Event) (bytes : List ℕ) (w : Known) (found : Option Re
     → verdict_at (Ok (Some event)) bytes w ≡ option_map_or (λ reply. allowed event reply w) found (Err (broken_by event (refusal_read (reply_in 1 bytes)) w))
 by_reply event bytes w found e = ap (λ (r : Option Reply). option_map_or (λ reply. allowed event reply w) r (Err (broken_by event (refusal_read (reply_in 1 bytes)) w))) e
 
--- the verdict if the lines are no reply
+-- if the lines form no reply, the broken promise is the one that `broken_by` gives
 pub no_reply_judged : (event : Event) (bytes : List ℕ) (w : Known) (promise : Promise) → reply_in (suc (more_lines event w)) bytes ≡ None
     → promise ≡ broken_by event (refusal_read (reply_in 1 bytes)) w → verdict_at (Ok (Some event)) bytes w ≡ Err promise
 no_reply_judged event bytes w promise none is = by_reply event bytes w None none ∙ ap (λ (p : Promise). Err p) (sym is)
 
--- the gathered lines as a reply
+-- if the gathered bytes are within the limit, they are read as the reply that they spell
 pub read_so : (came bytes : List ℕ) (found : Option Reply) → whole_of MOST_TEXT_BYTES came ≡ Some bytes → reply_of_text bytes ≡ found → text_read came ≡ found
 read_so came bytes found whole is = ap (λ text. text >>= reply_of_text) whole ∙ is
 
@@ -109,7 +109,7 @@ breaks line at promise reading readings bytes w is =
     ap (λ (verdict : Result Known Promise). or_broken verdict (line + 1) (at + 1)
     (λ next. finding (line + 1) (at + lines_to reading w) readings (after_lines (lines_to reading w) bytes) next)) is
 
--- at the end of the trace
+-- at the end of both texts, the finding is `Kept`
 pub ends_kept : (line at : ℕ) (ask tell : List ℕ) (w : Known) → ask ≡ [] → (length tell == 0) ≡ true → finding line at (readings_of ask) tell w ≡ Kept line
 ends_kept line at ask [] w none ended = ap (λ (bytes : List ℕ). finding line at (readings_of bytes) [] w) none
 ends_kept line at ask (b ∷ tell) w none ended = absurd (omega (arith, eqb-true (length (b ∷ tell)) 0 ended))
@@ -119,15 +119,16 @@ pub ends_broken : (line at : ℕ) (ask tell : List ℕ) (w : Known) → ask ≡ 
 ends_broken line at ask [] w none ended = absurd cc
 ends_broken line at ask (b ∷ tell) w none ended = ap (λ (bytes : List ℕ). finding line at (readings_of bytes) (b ∷ tell) w) none
 
--- ---- whatever follows
+-- ---- the finding, whatever follows
 
--- The finding of two texts is the finding of what follows the parts that were read, and memory may run out if it may there.
+-- The finding of two texts is the finding of what follows the parts that were read. If memory may run out in what follows, it may
+-- run out in the two texts.
 abbrev pub IsBehind : (w : Known) (asked told : List ℕ) (line at : ℕ) (trace : Source) (now : Known) → Type 0
 IsBehind w asked told line at trace now = (more later : List ℕ) → MayFollow trace more
     → (finding_of w (asked ++ more) (told ++ later) ≡ finding line at (readings_of more) later now)
     × (ComesToAdd (readings_of more) later now → ComesToAdd (readings_of (asked ++ more)) (told ++ later) w)
 
--- the same with one more part read of both texts
+-- this also holds if the texts go on with one more part each
 pub behind_parts : {now : Known} {line at : ℕ} {old new : Source} (w : Known) (asked told part answer : List ℕ) → IsBehind w asked told line at old now
     → HasGiven old new part → (more later : List ℕ) → MayFollow new more
     → (finding_of w ((asked ++ part) ++ more) ((told ++ answer) ++ later) ≡ finding line at (readings_of (part ++ more)) (answer ++ later) now)
@@ -144,13 +145,13 @@ behind_parts w asked told part answer is given more later may =
 
 -- ---- the line and the reply of a breach
 
--- a line without a reply breaks no promise
+-- if the reply to a line breaks a promise, the line is one that has a reply
 pub has_reply : (reading : Line) (bytes : List ℕ) (w : Known) (promise : Promise) → verdict_at reading bytes w ≡ Err promise → IsLineOrNone (reading ∷ [])
 has_reply (Ok None) bytes w promise is = absurd cc
 has_reply (Ok (Some event)) bytes w promise is = tt
 has_reply (Err fault) bytes w promise is = tt
 
--- the next line, or none, is that of the breach
+-- if the next part of the trace is empty or one line with a reply, a breach with these numbers is at that part
 pub breach_at : {now : Known} {line at : ℕ} (trace : Source) (w : Known) (asked told part answer : List ℕ) (breach : Breach) (readings : List Line)
     → IsBehind w asked told line at trace now → lines_at at told ≡ Some (told, []) → readings_of part ≡ readings → breach.line ≡ line + length readings
     → breach.reply ≡ at + 1 → IsLineOrNone readings → IsBreachAt w breach (asked ++ part) (told ++ answer) part answer

@@ -24,7 +24,7 @@ use Rattle.promise_core.proofs.AllowedReplies.{state_for, allowed_is}
 use Rattle.check_core.specs.Finding.{more_lines}
 use Rattle.check_core.proofs.TextLemmas.{lines_in}
 
--- if the tenant does not exist
+-- Events that name an unknown tenant
 
 refused_once : (front : List ℕ) (body : Body) → is_no_tenant body ≡ true → length (body_texts front body) ≡ 1
 refused_once front (Say.Refused refusal) is = refl
@@ -45,7 +45,7 @@ none_more (On.Tenant t Command.Report) w none =
     ap (λ exists. report_lines w t exists (slice_get w.states t)) (no_state w.states t none)
 none_more _ w none = refl
 
--- if it exists
+-- Events that name an existing tenant, or none
 
 count_owners : (front : List ℕ) (superblock : ℕ) (owners : List (Option Owner)) → length (owner_texts front superblock owners) ≡ length owners
 count_owners front superblock [] = refl

@@ -13,7 +13,7 @@ use Rattle.words_core.specs.Numbers.{value_of}
 use Rattle.check_core.specs.Forms.{◌>>=◌, plain_number, number_at, letter_at, mark_at, onto, form_at}
 use Rattle.check_core.proofs.FormLoop.{marks, first_mark, mark_is, letter_is}
 
--- the value of a step that found something
+-- if two steps, one after the other, find y, the first finds an x, and the second finds y from it
 pub bind_some : {A B : Type 0} (found : Option A) (f : A → Option B) (y : B) → (found >>= f) ≡ Some y → (x : A) × (found ≡ Some x) × (f x ≡ Some y)
 bind_some (Some x) f y e = (x, refl, e)
 bind_some None f y e = absurd cc

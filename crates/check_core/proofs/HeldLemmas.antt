@@ -9,7 +9,7 @@ use Rattle.check_core.specs.Reading.{HasEnded, HasGiven, Source}
 use Rattle.check_core.proofs.ReadingLemmas.{at_end, gives_front, gives_held, gives_none, with_feed}
 use borrow.Rule.Slice.PartMut.{mid_of}
 
--- the bytes that the reader holds
+-- the bytes from `start` to `end` of a piece are `end - start` bytes, beginning at `start`
 pub held_is : (piece : List ℕ) (start end : ℕ) → start ≤ end → drop start (take end piece) ≡ mid_of start (end - start) piece
 held_is piece start end within =
     let e : end ≡ start + (end - start) = omega (arith, within) in
@@ -34,7 +34,7 @@ held_source piece start end left room ended failed = record {
   failed = failed;
 }
 
--- A line of the held bytes, with its LF at an index, is given, and the bytes behind it are left.
+-- The reader gives a line of the held bytes, whose LF is at the index `at`, and keeps the bytes behind it.
 pub record IsGiven (piece : List ℕ) (start end at : ℕ) (left : Option (List ℕ)) (room : ℕ) (ended failed : Bool) : Type 0 where
   pub given : HasGiven (held_source piece start end left room ended failed) (held_source piece (start + (at + 1)) end left room ended failed)
       (take (at + 1) (mid_of start (end - start) piece))
@@ -70,7 +70,7 @@ line_given piece start end at left room ended failed order fits empty within fou
       going_on = going_on;
     }
 
--- All held bytes are given before a pull; the pulled bytes are held then.
+-- All held bytes are given before a pull, and then the pulled bytes are held.
 pub all_given : (piece into : List ℕ) (start end count : ℕ) (old new : Option (List ℕ)) (room room' : ℕ) (ended failed ended' failed' : Bool)
     → start ≤ end → end ≤ length piece → (ended ≡ true → start ≡ end) → Consumes old new (take count into) → room' + count ≡ room
     → (ended ≡ true → HasEnded (held_source into 0 count new room' ended' failed'))
@@ -85,7 +85,7 @@ all_given piece into start end count old new room room' ended failed ended' fail
       none_later = λ has. (none_held mid (omega (arith, empty has.0, size)), stays has.0);
     }
 
--- .. and before a pull that fails, which gives none
+-- all held bytes are given before a pull that fails, and then no bytes are held
 pub all_given_failed : (piece into : List ℕ) (start end : ℕ) (old new : Option (List ℕ)) (room room' : ℕ) (ended failed ended' failed' : Bool)
     → start ≤ end → end ≤ length piece → Keeps old new → room' ≡ room → (ended ≡ true → ⊥)
     → HasGiven (held_source piece start end old room ended failed) (held_source into end end new room' ended' failed') (mid_of start (end - start) piece)

@@ -33,7 +33,7 @@ pair_is h l [] two h_small l_small h_is l_is = absurd (omega (arith, two))
 pair_is h l (high ∷ []) two h_small l_small h_is l_is = absurd (omega (arith, two))
 pair_is h l (high ∷ low ∷ more ∷ rest) two h_small l_small h_is l_is = absurd (omega (arith, two))
 
--- the digits of a byte
+-- the first digit of a pair is that of byte / 16, and the second is that of byte % 16
 pub pair_parts : (byte : ℕ) (pair : List ℕ) → encode_lower (byte ∷ []) ≡ pair
     → (get_or lower_digits (byte / 16) 0 ≡ get_or pair 0 0) × (get_or lower_digits (byte % 16) 0 ≡ get_or pair 1 0)
 unfolding encode_with
@@ -50,7 +50,7 @@ pub none_yet : (word : List ℕ) → encode_lower [] ++ word ≡ word
 unfolding encode_with
 none_yet word = refl
 
--- one more byte
+-- if the front bytes and what follows spell the word, and the next pair spells a byte, this byte can be added to the front
 pub byte_more : (front rest pair behind word : List ℕ) (byte : ℕ) → encode_lower front ++ rest ≡ word → pair ++ behind ≡ rest
     → encode_lower (byte ∷ []) ≡ pair → encode_lower (front ++ byte ∷ []) ++ behind ≡ word
 byte_more front rest pair behind word byte is cut pair_is =
@@ -74,7 +74,7 @@ word_is word bytes few are is =
     ∙ ap (bytes_again word) decoded
     ∙ ap (λ test. cond test (Some bytes) None) ((bytes_eq-Decides (encode_lower bytes) word).1 is)
 
--- the byte behind the first ones
+-- if a word spells bytes and begins with the digits of the first ones, the next pair spells a byte
 split_at_byte : (xs bs : List ℕ) (pair behind : List ℕ) → length pair ≡ 2 → IsBytes bs → encode_lower bs ≡ encode_lower xs ++ (pair ++ behind)
     → (byte : ℕ) × (byte < 256) × (encode_lower (byte ∷ []) ≡ pair)
 unfolding encode_with

@@ -13,7 +13,7 @@ use Rattle.check_core.proofs.FormLemmas.{bind_some, form_text, is_form, form_tak
 abbrev if_fit : {A : Type 0} → (List ℕ → Bool) → (List ℕ → A) → List ℕ × List ℕ → Option (A × List ℕ)
 if_fit fits make found = cond (fits found.0) (Some (make found.0, found.1)) None
 
--- the text is that of the value, and what follows it
+-- if a value is made from a form at the front of a text, the text is the value's text and what follows it
 pub kind_takes : {A : Type 0} (form : List ℕ) (fits : List ℕ → Bool) (make : List ℕ → A) (spell : A → List ℕ) (P : A → Type 0)
     → ((ns : List ℕ) → length ns ≡ marks form → fits ns ≡ true → (spell (make ns) ≡ form_text form ns) × P (make ns))
     → (text : List ℕ) (x : A) (rest : List ℕ) → made_at form fits make text ≡ Some (x, rest) → (text ≡ spell x ++ rest) × P x

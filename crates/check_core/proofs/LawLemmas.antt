@@ -93,7 +93,7 @@ read_text text reply is =
       | false ↦ λ found. reply_takes text reply found
     ] is
 
--- facts about the lines that were found
+-- if the first `k` lines are found, the bytes begin with them, and `after_lines` gives the rest
 found_lines : (k : ℕ) (bytes : List ℕ) (found : List ℕ × List ℕ) → lines_at k bytes ≡ Some found → AreLines k bytes (found.0, after_lines k bytes)
 found_lines k bytes found is = rw is (lines_are k bytes found is)
 

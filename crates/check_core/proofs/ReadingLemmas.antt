@@ -25,7 +25,7 @@ use Rattle.check_core.specs.Gathered.{Gathers, HasAdded, whole_of}
 use Rattle.check_core.specs.Reading.{HasEnded, HasGiven, IsPartAtOk, IsNextReading, MayFollow, Source, readings_of, without_line_feed}
 use Rattle.check_core.proofs.FormLemmas.{bind_some}
 
--- Bytes that a source gives in turn
+-- an unchanged source has given nothing, and two parts that were given, one after the other, are one
 pub gives_nothing : (source : Source) → HasGiven source source []
 gives_nothing source = record { bytes = consumes_nothing source.left; count = omega arith; none_later = λ ended. (refl, ended) }
 
@@ -38,7 +38,7 @@ gives_more {a = a} {b = b} {c = c} {xs = xs} {ys = ys} first later = record {
       let (nor, still) = later.none_later now in (ap (λ zs. zs ++ ys) none ∙ nor, still);
 }
 
--- bytes that may follow a part may also follow with the part in front
+-- if bytes may follow a part, the part and these bytes may follow what came before it
 pub follows : {old new : Source} {part : List ℕ} → HasGiven old new part → (more : List ℕ) → MayFollow new more → MayFollow old (part ++ more)
 follows given more may ended = let (none, now) = given.none_later ended in ap (λ xs. xs ++ more) none ∙ may now
 
@@ -46,25 +46,25 @@ rest_of : (left : Option (List ℕ)) (given text : List ℕ) → Consumes (Some 
 rest_of None given text is = absurd is
 rest_of (Some rest) given text is = (rest, is, λ end. end)
 
--- the rest of a known text
+-- a known text is what was given and a rest that may follow it
 pub known_rest : {old new : Source} {given : List ℕ} → HasGiven old new given → (text : List ℕ) → old.left ≡ Some text
     → (rest : List ℕ) × (text ≡ given ++ rest) × MayFollow new rest
 known_rest {new = new} {given = given} is text known =
     let (rest, same, none) = rest_of new.left given text (subst (λ left. Consumes left new.left given) known is.bytes) in
     (rest, same, λ ended. none ended.1)
 
--- the held bytes are given in turn
+-- held bytes are given from the front, and those behind them are left
 pub gives_front : (front behind : List ℕ) (known : Option (List ℕ)) → Consumes (prepend_known (front ++ behind) known) (prepend_known behind known) front
 gives_front front behind None = tt
 gives_front front behind (Some xs) = append_assoc front behind xs
 
--- .. and all of them before a pull
+-- all held bytes are given before a pull, and then the pulled bytes are left in front
 pub gives_held : (held pulled : List ℕ) (old new : Option (List ℕ)) → Consumes old new pulled → Consumes (prepend_known held old) (prepend_known pulled new) held
 gives_held held pulled None new h = tt
 gives_held held pulled (Some xs) None h = absurd h
 gives_held held pulled (Some xs) (Some ys) h = ap (λ more. held ++ more) h
 
--- a failed pull gives none
+-- all held bytes are given before a pull that fails, and then no bytes are held
 pub gives_none : (held : List ℕ) (old new : Option (List ℕ)) (behind : List ℕ) → behind ≡ [] → Keeps old new
     → Consumes (prepend_known held old) (prepend_known behind new) held
 gives_none held None new behind none h = tt
@@ -79,7 +79,7 @@ pub part_at_err : {E : Type 0} (r : Result Bool E) (part : List ℕ) (new : Sour
 part_at_err (Ok ended) part new h = absurd cc
 part_at_err (Err e) part new h = tt
 
--- bytes that are added in turn
+-- adding nothing changes nothing, and two additions are one
 pub added_nothing : (text : Gathered MOST_TEXT_BYTES) → HasAdded MOST_TEXT_BYTES [] text text
 added_nothing text front gathers = subst (λ xs. Gathers MOST_TEXT_BYTES xs text) (sym (append-nil front)) gathers
 
@@ -88,7 +88,7 @@ pub added_more : (a b c : Gathered MOST_TEXT_BYTES) (xs ys : List ℕ) → HasAd
 added_more a b c xs ys first later front gathers =
     subst (λ zs. Gathers MOST_TEXT_BYTES zs c) (append_assoc front xs ys) (later (front ++ xs) (first front gathers))
 
--- the bytes up to and with an LF
+-- if the LF is at the index `at`, the first `at + 1` bytes are the bytes before it and the LF
 pub with_feed : (bytes rest : List ℕ) (at : ℕ) → at < length bytes → bytes ≡ (take at bytes ++ 10 ∷ []) ++ rest
     → take (at + 1) bytes ≡ take at bytes ++ 10 ∷ []
 with_feed bytes rest at within e =
@@ -97,7 +97,7 @@ with_feed bytes rest at within e =
     ap (λ xs. take (at + 1) xs) e ∙ take-append-le (at + 1) (take at bytes ++ 10 ∷ []) rest (omega (arith, long))
     ∙ take_all (at + 1) (take at bytes ++ 10 ∷ []) (omega (arith, long))
 
--- if `whole_of` returns nothing, more bytes have come
+-- if `whole_of` returns nothing, more than `most` bytes have come
 pub whole_none : (most : ℕ) (came : List ℕ) → whole_of most came ≡ None → most < length came
 whole_none most came h = elim (nat_lt most (length came)) as (λ b. nat_lt most (length came) ≡ b → (if b then None else Some came) ≡ None → most < length came) [
   | true ↦ λ over _. ltb-true most (length came) over
@@ -155,7 +155,7 @@ taken_off line =
 none_off : (line : List ℕ) → IsOneLine line → without_line_feed line ≡ line
 none_off line h = ap (λ b. if b then take (length line - 1) line else line) (no_feed_at line (length line - 1) h)
 
--- the reading of the line that was read, if one was
+-- the reading of the line that was read; None if no byte was read
 abbrev pub reading_in : List ℕ → Option (Result (Option Event) LineFault)
 reading_in [] = None
 reading_in (b ∷ part) = Some (reading_of (without_line_feed (b ∷ part)))
@@ -163,7 +163,7 @@ reading_in (b ∷ part) = Some (reading_of (without_line_feed (b ∷ part)))
 read_ended : (part line more : List ℕ) → IsOneLine line → part ≡ line ++ 10 ∷ [] → readings_of (part ++ more) ≡ reading_of line ∷ readings_of more
 read_ended part line more one is = ap (λ xs. readings_of (xs ++ more)) is ∙ ap (λ lines. map reading_of lines) (ended_lines line more one)
 
--- the last line, without LF
+-- a last line without LF is read as one more line, and nothing follows it
 read_last : (b : ℕ) (part more : List ℕ) → IsOneLine (b ∷ part) → more ≡ []
     → readings_of ((b ∷ part) ++ more) ≡ reading_of (without_line_feed (b ∷ part)) ∷ readings_of more
 read_last b part more one none =
@@ -184,7 +184,7 @@ next_taken (Err error) part new fine is = absurd cc
 pub next_line : (part line : List ℕ) (new : Source) → IsOneLine line → part ≡ line ++ 10 ∷ [] → IsNextReading (Some (reading_of line)) part new
 next_line part line new one is = λ more may. read_ended part line more one is
 
--- the next reading, by whether anything was read
+-- if nothing was read, there is no next reading; otherwise it is the reading of the line
 pub next_none : (part : List ℕ) (new : Source) → (length part == 0) ≡ true → IsNextReading (reading_in part) part new → IsNextReading None part new
 next_none [] new none is = is
 next_none (b ∷ part) new none is = absurd (omega (arith, eqb-true (length (b ∷ part)) 0 none))
@@ -229,7 +229,7 @@ lines_behind (suc k) bytes more found is =
     ∙ ap (λ (f : Option (List ℕ × List ℕ)). f >>= (λ last. Some (front.0 ++ last.0, last.1))) (line_behind front.1 more last last_is)
     ∙ ap (λ f. Some (before_more more f)) (same_Some (front.0 ++ last.0, last.1) found end)
 
--- the first lines, and more lines behind them
+-- `j` whole lines, and `k` lines behind them, are the first `j + k` lines
 pub lines_more : (j k : ℕ) (front bytes : List ℕ) (found : List ℕ × List ℕ) → lines_at j front ≡ Some (front, []) → lines_at k bytes ≡ Some found
     → lines_at (j + k) (front ++ bytes) ≡ Some (front ++ found.0, found.1)
 lines_more j zero front bytes found first is =
@@ -248,7 +248,7 @@ stand_first {k = k} {came = came} come more = lines_behind k came more (came, []
 pub none_come : {text : Gathered MOST_TEXT_BYTES} → Gathers MOST_TEXT_BYTES [] text → HasGathered 0 [] text
 none_come gathers = record { are = refl; gathers = gathers }
 
--- one more gathered line
+-- after one more whole line is gathered, `k + 1` lines have come
 pub come_more : {k : ℕ} {came : List ℕ} {old new : Gathered MOST_TEXT_BYTES} (part line : List ℕ) → HasGathered k came old
     → IsOneLine line → part ≡ line ++ 10 ∷ [] → ((front : List ℕ) → Gathers MOST_TEXT_BYTES front old → Gathers MOST_TEXT_BYTES (front ++ part) new)
     → HasGathered (suc k) (came ++ part) new
@@ -257,7 +257,7 @@ come_more {came = came} part line come one is add =
     ap line_at (is ∙ sym (append-nil (line ++ 10 ∷ []))) ∙ line_again line [] one ∙ ap (λ xs. Some (xs, [])) (sym is) in
     record { are = rw (stand_first come part, last) refl; gathers = add came come.gathers }
 
--- .. if the first `k` lines are missing, so are more
+-- if the bytes have fewer than `k` lines, they have fewer than `j + k`
 pub none_later : (j k n : ℕ) (bytes : List ℕ) → j + k ≡ n → lines_at k bytes ≡ None → lines_at n bytes ≡ None
 none_later zero k n bytes sum none = let e : n ≡ k = omega arith in ap (λ m. lines_at m bytes) e ∙ none
 none_later (suc j) k n bytes sum none = none_later j (suc k) n bytes (omega (arith, sum)) (rw none refl)
@@ -267,6 +267,6 @@ pub none_more : {k : ℕ} {came : List ℕ} {text : Gathered MOST_TEXT_BYTES} (n
 none_more {k = k} {came = came} n part come one more =
     none_later (n - suc k) (suc k) n (came ++ part) (omega (arith, more)) (rw (stand_first come part, no_line part one) refl)
 
--- at the end, nothing follows
+-- lines that have not come at the end never come
 pub none_follows : (n : ℕ) (bytes more : List ℕ) (new : Source) → HasEnded new → lines_at n bytes ≡ None → MayFollow new more → lines_at n (bytes ++ more) ≡ None
 none_follows n bytes more new ended none may = ap (λ xs. lines_at n (bytes ++ xs)) (may ended) ∙ ap (lines_at n) (append-nil bytes) ∙ none

@@ -17,7 +17,7 @@ use Rattle.check_core.proofs.KindLemmas.{either}
 use Rattle.check_core.proofs.AnswerLemmas.{said_of, alone_of, addressee_again, answer_takes, answer_again}
 use Rattle.check_core.proofs.TableLemmas.{report_lines, report_text, pool_lines, pool_text, table_takes, report_read_again, pool_read_again}
 
--- the reply that was read has this text
+-- if a reply is read from a text, it has this text
 pub reply_takes : (text : List ℕ) (reply : Reply) → reply_of_text text ≡ Some reply → text_of reply ≡ text
 unfolding reply_of_text
 reply_takes text reply e = either (answer_of text) (table_of text) reply e (λ e. (answer_takes text reply e).0) (λ e. (table_takes text reply e).0)
@@ -49,7 +49,7 @@ only false text due None none e = let no : None ≡ Some due = sym none ∙ e in
 only true text due (Some found) is e = let no : None ≡ Some (reply_to found.0 found.1) = sym e ∙ is in absurd cc
 only false text due (Some found) is e = same_Some (reply_to found.0 found.1) due (sym is ∙ e)
 
--- the text of a reply is read as this reply, if it is no table
+-- the text of a reply is read as this reply, if the reply is not a table
 pub answer_only : (text : List ℕ) (due : Reply) (found : Option (Addressee × Answer)) → Gives (λ found. reply_to found.0 found.1) found (answer_of text)
     → Fits due → text_of due ≡ text → MatchOption found (is_table due.body ≡ true) (λ found. reply_to found.0 found.1 ≡ due)
 answer_only text due found is fits same =

@@ -1,4 +1,4 @@
--- The rows that are read have this text, and the text of rows is read as these rows.
+-- Rows that are read from a text have this text, and the text of rows is read as these rows.
 use Rattle.std.proofs.Common.{◌≡◌, ℕ, zero, suc, ◌+◌, ◌^◌, ◌<◌, ◌≤◌, Bool, true, false, cond, List, [], ◌∷◌, ◌++◌, length, take, drop, get_or, Option, Some, None, refl, sym, ◌∙◌, ap, arith, append_assoc, take-append-drop, take_at, drop_at}
 use Rattle.std.proofs.Math.Seq.{drop-nil}
 use Rattle.std.specs.Prelude.{codes, nat_lt, ◌==◌, ◌&&◌}

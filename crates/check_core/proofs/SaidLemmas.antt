@@ -1,4 +1,4 @@
--- The body that is read has this text, and the text of a body is read as this body.
+-- A body that is read from a text has this text, and the text of a body is read as this body.
 use Rattle.std.proofs.Common.{◌≡◌, ℕ, ◌^◌, ◌*◌, ◌<◌, ◌≤◌, Bool, true, false, cond, not, List, [], ◌∷◌, ◌++◌, length, get_or, take, drop, Option, Some, None, Result, Ok, Err, refl, sym, subst, ◌∙◌, ap, arith, append_assoc, take-append-drop, take_at, drop_at, zero, suc}
 use Rattle.std.specs.Prelude.{codes, nat_lt, nat_le, ◌==◌, ◌&&◌, find, take_while}
 use Rattle.std.specs.Str.{bytes_eq}
@@ -193,7 +193,7 @@ again_is word (Err fault) bytes e = absurd cc
 half : (n m : ℕ) → nat_le n 128 ≡ true → n ≡ 2 * m → m ≤ 64
 half n m few twice = grind (arith, nat_tests)
 
--- the bytes that a word was read as
+-- if a word is read as bytes, it is decoded to them, they are encoded to it, and there are at most 64
 pub bytes_are : (word bytes : List ℕ) → bytes_of word ≡ Some bytes
     → (decode_of word ≡ Ok bytes) × (encode_lower bytes ≡ word) × (length bytes ≤ 64)
 unfolding bytes_of

@@ -274,7 +274,7 @@ front_is front rest =
     let size : length (front ++ rest) - length rest ≡ length front = omega (arith, length-append front rest) in
     ap (λ n. take n (front ++ rest)) size ∙ take_at front rest (length front) refl
 
--- the table that was read has this text
+-- if a table is read from a text, it has this text
 pub table_takes : (text : List ℕ) (reply : Reply) → table_of text ≡ Some reply → (text_of reply ≡ text) × (is_table reply.body ≡ true)
 unfolding table_of
 table_takes text reply e =

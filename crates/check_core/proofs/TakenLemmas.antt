@@ -25,7 +25,7 @@ shared_first a b is =
       first = λ x in_a in_b. omega (arith, in_a.0, in_b.0);
     }
 
--- the first live page block that shares a frame with a block
+-- the first frame that a block shares with a page block in the way is the larger of their first frames
 pub way_first : (b : Block) (tenant : Option Seen) (page : Block)
     → option_map_or (λ y. find (overlaps b) y.has.pages) tenant None ≡ Some page → IsFirstShared b page (max page.first b.first)
 way_first b None page is = let clash : ◌≡◌ {A = Option Block} None (Some page) = is in absurd cc

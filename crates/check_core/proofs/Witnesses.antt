@@ -1,4 +1,4 @@
--- The premises of the laws are met by a grant, a page block that is allocated and freed, and a comment.
+-- A trace with a grant, a page block that is allocated and freed, and a comment meets the premises of the laws.
 use Rattle.std.proofs.Common.{List, ℕ, [], ◌∷◌, None, codes}
 use Rattle.promise_kept.specs.Written.{IsAllowedText}
 use Rattle.promise_core.specs.declared.promise.Promise.{Promise}

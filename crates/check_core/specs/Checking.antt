@@ -51,8 +51,8 @@ IsLineOrNone (Err fault ∷ []) = Unit {0}
 IsLineOrNone (Ok None ∷ []) = ⊥
 IsLineOrNone (reading ∷ next ∷ readings) = ⊥
 
--- The line and the reply of a breach are the last of what was read. Each earlier line has an allowed reply among the earlier
--- replies, and nothing is left of these. If the reply of the breach is left over, the line is empty.
+-- The line and the reply of a breach are the last of what was read. The replies before it are exactly the allowed replies to the
+-- lines before it. If the reply of the breach is left over, the line is empty.
 pub record IsBreachAt (w : Known) (breach : Breach) (asked told line reply : List ℕ) : Type 0 where
   pub earlier : List ℕ
   pub answers : List ℕ

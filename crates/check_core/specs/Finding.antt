@@ -91,7 +91,7 @@ refusal_told who (Body.Reaped frames) = None
 refusal_told who (Body.Report report) = None
 refusal_told who (Body.Fault fault) = None
 
--- the same for a reply that was read, if one was
+-- the refusal, with its addressee, if a reply was read and is a refusal
 abbrev pub refusal_read : Option Reply → Option (Addressee × Refusal)
 refusal_read found = found >>= (λ reply. refusal_told reply.addressee reply.body)
 
@@ -140,7 +140,7 @@ finding line reply (reading ∷ readings) bytes w = or_broken (verdict_at readin
 abbrev pub finding_of : Known → List ℕ → List ℕ → Finding
 finding_of w trace replies = finding 0 0 (readings_of trace) replies w
 
--- The first live page block of the tenant that shares a frame with the page block of a reply.
+-- the tenant's first live page block that shares a frame with the page block that the reply allocates, if there is one
 abbrev pub page_in_way : SeenMachine → Event → Body → Option Block
 page_in_way x (Event.Tenant t (Command.Alloc k)) (Body.Frame f) = if nat_le k MOST_ORDER
     then option_map_or (λ y. find (overlaps (block f k)) y.has.pages) (slice_get x.tenants t) None else None

@@ -14,8 +14,8 @@ use Rattle.check_core.specs.declared.finding.Finding.TheVariants.{Kept, Broken}
 use Rattle.check_core.specs.Finding.{fault_reply, finding_of}
 use Rattle.check_core.specs.Ranges.{Fits}
 
--- if a finding is kept, the replies are the text of replies to the trace's events, and each of these is allowed, starting from
--- the opening
+-- if a finding is kept, the replies are the text of replies to the trace's events; from the opening state on, each of these
+-- replies is allowed
 abbrev pub KeptIsAllowed : Type 0
 KeptIsAllowed = (limit order superblocks tenants lines : ℕ) (trace replies : List ℕ)
     → finding_of (opening limit order superblocks tenants) trace replies ≡ Kept lines
@@ -28,7 +28,7 @@ HasNoReply (Err fault) bytes w = (rest : List ℕ) → bytes ≡ text_of (fault_
 HasNoReply (Ok (Some event)) bytes w = (reply : Reply) (rest : List ℕ) (after : Known)
     → Fits reply → bytes ≡ text_of reply ++ rest → allowed event reply w ≡ Ok after → ⊥
 
--- the same for the first of these lines; if no line is left, some bytes are left
+-- the bytes begin with no allowed reply to the first of these lines; if no line is left, some bytes are left
 abbrev pub IsWrong : List (List ℕ) → List ℕ → Known → Type 0
 IsWrong [] bytes w = bytes ≡ [] → ⊥
 IsWrong (line ∷ lines) bytes w = HasNoReply (reading_of line) bytes w
@@ -46,7 +46,7 @@ pub record IsBreach (limit order superblocks tenants : ℕ) (lines : List (List 
   pub line : breach.line ≡ length before + length (take 1 left)
   pub reply : breach.reply ≡ count_by (λ b. b == 10) front + 1
 
--- if a finding is broken, the replies before the breach are allowed, and none that begins at the breach is
+-- if a finding is broken, the replies before the breach are allowed, and no reply that begins at the breach is
 abbrev pub BrokenIsNotAllowed : Type 0
 BrokenIsNotAllowed = (limit order superblocks tenants : ℕ) (trace replies : List ℕ) (breach : Breach)
     → finding_of (opening limit order superblocks tenants) trace replies ≡ Broken breach

@@ -25,7 +25,7 @@ pub record HasGiven (old new : Source) (given : List ℕ) : Type 0 where
   pub count : new.room + length given ≡ old.room
   pub none_later : HasEnded old → (given ≡ []) × HasEnded new
 
--- the bytes that the source may still give: any, but none once it has ended
+-- the source may still give these bytes: any bytes, but none once it has ended
 abbrev pub MayFollow : Source → List ℕ → Type 0
 MayFollow source more = HasEnded source → more ≡ []
 

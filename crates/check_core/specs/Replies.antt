@@ -1,4 +1,4 @@
--- Reading a reply from left to right: the first form that matches the front decides what it is.
+-- Reading a reply from left to right: the first form that matches the front of the text decides what the text is.
 use Rattle.std.specs.Prelude.{ℕ, ◌*◌, ◌^◌, ◌==◌, ◌&&◌, List, [], ◌∷◌, codes, length, take, drop, take_while, not, find, slice_index, nat_lt, nat_le, Bool, true, if◌then◌else◌, Option, Some, None, Result, Ok, Err}
 use Rattle.std.specs.Str.{bytes_eq}
 use Rattle.hex.specs.Hex.{decode_of, encode_lower}
@@ -147,7 +147,7 @@ nobody_at text = made_at (codes "!> ") (λ ns. true) (λ ns. Addressee.Nobody) t
 unfoldable pub addressee_at : List ℕ → Option (Addressee × List ℕ)
 addressee_at text = tenant_at text or_else admin_at text or_else nobody_at text
 
--- ---- a reply of one line, the whole text
+-- ---- the whole text of a reply of one line
 
 -- the value that was found, if no text follows it
 abbrev pub whole : {A : Type 0} → A × List ℕ → Option A

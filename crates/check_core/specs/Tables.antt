@@ -17,7 +17,7 @@ use Rattle.check_core.specs.Replies.{made_at, ◌or_else◌, fit_tenant, address
 unfoldable pub after_front : List ℕ → List ℕ → Option (List ℕ)
 after_front front text = if bytes_eq (take (length front) text) front then Some (drop (length front) text) else None
 
--- the front, and then a row
+-- the row that follows the front
 abbrev pub row_behind : {A : Type 0} → (List ℕ → Option (A × List ℕ)) → List ℕ → List ℕ → Option (A × List ℕ)
 row_behind row_at front text = after_front front text >>= row_at
 

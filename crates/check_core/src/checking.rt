@@ -21,8 +21,8 @@ use streams::{Feed, Stopped};
 /// Checks the replies to a trace, each against what earlier replies reported, up to the first that is not allowed. Returns `Err`
 /// if the trace or the replies cannot be read, or if memory runs out.
 ///
-/// If a reply is not allowed, `shown` holds its line and what was read as this reply. If a reply is left over behind the last
-/// line's, `shown` holds this reply and no line.
+/// If a reply is not allowed, `shown` holds its line and what was read as this reply. If replies are left over after the reply to
+/// the last line, `shown` holds the first line of them, and no line of the trace.
 pub fn check<T: Feed, R: Feed>(
     machine: &mut KnownMachine,
     trace: &mut LineReader<T>,

@@ -10,11 +10,11 @@ use std::alloc::AllocError;
 pub enum Finding {
     /// Every reply is allowed, and none is missing or left over. The value is the number of lines of the trace.
     Kept(u128),
-    /// One reply is not allowed, missing or left over.
+    /// One reply is not allowed, is missing or is left over.
     Broken(Breach),
 }
 
-/// The first reply that is not allowed, missing or left over.
+/// The first reply that is not allowed, is missing or is left over.
 #[derive(Clone, Copy, Debug, PartialEq, Eq)]
 pub struct Breach {
     /// The number of the trace line that the reply answers, counted from 1. For a reply that is left over, the number of the last

@@ -6,7 +6,7 @@ ghost use Rattle.check_core.specs.Forms.{Gives, plain_number, number_at, letter_
 
 use arrayvec::ArrayVec;
 
-/// The largest number of decimal digits of a number.
+/// The number of decimal digits of the largest number, `2^32 - 1`.
 const MOST_DIGITS: usize = 10;
 
 /// Returns the number that a word spells in decimal. Returns `None` if the word is not a number, has leading zeros, or spells a

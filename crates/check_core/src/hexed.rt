@@ -7,8 +7,8 @@ ghost use Rattle.check_core.specs.Replies.{bytes_of};
 
 use model_core::limits::MOST_BYTES;
 
-/// Decodes a word of lower-case hex into `buffer`, and returns the bytes. Returns `None` if the word is not such hex or spells
-/// more than 64 bytes.
+/// Decodes a word of lower-case hex into `buffer`, and returns the bytes. Returns `None` if the word is not pairs of lower-case
+/// digits, or if it spells more than 64 bytes.
 #[tactic(auto, unfolding(crate::specs::Replies::bytes_of))]
 pub fn bytes_of<'a>(word: &[u8], buffer: &'a mut [u8; MOST_BYTES]) -> Option<&'a [u8]>
     ensures value { Gives (λ bytes. bytes.now) result (bytes_of word.now) }

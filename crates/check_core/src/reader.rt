@@ -15,7 +15,7 @@ use words_core::Event;
 /// The largest number of bytes in one pull.
 const PIECE_BYTES: usize = 65_536;
 
-/// Reads the lines of a feed.
+/// A reader of the lines of a feed.
 #[derive(Debug, Drop)]
 pub struct LineReader<F: Feed> {
     feed: F,

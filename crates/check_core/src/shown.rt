@@ -21,7 +21,7 @@ pub const MOST_TEXT_BYTES: usize = 65_792;
 pub struct Shown {
     pub line: Gathered<MOST_PART_BYTES>,
     pub reply: Gathered<MOST_TEXT_BYTES>,
-    /// The live page block that overlaps the page block of the reply, if a search has found one.
+    /// The live page block that overlaps the page block of the reply, and the first frame in both, if a search has found them.
     pub taken: Option<TakenFrame>,
 }
 

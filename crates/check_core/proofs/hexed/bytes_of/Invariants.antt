@@ -2,7 +2,7 @@ use Rattle.std.proofs.Common.{◌≡◌, ◌+◌, ◌*◌, ◌++◌, take, lengt
 use Rattle.hex.specs.Hex.{encode_lower, IsBytes}
 use Rattle.check_core.proofs.hexed.bytes_of.Given as goal
 
--- the digits of the bytes so far, and the remaining ones
+-- the word is the digits of the bytes so far, and then the rest
 abbrev pub invariant-pairs : goal.invariant-pairs
 invariant-pairs l = record {
   text : encode_lower (take l.count l.buffer) ++ l.rest ≡ l.word;
