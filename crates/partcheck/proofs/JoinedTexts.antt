@@ -7,37 +7,37 @@ use Rattle.check_core.specs.declared.finding.Finding.TheVariants.{Kept, Broken}
 use Rattle.check_core.specs.declared.shown.Shown.{Shown}
 use Rattle.partcheck.specs.Telling.{AppendsFinding, breach_text, kept_text}
 
--- `Appends` as a record, so that a proof finds the texts
+-- `Appends` as a record, from which a proof can infer the texts
 pub record HasText (old new : Option (List ℕ)) (text : List ℕ) : Type 0 where
   pub appended : Appends old new text
 
 pub first_text : (a b : Option (List ℕ)) (text : List ℕ) → Appends a b text → HasText a b text
 first_text a b text h = record { appended = h }
 
--- .. and another text behind it
+-- if another text is then appended, both are appended, one behind the other
 pub then_text : {a b : Option (List ℕ)} {front : List ℕ} (c : Option (List ℕ)) (text : List ℕ) → HasText a b front → Appends b c text
     → HasText a c (front ++ text)
 then_text {a} {b} {front} c text first last = record { appended = Appends-trans a b c front text first.appended last }
 
--- the last write, whose result is returned
+-- the result of the last write is the result of all of them
 pub last_text : {E : Type 0} {a b : Option (List ℕ)} {front : List ℕ} (c : Option (List ℕ)) (r : Result (Unit {0}) E) (text whole : List ℕ)
     → HasText a b front → OnOk r (Appends b c text) → front ++ text ≡ whole → OnOk r (Appends a c whole)
 last_text {E} {a} {b} {front} c (Ok x) text whole first last is = subst (Appends a c) is (Appends-trans a b c front text first.appended last)
 last_text c (Err e) text whole first last is = tt
 
--- a single write
+-- the result of a single write
 pub only_text : {E : Type 0} (a b : Option (List ℕ)) (r : Result (Unit {0}) E) (text whole : List ℕ) → OnOk r (Appends a b text) → text ≡ whole
     → OnOk r (Appends a b whole)
 only_text a b (Ok x) text whole appended is = subst (Appends a b) is appended
 only_text a b (Err e) text whole appended is = tt
 
--- a fact about all texts that may have been read
+-- a fact about each pair of texts is one fact about all of them
 pub each_read : {E : Type 0} (r : Result (Unit {0}) E) (WasRead Is : List ℕ → List ℕ → Type 0)
     → ((asked told : List ℕ) → WasRead asked told → OnOk r (Is asked told)) → OnOk r ((asked told : List ℕ) → WasRead asked told → Is asked told)
 each_read (Ok x) WasRead Is each = each
 each_read (Err e) WasRead Is each = tt
 
--- the line of a finding is kept if nothing more is written
+-- the line of a finding stays appended if nothing more is written
 finding_kept : (finding : Finding) (shown : Shown) (tenants : ℕ) (a b c : Option (List ℕ)) → AppendsFinding finding shown tenants a b → Keeps b c
     → AppendsFinding finding shown tenants a c
 finding_kept (Kept lines) shown tenants a b c appended kept = Appends-kept a b c (kept_text lines tenants) appended kept

@@ -11,7 +11,7 @@ use Rattle.check_core.specs.Finding.{finding_of}
 use Rattle.check_core.specs.Laws.{IsBreach}
 use Rattle.partcheck.specs.declared.checked.Checked.{Checked}
 
--- the exit status
+-- the exit status of a check that ended in this way
 abbrev pub status_of_check : Checked → ℕ
 status_of_check (Checked.Found (Finding.Kept lines)) = 0
 status_of_check (Checked.Found (Finding.Broken breach)) = 4
@@ -32,7 +32,7 @@ IsSoundFinding config (Finding.Kept lines) trace replies =
 IsSoundFinding config (Finding.Broken breach) trace replies =
     IsBreach MOST_CACHES config.order config.superblocks config.tenants (lines_of_trace trace) replies breach
 
--- it is the finding for these texts, with its meaning
+-- this is the finding for these texts, and it has its meaning
 abbrev pub IsFindingOf : Config → Finding → (trace replies : List ℕ) → Type 0
 IsFindingOf config finding trace replies =
     (finding ≡ finding_of (opening_of config) trace replies) × IsSoundFinding config finding trace replies

@@ -1,4 +1,4 @@
--- The line of a finding. A text is shown as it is if it is plain, and in quotes otherwise.
+-- The line of a finding. A plain text is shown as it is, and any other text in quotes.
 use Rattle.std.specs.Prelude.{ℕ, ◌-◌, ◌==◌, ◌||◌, ◌&&◌, Bool, not, nat_le, nat_lt, if◌then◌else◌, List, [], ◌∷◌, ◌++◌, Option, Some, None, codes, decimal, flat_map, length, slice_index, take}
 use Rattle.std.specs.Char.Escape.{escape_ascii}
 use Rattle.std.specs.Io.KnownBytes.{Appends}
@@ -29,11 +29,11 @@ abbrev pub is_reply_byte : ℕ → Bool
 is_reply_byte byte = (nat_le 48 byte && nat_le byte 57) || (nat_le 65 byte && nat_le byte 90) || (nat_le 97 byte && nat_le byte 122)
     || byte == 32 || byte == 33 || byte == 62 || byte == 10
 
--- a text is not empty, and has no blank at either end
+-- the text is not empty, and has no blank at either end
 abbrev pub has_filled_ends : List ℕ → Bool
 has_filled_ends text = nat_lt 0 (length text) && not (slice_index text 0 == 32) && not (slice_index text (length text - 1) == 32)
 
--- a text that has such bytes only, and filled ends
+-- the text is not empty, has only bytes of commands and replies, and has no blank at either end
 abbrev pub is_plain_text : List ℕ → Bool
 is_plain_text text = has_filled_ends text && list_all is_reply_byte text
 
@@ -41,11 +41,11 @@ is_plain_text text = has_filled_ends text && list_all is_reply_byte text
 abbrev pub plain_byte : ℕ → List ℕ
 plain_byte byte = if byte == 10 then codes " / " else byte ∷ []
 
--- a text is plain, and differs from the words for no text
+-- the text is plain, and differs from the words that are printed for no text
 abbrev pub is_shown_plain : (none text : List ℕ) → Bool
 is_shown_plain none text = is_plain_text text && not (bytes_eq text none)
 
--- the beginning of a text: as it is, or escaped and in quotes if the text is not plain or equals the words for no text
+-- the bytes `begin` of a text as they are shown: in quotes and escaped if the text is not plain or equals the words for no text
 unfoldable pub begin_text : (none text begin : List ℕ) → List ℕ
 begin_text none text begin = if is_shown_plain none text then flat_map plain_byte begin
     else codes "'" ++ (flat_map escape_ascii begin ++ codes "'")
@@ -54,11 +54,11 @@ begin_text none text begin = if is_shown_plain none text then flat_map plain_byt
 abbrev pub cut_mark : Bool → List ℕ
 cut_mark is_cut = if is_cut then 226 ∷ 128 ∷ 166 ∷ [] else []
 
--- the first bytes of a text, at most this number, with a mark if it is cut
+-- the first bytes of a text, at most `most`, with a mark if the text is cut
 unfoldable pub excerpt_of : (none : List ℕ) → (most : ℕ) → (text : List ℕ) → List ℕ
 excerpt_of none most text = begin_text none text (take most text) ++ cut_mark (nat_lt most (length text))
 
--- the same, or the words for no text
+-- the first bytes of the text, at most `most`, or the words for no text
 abbrev pub excerpt_text : (none : List ℕ) → (most : ℕ) → Option (List ℕ) → List ℕ
 excerpt_text none most None = none
 excerpt_text none most (Some text) = excerpt_of none most text
@@ -67,7 +67,7 @@ excerpt_text none most (Some text) = excerpt_of none most text
 abbrev pub trace_line : List ℕ → List ℕ
 trace_line line = if slice_index line (length line - 1) == 10 then strip_carriage_return (take (length line - 1) line) else line
 
--- the bytes that were read, shortened by `cut`, if any were read
+-- the bytes that were read, with `cut` applied, or None if no byte was read
 abbrev pub if_read : (List ℕ → List ℕ) → List ℕ → Option (List ℕ)
 if_read cut [] = None
 if_read cut (byte ∷ bytes) = Some (cut (byte ∷ bytes))
@@ -87,7 +87,7 @@ words_of_promise Promise.Bytes = codes "a byte that is read is the one that was 
 words_of_promise Promise.Report = codes "a report has the tenant's own figures"
 words_of_promise Promise.Still = codes "the figures of a report stay valid until a command changes something"
 
--- the frame that two page blocks share
+-- the first frame that two page blocks share, and the live one of them
 abbrev pub taken_text : TakenFrame → List ℕ
 taken_text taken = codes "frame " ++ (decimal taken.frame ++ (codes " lies in the block of order " ++ (decimal taken.page.order
     ++ (codes " at frame " ++ decimal taken.page.first))))

@@ -16,7 +16,7 @@ pub const PROGRAM: Program<'static> = Program {
     unwritten: "finding could not be written",
 };
 
-/// The same, for a run in which the replies cannot be read.
+/// The same as [`PROGRAM`], for a run in which the replies cannot be read.
 pub const REPLIES_PROGRAM: Program<'static> = Program {
     unread: "replies could not be read",
     ..PROGRAM

@@ -15,7 +15,7 @@ use check_core::{Breach, Finding, Shown, TakenFrame};
 use promise_core::promise::Promise;
 use std::io::{self, Write};
 
-/// The largest number of printed bytes of a trace line. Only a faulty line has more.
+/// The largest number of printed bytes of a trace line. Only a line that is too long has more.
 const MOST_LINE_BYTES: usize = 255;
 
 /// The largest number of printed bytes of a reply.
@@ -134,7 +134,7 @@ fn lines_read(text: &[u8]) -> Option<&[u8]>
     }
 }
 
-/// Writes the first bytes of a text, at most `most`, or the words `none` if there is no text.
+/// Writes the first bytes of a text, at most `most`, or `none` if there is no text.
 fn write_shown<W: Write>(
     out: &mut W,
     text: Option<&[u8]>,
@@ -170,8 +170,8 @@ fn front(text: &[u8], most: usize) -> &[u8]
     &text[..most.min(text.len())]
 }
 
-/// Writes the beginning of a text. The lines of a plain text are joined by ` / `. Any other text is escaped and in quotes, and so
-/// is a text that equals the words for no text. So no text looks like another one, or like a finding.
+/// Writes the beginning of a text. The lines of a plain text are joined by ` / `. A text that is not plain, or that equals the
+/// words for no text, is escaped and in quotes. So no text looks like another one, or like a finding.
 fn write_begin<W: Write>(out: &mut W, text: &[u8], begin: &[u8], none: &str) -> io::Result<()>
     ensures { OnOk result (Appends (W.contents out.old) (W.contents out.new) (begin_text none.now text.now begin.now)) }
 {
