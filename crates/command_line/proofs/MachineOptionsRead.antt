@@ -25,7 +25,7 @@ same_written None (Some m) None may other = absurd may
 same_written (Some text) None None may other = refl
 same_written (Some text) (Some m) None may other = absurd (other may.0)
 
--- the text of an argument, in the matches and in their rows
+-- the text of an argument is the same in the matches and in their rows
 pub one_text-of_rows : (f : Found) (rows : List Row) → rows_of f ≡ rows → (name : Text) → one_text f name ≡ one_of name rows
 one_text-of_rows f rows same name = one_text-rows f name ∙ ap (one_of name) same
 
@@ -43,7 +43,7 @@ asks_machine read other m same asks = record {
   only = subst (λ text. MayWrite text m.only) (same (codes "only")) asks.only;
 }
 
--- so does their absence
+-- texts that give no valid sizes still give none if they are replaced by equal ones
 pub asks_no_sizes : (read other : Text → Option Text) → ((name : Text) → read name ≡ other name) → AsksNoSizes read → AsksNoSizes other
 asks_no_sizes read other same none sizes asks = none sizes (asks_sizes other read sizes (λ name. sym (same name)) asks)
 
@@ -77,7 +77,7 @@ tenant_given read m asks none =
     let below : none.tenant < m.config.tenants = m.below none.tenant only in
     omega (arith, none.above)
 
--- a machine that is requested is found
+-- if a machine is requested, there is no reason for which none is found
 pub machine_given : (read : Text → Option Text) (m : MachineOptions) (outcome : Outcome) → AsksMachine read m → ¬ IsNoMachine read outcome
 machine_given read m (Outcome.BadLine text) asks none = none.0 m.config asks.sizes m.bootable
 machine_given read m Outcome.NoMemory asks none = none m.config asks.sizes m.bootable

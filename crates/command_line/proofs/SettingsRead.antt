@@ -24,7 +24,7 @@ pub line_is_simple_and_free : is_simple_and_free command_line ≡ true
 unfolding clap_on_literals
 line_is_simple_and_free = refl
 
--- what is known of a parse by this command
+-- what is known of a parse by a command that equals this one is known of a parse by this one
 pub line_rows : {P : Type 0} (a : App) (f : Found) (words : List Text) → a ≡ command_line
     → (is_simple a ≡ true → (rows_of f ≡ matches_of a words) × P) → rows_of f ≡ matches_of command_line words
 line_rows a f words same found = rows_as command_line a f words line_is_simple same found
@@ -60,7 +60,7 @@ pub no_machine_rows : (f : Found) (rows : List Row) (outcome : Outcome) → rows
     → IsNoSettings (λ name. one_of name rows) outcome
 no_machine_rows f rows outcome same none = inl (no_machine (one_text f) (λ name. one_of name rows) outcome (one_text-of_rows f rows same) none)
 
--- the same for a tenant's own list
+-- if the matches give a machine for which `--own` is refused, the rows give no settings
 pub no_own_rows : (f : Found) (rows : List Row) (m : MachineOptions) (flag : Bool) (outcome : Outcome) → rows_of f ≡ rows → AsksMachine (one_text f) m
     → IsFlag (one_text f (codes "tally")) flag → IsNoOwn (one_text f) m flag outcome → IsNoSettings (λ name. one_of name rows) outcome
 no_own_rows f rows m flag outcome same machine tally (tenant, own, why) = inr (
@@ -71,7 +71,7 @@ no_own_rows f rows m flag outcome same machine tally (tenant, own, why) = inr (
   (tenant, subst (λ text. Writes text tenant) (one_text-of_rows f rows same (codes "own")) own, why),
 )
 
--- an own list that is valid is found
+-- a valid `--own` is not refused, nor is a missing one
 pub own_given : (read : Text → Option Text) (m : MachineOptions) (flag : Bool) (outcome : Outcome) (own : Option ℕ) → MayWrite (read (codes "own")) own
     → ForSome own (λ t. t < m.config.tenants) → IsAlone own m.only flag → ¬ IsNoOwn read m flag outcome
 own_given read m flag outcome own may below alone (tenant, writes, why) =
@@ -80,13 +80,13 @@ own_given read m flag outcome own may below alone (tenant, writes, why) =
     let within : tenant < m.config.tenants = below tenant is in
     ⊎_elim (λ beside. beside.0 apart) (λ beyond. let above = beyond.1 in omega arith) why
 
--- the matches request the same machine as the rows
+-- if the rows request settings, the matches request the machine of these settings
 pub machine_asked : (f : Found) (rows : List Row) (s : Settings) → rows_of f ≡ rows → Asks (λ name. one_of name rows) (λ name. first_of name rows) s
     → AsksMachine (one_text f) (machine_of s)
 machine_asked f rows s same asks =
     asks_machine (λ name. one_of name rows) (one_text f) (machine_of s) (λ name. sym (one_text-of_rows f rows same name)) asks.machine
 
--- valid settings are no cause to refuse their own list
+-- if the rows request settings with `--own` alone, their `own` is valid for the machine and the flag that the matches give
 pub own_fits : (f : Found) (rows : List Row) (m : MachineOptions) (s : Settings) (flag : Bool) → rows_of f ≡ rows
     → AsksMachine (one_text f) m → IsFlag (one_text f (codes "tally")) flag → Asks (λ name. one_of name rows) (λ name. first_of name rows) s
     → ((given : Bool) → IsFlag (one_of (codes "tally") rows) given → IsAlone s.own s.only given)

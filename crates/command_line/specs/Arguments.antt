@@ -30,6 +30,6 @@ sizes_command name = with_rule (with_rule (with_rule (bare_command name)
     (number_rule (codes "superblocks") 1 MOST_SUPERBLOCKS))
     (number_rule (codes "tenants") 1 MOST_TENANTS)
 
--- the same command with an optional argument `--only NUMBER`
+-- the command of a program whose arguments are the sizes of a machine and an optional `--only NUMBER`
 abbrev pub machine_command : Text → App
 machine_command name = with_rule (sizes_command name) (record (number_rule (codes "only") 0 (2 ^ 32 - 1)) { required = false })

@@ -17,7 +17,7 @@ abbrev pub Writes : Option Text → ℕ → Type 0
 Writes None n = ⊥
 Writes (Some text) n = IsNumber text × (n ≡ digits_value 10 (without_leading_plus text))
 
--- the same for an optional number: `None` means that there is no text, or that the text is not such a number
+-- the number of the text; None if there is no text, or if the text is not a number below 2 ^ 32
 abbrev pub MayWrite : Option Text → Option ℕ → Type 0
 MayWrite text (Some n) = Writes text n
 MayWrite None None = Unit {0}
@@ -38,7 +38,7 @@ pub record AsksMachine (read : Text → Option Text) (machine : MachineOptions) 
 abbrev pub AsksNoSizes : (Text → Option Text) → Type 0
 AsksNoSizes read = (sizes : Config) → AsksSizes read sizes → ¬ (is_bootable sizes ≡ true)
 
--- the message in that case
+-- the message if a size is missing or out of its range
 abbrev pub bad_size_text : Text
 bad_size_text = codes "error: a size of the machine is missing or out of its range\n"
 

@@ -10,7 +10,7 @@ use Rattle.streams.specs.declared.tally.ReplayError.{ReplayError}
 use Rattle.command_line.specs.declared.outcome.Line.{Line}
 use Rattle.command_line.specs.declared.outcome.Outcome.{Outcome}
 
--- the exit status
+-- the exit status of a program that ends with this outcome
 abbrev pub status_of : Outcome → ℕ
 status_of Outcome.Unreadable = 1
 status_of Outcome.Unwritable = 1
@@ -21,7 +21,7 @@ status_of Outcome.Done = 0
 status_of (Outcome.Help text) = 0
 status_of (Outcome.Version text) = 0
 
--- a line that a program prints
+-- a line that a program prints: the program's name, and then the text
 abbrev pub message : Text → Text → Text
 message program text = program ++ (codes ": " ++ text)
 
@@ -46,7 +46,7 @@ outcome_of (Ok tally) = Outcome.Done
 outcome_of (Err (ReplayError.Feed tally)) = Outcome.Unreadable
 outcome_of (Err (ReplayError.Drain tally)) = Outcome.Unwritable
 
--- the first failure decides: a send that failed came before a feed that failed, and a flush comes after it
+-- the first failure decides: a send that failed came before a feed that failed, and the flush comes last
 abbrev pub after_flush : Outcome → (unsent flushed : Bool) → Outcome
 after_flush Outcome.Done unsent true = Outcome.Done
 after_flush Outcome.Done unsent false = Outcome.Unwritable

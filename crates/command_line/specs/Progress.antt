@@ -5,6 +5,6 @@ use Rattle.std.specs.Prelude.{ℕ, ◌*◌, ◌/◌, List, ◌++◌, codes, deci
 abbrev pub percent_of : (bytes size : ℕ) → ℕ
 percent_of bytes size = min (100 * bytes / size) 100
 
--- the text that is printed
+-- the text of the progress, as it is printed
 abbrev pub position_text : (lines bytes size : ℕ) → List ℕ
 position_text lines bytes size = decimal lines ++ codes " lines, " ++ decimal (percent_of bytes size) ++ codes " %"

@@ -26,7 +26,7 @@ pub fn open<R: Files + Input>(rt: &R, path: Option<&str>) -> io::Result<Either<R
     }
 }
 
-/// Why a file gave no bytes, or no more bytes.
+/// Why a file could not be opened or read.
 #[derive(Clone, Copy, Debug)]
 pub enum FileError {
     /// It could not be opened.
@@ -75,7 +75,7 @@ pub struct WatchedReader<R: Read> {
 }
 
 impl<R: Read> WatchedReader<R> {
-    /// Makes a reader that watches `reader` and has no error yet.
+    /// Returns a reader that watches `reader` and has no error yet.
     pub fn new(reader: R) -> WatchedReader<R>
         ensures bytes { ⟦<WatchedReader<R> as Read>⟧.remaining result ≡ R.remaining reader }
         ensures none { last_error result ≡ None }

@@ -1,7 +1,7 @@
 //! The common part of programs that run a trace: the machine of a command line, the files that it names, the progress of the
 //! run, and the end of the program. The command line of `partmem` itself is here too ([`read_words`]), so that tests can call it.
 //!
-//! Such a program has the arguments of `command`, or of `sizes_command` if it has no `--only`, and adds its own with
+//! A program that runs a trace has the arguments of `command`, or of `sizes_command` if it has no `--only`, and adds its own with
 //! `Command::arg`. From the matches it reads the machine with `MachineOptions::found`, or the sizes with `sizes_found`, and then
 //! its own arguments.
 #![tactic(auto)]

@@ -28,15 +28,15 @@ use streams::{ReplayError, Tally};
 pub enum Outcome {
     /// The trace is done.
     Done,
-    /// `--help` was given: its text.
+    /// `--help` was given. The value is the text of the help.
     Help(String),
-    /// `--version` was given: its text.
+    /// `--version` was given. The value is the text of the version.
     Version(String),
     /// The trace could not be opened, or could not be read to its end.
     Unreadable,
     /// The output, the help or the version could not be written or flushed.
     Unwritable,
-    /// The command line is faulty or not UTF-8, or a number is out of its range: what is wrong with it.
+    /// The command line is faulty or not UTF-8, or a number is out of its range. The value is the message.
     BadLine(String),
     /// The sizes of the machine are valid, but `--only` is not below the number of tenants.
     BadOnly,

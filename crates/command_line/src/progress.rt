@@ -173,8 +173,8 @@ fn size_of(rt: &impl Files, path: &str) -> Option<u64> {
     metadata.is_file().then_some(metadata.len())
 }
 
-/// A reader that gives the bytes of another reader, and shows the progress of the run before each read. By then the run has done
-/// all whole lines that were given.
+/// A reader that gives the bytes of another reader, and shows the progress of the run before each read. Before a read, the run
+/// has done all whole lines that it was given.
 #[derive(Debug, Drop)]
 pub struct ProgressReader<'a, R: Read, P: Eprint + Clock> {
     reader: R,
@@ -182,7 +182,7 @@ pub struct ProgressReader<'a, R: Read, P: Eprint + Clock> {
 }
 
 impl<'a, R: Read, P: Eprint + Clock> ProgressReader<'a, R, P> {
-    /// Makes a reader over `reader` that shows this progress, if there is one.
+    /// Returns a reader over `reader` that shows this progress, if there is one.
     pub fn new(reader: R, progress: Option<Progress<'a, P>>) -> ProgressReader<'a, R, P>
         ensures bytes { ⟦<ProgressReader<'a, R, P> as Read>⟧.remaining result ≡ R.remaining reader }
         ensures shown { result.progress ≡ progress.entry }

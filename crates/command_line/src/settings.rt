@@ -66,7 +66,8 @@ pub struct Settings {
     pub config: Config,
     /// The only tenant whose lines are written, a number below the number of tenants. `None` means all lines.
     pub only: Option<u8>,
-    /// The tenant whose own list is written instead of replies, a number below the number of tenants.
+    /// The tenant whose own list is written instead of replies, a number below the number of tenants. `None` means that replies
+    /// are written.
     pub own: Option<u8>,
     /// True if the tally of the run is printed.
     pub tally: bool,

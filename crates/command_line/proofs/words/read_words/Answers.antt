@@ -17,7 +17,7 @@ returns-clause-asked c =
     asks_rows found (matches_of command_line words) _ rows
     (record { machine = record { sizes = c.in_ok-machine.ensures.asked.sizes; only = c.in_ok-machine.ensures.asked.only }; own = c.in_ok-own.ensures.asked; own_below = c.in_ok-own.ensures.below; own_alone = c.in_ok-own.ensures.alone; tally = tally; file = c.in_ok-path_of.ensures.path })
 
--- an error that `?` passes on
+-- what holds of an error also holds of the result that passes it on
 passed : (r : Result Settings Outcome) (e : Outcome) (Q : Outcome → Type 0) → IsErrAnd r (λ o. o ≡ e) → Q e → IfErr r Q
 passed (Ok settings) e Q is fact = tt
 passed (Err outcome) e Q is fact = subst Q (sym is) fact
