@@ -1,4 +1,4 @@
--- The notes of a run, from those of its replay.
+-- The notes of a run are those of its replay.
 use Rattle.std.proofs.Common.{◌≡◌, ℕ, suc, Bool, true, false, inl, inr, List, [], ◌∷◌, ◌++◌, length, Result, Ok, Err, Option, refl, ap, sym, ◌∙◌}
 use Rattle.std.proofs.lemmas.List.{append-nil}
 use Rattle.words_core.specs.Cutting.{lines_of_trace}
@@ -24,11 +24,11 @@ module _ {N : Type 0} (noting : Noting N) (m : MachineOptions) where
       noted (opening_world m.config.superblocks m.config.tenants) new.shows
       ∙ ap (λ order. noted_lines noting m.only cache_limit order 1 lines (opening_world m.config.superblocks m.config.tenants) n) new.order
 
-  -- nothing follows the lines
+  -- if nothing follows the lines, there is no unfinished line to note
   none_behind : (lines : List (List ℕ)) (n : N) → n ≡ with_unended noting lines [] n
   none_behind lines n = ap (λ r. noted_fault noting (suc (length lines)) [] r n) (sym reading_of_nothing)
 
-  -- the notes of the run, for every outcome
+  -- for every outcome, the notes of the run are those that `HasNoted` states
   pub noted : (k k' : KernelContent) (ended : Bool) (given taken : List ℕ) (replayed : Result Tally ReplayError) (unsent flushed : Bool) (count : ℕ) (n n' : N)
       → IsNew m k → Replays ended m.only k k' given taken replayed → IsDone replayed ended → count ≡ (tally_of replayed).lines
       → Noted noting ended m.only k given replayed n n' → HasNoted noting m (run_outcome replayed unsent flushed) count ended given n n'

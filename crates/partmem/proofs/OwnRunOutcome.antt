@@ -56,7 +56,7 @@ same_named (Ok done) unread undrained is = is
 same_named (Err Kept.Feed) unread undrained is = is
 same_named (Err Kept.Drain) unread undrained is = is
 
--- the part of the taken bytes that the writer took
+-- of the bytes taken, the writer took all but the ones that are held back; after a flush that succeeded, none is held back
 pub own_reached : (kept : Result (Unit {0}) KeepError) (unsent flushed failed : Bool) (before writer : Option (List ℕ)) (held taken : List ℕ)
     → failed ≡ not flushed → (flushed ≡ true → held ≡ []) → Appends before (append_known writer held) taken
     → HasReached (kept_outcome kept unsent flushed) failed before writer held taken (take (length taken - length held) taken)
@@ -64,7 +64,7 @@ own_reached kept unsent flushed failed before writer held taken same none append
     subst (λ outcome. HasReached outcome failed before writer held taken (take (length taken - length held) taken)) (same_outcome kept unsent flushed)
     (reached (as_replayed kept) unsent flushed failed before writer held taken same none appended)
 
--- the end that failed
+-- the outcome says which end failed
 pub own_ends : (kept : Result (Unit {0}) KeepError) (ended unread undrained unsent flushed : Bool) → OnOk kept (ended ≡ true) → NamesEnd kept unread undrained
     → (unsent ≡ true → flushed ≡ false) → (undrained ≡ true → flushed ≡ false)
     → EndsAs (kept_outcome kept unsent flushed) ended unread (not flushed) unsent
@@ -78,7 +78,7 @@ own_given kept unsent flushed ended given more done over =
     subst (λ outcome. IsGiven outcome (given ++ more) given) (same_outcome kept unsent flushed)
     (given_so_far (as_replayed kept) unsent flushed ended given more (same_done kept ended done) over)
 
--- the order of the kernel is that of the machine
+-- on a new machine, the kernel's own list of some lines is that of the machine
 at_order : (m : MachineOptions) (t : ℕ) (k : KernelContent) (lines : List (List ℕ)) → IsNew m k
     → own_text t cache_limit k.order lines (opening_world m.config.superblocks m.config.tenants) ≡ own_of m.config t lines
 at_order m t k lines new =
@@ -130,14 +130,14 @@ own_begins stays m t k k' ended given more taken (Err Kept.Feed) new ran done ov
 own_begins stays m t k k' ended given more taken (Err Kept.Drain) new ran done over =
     cut_begins stays m t ended given more taken (ran.0 ++ ran.1 ∷ []) ran.2 (part_begins m t k k' ran.0 ran.1 taken new ran.3) over
 
--- the outcome if the own list could not be written
+-- if the own list could not be written, the bytes taken are a prefix of it
 own_unwritten : EndedLinesStay → (m : MachineOptions) (t : ℕ) (k k' : KernelContent) (ended : Bool) (given taken : List ℕ) (kept : Result (Unit {0}) KeepError) → IsNew m k
     → KeepsOwn ended t k k' given taken kept → OnOk kept (ended ≡ true) → WritesOwn m.config t Unwritable given taken
 own_unwritten stays m t k k' ended given taken kept new ran done =
     subst (λ trace. IsBeginning taken (own_of m.config t (lines_of_trace trace))) (append-nil given)
     (own_begins stays m t k k' ended given [] taken kept new ran done (λ _. refl))
 
--- the outcome of the run
+-- for every outcome, the bytes taken are those that `WritesOwn` states
 pub own_written : EndedLinesStay → (m : MachineOptions) (t : ℕ) (k k' : KernelContent) (ended : Bool) (given taken : List ℕ) (kept : Result (Unit {0}) KeepError) (unsent flushed : Bool)
     → IsNew m k → KeepsOwn ended t k k' given taken kept → OnOk kept (ended ≡ true) → WritesOwn m.config t (kept_outcome kept unsent flushed) given taken
 own_written stays m t k k' ended given taken (Ok x) unsent true new ran done = ran.kept _ new.shows ∙ at_order m t k (lines_of_trace given) new
@@ -146,7 +146,7 @@ own_written stays m t k k' ended given taken (Err Kept.Feed) true flushed new ra
 own_written stays m t k k' ended given taken (Err Kept.Feed) false flushed new ran done = ran.kept _ new.shows ∙ at_order m t k (ended_lines given) new
 own_written stays m t k k' ended given taken (Err Kept.Drain) unsent flushed new ran done = own_unwritten stays m t k k' ended given taken (Err Kept.Drain) new ran done
 
--- the output of the run, by the whole trace
+-- if the whole trace is known, the bytes taken are a prefix of its own list
 pub own_traced : EndedLinesStay → (m : MachineOptions) (t : ℕ) (k k' : KernelContent) (ended : Bool) (given taken : List ℕ) (kept : Result (Unit {0}) KeepError) (unsent flushed : Bool)
     (known left : Option (List ℕ)) → IsNew m k → KeepsOwn ended t k k' given taken kept → OnOk kept (ended ≡ true) → Consumes known left given → (ended ≡ true → IsAtEnd left)
     → IfSome known (λ trace. IsOfTrace (kept_outcome kept unsent flushed) trace given (own_of m.config t (lines_of_trace trace)) taken)

@@ -37,7 +37,7 @@ pub booted : (m : MachineOptions) (k : KernelContent) → k ≡ opening_content 
 unfolding opening_content
 booted m k is shows = record { order = ap (λ parts. parts.order) is; shows = shows }
 
--- the order of the kernel is that of the machine
+-- on a new machine, the kernel shows for some lines what the machine shows
 at_order : (m : MachineOptions) (k : KernelContent) (lines : List (List ℕ)) → IsNew m k
     → shown_lines m.only cache_limit k.order lines (opening_world m.config.superblocks m.config.tenants) ≡ shown_replies m lines
 at_order m k lines new =
@@ -52,7 +52,7 @@ private_at config (Some t) k given taken order shows own = λ tenant.
     subst (λ o. taken ≡ with_line_feeds (private_lines cache_limit o config.superblocks config.tenants t given)) order
     (own config.superblocks config.tenants shows tenant)
 
--- the bytes taken of lines that were cut short are a prefix of the text of these and further lines
+-- if the lines were cut short, the bytes taken are a prefix of the text of these and further lines
 cut_first : (only : Option ℕ) (before after : KernelContent) (w : World) (lines done : List (List ℕ)) (line : List ℕ) (rest : List (List ℕ)) (taken : List ℕ) (tally : Tally)
     → Shows before w → lines ≡ (done ++ line ∷ []) ++ rest → IsCutShort only before after done line taken tally
     → IsBeginning taken (shown_lines only cache_limit before.order lines w)
@@ -73,7 +73,7 @@ goes_on stays m k given more taken new (rest, shown) =
       sym (at_order m k (lines_of_trace (given ++ more)) new) ∙ later.1 ∙ ap (λ text. text ++ later.0) shown ∙ append_assoc taken rest later.0,
     )
 
--- no more bytes come
+-- if no more bytes come, what is a prefix of the text of the bytes given is one of the text of the whole trace
 all_came : (m : MachineOptions) (given more taken : List ℕ) → more ≡ [] → IsBeginning taken (shown_replies m (lines_of_trace given))
     → IsBeginning taken (shown_replies m (lines_of_trace (given ++ more)))
 all_came m given more taken none begins =
@@ -103,14 +103,14 @@ begins stays m k k' ended given more taken (Err (Failed.Feed tally)) new ran don
 begins stays m k k' ended given more taken (Err (Failed.Drain tally)) new ran done over =
     cut_begins stays m k k' ended given more taken ran.0 ran.1 tally new ran.2 ran.3 over
 
--- the outcome if the replies could not be written
+-- if the replies could not be written, the bytes taken are a prefix of the replies to the bytes given
 pub unwritten : ShownStays → (m : MachineOptions) (k k' : KernelContent) (ended : Bool) (given taken : List ℕ) (replayed : Result Tally ReplayError) → IsNew m k
     → Replays ended m.only k k' given taken replayed → IsDone replayed ended → Answers m Unwritable given taken
 unwritten stays m k k' ended given taken replayed new ran done =
     subst (λ trace. IsBeginning taken (shown_replies m (lines_of_trace trace))) (append-nil given)
     (begins stays m k k' ended given [] taken replayed new ran done (λ _. refl))
 
--- the outcome of the run
+-- for every outcome, the bytes taken are those that `Answers` states
 pub answers : ShownStays → (m : MachineOptions) (k k' : KernelContent) (ended : Bool) (given taken : List ℕ) (replayed : Result Tally ReplayError) (unsent flushed : Bool) → IsNew m k
     → Replays ended m.only k k' given taken replayed → IsDone replayed ended → OnOk replayed (HasOwnLines m.only k given taken)
     → Answers m (run_outcome replayed unsent flushed) given taken
@@ -123,14 +123,14 @@ answers stays m k k' ended given taken (Err (Failed.Feed tally)) true flushed ne
 answers stays m k k' ended given taken (Err (Failed.Feed tally)) false flushed new ran done own = ran.shown _ new.shows ∙ at_order m k (ended_lines given) new
 answers stays m k k' ended given taken (Err (Failed.Drain tally)) unsent flushed new ran done own = unwritten stays m k k' ended given taken (Err (Failed.Drain tally)) new ran done
 
--- less the unwritten bytes, the counts are those of the bytes that were written
+-- if the unwritten bytes are subtracted from the counts, the counts are right for the bytes that were written
 counted : (tally : Tally) (lines : List (List ℕ)) (taken : List ℕ) (unwritten : ℕ) → Counts tally lines taken
     → Counts (without_unwritten tally unwritten) lines (take (length taken - unwritten) taken)
 counted tally lines taken unwritten counts =
     let size : length (take (length taken - unwritten) taken) ≡ length taken - unwritten = length-take-le (length taken - unwritten) taken (omega arith) in
     record { lines = counts.lines; events = counts.events; faults = counts.faults; written = ap (λ n. n - unwritten) counts.written ∙ sym size }
 
--- the counts of the run, for every outcome
+-- for every outcome, the counts of the run are those that `Tallies` states
 pub tallied : (m : MachineOptions) (k k' : KernelContent) (ended unread undrained : Bool) (given taken : List ℕ) (replayed : Result Tally ReplayError) (unsent flushed : Bool) (unwritten : ℕ)
     → IsNew m k → Replays ended m.only k k' given taken replayed → IsDone replayed ended → NamesFailed replayed unread undrained
     → Tallies m (run_outcome replayed unsent flushed) (without_unwritten (tally_of replayed) unwritten) ended unread given taken (take (length taken - unwritten) taken)
@@ -158,7 +158,7 @@ all_reached before writer held taken none appended =
     append_known-nil None = refl
     append_known-nil (Some xs) = ap (λ bytes. Some bytes) (append-nil xs)
 
--- the part of the taken bytes that the writer took; after a flush that succeeded nothing is held
+-- of the bytes taken, the writer took all but the ones that are held back; after a flush that succeeded, none is held back
 pub reached : (replayed : Result Tally ReplayError) (unsent flushed failed : Bool) (before writer : Option (List ℕ)) (held taken : List ℕ)
     → failed ≡ not flushed → (flushed ≡ true → held ≡ []) → Appends before (append_known writer held) taken
     → HasReached (run_outcome replayed unsent flushed) failed before writer held taken (take (length taken - length held) taken)
@@ -171,7 +171,7 @@ reached (Err (Failed.Feed tally)) false false true before writer held taken same
 reached (Err (Failed.Feed tally)) false false false before writer held taken same none appended = absurd cc
 reached (Err (Failed.Drain tally)) unsent flushed failed before writer held taken same none appended = (appended, refl)
 
--- the end that failed
+-- the outcome says which end failed
 pub ends : (replayed : Result Tally ReplayError) (ended unread undrained unsent flushed : Bool) → IsDone replayed ended → NamesFailed replayed unread undrained
     → (unsent ≡ true → flushed ≡ false) → (undrained ≡ true → flushed ≡ false)
     → EndsAs (run_outcome replayed unsent flushed) ended unread (not flushed) unsent
@@ -182,7 +182,7 @@ ends (Err (Failed.Feed tally)) ended unread undrained true flushed done named st
 ends (Err (Failed.Feed tally)) ended unread undrained false flushed done named stopped fine = (named.0, refl)
 ends (Err (Failed.Drain tally)) ended unread undrained unsent flushed done named stopped fine = (ap not (fine named.1), λ failed. absurd cc)
 
--- before the first line
+-- if nothing was given and nothing was written, this holds for any trace
 pub nothing_of : (whole : List ℕ → List ℕ) (known : Option (List ℕ)) → IfSome known (λ trace. IsOfTrace NoMemory trace [] (whole trace) [])
 nothing_of whole None = tt
 nothing_of whole (Some trace) = record { part = (trace, refl); begins = (whole trace, refl) }
@@ -196,14 +196,14 @@ given_so_far (Err (Failed.Feed tally)) true flushed ended given more done over =
 given_so_far (Err (Failed.Feed tally)) false flushed ended given more done over = (more, refl)
 given_so_far (Err (Failed.Drain tally)) unsent flushed ended given more done over = (more, refl)
 
--- what holds of all traces that begin with the bytes given holds of the trace
+-- what holds of all traces that begin with the bytes given holds of the trace, if it is known
 pub of_trace : (P : List ℕ → Type 0) (known left : Option (List ℕ)) (ended : Bool) (given : List ℕ) → Consumes known left given → (ended ≡ true → IsAtEnd left)
     → ((more : List ℕ) → (ended ≡ true → more ≡ []) → P (given ++ more)) → IfSome known P
 of_trace P None left ended given consumed over fact = tt
 of_trace P (Some trace) None ended given consumed over fact = absurd consumed
 of_trace P (Some trace) (Some more) ended given consumed over fact = subst P (sym consumed) (fact more over)
 
--- the output of the run, by the whole trace, for every outcome
+-- if the whole trace is known, the bytes taken are a prefix of its text, for every outcome
 pub traced : ShownStays → (m : MachineOptions) (k k' : KernelContent) (ended : Bool) (given taken : List ℕ) (replayed : Result Tally ReplayError) (outcome : Outcome) (known left : Option (List ℕ))
     → IsNew m k → Replays ended m.only k k' given taken replayed → IsDone replayed ended
     → ((more : List ℕ) → (ended ≡ true → more ≡ []) → IsGiven outcome (given ++ more) given)

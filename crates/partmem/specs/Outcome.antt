@@ -18,7 +18,7 @@ tally_of (Ok tally) = tally
 tally_of (Err (ReplayError.Feed tally)) = tally
 tally_of (Err (ReplayError.Drain tally)) = tally
 
--- the same counts, less the bytes that were not written
+-- the same counts, without the bytes that were not written
 abbrev pub without_unwritten : Tally → ℕ → Tally
 without_unwritten tally unwritten = record { lines = tally.lines; events = tally.events; faults = tally.faults; written = tally.written - unwritten }
 

@@ -13,7 +13,7 @@ abbrev pub AreAllowed : MachineOptions → List (List ℕ) → List ℕ → Type
 AreAllowed m lines text =
     IsAllowedText m.only cache_limit m.config.order m.config.superblocks m.config.tenants lines text
 
--- the bytes written, for the bytes given and the outcome of the run
+-- what is written for the bytes given, for each outcome of the run
 abbrev pub WritesAllowed : MachineOptions → Outcome → List ℕ → List ℕ → Type 0
 WritesAllowed m Outcome.Done given written = AreAllowed m (lines_of_trace given) written
 WritesAllowed m Outcome.Unreadable given written = AreAllowed m (ended_lines given) written

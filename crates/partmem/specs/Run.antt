@@ -29,7 +29,7 @@ IsPrivate (Some t) config trace written = t < config.tenants → written ≡ wit
 abbrev pub IsBeginning : List ℕ → List ℕ → Type 0
 IsBeginning part whole = (rest : List ℕ) × (whole ≡ part ++ rest)
 
--- the bytes written, for the bytes given and the outcome of the run; ⊥ for outcomes that do not occur
+-- what is written for the bytes given, for each outcome of the run; ⊥ for outcomes that do not occur
 abbrev pub Answers : MachineOptions → Outcome → List ℕ → List ℕ → Type 0
 Answers m Outcome.Done given written = (written ≡ shown_replies m (lines_of_trace given)) × IsPrivate m.only m.config given written
 Answers m Outcome.Unreadable given written = written ≡ shown_replies m (ended_lines given)
@@ -40,12 +40,12 @@ Answers m (Outcome.Version text) given written = ⊥
 Answers m (Outcome.BadLine text) given written = ⊥
 Answers m Outcome.BadOnly given written = ⊥
 
--- The bytes held back are the end of the bytes written: the writer took those before them, and nothing else.
+-- The bytes that are held back are the end of the bytes written. The writer took the bytes before them, and nothing else.
 abbrev pub IsHeldBack : (before writer : Option (List ℕ)) → (held written sent : List ℕ) → Type 0
 IsHeldBack before writer held written sent = Appends before (append_known writer held) written × (sent ≡ take (length written - length held) written)
 
--- Which of the bytes written the writer took, for each outcome of the run: all of them, or those that a failed drain does not
--- hold back. `before` are the bytes that the drain had taken before the run.
+-- The bytes that the writer took, for each outcome of the run: all bytes written, or all that a failed drain does not hold back.
+-- `before` are the bytes that the drain had taken before the run.
 abbrev pub HasReached : Outcome → (failed : Bool) → (before writer : Option (List ℕ)) → (held written sent : List ℕ) → Type 0
 HasReached Outcome.Done failed before writer held written sent = (sent ≡ written) × Appends before writer written
 HasReached Outcome.Unreadable false before writer held written sent = (sent ≡ written) × Appends before writer written
