@@ -9,7 +9,7 @@ use Rattle.run_notes.specs.declared.notes.RunNotes.{RunNotes}
 abbrev pub no_notes : RunNotes
 no_notes = record { first = record { items = [] }; times = replicate 15 0 }
 
--- the first 32 bytes of a faulty line are kept
+-- the note of a faulty line: its number, its fault, and its first 32 bytes
 abbrev pub faulty_line : ℕ → LineFault → List ℕ → FaultyLine
 faulty_line number fault line = record { number = number; fault = fault; begin = record { items = take 32 line } }
 
@@ -23,7 +23,7 @@ abbrev pub times_of : RunNotes → ℕ → ℕ
 times_of notes zero = 0
 times_of notes (suc place) = slice_index_or notes.times place 0
 
--- a count stays below 2^64
+-- the notes with one more refusal counted; a count stays below 2^64
 abbrev pub with_refusal : RunNotes → Refusal → RunNotes
 with_refusal notes refusal = let at = number_of_refusal refusal - 1 in
     record notes { times = slice_set notes.times at (min (slice_index notes.times at + 1) (2 ^ 64 - 1)) }

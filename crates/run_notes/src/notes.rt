@@ -24,7 +24,7 @@ impl Default for RunNotes {
 }
 
 impl RunNotes {
-    /// Makes empty notes.
+    /// Returns empty notes.
     pub fn new() -> RunNotes
         ensures { result ≡ no_notes }
     {
@@ -42,7 +42,7 @@ impl RunNotes {
     }
 
     /// Returns the refusal with this number, counted from 1, and the number of answers that were this refusal. Returns `None` if
-    /// there was none.
+    /// there were none.
     pub fn told(&self, number: u8) -> Option<Refused>
         ensures { MatchOption result (times_of self.now number ≡ 0)
             (λ refused. (number_of_refusal refused.refusal ≡ number) × (refused.times ≡ times_of self.now number)) }
