@@ -126,7 +126,7 @@ left_part step first size part low high summaries summary old here begins ends i
     (λ k from below. same (first + k) (cell_in old k) (subst (λ (m : Summary). IsSummarizedBy m (cell_in old k)) (sym is)
     (subst (λ (n : ℕ). IsSummarizedBy (get_or summaries n any_summary) (cell_in old k)) (here k (omega arith) (omega arith)) (were k))))
 
--- a step at the indices of the places from `begin` to `end - 1` changes all places as the step within this range does
+-- a step at the indices of the places from `begin` to `end - 1` is, at every place, the step within this range
 pub changed_within : (step : CellStep) (first low high begin end : ℕ) (old new : List KeptByte) → low ≡ min (begin - first) (length old)
     → high ≡ max (min (end - first) (length old)) low → IsChanged step first low high old new
     → (k : ℕ) → k < length old → cell_in new k ≡ within begin end step (first + k) (cell_in old k)
