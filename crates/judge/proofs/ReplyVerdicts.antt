@@ -65,7 +65,7 @@ module _ (event : Event) (reply : Reply) (w : Known) where
       verdict_is (kept event reply w s) after
       ∙ ap (λ b. turn (broken ((Promise.Form, b && is_some (state_after w.order event reply.body s)) ∷ drop 1 (kept event reply w s))) after) right
 
--- if a reply leaves what is known unchanged, the unchanged machine is judged right
+-- if a reply leaves what is known unchanged, its verdict is right with an unchanged machine
 unchanged : (event : Event) (reply : Reply) (x : SeenMachine) (v : Result (Unit {0}) Promise) → allowed event reply (known_of x) ≡ turn v (known_of x)
     → IsJudged event reply x x (failing v)
 unchanged event reply x (Ok u) is = (is, record { order = refl; superblocks = refl; tenants = refl })
@@ -153,7 +153,7 @@ module _ (event : Event) (reply : Reply) (x : SeenMachine) (t : ℕ) (y z : Seen
             ∙ sym (map-set state_of x.tenants t z)) i;
       }))
 
-  -- a verdict for the tenant and its owners is a verdict for the machine
+  -- if the result is right for the tenant and for the owners, it is right for the machine with both
   pub tenant_judged : (result : Result (Unit {0}) Failure) (owners : List (Option Owner)) → IsVerdictFor event reply.body (known_of x) y z result
       → length (owners_after event reply.body x.owners) ≡ length x.owners → AreOwnersAfter event reply.body x.owners owners result
       → IsJudged event reply x (with_tenant x owners t z) result

@@ -73,7 +73,7 @@ unfolding state_after
 refused event r w x result asked full taken is is_due is_full is_taken = settled event (Say.Refused r) w x result
     (is ∙ ap failing ((λ i. on_refusal r (is_due i) (is_full i) (is_taken i)) ∙ sym (refusal_is event r (known_at x w) (state_of x)))) refl
 
--- no refusal is due in reply to a reset or a pool command, and neither `NoFrames` nor `SlotBusy` may come
+-- a refusal of a reset or of a pool command is judged as one that is not due, and neither `NoFrames` nor `SlotBusy` may come
 pub admin_refused : (m : AdminCommand) (r : Refusal) (w : Known) (x : Seen) (result : Result (Unit {0}) Failure) → ((t : ℕ) → m ≡ Do.Grant t → ⊥)
     → ((t u : ℕ) → m ≡ Do.TakeBack t u → ⊥) → ((t u : ℕ) → m ≡ Do.Move t u → ⊥) → result ≡ failing (on_refusal r None false false)
     → IsVerdictFor (On.Admin m) (Say.Refused r) w x x result
