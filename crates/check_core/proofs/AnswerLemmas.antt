@@ -46,7 +46,7 @@ pub whole_is : {A : Type 0} (found : A × List ℕ) (x : A) → whole found ≡ 
 whole_is (y, []) x e = (same_Some y x e, refl)
 whole_is (y, b ∷ rest) x e = absurd cc
 
--- the parts behind `front`, joined, with a line feed at the end
+-- `front` and these parts, joined, with a line feed at the end
 abbrev ended : List ℕ → List (List ℕ) → List ℕ
 ended front [] = front ++ 10 ∷ []
 ended front (part ∷ parts) = ended (front ++ part) parts

@@ -27,7 +27,7 @@ pub stopped_on : {A : Type 0} (why : Unchecked) (r : Result A Unchecked) (u v : 
 stopped_on why (Ok done) u v S same is = absurd same
 stopped_on why (Err e) u v S same is = subst (λ x. IsStoppedBy x u v S) (sym same) is
 
--- a call that reads nothing ends in this way too, if the reader of the replies had not failed
+-- what is known of the end of a call without a reader also holds with a reader that has not failed
 pub ended_where : {A : Type 0} (r : Result A Unchecked) (v : Bool) (S T : Type 0) → v ≡ false → (S → T) → IsEndedBy r false false S → IsEndedBy r false v T
 ended_where r v S T fine f is = subst (λ untold. IsEndedBy r false untold T) (sym fine) (ended_so r false false S T f is)
 

@@ -74,7 +74,7 @@ word_is word bytes few are is =
     ∙ ap (bytes_again word) decoded
     ∙ ap (λ test. cond test (Some bytes) None) ((bytes_eq-Decides (encode_lower bytes) word).1 is)
 
--- if a word spells bytes and begins with the digits of the first ones, the next pair spells a byte
+-- if the digits of some bytes begin with the digits of `xs` and then a pair, the pair spells a byte
 split_at_byte : (xs bs : List ℕ) (pair behind : List ℕ) → length pair ≡ 2 → IsBytes bs → encode_lower bs ≡ encode_lower xs ++ (pair ++ behind)
     → (byte : ℕ) × (byte < 256) × (encode_lower (byte ∷ []) ≡ pair)
 unfolding encode_with

@@ -62,7 +62,7 @@ pub record IsBreachAt (w : Known) (breach : Breach) (asked told line reply : Lis
   pub whole : lines_at (breach.reply - 1) answers ≡ Some (answers, [])
   pub one : IsLineOrNone (readings_of line)
 
--- these bytes were read as a line of the trace, and as its reply, and are shown as far as the buffers hold them
+-- `asked` was read as a line of the trace, and `told` as its reply; both are shown as far as the buffers hold them
 pub record HasRead (asked told : List ℕ) (shown : Shown) : Type 0 where
   pub line : Gathers MOST_PART_BYTES asked shown.line
   pub reply : Gathers MOST_TEXT_BYTES told shown.reply

@@ -7,8 +7,8 @@ use Rattle.words_core.specs.Cutting.{lines_of_trace}
 use Rattle.words_core.specs.Grammar.{reading_of}
 use Rattle.streams.specs.Lines.{IsOneLine}
 
--- the bytes that are left, if they are known; an upper bound on their number; whether a pull has reached the end, and whether one
--- has failed
+-- the bytes that are left, if they are known; an upper bound on their number; whether a pull has reached the end, and whether a
+-- pull has failed
 pub record Source : Type 0 where
   pub left : Option (List ℕ)
   pub room : ℕ

@@ -21,7 +21,7 @@ after_front front text = if bytes_eq (take (length front) text) front then Some 
 abbrev pub row_behind : {A : Type 0} → (List ℕ → Option (A × List ℕ)) → List ℕ → List ℕ → Option (A × List ℕ)
 row_behind row_at front text = after_front front text >>= row_at
 
--- a row and those that follow it, or none
+-- the row that was found and the rows that follow it, or no rows
 abbrev pub then_rows : {A : Type 0} → Option (A × List ℕ) → List ℕ → (List ℕ → List A × List ℕ) → List A × List ℕ
 then_rows None text more = ([], text)
 then_rows (Some found) text more = (found.0 ∷ (more found.1).0, (more found.1).1)

@@ -33,7 +33,7 @@ abbrev pub event_read : Result (Option Event) LineFault → Option Event
 event_read (Ok event) = event
 event_read (Err fault) = None
 
--- the event of the line and the reply, if they were read as an event and a reply of one line
+-- the event and the reply, if `asked` was read as a line with an event, and `told` as a reply of one line
 abbrev pub answer_read : (asked told : List ℕ) → Option (Event × Reply)
 answer_read asked told =
     event_read (reading_of (without_line_feed asked)) >>= (λ event.

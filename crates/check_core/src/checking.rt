@@ -31,7 +31,8 @@ pub fn check<T: Feed, R: Feed>(
 ) -> Result<Finding, Unchecked>
     requires trace_fine { trace.old.failed ≡ false }
     requires replies_fine { replies.old.failed ≡ false }
-    // What was read of the trace and of the replies. The finding is right for all texts that begin so, and its breach is shown.
+    // `asked` and `told` are what was read of the trace and of the replies. All texts that begin so have this finding, and its
+    // breach is shown.
     ensures found { (asked : List ℕ) × (told : List ℕ) × HasGiven trace.old trace.new asked × HasGiven replies.old replies.new told
         × ((w : Known) → ShowsKnown machine.old w → IfOk result (λ finding. WhateverFollows trace.new replies.new asked told
         (λ trace replies. finding ≡ finding_of w trace replies)))
