@@ -87,7 +87,7 @@ words_of_promise Promise.Bytes = codes "a byte that is read is the one that was 
 words_of_promise Promise.Report = codes "a report has the tenant's own figures"
 words_of_promise Promise.Still = codes "the figures of a report stay valid until a command changes something"
 
--- the first frame that two page blocks share, and the live one of them
+-- the words for the first frame that two page blocks share, and for the live one of them
 abbrev pub taken_text : TakenFrame → List ℕ
 taken_text taken = codes "frame " ++ (decimal taken.frame ++ (codes " lies in the block of order " ++ (decimal taken.page.order
     ++ (codes " at frame " ++ decimal taken.page.first))))

@@ -25,8 +25,8 @@ pub fn run<T: Feed, R: Feed>(
     requires bootable { is_bootable config ≡ true }
     requires trace_fine { trace.old.failed ≡ false }
     requires replies_fine { replies.old.failed ≡ false }
-    // What was read of the trace and of the replies. The finding, with its meaning, is that of all texts that begin so, and its
-    // breach is shown.
+    // `asked` and `told` are what was read of the trace and of the replies. All texts that begin so have this finding, with its
+    // meaning, and its breach is shown.
     ensures found { (asked : List ℕ) × (told : List ℕ) × HasGiven trace.old trace.new asked × HasGiven replies.old replies.new told
         × IfOk result (λ finding. WhateverFollows trace.new replies.new asked told (IsFindingOf config finding))
         × IfOk result (λ finding. ShowsFinding (opening_of config) finding asked told shown.new) }
