@@ -1,4 +1,4 @@
--- Command lines of `partmem` that clap's model refuses or takes, worked out, with the kinds of fault.
+-- Worked examples: command lines of `partmem`, and the faults that clap's model finds in them.
 use Rattle.std.proofs.Common.{◌≡◌, [], ◌∷◌, refl, codes}
 use Rattle.clap.proofs.OnLiterals.{clap_on_literals}
 use Rattle.clap.specs.declared.error.kind.ErrorKind.TheVariants.{DisplayHelp, DisplayVersion, MissingRequiredArgument, ValueValidation}
