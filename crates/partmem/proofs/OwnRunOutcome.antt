@@ -56,7 +56,7 @@ same_named (Ok done) unread undrained is = is
 same_named (Err Kept.Feed) unread undrained is = is
 same_named (Err Kept.Drain) unread undrained is = is
 
--- of the bytes taken, the writer took all but the ones that are held back; after a flush that succeeded, none is held back
+-- the writer has received the bytes taken, except those that are held back; after a flush that succeeded, none is held back
 pub own_reached : (kept : Result (Unit {0}) KeepError) (unsent flushed failed : Bool) (before writer : Option (List ℕ)) (held taken : List ℕ)
     → failed ≡ not flushed → (flushed ≡ true → held ≡ []) → Appends before (append_known writer held) taken
     → HasReached (kept_outcome kept unsent flushed) failed before writer held taken (take (length taken - length held) taken)
@@ -78,7 +78,7 @@ own_given kept unsent flushed ended given more done over =
     subst (λ outcome. IsGiven outcome (given ++ more) given) (same_outcome kept unsent flushed)
     (given_so_far (as_replayed kept) unsent flushed ended given more (same_done kept ended done) over)
 
--- on a new machine, the kernel's own list of some lines is that of the machine
+-- a new kernel has the machine's order, so both give the same own list
 at_order : (m : MachineOptions) (t : ℕ) (k : KernelContent) (lines : List (List ℕ)) → IsNew m k
     → own_text t cache_limit k.order lines (opening_world m.config.superblocks m.config.tenants) ≡ own_of m.config t lines
 at_order m t k lines new =

@@ -37,7 +37,7 @@ pub booted : (m : MachineOptions) (k : KernelContent) → k ≡ opening_content 
 unfolding opening_content
 booted m k is shows = record { order = ap (λ parts. parts.order) is; shows = shows }
 
--- on a new machine, the kernel shows for some lines what the machine shows
+-- a new kernel has the machine's order, so both show the same text for these lines
 at_order : (m : MachineOptions) (k : KernelContent) (lines : List (List ℕ)) → IsNew m k
     → shown_lines m.only cache_limit k.order lines (opening_world m.config.superblocks m.config.tenants) ≡ shown_replies m lines
 at_order m k lines new =
@@ -158,7 +158,7 @@ all_reached before writer held taken none appended =
     append_known-nil None = refl
     append_known-nil (Some xs) = ap (λ bytes. Some bytes) (append-nil xs)
 
--- of the bytes taken, the writer took all but the ones that are held back; after a flush that succeeded, none is held back
+-- the writer has received the bytes taken, except those that are held back; after a flush that succeeded, none is held back
 pub reached : (replayed : Result Tally ReplayError) (unsent flushed failed : Bool) (before writer : Option (List ℕ)) (held taken : List ℕ)
     → failed ≡ not flushed → (flushed ≡ true → held ≡ []) → Appends before (append_known writer held) taken
     → HasReached (run_outcome replayed unsent flushed) failed before writer held taken (take (length taken - length held) taken)
@@ -182,7 +182,7 @@ ends (Err (Failed.Feed tally)) ended unread undrained true flushed done named st
 ends (Err (Failed.Feed tally)) ended unread undrained false flushed done named stopped fine = (named.0, refl)
 ends (Err (Failed.Drain tally)) ended unread undrained unsent flushed done named stopped fine = (ap not (fine named.1), λ failed. absurd cc)
 
--- if nothing was given and nothing was written, this holds for any trace
+-- if nothing was given and nothing was written, these are prefixes of any trace and of its output
 pub nothing_of : (whole : List ℕ → List ℕ) (known : Option (List ℕ)) → IfSome known (λ trace. IsOfTrace NoMemory trace [] (whole trace) [])
 nothing_of whole None = tt
 nothing_of whole (Some trace) = record { part = (trace, refl); begins = (whole trace, refl) }

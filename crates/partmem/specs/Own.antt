@@ -9,7 +9,7 @@ use Rattle.own_trace.specs.Kept.{own_text, own_trace}
 use Rattle.command_line.specs.declared.outcome.Outcome.{Outcome}
 use Rattle.partmem.specs.Run.{IsBeginning}
 
--- the text of the own list of tenant t, which these lines of the trace make on a new machine
+-- the text of tenant t's own list of these lines, on a new machine
 abbrev pub own_of : Config → ℕ → List (List ℕ) → List ℕ
 own_of config t lines = own_text t cache_limit config.order lines (opening_world config.superblocks config.tenants)
 

@@ -27,7 +27,8 @@ pub fn run_own<F: Feed, W: Write>(
 ) -> Outcome
     requires feed_fine { F.has_failed feed.old ≡ false }
     requires drain_fine { ⟦<WriterDrain<W> as Drain>⟧.has_failed drain.old ≡ false }
-    // The bytes of the trace that were given, the bytes written, and those of the bytes written that the writer took.
+    // `given` are the bytes of the trace that were given, `written` those that the drain took, and `sent` those of them that the
+    // writer took.
     ensures kept { (given : List ℕ) × (written : List ℕ) × (sent : List ℕ)
         × Consumes (F.remaining feed.old) (F.remaining feed.new) given
         × Appends (⟦<WriterDrain<W> as Drain>⟧.contents drain.old) (⟦<WriterDrain<W> as Drain>⟧.contents drain.new) written

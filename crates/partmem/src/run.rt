@@ -26,8 +26,8 @@ pub fn run<F: Feed, W: Write, N: Notes>(
 ) -> Ended
     requires feed_fine { F.has_failed feed.old ≡ false }
     requires drain_fine { ⟦<WriterDrain<W> as Drain>⟧.has_failed drain.old ≡ false }
-    // The bytes of the trace that were given, the bytes written, those of the bytes written that the writer took, the counts of
-    // the tally, and the notes.
+    // `given` are the bytes of the trace that were given, `written` those that the drain took, and `sent` those of them that the
+    // writer took. The outcome, the tally and the notes fit these bytes.
     ensures ran { (given : List ℕ) × (written : List ℕ) × (sent : List ℕ)
         × Consumes (F.remaining feed.old) (F.remaining feed.new) given
         × Appends (⟦<WriterDrain<W> as Drain>⟧.contents drain.old) (⟦<WriterDrain<W> as Drain>⟧.contents drain.new) written
@@ -39,7 +39,7 @@ pub fn run<F: Feed, W: Write, N: Notes>(
         × IfSome (F.remaining feed.old) (λ trace.
         IsOfTrace result.outcome trace given (shown_replies machine.now (lines_of_trace trace)) written)
         × HasNoted N.noting machine.now result.outcome result.tally.lines (F.has_ended feed.new) given notes.old notes.new }
-    // Each of these replies keeps the promises, including those that are not shown.
+    // Each reply keeps the promises, also a reply that is not shown.
     ensures promises { (given : List ℕ) × (written : List ℕ) × (sent : List ℕ)
         × Consumes (F.remaining feed.old) (F.remaining feed.new) given
         × Appends (⟦<WriterDrain<W> as Drain>⟧.contents drain.old) (⟦<WriterDrain<W> as Drain>⟧.contents drain.new) written
