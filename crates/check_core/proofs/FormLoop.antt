@@ -122,8 +122,7 @@ letter_on form next rest letter form_is is =
     ap (λ form. form_at form rest) form_is
     ∙ ap (λ test. cond test (numbered (number_at rest)) (letter_at letter rest) >>= (λ first. form_at next first.1 >>= (λ others. Some (onto first.0 others.0, others.1)))) is
 
--- if the form and the text begin with the same letter, what is behind it in the form is matched with what is behind it in the
--- text
+-- if the form and the text begin with the same letter, matching them is matching what follows the letter in both
 pub letter_found : (form next rest after : List ℕ) (letter : ℕ) → form ≡ letter ∷ next → (letter == 35) ≡ false → letter_at letter rest ≡ Some (None, after)
     → form_at form rest ≡ form_at next after
 letter_found form next rest after letter form_is is found =
