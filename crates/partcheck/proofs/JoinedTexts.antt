@@ -31,7 +31,7 @@ pub only_text : {E : Type 0} (a b : Option (List ℕ)) (r : Result (Unit {0}) E)
 only_text a b (Ok x) text whole appended is = subst (Appends a b) is appended
 only_text a b (Err e) text whole appended is = tt
 
--- if a call that succeeds has a fact for each pair of texts, it has the fact for all pairs
+-- if the success of a call implies a fact for each pair of texts, it implies the fact for all pairs
 pub each_read : {E : Type 0} (r : Result (Unit {0}) E) (WasRead Is : List ℕ → List ℕ → Type 0)
     → ((asked told : List ℕ) → WasRead asked told → OnOk r (Is asked told)) → OnOk r ((asked told : List ℕ) → WasRead asked told → Is asked told)
 each_read (Ok x) WasRead Is each = each

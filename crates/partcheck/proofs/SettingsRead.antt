@@ -21,7 +21,7 @@ line_is_simple_and_free : is_simple_and_free check_command_line ≡ true
 unfolding clap_on_literals
 line_is_simple_and_free = refl
 
--- what is known of a parse by a command that equals this command line is known of a parse by this one
+-- facts about a parse by a command that equals this command line are facts about a parse by this command line
 pub check_rows : {P : Type 0} (a : App) (f : Found) (words : List Text) → a ≡ check_command_line
     → (is_simple a ≡ true → (rows_of f ≡ matches_of a words) × P) → rows_of f ≡ matches_of check_command_line words
 check_rows a f words same found = rows_as check_command_line a f words line_is_simple same found

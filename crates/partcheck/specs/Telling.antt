@@ -41,11 +41,11 @@ is_plain_text text = has_filled_ends text && list_all is_reply_byte text
 abbrev pub plain_byte : ℕ → List ℕ
 plain_byte byte = if byte == 10 then codes " / " else byte ∷ []
 
--- the text is plain, and differs from the words that are printed for no text
+-- the text is plain, and differs from the words that stand for a missing text
 abbrev pub is_shown_plain : (none text : List ℕ) → Bool
 is_shown_plain none text = is_plain_text text && not (bytes_eq text none)
 
--- the bytes `begin` of a text as they are shown: in quotes and escaped if the text is not plain or equals the words for no text
+-- the beginning of a text as it is shown: in quotes and escaped if the text is not plain or equals the words for a missing text
 unfoldable pub begin_text : (none text begin : List ℕ) → List ℕ
 begin_text none text begin = if is_shown_plain none text then flat_map plain_byte begin
     else codes "'" ++ (flat_map escape_ascii begin ++ codes "'")
@@ -58,12 +58,12 @@ cut_mark is_cut = if is_cut then 226 ∷ 128 ∷ 166 ∷ [] else []
 unfoldable pub excerpt_of : (none : List ℕ) → (most : ℕ) → (text : List ℕ) → List ℕ
 excerpt_of none most text = begin_text none text (take most text) ++ cut_mark (nat_lt most (length text))
 
--- the first bytes of the text, at most `most`, or the words for no text
+-- the first bytes of the text, at most `most`, or the words for a missing text
 abbrev pub excerpt_text : (none : List ℕ) → (most : ℕ) → Option (List ℕ) → List ℕ
 excerpt_text none most None = none
 excerpt_text none most (Some text) = excerpt_of none most text
 
--- a line of a trace, without the line feed and the carriage return at its end
+-- a line of a trace, without the LF at its end and without the CR in front of this LF
 abbrev pub trace_line : List ℕ → List ℕ
 trace_line line = if slice_index line (length line - 1) == 10 then strip_carriage_return (take (length line - 1) line) else line
 
