@@ -24,7 +24,7 @@ pub line_is_simple_and_free : is_simple_and_free command_line ≡ true
 unfolding clap_on_literals
 line_is_simple_and_free = refl
 
--- what is known of a parse by a command that equals this one is known of a parse by this one
+-- facts about a parse by a command that equals this one are facts about a parse by this one
 pub line_rows : {P : Type 0} (a : App) (f : Found) (words : List Text) → a ≡ command_line
     → (is_simple a ≡ true → (rows_of f ≡ matches_of a words) × P) → rows_of f ≡ matches_of command_line words
 line_rows a f words same found = rows_as command_line a f words line_is_simple same found
