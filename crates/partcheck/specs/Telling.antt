@@ -97,7 +97,7 @@ abbrev pub blocks_text : Option TakenFrame → List ℕ
 blocks_text None = words_of_promise Promise.Blocks
 blocks_text (Some taken) = taken_text taken
 
--- why a promise is broken
+-- why a promise is broken: for Blocks the block in the way, if one was found, or else what the promise requires
 abbrev pub reason_text : Promise → Option TakenFrame → List ℕ
 reason_text Promise.Blocks taken = blocks_text taken
 reason_text Promise.Form taken = words_of_promise Promise.Form
