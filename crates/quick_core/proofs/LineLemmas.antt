@@ -267,15 +267,15 @@ three_words window a i b j d k e i_is ib j_is jd k_is ke fits blank_a blank_b bl
     ∙ ap (λ rest. 32 ∷ rest) (sym (append-nil (slice_range window k e))))))))
 
 -- a command with one number: its word ends at b, and its number begins at j
-pub is_read_one : SomeCase → OneCase → (window : List ℕ) (tenant : ReadNumber) (b j n len : ℕ) (row : CommandRow Command) (command : Command)
-    → 32 ≤ length window → NamesTenant window tenant → tenant.end + 1 < b → b ≤ tenant.end + 6 → j ≡ b + 1
-    → slice_range window (tenant.end + 1) b ≡ row.word → get_or window b 0 ≡ 32 → (last : IsLastNumber window j n len)
+pub is_read_one : SomeCase → OneCase → (window : List ℕ) (named : ReadNumber) (b j n len : ℕ) (row : CommandRow Command) (command : Command)
+    → 32 ≤ length window → NamesTenant window named → named.end + 1 < b → b ≤ named.end + 6 → j ≡ b + 1
+    → slice_range window (named.end + 1) b ≡ row.word → get_or window b 0 ≡ 32 → (last : IsLastNumber window j n len)
     → Contains tenant_rows row → IsPlainWord row.word → AllMake row.forms row.makes (slice_range window j last.end ∷ []) command
-    → ReadsAs window tenant.value command len
-is_read_one some only window tenant b j n len row command size names ib near j_is word_is blank last has plain make =
-    let a = tenant.end in
+    → ReadsAs window named.value command len
+is_read_one some only window named b j n len row command size names ib near j_is word_is blank last has plain make =
+    let a = named.end in
     let e = last.end in
-    is_read some only window (slice_range window 0 a) (slice_range window j e ∷ []) e len tenant.value row command (omega (arith, names.short, last.short)) (omega (arith, names.short, last.short)) last.ended
+    is_read some only window (slice_range window 0 a) (slice_range window j e ∷ []) e len named.value row command (omega (arith, names.short, last.short)) (omega (arith, names.short, last.short)) last.ended
     (two_words window a (a + 1) b j e refl ib j_is last.some (omega (arith, names.short, last.short)) names.blank blank
     ∙ ap (λ word. slice_range window 0 a ++ spaced (word ∷ slice_range window j e ∷ [])) word_is)
     names.number has plain
@@ -283,17 +283,17 @@ is_read_one some only window tenant b j n len row command size names ib near j_i
     make
 
 -- a command with two numbers: the first ends at d, and the second begins at k
-pub is_read_two : SomeCase → OneCase → (window : List ℕ) (tenant : ReadNumber) (b j d k m n len : ℕ) (row : CommandRow Command) (command : Command)
-    → 32 ≤ length window → NamesTenant window tenant → tenant.end + 1 < b → b ≤ tenant.end + 6 → j ≡ b + 1 → j < d → d ≤ j + 9 → k ≡ d + 1
-    → slice_range window (tenant.end + 1) b ≡ row.word → get_or window b 0 ≡ 32
+pub is_read_two : SomeCase → OneCase → (window : List ℕ) (named : ReadNumber) (b j d k m n len : ℕ) (row : CommandRow Command) (command : Command)
+    → 32 ≤ length window → NamesTenant window named → named.end + 1 < b → b ≤ named.end + 6 → j ≡ b + 1 → j < d → d ≤ j + 9 → k ≡ d + 1
+    → slice_range window (named.end + 1) b ≡ row.word → get_or window b 0 ≡ 32
     → number_of (slice_range window j d) ≡ Some m → get_or window d 0 ≡ 32 → (last : IsLastNumber window k n len)
     → Contains tenant_rows row → IsPlainWord row.word
     → AllMake row.forms row.makes (slice_range window j d ∷ slice_range window k last.end ∷ []) command
-    → ReadsAs window tenant.value command len
-is_read_two some only window tenant b j d k m n len row command size names ib near j_is jd short k_is word_is blank m_is second last has plain make =
-    let a = tenant.end in
+    → ReadsAs window named.value command len
+is_read_two some only window named b j d k m n len row command size names ib near j_is jd short k_is word_is blank m_is second last has plain make =
+    let a = named.end in
     let e = last.end in
-    is_read some only window (slice_range window 0 a) (slice_range window j d ∷ slice_range window k e ∷ []) e len tenant.value row command (omega (arith, names.short, last.short)) (omega (arith, names.short, last.short)) last.ended
+    is_read some only window (slice_range window 0 a) (slice_range window j d ∷ slice_range window k e ∷ []) e len named.value row command (omega (arith, names.short, last.short)) (omega (arith, names.short, last.short)) last.ended
     (three_words window a (a + 1) b j d k e refl ib j_is jd k_is last.some (omega (arith, names.short, last.short)) names.blank blank second
     ∙ ap (λ word. slice_range window 0 a ++ spaced (word ∷ slice_range window j d ∷ slice_range window k e ∷ [])) word_is)
     names.number has plain

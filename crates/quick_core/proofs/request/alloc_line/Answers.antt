@@ -15,6 +15,6 @@ returns-clause-reads g c =
     let word : slice_range window (a + 1) (a + 5 + 1) ≡ codes "alloc" =
     one_more window (a + 1) (a + 5) 99 (codes "allo") (omega arith) (omega arith) c.requires.begins.letters letter in
     let blank : get_or window (a + 5 + 1) 0 ≡ 32 = omega arith in
-    is_read_one c.one_case.ensures.some c.one_case.ensures.only window c.args.tenant (a + 5 + 1) (a + 5 + 2) last.value last.len alloc_row (Whole.Alloc last.value)
+    is_read_one c.one_case.ensures.some c.one_case.ensures.only window c.args.tenant (a + 5 + 1) (a + 5 + 2) last.value last.len alloc_row (Command.Alloc last.value)
     (omega arith) c.requires.begins.names (omega arith) (omega arith) (omega arith) word blank number (0, omega arith, refl) alloc_plain
-    (one_number Whole.Alloc (slice_range window (a + 5 + 2) number.end) last.value number.number)
+    (one_number Command.Alloc (slice_range window (a + 5 + 2) number.end) last.value number.number)

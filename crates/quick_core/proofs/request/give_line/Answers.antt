@@ -15,6 +15,6 @@ returns-clause-reads g c =
     let blank : get_or window (a + 5) 0 ≡ 32 = omega arith in
     let second : get_or window cache.end 0 ≡ 32 = omega arith in
     is_read_two c.one_case.ensures.some c.one_case.ensures.only window c.args.tenant (a + 5) (a + 5 + 1) cache.end (cache.end + 1) cache.value place.value place.len give_row
-    (Whole.Give cache.value place.value) (omega arith) c.requires.begins.names (omega arith) (omega arith) refl first.some first.within refl
+    (Command.Give cache.value place.value) (omega arith) c.requires.begins.names (omega arith) (omega arith) refl first.some first.within refl
     c.requires.begins.letters blank first.value second number (7, omega arith, refl) give_plain
-    (two_numbers Whole.Give (slice_range window (a + 5 + 1) cache.end) (slice_range window (cache.end + 1) number.end) cache.value place.value first.value number.number)
+    (two_numbers Command.Give (slice_range window (a + 5 + 1) cache.end) (slice_range window (cache.end + 1) number.end) cache.value place.value first.value number.number)

@@ -15,6 +15,6 @@ returns-clause-reads g c =
     let blank : get_or window (a + 5) 0 ≡ 32 = omega arith in
     let second : get_or window place.end 0 ≡ 32 = omega arith in
     is_read_two c.one_case.ensures.some c.one_case.ensures.only window c.args.tenant (a + 5) (a + 5 + 1) place.end (place.end + 1) place.value len.value len.len read_row
-    (Whole.Read place.value len.value) (omega arith) c.requires.begins.names (omega arith) (omega arith) refl first.some first.within refl
+    (Command.Read place.value len.value) (omega arith) c.requires.begins.names (omega arith) (omega arith) refl first.some first.within refl
     c.requires.begins.letters blank first.value second number (2, omega arith, refl) read_plain
-    (two_numbers Whole.Read (slice_range window (a + 5 + 1) place.end) (slice_range window (place.end + 1) number.end) place.value len.value first.value number.number)
+    (two_numbers Command.Read (slice_range window (a + 5 + 1) place.end) (slice_range window (place.end + 1) number.end) place.value len.value first.value number.number)

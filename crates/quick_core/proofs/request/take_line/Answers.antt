@@ -11,6 +11,6 @@ returns-clause-reads g c =
     let last = c.in_ok-cache.cache in
     let number = c.in_ok-cache.ensures in
     let blank : get_or window (a + 5) 0 ≡ 32 = omega arith in
-    is_read_one c.one_case.ensures.some c.one_case.ensures.only window c.args.tenant (a + 5) (a + 5 + 1) last.value last.len take_row (Whole.Take last.value)
+    is_read_one c.one_case.ensures.some c.one_case.ensures.only window c.args.tenant (a + 5) (a + 5 + 1) last.value last.len take_row (Command.Take last.value)
     (omega arith) c.requires.begins.names (omega arith) (omega arith) refl c.requires.begins.letters blank number (6, omega arith, refl) take_plain
-    (one_number Whole.Take (slice_range window (a + 5 + 1) number.end) last.value number.number)
+    (one_number Command.Take (slice_range window (a + 5 + 1) number.end) last.value number.number)
