@@ -86,7 +86,7 @@ choice_is_found top held taken slots k below = go (first_order top held taken sl
     within : (c : Block) → IsFree top held taken c → c.first < slots * 2 ^ top
     within c free = (div-lt_iff_lt-mul (pow_pos top)).0 (below (c.first / 2 ^ top) free.1)
 
-    -- the order of a free block of order at least k passes
+    -- the order of a free block passes the test if it is at least k
     passes : (c : Block) → IsFree top held taken c → k ≤ c.order → (nat_le k c.order && is_some (first_free top held taken slots c.order)) ≡ true
     passes c free le = and_from _ _ (le-leb k c.order le) (least_found (λ f. is_free top held taken (block f c.order)) (slots * 2 ^ top) c.first (within c free) ((free_is_tested top held taken c).1 free))
 

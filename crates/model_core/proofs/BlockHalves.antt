@@ -1,10 +1,11 @@
--- Clear and open blocks over any test of frames: halves, the blocks around a frame, and the one open block of each frame that passes.
+-- Clear and open blocks over any test of frames: halves of blocks, the blocks around a frame, and the one open block of each
+-- frame that passes.
 use Rattle.std.proofs.Common.{◌≡◌, ◌⊎◌, inl, inr, refl, sym, ◌∙◌, ap, subst, ℕ, zero, suc, ◌+◌, ◌-◌, ◌*◌, ◌/◌, ◌<◌, ◌≤◌, Bool, true, false, arith}
 use Rattle.std.specs.Prelude.{◌&&◌}
 use Rattle.std.proofs.lemmas.Bool.{both_ways, and_parts, and_from, and_cases, cases_Bool, cases_lt, cases_eq}
 use Rattle.model_core.specs.Numbered.{number_at, is_clear, IsOpen}
 
--- a number is twice its half, or one more
+-- a number is twice its half, rounded down, or one more than that
 pub halves : (q : ℕ) → (q ≡ 2 * (q / 2)) ⊎ (q ≡ 2 * (q / 2) + 1)
 halves q = go (cases_eq q (2 * (q / 2)))
   where
@@ -27,7 +28,7 @@ clear_half ok k q clear = go (halves q)
     go (inl e) = ap (is_clear ok k) e ∙ parts.0
     go (inr e) = ap (is_clear ok k) e ∙ parts.1
 
--- a block is clear if its two halves are
+-- a block is clear if its two halves, q and r, are clear
 pub clear_whole : (ok : ℕ → Bool) (k q r : ℕ) → q / 2 ≡ r / 2 → (q ≡ r → ⊥) → is_clear ok k q ≡ true → is_clear ok k r ≡ true → is_clear ok (suc k) (q / 2) ≡ true
 clear_whole ok k q r same ne clear_q clear_r = go (halves q) (halves r)
   where
@@ -37,7 +38,7 @@ clear_whole ok k q r same ne clear_q clear_r = go (halves q) (halves r)
     go (inl e) (inr d) = and_from _ _ (ap (is_clear ok k) (sym e) ∙ clear_q) (ap (λ n. is_clear ok k (2 * n + 1)) same ∙ ap (is_clear ok k) (sym d) ∙ clear_r)
     go (inr e) (inl d) = and_from _ _ (ap (λ n. is_clear ok k (2 * n)) same ∙ ap (is_clear ok k) (sym d) ∙ clear_r) (ap (is_clear ok k) (sym e) ∙ clear_q)
 
--- the blocks around a frame are clear i orders below a clear one
+-- if the block of order i + k around a frame is clear, so is the block of order k around it
 clear_down : (ok : ℕ → Bool) (x i k m : ℕ) → m ≡ i + k → is_clear ok m (number_at m x) ≡ true → is_clear ok k (number_at k x) ≡ true
 clear_down ok x zero k m e clear =
     let same : m ≡ k = omega arith in
@@ -113,7 +114,7 @@ open_around ok (suc top) x pass = go (cases_Bool (is_clear ok (suc top) (number_
     go (inr fails) (j, (le, clear, inl e)) = (j, (omega arith, clear, inr (ap (λ n. is_clear ok (suc n) (number_at n x / 2)) e ∙ fails)))
     go (inr fails) (j, (le, clear, inr parent)) = (j, (omega arith, clear, inr parent))
 
--- no clear block around a frame is greater than the open one
+-- no clear block around a frame is larger than an open block around it
 pub open_is_greatest : (ok : ℕ → Bool) (top i j x : ℕ) → IsOpen ok top i (number_at i x) → j ≤ top → is_clear ok j (number_at j x) ≡ true → j ≤ i
 open_is_greatest ok top i j x (le, clear, end) within greater = go (cases_lt i j) end
   where

@@ -11,12 +11,12 @@ first_slots n u = nat_lt u n
 abbrev nothing : Taken
 nothing f = None
 
--- the taken blocks of a list of first frames and orders
+-- the blocks of the list, as a map of taken blocks
 abbrev blocks_of : List Block → Taken
 blocks_of [] = nothing
 blocks_of (b ∷ bs) = with_taken (blocks_of bs) b.first b.order
 
--- frames 0 to 7, all taken
+-- all frames from 0 to 7 are taken, in four blocks
 abbrev full : Taken
 full = blocks_of (block 0 0 ∷ block 1 0 ∷ block 2 1 ∷ block 4 2 ∷ [])
 
@@ -28,24 +28,25 @@ abbrev serve_rest : Taken → ℕ → Option Block → (Taken → List (Option �
 serve_rest taken k None rest = None ∷ rest taken
 serve_rest taken k (Some b) rest = Some b.first ∷ rest (with_taken taken b.first k)
 
--- what requests for these orders get in turn if n slots are held: the first frame, or None
+-- the first frames that requests for these orders get, one after the other, if slots 0 to n - 1 are held; None if one gets
+-- nothing
 abbrev serve : ℕ → Taken → List ℕ → List (Option ℕ)
 serve n taken [] = []
 serve n taken (k ∷ ks) = serve_rest taken k (choose 3 (first_slots n) taken n k) (λ after. serve n after ks)
 
--- nothing is held
+-- if no slot is held, a request gets nothing
 empty : serve 0 nothing (0 ∷ []) ≡ None ∷ []
 empty = refl
 
--- splits keep the lower half; then the slot is used up
+-- each request gets the lower half of a split, until the slot is used up
 splits_then_exhaustion : serve 1 nothing (0 ∷ 1 ∷ 2 ∷ 0 ∷ 0 ∷ []) ≡ Some 0 ∷ Some 2 ∷ Some 4 ∷ Some 1 ∷ None ∷ []
 splits_then_exhaustion = refl
 
--- the upper halves of the splits are free, and nothing else
+-- after frame 0 is reserved, exactly the upper halves of the splits are free
 upper_halves : filter (λ b. is_free 3 (first_slots 1) (blocks_of (block 0 0 ∷ [])) b) all_blocks ≡ block 1 0 ∷ block 2 1 ∷ block 4 2 ∷ []
 upper_halves = refl
 
--- frames 0 to 7 in four blocks, released in this order: each is joined with its buddy if that is free
+-- after the four blocks are released in this order, they are joined to one block of order 3
 joins : choose 3 (first_slots 1) (without_taken (without_taken (without_taken (without_taken full 0) 1) 2) 4) 1 0 ≡ Some (block 0 3)
 joins = refl
 
@@ -53,7 +54,7 @@ joins = refl
 not_joined : filter (λ b. is_free 3 (first_slots 1) (without_taken full 0) b) all_blocks ≡ block 0 0 ∷ []
 not_joined = refl
 
--- frame 0 is free but too small for order 1
+-- frame 0 is free but too small for order 1, so the request gets frame 4; a request for order 0 then gets frame 0
 too_small_passed_over : serve 1 (without_taken (without_taken full 0) 4) (1 ∷ 0 ∷ []) ≡ Some 4 ∷ Some 0 ∷ []
 too_small_passed_over = refl
 
@@ -61,7 +62,7 @@ too_small_passed_over = refl
 order_before_frame : serve 2 (blocks_of (block 8 0 ∷ [])) (0 ∷ 3 ∷ 0 ∷ []) ≡ Some 9 ∷ Some 0 ∷ Some 10 ∷ []
 order_before_frame = refl
 
--- slots need not follow one another
+-- slot 1 can be held without slot 0
 only_slot_1 : choose 3 (λ u. u == 1) nothing 2 0 ≡ Some (block 8 3)
 only_slot_1 = refl
 

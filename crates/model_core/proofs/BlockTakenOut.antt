@@ -1,5 +1,5 @@
--- How the open blocks change when one block is taken out of the frames that pass. Read forwards this is a reservation with its
--- splits, read backwards a release with its joins. If the block is a whole slot, the slot is granted or taken back.
+-- How the open blocks change when one block is taken out of the frames that pass. Read forwards, this is a reservation with its
+-- splits; read backwards, it is a release with its joins. If the block is a whole slot, the slot is taken back or granted.
 use Rattle.std.proofs.Common.{◌≡◌, ◌⊎◌, inl, inr, refl, sym, ◌∙◌, ap, ℕ, suc, ◌/◌, ◌<◌, ◌≤◌, Bool, true, false, arith}
 use Rattle.std.proofs.lemmas.Bool.{both_ways, cases_lt, cases_eq, false_from_ne_true}
 use Rattle.model_core.specs.Numbered.{number_at, is_clear, IsOpen}
@@ -13,7 +13,7 @@ pub record TakesOut (large small : ℕ → Bool) (top f k j : ℕ) : Type 0 wher
   pub inside : (x : ℕ) → number_at k x ≡ number_at k f → small x ≡ false
   pub outside : (x : ℕ) → (number_at k x ≡ number_at k f → ⊥) → small x ≡ large x
 
--- the block of order i around x is the other half of the one around f
+-- the blocks of order i around x and around f are the two halves of one block
 pub record IsOtherHalf (f i x : ℕ) : Type 0 where
   pub other : number_at i x ≡ number_at i f → ⊥
   pub one_whole : number_at (suc i) x ≡ number_at (suc i) f
@@ -23,7 +23,7 @@ module _ (large small : ℕ → Bool) (top f k j : ℕ) (out : TakesOut large sm
   without_f : (i x : ℕ) → is_clear small i (number_at i x) ≡ true → number_at i x ≡ number_at i f → ⊥
   without_f i x clear same = both_ways (small f) (out.inside f refl) (clear_at small i f (ap (is_clear small i) (sym same) ∙ clear))
 
-  -- a block that has no frame of the one taken out
+  -- a block of order k or more that is not around f is clear under `small` if and only if it is clear under `large`
   off_above : (i x : ℕ) → k ≤ i → (number_at i x ≡ number_at i f → ⊥) → is_clear small i (number_at i x) ≡ is_clear large i (number_at i x)
   off_above i x le ne = clear_same small large i (number_at i x) (λ y e. out.outside y (λ same. ne (sym e ∙ same_above y f k i le same)))
 
@@ -37,7 +37,7 @@ module _ (large small : ℕ → Bool) (top f k j : ℕ) (out : TakesOut large sm
       go (inl same) = absurd (both_ways (small y) (out.inside y same) pass)
       go (inr ne) = sym (out.outside y ne) ∙ pass
 
-  -- the blocks around f above the open one are not clear
+  -- no block around f that is larger than the open block is clear under `large`
   not_above : (i : ℕ) → j < i → i ≤ top → is_clear large i (number_at i f) ≡ true → ⊥
   not_above i above le clear = go out.open_block.2
     where
@@ -45,7 +45,7 @@ module _ (large small : ℕ → Bool) (top f k j : ℕ) (out : TakesOut large sm
       go (inl e) = omega arith
       go (inr fails) = both_ways _ fails (clear_below large f (suc j) i (omega arith) clear)
 
-  -- an open block was open before and is not the block that was taken from, or it is the other half at one of the splits
+  -- an open block was open before and is not the open block around f, or it is the other half at one of the splits
   pub open_after : (i x : ℕ) → IsOpen small top i (number_at i x)
       → (IsOpen large top i (number_at i x) × (i ≡ j → number_at i x ≡ number_at i f → ⊥)) ⊎ ((k ≤ i) × (i < j) × IsOtherHalf f i x)
   open_after i x (le, clear, end) = go (cases_lt i k)
@@ -77,7 +77,7 @@ module _ (large small : ℕ → Bool) (top f k j : ℕ) (out : TakesOut large sm
       go (inl lt) = below lt end (λ same. both_ways (small x) (out.inside x same) (clear_at small i x clear))
       go (inr up) = above up end (cases_eq (number_at (suc i) x) (number_at (suc i) f))
 
-  -- every block that was open stays open, except the one that was taken from
+  -- every block that was open stays open, except the open block around f
   pub open_stays : (i x : ℕ) → IsOpen large top i (number_at i x) → (i ≡ j → number_at i x ≡ number_at i f → ⊥) → IsOpen small top i (number_at i x)
   open_stays i x (le, clear, end) other = (le, still (cases_lt i k), ending end)
     where

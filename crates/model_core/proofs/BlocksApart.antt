@@ -74,7 +74,7 @@ apart_filter {X} f p (x ∷ xs) (e, h) = go (p x) (apart_filter f p xs h)
     go true rest = (each_map (IsApart (f x)) f (filter p xs) (each_filter (λ y. IsApart (f x) (f y)) p xs (each_unmap (IsApart (f x)) f xs e)), rest)
     go false rest = rest
 
--- two elements whose blocks share a frame are the same
+-- if the blocks of the elements are apart, two elements whose blocks share a frame are the same
 pub one_holder : {X : Type 0} (f : X → Block) (xs : List X) (a b : X) (x : ℕ) → AreApart (map f xs) → IsIn a xs → IsIn b xs → HasFrame (f a) x → HasFrame (f b) x → a ≡ b
 one_holder f [] a b x h i j p q = elim i [ ]
 one_holder f (y ∷ ys) a b x (e, h) (inl s) (inl t) p q = sym s ∙ t
@@ -84,7 +84,7 @@ one_holder f (y ∷ ys) a b x (e, h) (inr i) (inl t) p q =
     absurd (each_in (λ z. IsApart (f y) (f z)) a ys (each_unmap (IsApart (f y)) f ys e) i x (subst (λ z. HasFrame (f z) x) (sym t) q) p)
 one_holder f (y ∷ ys) a b x (e, h) (inr i) (inr j) p q = one_holder f ys a b x h i j p q
 
--- a place is not both in a block that passes a test and in one that fails it
+-- if the blocks of the elements are apart, no place is both in the block of an element that passes and of one that fails
 pub one_side : {X : Type 0} (f : X → Block) (p : X → Bool) (xs : List X) (place : ℕ) → AreApart (map f xs)
     → list_any (λ x. in_block place (f x)) (filter p xs) ≡ true → list_any (λ x. in_block place (f x)) (filter (λ x. not (p x)) xs) ≡ false
 one_side {X} f p xs place h e = false_from_ne_true (list_any (λ x. in_block place (f x)) (filter (λ x. not (p x)) xs)) (λ k.

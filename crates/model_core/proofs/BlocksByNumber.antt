@@ -1,5 +1,5 @@
 -- Blocks by their frames and blocks by number: the frames of an aligned block, the tests of taken and available frames, and free
--- blocks as open ones.
+-- blocks as open blocks.
 use Rattle.std.proofs.Common.{◌≡◌, ◌⊎◌, inl, inr, refl, sym, ◌∙◌, ap, ℕ, zero, suc, ◌+◌, ◌-◌, ◌*◌, ◌/◌, ◌%◌, ◌^◌, ◌<◌, ◌≤◌, Bool, true, false, not, Option, Some, None, add-one, arith}
 use Rattle.std.proofs.Math.Nat.{pow-suc, div-div-eq-div-mul, div-eq_of_lt-le, div-mul-le_self, lt-div-mul-add, mul-mod_left, mul-div_cancel}
 use Rattle.std.proofs.lemmas.Nat.{pow_pos, pow-add, shr_split}
@@ -25,7 +25,7 @@ first_is f k aligned =
 pub same_first : (f g k : ℕ) → f % 2 ^ k ≡ 0 → g % 2 ^ k ≡ 0 → number_at k f ≡ number_at k g → f ≡ g
 same_first f g k at_f at_g same = sym (first_is f k at_f) ∙ ap (λ n. n * 2 ^ k) same ∙ first_is g k at_g
 
--- block q of order k begins at q * 2 ^ k
+-- the block of order k that begins at q * 2 ^ k has number q
 pub number_first : (q k : ℕ) → number_at k (q * 2 ^ k) ≡ q
 number_first q k = number_is k (q * 2 ^ k) ∙ mul-div_cancel q (pow_pos k)
 
@@ -35,7 +35,7 @@ aligned_first q k = mul-mod_left q (2 ^ k)
 pub number_around : (x k : ℕ) → number_at k (x / 2 ^ k * 2 ^ k) ≡ number_at k x
 number_around x k = number_first (x / 2 ^ k) k ∙ sym (number_is k x)
 
--- an aligned block is aligned for each lower order
+-- if f is a multiple of 2 ^ j, it is a multiple of each smaller power of two
 pub aligned_below : (f k j : ℕ) → k ≤ j → f % 2 ^ j ≡ 0 → f % 2 ^ k ≡ 0
 aligned_below f k j le aligned = ap (λ n. n % 2 ^ k) parts ∙ mul-mod_left (number_at j f * 2 ^ (j - k)) (2 ^ k)
   where
@@ -48,7 +48,7 @@ aligned_below f k j le aligned = ap (λ n. n % 2 ^ k) parts ∙ mul-mod_left (nu
     parts : f ≡ number_at j f * 2 ^ (j - k) * 2 ^ k
     parts = sym (first_is f j aligned) ∙ ap (λ n. number_at j f * n) size ∙ regroup (number_at j f) (2 ^ (j - k)) (2 ^ k)
 
--- the frames of an aligned block are those with its number
+-- an aligned block has exactly the frames with its number
 pub number_of_frame : (f k x : ℕ) → f % 2 ^ k ≡ 0 → HasFrame (block f k) x → number_at k x ≡ number_at k f
 number_of_frame f k x aligned (low, high) =
     let first : number_at k f * 2 ^ k ≡ f = first_is f k aligned in
@@ -69,7 +69,7 @@ frame_of_number f k x aligned same =
 pub number_next : (k x : ℕ) → number_at (k + 1) x ≡ number_at (suc k) x
 number_next k x = ap (λ n. number_at n x) (add-one k)
 
--- two frames of one block are in one slot
+-- two frames of one block of order k are in one slot
 pub same_slot : (top k x y : ℕ) → k ≤ top → number_at k x ≡ number_at k y → x / 2 ^ top ≡ y / 2 ^ top
 same_slot top k x y le same = sym (number_is top x) ∙ same_above x y k top le same ∙ number_is top y
 

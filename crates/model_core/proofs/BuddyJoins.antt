@@ -1,4 +1,4 @@
--- Buddies by number, what a release does to the free blocks, and that the taken blocks stay sound.
+-- The numbers of buddies, how a release changes the free blocks, and why the taken blocks stay sound.
 use Rattle.std.proofs.Common.{◌≡◌, ◌⊎◌, inl, inr, refl, sym, ◌∙◌, ap, subst, ℕ, suc, ◌+◌, ◌-◌, ◌*◌, ◌/◌, ◌%◌, ◌^◌, ◌<◌, ◌≤◌, Bool, true, false, Some, eq-eqb, add-one, arith}
 use Rattle.std.specs.Prelude.{◌==◌, ◌↔◌}
 use Rattle.std.proofs.Math.Nat.{pow-suc, mul-mod_left}
@@ -13,7 +13,7 @@ use Rattle.model_core.proofs.BlockTakenOut.{TakesOut, IsOtherHalf, open_after, o
 use Rattle.model_core.proofs.BlocksByNumber.{number_is, number_first, aligned_first, number_around, number_of_frame, frame_of_number, same_slot, available_tells, available_is, taken_is_unavailable, free_is_open, open_is_free}
 use Rattle.model_core.proofs.FreeBlocks.{same_block, same_bool, has_first, with_here, with_other, without_here, without_other, taken_after, released_taken, even_number, reserved_is_untaken}
 
--- the number of the buddy of the block of order i around x
+-- r is the number of the buddy of the block of order i around x
 pub record IsBuddyNumber (x i r : ℕ) : Type 0 where
   pub first : (buddy (around x i)).first ≡ r * 2 ^ i
   pub whole : r / 2 ≡ number_at i x / 2
@@ -70,7 +70,7 @@ buddy_number x i = go (halves n)
 pub buddy_aligned : (x i : ℕ) → (buddy (around x i)).first % 2 ^ i ≡ 0
 buddy_aligned x i = let w = buddy_number x i in ap (λ m. m % 2 ^ i) w.1.first ∙ mul-mod_left w.0 (2 ^ i)
 
--- the buddy is the other half, and the only one
+-- the buddy of the block of order i around x is its other half, and no other aligned block of this order is
 pub buddy_is_half : (x i : ℕ) → IsOtherHalf x i (buddy (around x i)).first
 buddy_is_half x i =
     let w = buddy_number x i in
@@ -133,7 +133,7 @@ releasing top held taken f k sound here = go (open_around (is_available top held
       },
     )
 
--- what a release does to the free blocks
+-- a release changes the free blocks as `Joins` says
 pub joins : Joins
 joins top held taken f k sound here = go (releasing top held taken f k sound here)
   where
@@ -207,7 +207,7 @@ reserve_stays_sound top held taken f j k sound free le = record { placed = place
         go (inl same) = subst (λ b. IsAligned top b × (held (b.first / 2 ^ top) ≡ true)) (ap (block f) (order_here i (ap (with_taken taken f k) (sym same) ∙ e)) ∙ ap (λ n. block n i) (sym same)) (ours.0, (ours.1 f (has_first f k)).0)
         go (inr ne) = sound.placed g i (sym (with_other taken f k g ne) ∙ e)
 
-    -- a block that was taken has no frame of the new one
+    -- a block that was taken before shares no frame with the new block
     off : (g i h x : ℕ) → (g ≡ f → ⊥) → h ≡ f → with_taken taken f k g ≡ Some i → (n : ℕ) → with_taken taken f k h ≡ Some n → HasFrame (block g i) x → HasFrame (block h n) x → ⊥
     off g i h x ne same there n here has_g has_h = (ours.1 x (subst (λ b. HasFrame b x) (ap (λ m. block m n) same ∙ ap (block f) (sym (order_here n (ap (with_taken taken f k) (sym same) ∙ here)))) has_h)).1 (g, i, sym (with_other taken f k g ne) ∙ there, has_g)
 

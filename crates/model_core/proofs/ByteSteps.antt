@@ -9,7 +9,7 @@ use Rattle.model_core.specs.Operations.{written}
 use Rattle.model_core.specs.WellFormed.{IsWellFormed}
 use Rattle.model_core.proofs.Objects.{reached, reached_mapped}
 
--- places that are written had bytes before
+-- after a write in reach, exactly the places that had a byte before have one
 written_some : {limit : ℕ} (order place : ℕ) (new : List ℕ) (m : Machine) → IsWellFormed limit order m → in_reach m place (length new) ≡ true → (p : ℕ) → is_some (written place new m.bytes p) ≡ is_some (m.bytes p)
 written_some order place new m w e p = go (leb place p && ltb p (place + length new)) refl
   where

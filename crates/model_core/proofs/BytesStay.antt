@@ -62,7 +62,7 @@ give_keeps number place m = go (cache_of m number)
 abbrev Same : ℕ → Machine → Machine → Type 0
 Same place m n = in_slab n place ≡ in_slab m place → n.bytes place ≡ m.bytes place
 
--- freed slabs
+-- if freeing slabs does not change whether a place is in a slab, the place keeps its byte
 same_given_back : (place : ℕ) (q : Laid → Bool) (ls : List Laid) (bytes : ℕ → Option ℕ) → AreApart (map laid_block ls)
     → list_any (in_laid place) (filter (λ l. not (q l)) ls) ≡ list_any (in_laid place) ls → zeroed (map laid_block (filter q ls)) bytes place ≡ bytes place
 same_given_back place q ls bytes apart same = ap (λ b. if b then Some 0 else bytes place) (any_map (in_block place) laid_block (filter q ls)
@@ -78,7 +78,7 @@ same_reaped order place m w same = ap (λ bs. zeroed bs m.bytes place) (gone_lai
 same_by_need : {limit : ℕ} (order k place : ℕ) (m : Machine) → IsWellFormed limit order m → Same place m (by_need order k m)
 same_by_need order k place m w = by_need_keeps (Same place m) order k m (λ _. refl) (same_reaped order place m w)
 
--- a new slab elsewhere
+-- if the new slab does not have the place, growth does not change whether the place is in a slab
 grown_elsewhere : {limit : ℕ} (order place first : ℕ) (c : Cache) (m : Machine) → IsWellFormed limit order m → IsIn c m.caches → in_block place (slab_block c (new_slab c first)) ≡ false
     → in_slab (grown first c m) place ≡ in_slab m place
 grown_elsewhere order place first c m w in_c outside =

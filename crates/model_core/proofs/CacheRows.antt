@@ -16,19 +16,19 @@ use Rattle.model_core.specs.CacheOperations.{create_step, cache_step, next_numbe
 use Rattle.model_core.specs.Runs.{Operation, Alloc, Free, Write, Create, Take, Give, Destroy, Reap, Grant, TakeBack}
 use Rattle.model_core.proofs.RowAnswers.{number_of, numbers, machine_after}
 
--- twenty objects of 200 bytes fill a slab; in the next slab the first object is at offset 8, which is one colour
+-- twenty objects of 200 bytes fill a slab; in the next slab the first object is at the next colour offset, 8
 colours : numbers (Grant ∷ Create 200 8 (165 ∷ []) ∷ replicate 21 (Take 0))
     ≡ Some 0 ∷ Some 0 ∷ (map (λ i. Some i) (0 ∷ 200 ∷ 400 ∷ 600 ∷ 800 ∷ 1000 ∷ 1200 ∷ 1400 ∷ 1600 ∷ 1800 ∷ 2000 ∷ 2200 ∷ 2400 ∷ 2600 ∷ 2800 ∷ 3000 ∷ 3200 ∷ 3400 ∷ 3600 ∷ 3800 ∷ []) ++ Some 4104 ∷ [])
 unfolding number_of layout_of cache_step create_step next_number take_step grown_cache grown slab_to_use fresh_byte by_need reaped choice taken_blocks empty_machine next_slot after_grant
 colours = refl
 
--- a slab of large objects has four frames, and so has the next
+-- five objects of 3000 bytes fill a slab of four frames; the sixth is in the next slab, at colour offset 8
 large_slabs : numbers (Grant ∷ Create 3000 8 (1 ∷ []) ∷ replicate 6 (Take 0))
     ≡ Some 0 ∷ Some 0 ∷ Some 0 ∷ Some 3000 ∷ Some 6000 ∷ Some 9000 ∷ Some 12000 ∷ Some 16392 ∷ []
 unfolding number_of layout_of cache_step create_step next_number take_step grown_cache grown slab_to_use fresh_byte by_need reaped choice taken_blocks empty_machine next_slot after_grant
 large_slabs = refl
 
--- a partial slab is used before an empty one at a lower frame, and an object keeps its bytes
+-- the partial slab at frame 0 is used before the empty slab at frame 1, and an object keeps its bytes
 abbrev three_taken : List Operation
 three_taken = Grant ∷ Create 2048 8 (17 ∷ []) ∷ Take 0 ∷ Take 0 ∷ Take 0 ∷ Write 2048 (34 ∷ []) ∷ Give 0 4096 ∷ Give 0 2048 ∷ Take 0 ∷ []
 
@@ -49,7 +49,7 @@ given_and_destroyed : numbers (three_taken ++ (Give 0 0 ∷ Give 0 2048 ∷ Dest
 unfolding number_of layout_of cache_step create_step next_number take_step give_step destroy_step destroyed write_step in_reach grown_cache grown slab_to_use fresh_byte by_need reaped choice taken_blocks empty_machine next_slot after_grant
 given_and_destroyed = refl
 
--- an object is constructed, and the bytes between objects are out of reach
+-- a new object reads as the pattern; the bytes between objects are out of reach, and so is an object that was given back
 abbrev one_object : List Operation
 one_object = Grant ∷ Create 100 8 (90 ∷ []) ∷ Take 0 ∷ []
 
@@ -65,7 +65,7 @@ given : (read_step 0 1 (machine_after (one_object ++ (Give 0 0 ∷ [])))).answer
 unfolding layout_of cache_step create_step next_number take_step give_step read_step in_reach grown_cache grown slab_to_use fresh_byte by_need reaped choice taken_blocks empty_machine next_slot after_grant
 given = refl
 
--- a freed slab reads as zero, up to its control record and in it
+-- after a slab is freed, its objects and its control record read as zero
 abbrev reaped_and_taken : List Operation
 reaped_and_taken = one_object ++ (Give 0 0 ∷ Reap ∷ Alloc 0 ∷ [])
 
@@ -102,7 +102,7 @@ no_frames : (take_step 3 0 (machine_after (Create 64 8 (0 ∷ []) ∷ []))).answ
 unfolding layout_of cache_step create_step next_number take_step slab_to_use by_need reaped choice taken_blocks empty_machine
 no_frames = refl
 
--- thirty-two caches, with the numbers 0 to 31; a number that is free again is used again
+-- a tenant has up to 32 caches, with the numbers 0 to 31; the number of a destroyed cache is used again
 abbrev all_caches : List Operation
 all_caches = replicate MOST_CACHES (Create 16 8 (0 ∷ []))
 

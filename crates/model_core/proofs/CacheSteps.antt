@@ -40,7 +40,7 @@ renumbered limit before later was is c d same from to h =
 
 -- One flag is set
 
--- how the slabs change
+-- how the list of all slabs changes when object i of slab s is marked with b
 pub record IsFlagged (c : Cache) (s : Slab) (i : ℕ) (b : Bool) (m : Machine) : Type 0 where
   pub xs : List Laid
   pub ys : List Laid
@@ -96,7 +96,7 @@ fresh_some : (b : Bool) (n : ℕ) → is_some (if b then Some n else None) ≡ b
 fresh_some true n = refl
 fresh_some false n = refl
 
--- how growth changes the caches and slabs
+-- how growth changes the lists of slabs
 pub record IsGrown (first : ℕ) (c : Cache) (m : Machine) : Type 0 where
   pub xs : List Laid
   pub ys : List Laid
@@ -157,7 +157,7 @@ grown_kept {limit} order first c m w in_c e =
     (record { fit = layouts_fit c.size c.align is_c.sized is_c.aligned; count = count; colour_is = (c.made, refl) })
     (λ place. fresh_some (in_object (layout c) c.size s.colour (place - FRAME_BYTES * first)) _)))
 
--- a slab that is made on demand
+-- what is true when cache c makes a slab at frame `first`, after empty slabs are freed on demand
 pub record IsMade (limit order first : ℕ) (c : Cache) (m : Machine) : Type 0 where
   pub served : IsWellFormed limit order (by_need order (layout c).order m)
   pub formed : IsWellFormed limit order (grown first c (by_need order (layout c).order m))

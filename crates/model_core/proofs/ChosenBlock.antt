@@ -35,7 +35,7 @@ choice_is_untaken order k first m e = go (choose order (holds m) (taken_in m) (b
         subst (λ f. IsAligned order (block f k) × ((x : ℕ) → HasFrame (block f k) x → (holds m (x / 2 ^ order) ≡ true) × (IsTaken (taken_in m) x → ⊥)))
         same (reserved_is_untaken order (holds m) (taken_in m) b.first b.order k c.0 c.1)
 
--- a look-up at the first frame of one of these blocks, which are apart, finds it
+-- if the blocks of a list are apart, a look-up at a block's first frame finds its order
 pub order_in_listed : (bs : List Block) (b : Block) → AreApart bs → IsIn b bs → order_in bs b.first ≡ Some b.order
 order_in_listed [] b h i = elim i [ ]
 order_in_listed (a ∷ bs) b (e, h) (inl same) = subst (λ c. order_in (a ∷ bs) c.first ≡ Some c.order) same (ap (λ t. if t then Some a.order else order_in bs a.first) (eq-eqb a.first a.first refl))
@@ -48,7 +48,7 @@ pub chosen_apart : (order k first : ℕ) (m : Machine) → AreApart (taken_block
 chosen_apart order k first m h e = each_from (IsApart (block first k)) (taken_blocks m) (λ b i x has of.
     ((choice_is_untaken order k first m e).1 x has).1 (b.first, b.order, order_in_listed (taken_blocks m) b h i, of))
 
--- .. and placed
+-- .. and it is aligned and lies in a held slot
 pub chosen_placed : (order k first : ℕ) (m : Machine) → choice order m k ≡ Some first → IsAligned order (block first k) × (holds m (first / 2 ^ order) ≡ true)
 chosen_placed order k first m e = ((choice_is_untaken order k first m e).0, ((choice_is_untaken order k first m e).1 first (has_first (block first k))).0)
 

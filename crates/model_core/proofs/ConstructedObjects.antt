@@ -51,7 +51,7 @@ begins_in l c i place lt at =
     let here : place + 0 ≡ place = omega arith in
     subst (λ p. in_laid p l ≡ true) here (byte_is_of l c i 0 (place + 0) (byte_at l i 0 place lt c.fit.sized at)).in_slab
 
--- if the bytes of objects that are not live stay, these objects stay fresh
+-- if the bytes of objects that are not live do not change, an object that begins at the place stays fresh
 pub fresh_same : (bytes new : ℕ → Option ℕ) (place : ℕ) (l : Laid) → ((i j p : ℕ) → IsByte l i j p → get_or l.live i false ≡ false → new p ≡ bytes p) → IsFresh bytes place l → IsFresh new place l
 fresh_same bytes new place l same h i lt at = ((h i lt at).0, λ j in_size. same i j (place + j) (byte_at l i j place lt in_size at) (h i lt at).0 ∙ (h i lt at).1 j in_size)
 
@@ -87,7 +87,7 @@ fresh_written order place begin new m w e h = each_same m.bytes (written begin n
     stays l in_ls i j p b dead true is = absurd (dead_byte order m l i j p w in_ls b dead (reached m begin (length new) p e
         (leb-true begin p (and_parts (leb begin p) (ltb p (begin + length new)) is).0) (ltb-true p (begin + length new) (and_parts (leb begin p) (ltb p (begin + length new)) is).1)))
 
--- One flag is set. If it is set to live, its object begins at another place.
+-- One flag is set. If no object that begins at the place is marked live, the objects there stay fresh.
 
 pub fresh_flagged : {limit : ℕ} (order place : ℕ) (c : Cache) (s : Slab) (i : ℕ) (b : Bool) (m : Machine) → IsWellFormed limit order m → IsIn c m.caches → IsIn s c.slabs
     → (b ≡ true → object_place (layout c) s.first s.colour i ≢ place) → AllFresh place m → AllFresh place (with_cache (with_slab (with_live i b s) c) m)
@@ -105,7 +105,7 @@ fresh_flagged order place c s i b m w in_c in_s other h =
     flag k lt at dead false is (inl same) = ap (λ n. get_or (slice_set s.live i b) n false) same ∙ (get_or-set_same s.live i b false (subst (λ n. n < length s.live) same lt) ∙ is)
     flag k lt at dead true is (inl same) = absurd (other is (ap (λ n. object_place (layout c) s.first s.colour n) (sym same) ∙ sym at))
 
--- live or not, it still reads as the pattern
+-- after any flag is set, an object that begins at the place still reads as the pattern
 pub constructed_flagged : {limit : ℕ} (order place : ℕ) (c : Cache) (s : Slab) (i : ℕ) (b : Bool) (m : Machine) → IsWellFormed limit order m → IsIn c m.caches → IsIn s c.slabs
     → AllFresh place m → AllConstructed place (with_cache (with_slab (with_live i b s) c) m)
 constructed_flagged order place c s i b m w in_c in_s h =
@@ -154,7 +154,7 @@ fresh_grown order place first c m w in_c e h =
 
 -- Freed slabs
 
--- the bytes of the slabs that stay are not in freed slabs
+-- a place in a slab that stays is in no freed slab
 pub not_gone : (q : Laid → Bool) (ls : List Laid) (p : ℕ) (l : Laid) → AreApart (map laid_block ls) → IsIn l (filter (λ x. not (q x)) ls) → in_laid p l ≡ true
     → list_any (in_block p) (map laid_block (filter q ls)) ≡ false
 not_gone q ls p l apart in_kept here = false_from_ne_true (list_any (in_block p) (map laid_block (filter q ls))) (λ e.
@@ -186,7 +186,7 @@ fresh_reaped order place m w h =
 
 -- Slots
 
--- the slot of a slab's byte
+-- the slot of an object's byte is the slot of its slab, and it is held
 slab_slot : {limit : ℕ} (order : ℕ) (m : Machine) (l : Laid) (i j p : ℕ) → IsWellFormed limit order m → IsIn l (all_laid m.caches) → IsByte l i j p
     → (slot_of order p ≡ l.first / 2 ^ order) × (list_any (λ v. eqb v (slot_of order p)) m.slots ≡ true)
 slab_slot order m l i j p w in_ls b =

@@ -27,11 +27,11 @@ use Rattle.model_core.proofs.ObjectsApart.{IsLaidObject, laid_object}
 use Rattle.model_core.proofs.ConstructedObjects.{IsFresh, AllFresh, IsConstructed, AllConstructed, fresh_constructed, constructed_flagged, fresh_written, fresh_flagged, fresh_grown, fresh_destroyed, fresh_reaped, fresh_granted, fresh_taken_back}
 use Rattle.model_core.proofs.WellFormedRuns.{keeps_well_formed, runs_well_formed}
 
--- the machine after the operation is fresh there, or in constructed state if an object that begins at the place was handed out
+-- after an operation that hands out no object at the place, objects there are fresh; if it hands one out, they are constructed
 abbrev Leaves : ℕ → ℕ → Operation → Machine → Machine → Type 0
 Leaves order place operation m n = (hands_out order operation m place ≡ false → AllFresh place n) × (hands_out order operation m place ≡ true → AllConstructed place n)
 
--- no object was handed out
+-- if the operation hands out no object, it is enough that objects at the place are fresh
 leaves_fresh : {P Q : Type 0} → P → (false ≡ false → P) × (false ≡ true → Q)
 leaves_fresh h = (λ _. h, λ e. absurd (false≢true e))
 
@@ -96,11 +96,11 @@ hand_outs-append : (limit order place : ℕ) (before since : List Operation) (m 
 hand_outs-append limit order place [] since m n = refl
 hand_outs-append limit order place (operation ∷ before) since m n = hand_outs-append limit order place before since (after limit order operation m) _
 
--- if no object that begins at the place was handed out, the machine after operations on the empty one is fresh there
+-- if no object at the place was handed out since its slab was made, objects there are fresh after the operations
 fresh_left : (limit order place : ℕ) (operations : List Operation) → ArePossible operations → hand_outs limit order place operations empty_machine 0 ≡ 0 → AllFresh place (run limit order operations empty_machine)
 fresh_left limit order place operations can none = fresh_run limit order place operations empty_machine 0 can (runs_well_formed limit order [] tt) (λ _. fresh_empty place) none
 
--- an object reads as its pattern if all that begin at its place are in constructed state
+-- an object reads as its pattern if all objects that begin at its place are in constructed state
 object_reads : {limit : ℕ} (order : ℕ) (m : Machine) (object : Object) (j : ℕ) → IsWellFormed limit order m → IsObject m object → j < object.cache.size → AllConstructed (place_of object) m
     → m.bytes (place_of object + j) ≡ Some (pattern_byte object.cache.pattern j)
 object_reads order m object j w is_object in_size h =

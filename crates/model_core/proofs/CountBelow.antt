@@ -32,7 +32,7 @@ count_none p (suc n) none =
     let last : bit (p n) ≡ 0 = ap bit (none n (omega arith)) in
     omega arith
 
--- numbers that do not pass add nothing
+-- if no number from n on passes, the count below a bound of n or more is the count below n
 pub count_past : (p : ℕ → Bool) (n m : ℕ) → n ≤ m → ((f : ℕ) → n ≤ f → p f ≡ false) → count_below p m ≡ count_below p n
 count_past p n zero le none = let same : n ≡ 0 = omega arith in ap (count_below p) (sym same)
 count_past p n (suc m) le none = go (cases_lt m n) (count_past p n m)
@@ -44,7 +44,7 @@ count_past p n (suc m) le none = go (cases_lt m n) (count_past p n m)
         let before : count_below p m ≡ count_below p n = rest past none in
         omega arith
 
--- two bounds past which no number passes give the same count
+-- two bounds from which on no number passes give the same count
 pub count_either : (p : ℕ → Bool) (n m : ℕ) → ((f : ℕ) → n ≤ f → p f ≡ false) → ((f : ℕ) → m ≤ f → p f ≡ false) → count_below p n ≡ count_below p m
 count_either p n m past_n past_m = go (cases_lt n m)
   where
@@ -58,7 +58,7 @@ none_past top held taken slots k f above past = false_from_ne_true _ (λ e.
     let within : f < slots * 2 ^ top = (div-lt_iff_lt-mul (pow_pos top)).0 (above (f / 2 ^ top) ((free_is_tested top held taken (block f k)).0 e).1) in
     absurd (omega arith))
 
--- the number of free blocks does not depend on the bound
+-- the number of free blocks is the same for all bounds above the held slots
 pub blocks_either : (top : ℕ) (held : ℕ → Bool) (taken : Taken) (k n m : ℕ) → ((u : ℕ) → held u ≡ true → u < n) → ((u : ℕ) → held u ≡ true → u < m)
     → free_blocks top held taken n k ≡ free_blocks top held taken m k
 blocks_either top held taken k n m above_n above_m =

@@ -24,11 +24,11 @@ same_bool true false to from = sym (to refl)
 same_bool false true to from = from refl
 same_bool false false to from = refl
 
--- the block that begins at a frame has it
+-- a block has its first frame
 pub has_first : (f k : ℕ) → HasFrame (block f k) f
 has_first f k = (omega arith, omega (arith, pow_pos k))
 
--- look-ups after a reservation and a release
+-- what a look-up finds after a reservation or a release, at its frame and at other frames
 pub with_here : (taken : Taken) (f k : ℕ) → with_taken taken f k f ≡ Some k
 with_here taken f k = cond-true (f == f) (Some k) (taken f) (eq-eqb f f refl)
 
@@ -105,7 +105,7 @@ even_number f i aligned = ap (number_at i) parts ∙ number_first (2 * number_at
 pub number_plus : (f i : ℕ) → number_at i (f + 2 ^ i) ≡ number_at i f + 1
 number_plus f i = number_is i (f + 2 ^ i) ∙ add-div_right f (pow_pos i) ∙ ap (λ n. n + 1) (sym (number_is i f))
 
--- the upper half of an aligned block is the other half of the block at its first frame, and the only one
+-- the upper half of an aligned block is the other half beside its lower half, and no other aligned block is
 pub upper_half : (f i : ℕ) → f % 2 ^ suc i ≡ 0 → IsOtherHalf f i (f + 2 ^ i)
 upper_half f i aligned =
     let even : number_at i f ≡ 2 * number_at (suc i) f = even_number f i aligned in
@@ -150,7 +150,7 @@ reserving top held taken f j k free le = record {
         go (inl has) = ne (number_of_frame f k x aligned has)
         go (inr was) = both.1 was
 
--- what a reservation does to the free blocks
+-- a reservation changes the free blocks as `Splits` says
 pub splits : Splits
 splits top held taken f j k free le b = (forth, back)
   where

@@ -60,7 +60,7 @@ in_cache_laid place (c ∷ cs) = ap (λ b. in_cache place c || b) (in_cache_laid
     ∙ (ap (λ b. b || list_any (in_laid_object place) (all_laid cs)) (sym (any_map (in_laid_object place) (laid c) c.slabs))
     ∙ sym (any_append (in_laid_object place) (laid_in c) (all_laid cs)))
 
--- what holds of a well formed machine's memory
+-- what is true of the memory of a well formed machine
 
 abbrev pub Placed : ℕ → List ℕ → Block → Type 0
 Placed order slots b = IsAligned order b × (list_any (λ v. eqb v (b.first / 2 ^ order)) slots ≡ true)
@@ -112,7 +112,7 @@ laid_out order m w =
       mapped = λ place. w.mapped place ∙ mapped_laid order m place;
     }
 
--- a number within the limit
+-- the number of the cache is below the limit
 abbrev pub Numbered : ℕ → Cache → Type 0
 Numbered limit c = c.number < limit
 

@@ -6,7 +6,7 @@ use Rattle.std.proofs.lemmas.Nat.{div-add-mod'}
 use Rattle.std.proofs.Math.Nat.{div-mul-le_self, div-lt_iff_lt-mul, le-div_iff_mul-le, mul-mod_left, mod-lt, mul_comm, mul-le-mul_left}
 use Rattle.model_core.specs.Layouts.{is_alignment, chunk_of, is_small, bytes_of_order, is_thrifty, slab_order, usable_bytes, layout_of, LayoutsFit}
 
--- what holds of the six allowed alignments holds of every allowed one
+-- what is true of 8, 16, 32, 64, 128 and 256 is true of every allowed alignment
 pub for_alignment : (P : ℕ → Type 0) → P 8 → P 16 → P 32 → P 64 → P 128 → P 256 → (align : ℕ) → is_alignment align ≡ true → P align
 for_alignment P a b c d e f align is = elim (or_cases _ _ is) [
   | inl h ↦ subst P (eqb-true 8 align h) a
@@ -67,7 +67,7 @@ room_is chunk low high false false false true is = let ge : 512 ≤ chunk = ltb-
 room_is chunk low high false false false false is = let ge : 512 ≤ chunk = ltb-false chunk 512 is in
     record { order_most = omega arith; some = omega arith; few = omega arith; within = omega arith; small = λ s. absurd (false≢true (sym is ∙ s)) }
 
--- a colour offset is at most the bytes that the objects leave unused
+-- a colour offset is at most the number of bytes that the objects leave unused
 colour_most : (align room used made : ℕ) → used ≤ room → align * (made % ((room - used) / align + 1)) + used ≤ room
 colour_most align room used made le =
     let below : made % ((room - used) / align + 1) < (room - used) / align + 1 = mod-lt made (omega arith) in

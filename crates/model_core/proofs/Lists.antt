@@ -1,4 +1,4 @@
--- Lists: what holds of each element, also once one is added or replaced, and lists that rise by key.
+-- Lists: what holds of each element, also after an element is added or replaced, and lists that rise by key.
 use Rattle.std.proofs.Common.{◌≡◌, ◌≢◌, ℕ, zero, suc, ◌+◌, ◌<◌, ◌≤◌, Bool, true, false, not, ◌||◌, cond, eqb, ltb, List, [], ◌∷◌, ◌++◌, map, get_or, replicate, Option, None, Some, refl, sym, ap, ◌∙◌, subst, ◌⊎◌, inl, inr, arith}
 use Rattle.std.specs.Prelude.{if◌then◌else◌, is_some, filter, find, flat_map}
 use Rattle.std.specs.List.{list_any, AllByRecursion as Each}
@@ -37,7 +37,7 @@ pub each_right : {X : Type 0} (P : X → Type 0) (xs ys : List X) → Each P (xs
 each_right P [] ys a = a
 each_right P (x ∷ xs) ys (p, a) = each_right P xs ys a
 
--- an element is added in the middle, or replaced
+-- what holds of each element still holds after one more such element is put in the middle, or after an element is left out
 pub each_put : {X : Type 0} (P : X → Type 0) (xs ys : List X) (x : X) → Each P (xs ++ ys) → P x → Each P (xs ++ x ∷ ys)
 each_put P xs ys x a p = each_append P xs (x ∷ ys) (each_left P xs ys a) (p, each_right P xs ys a)
 
@@ -102,7 +102,7 @@ pub each_from : {X : Type 0} (P : X → Type 0) (xs : List X) → ((x : X) → I
 each_from P [] f = tt
 each_from P (x ∷ xs) f = (f x (inl refl), each_from P xs (λ y i. f y (inr i)))
 
--- a list without elements
+-- a list that no element is in is empty
 pub none_in : {X : Type 0} (xs : List X) → ((x : X) → IsIn x xs → ⊥) → xs ≡ []
 none_in [] f = refl
 none_in (x ∷ xs) f = absurd (f x (inl refl))
@@ -171,7 +171,7 @@ pub none_any : {X : Type 0} (p : X → Bool) (xs : List X) → list_any p xs ≡
 none_any p [] e = tt
 none_any p (x ∷ xs) e = ((or_parts (p x) (list_any p xs) e).0, none_any p xs (or_parts (p x) (list_any p xs) e).1)
 
--- none passes if none is found
+-- if `find` finds nothing, no element passes
 pub any_unfound : {X : Type 0} (p : X → Bool) (xs : List X) → find p xs ≡ None → list_any p xs ≡ false
 any_unfound p [] e = refl
 any_unfound {X} p (x ∷ xs) e = go (p x) e (any_unfound p xs)
@@ -225,7 +225,7 @@ in_found key n x (y ∷ ys) (low, rises) (inr i) =
     let above : key y + 1 ≤ key x = key_above key (key y + 1) x ys rises i in
     ap (λ b. cond b (Some y) (find (λ z. eqb (key z) (key x)) ys)) (ne_eqb (key y) (key x) (λ same. absurd (omega arith))) ∙ in_found key (key y + 1) x ys rises i
 
--- an element at its place in a list whose other elements have other keys
+-- the list is split at element x, and no other element has its key
 pub record Found {X : Type 0} (key : X → ℕ) (x : X) (xs : List X) : Type 0 where
   pub before : List X
   pub later : List X
@@ -257,7 +257,7 @@ map_others : {X : Type 0} (key : X → ℕ) (n : ℕ) (y : X) (xs : List X) → 
 map_others key n y [] a = refl
 map_others key n y (x ∷ xs) (e, a) = ap (λ b. (if b then y else x) ∷ map (λ z. if eqb (key z) n then y else z) xs) e ∙ ap (λ zs. x ∷ zs) (map_others key n y xs a)
 
--- the element with this key is replaced
+-- if each element with key n is replaced by y, only x is replaced
 pub found_replaced : {X : Type 0} (key : X → ℕ) (x : X) (xs : List X) (f : Found key x xs) (y : X) (n : ℕ) → n ≡ key x
     → map (λ z. if eqb (key z) n then y else z) xs ≡ f.before ++ y ∷ f.later
 found_replaced {X} key x xs f y n e =
@@ -271,7 +271,7 @@ found_replaced {X} key x xs f y n e =
     parts bs a = map-append (λ z. if eqb (key z) n then y else z) bs (x ∷ f.later)
         ∙ ap (λ zs. zs ++ map (λ z. if eqb (key z) n then y else z) (x ∷ f.later)) (map_others key n y bs (subst (λ k. Each (λ z. eqb (key z) k ≡ false) bs) (sym e) a))
 
--- where put_rising puts an element
+-- the elements before and after the place where `put_rising` puts x
 pub record PutIn {X : Type 0} (key : X → ℕ) (x : X) (xs : List X) : Type 0 where
   pub before : List X
   pub later : List X
@@ -291,7 +291,7 @@ put_in {X} key x (y ∷ ys) = go (ltb (key x) (key y)) refl (put_in key x ys)
       is = ap (λ b. if b then x ∷ (y ∷ ys) else y ∷ put_rising key x ys) e ∙ ap (λ zs. y ∷ zs) p.is;
     }
 
--- an element of the longer list is the new one or was in the list
+-- an element of the longer list is the new element or was in the list
 pub in_put : {X : Type 0} (key : X → ℕ) (x y : X) (ys : List X) → IsIn y (put_rising key x ys) → (x ≡ y) ⊎ IsIn y ys
 in_put key x y [] i = i
 in_put {X} key x y (z ∷ zs) i = go (ltb (key x) (key z)) i (in_put key x y zs)
@@ -311,7 +311,7 @@ put_has {X} key x y (z ∷ zs) i = go (ltb (key x) (key z)) (put_has key x y zs)
     go false more (inr (inl e)) = inl e
     go false more (inr (inr i)) = inr (more (inr i))
 
--- if an element passes the test, one of the longer list does
+-- if an element of the list passes the test, so does an element of the longer list
 pub any_with : {X : Type 0} (p : X → Bool) (key : X → ℕ) (x : X) (xs : List X) → list_any p xs ≡ true → list_any p (put_rising key x xs) ≡ true
 any_with p key x xs e = let s = some_any p xs e in any_in p s.0 (put_rising key x xs) (put_has key x s.0 xs (inr s.1)) s.2
 

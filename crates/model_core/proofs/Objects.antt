@@ -18,7 +18,7 @@ use Rattle.model_core.proofs.LaidSlabs.{Laid, laid, all_laid, laid_layout, laid_
 use Rattle.model_core.proofs.MemoryKept.{place_held}
 use Rattle.model_core.proofs.CacheSteps.{in_all_laid}
 
--- byte j of object i of a slab
+-- the place is byte j of object i of the slab
 pub record IsByte (l : Laid) (i j place : ℕ) : Type 0 where
   pub index_in : i < (laid_layout l).count
   pub byte_in : j < l.size
@@ -65,7 +65,7 @@ pub record IsLive (c : Cache) (o : LiveObject) : Type 0 where
   pub live : get_or o.slab.live o.index false ≡ true
   pub at : o.place ≡ object_place (layout c) o.slab.first o.slab.colour o.index
 
--- an object that is live by the flags from n on
+-- o is an object of the slab that is live, given the flags from object n on
 record IsLiveFrom (c : Cache) (s : Slab) (n : ℕ) (flags : List Bool) (o : LiveObject) : Type 0 where
   slab_is : o.slab ≡ s
   low : n ≤ o.index

@@ -31,7 +31,7 @@ used_in c s e = go (find is_partial c.slabs) refl e
     go None f e = (find_in is_empty s c.slabs e).0
     go (Some t) f e = (find_in is_partial s c.slabs (f ∙ e)).0
 
--- a cache that grows has no empty slab, so it is unchanged in the reaped machine
+-- if no element passes, leaving out those that pass changes nothing; so a cache without empty slabs is not changed by a reap
 kept_all : {X : Type 0} (p : X → Bool) (xs : List X) → find p xs ≡ None → filter (λ x. not (p x)) xs ≡ xs
 kept_all p [] e = refl
 kept_all {X} p (x ∷ xs) e = go (p x) e (kept_all p xs)
@@ -58,7 +58,7 @@ stands_by_need order k c m i e = by_need_keeps (λ n. IsIn c n.caches) order k m
 
 -- Steps with answers
 
--- a page block is allocated on demand, or the request is refused
+-- Q holds of the step of an alloc if it holds of each refusal and of each allocation on demand
 pub alloc_outcome : (order k : ℕ) (m : Machine) (Q : Step (Result ℕ AllocRefusal) → Type 0) → ((refusal : AllocRefusal) → Q (refuse refusal m))
     → ((first : ℕ) → choice_by_need order k m ≡ Some first → Q (record { answer = Ok first; machine = with_block (block first k) (by_need order k m) }))
     → Q (alloc_step order k m)
@@ -70,7 +70,8 @@ alloc_outcome order k m Q refused found = go (ltb order k) (choice_by_need order
     go false None e = subst (λ n. Q (refuse AllocRefusal.NoFrames n)) (sym (by_need_none order k m e)) (refused AllocRefusal.NoFrames)
     go false (Some first) e = found first e
 
--- an object of an existing slab is handed out, or the first of a slab that is made on demand; the block is the new slab's
+-- Q holds of a take, with the block of the slab that the take makes or None, if Q holds of each refusal, of an object of an
+-- existing slab, and of the first object of a slab that is made on demand
 pub take_outcome : (order number : ℕ) (m : Machine) (Q : Option Block → Step (Result ℕ TakeRefusal) → Type 0) → ((refusal : TakeRefusal) → Q None (refuse refusal m))
     → ((c : Cache) (s : Slab) → IsIn c m.caches → IsIn s c.slabs → Q None (hand_out c s m))
     → ((c : Cache) (first : ℕ) → let n = by_need order (layout c).order m in IsIn c n.caches → choice_by_need order (layout c).order m ≡ Some first
@@ -101,7 +102,7 @@ refusals_stay order n m = (
 
 -- All operations
 
--- Q holds of each operation and the machine after it
+-- what has to be shown so that Q holds of each operation and the machine after it
 pub record Outcomes (limit order : ℕ) (m : Machine) (Q : Operation → Machine → Type 0) : Type 0 where
   pub refused : (operation : Operation) → made_block order operation m ≡ None → Q operation m
   pub page_taken : (k first : ℕ) → choice_by_need order k m ≡ Some first → Q (Alloc k) (with_block (block first k) (by_need order k m))
@@ -111,7 +112,7 @@ pub record Outcomes (limit order : ℕ) (m : Machine) (Q : Operation → Machine
       → Q (Create size align pattern) (created (next_number m) size align pattern m)
   pub object_taken : (number : ℕ) (c : Cache) (s : Slab) → IsIn c m.caches → IsIn s c.slabs → made_block order (Take number) m ≡ None → take_step order number m ≡ hand_out c s m
       → Q (Take number) (hand_out c s m).machine
-  -- of a new slab
+  -- a take of an object of a new slab
   pub slab_made : (number : ℕ) (c : Cache) (first : ℕ) → let n = by_need order (layout c).order m in IsIn c n.caches → choice_by_need order (layout c).order m ≡ Some first
       → made_block order (Take number) m ≡ Some (block first (layout c).order) → take_step order number m ≡ hand_out (grown_cache first c) (new_slab c first) (grown first c n)
       → Q (Take number) (hand_out (grown_cache first c) (new_slab c first) (grown first c n)).machine

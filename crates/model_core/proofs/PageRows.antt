@@ -15,7 +15,7 @@ no_slots : (alloc_step 3 0 empty_machine).answer ≡ Err AllocRefusal.NoFrames
 unfolding alloc_step by_need reaped choice taken_blocks empty_machine
 no_slots = refl
 
--- splits, until single frames are left: frame 0, then order 1 at frame 2, then order 2 at frame 4, then frame 1
+-- blocks are split until single frames are left: requests get frame 0, order 1 at frame 2, order 2 at frame 4, then frame 1
 abbrev four_blocks : List Operation
 four_blocks = Grant ∷ Alloc 0 ∷ Alloc 1 ∷ Alloc 2 ∷ Alloc 0 ∷ []
 
@@ -31,7 +31,7 @@ above_the_order : (alloc_step 3 4 (machine_after four_blocks)).answer ≡ Err Al
 unfolding alloc_step by_need reaped choice taken_blocks empty_machine next_slot after_grant
 above_the_order = refl
 
--- once all are freed, the halves are one block of order 3 again
+-- after all four blocks are freed, they are one block of order 3 again
 joins : numbers (four_blocks ++ (Free 0 ∷ Free 1 ∷ Free 2 ∷ Free 4 ∷ Alloc 3 ∷ []))
     ≡ Some 0 ∷ Some 0 ∷ Some 2 ∷ Some 4 ∷ Some 1 ∷ Some 0 ∷ Some 0 ∷ Some 1 ∷ Some 2 ∷ Some 0 ∷ []
 unfolding number_of alloc_step free_step by_need reaped choice taken_blocks empty_machine next_slot after_grant
@@ -49,7 +49,7 @@ two_slots : numbers (Grant ∷ Grant ∷ TakeBack 0 ∷ Alloc 0 ∷ Grant ∷ Al
 unfolding number_of alloc_step take_back_step is_busy after_take_back by_need reaped choice taken_blocks empty_machine next_slot after_grant
 two_slots = refl
 
--- a slot with a taken frame stays, and so does one that is not held
+-- a slot with a taken frame cannot be taken back, and neither can a slot that is not held
 busy : (take_back_step 3 0 (machine_after (Grant ∷ Alloc 0 ∷ []))).answer ≡ Err TakeBackRefusal.SlotBusy
 unfolding alloc_step take_back_step is_busy by_need reaped choice taken_blocks empty_machine next_slot after_grant
 busy = refl
@@ -58,7 +58,7 @@ not_held : (take_back_step 3 1 (machine_after (Grant ∷ Alloc 0 ∷ []))).answe
 unfolding alloc_step take_back_step by_need reaped choice taken_blocks empty_machine next_slot after_grant
 not_held = refl
 
--- a fresh block reads as zero, and a block that is freed and allocated again has its bytes
+-- a new block reads as zero, and a block that is freed and allocated again has the same bytes
 abbrev written_and_released : List Operation
 written_and_released = Grant ∷ Alloc 0 ∷ Write 0 (10 ∷ 11 ∷ []) ∷ Free 0 ∷ Alloc 0 ∷ []
 
@@ -71,7 +71,7 @@ scrubbed : (read_step 0 3 (machine_after (Grant ∷ Alloc 0 ∷ Write 0 (10 ∷ 
 unfolding alloc_step free_step write_step read_step take_back_step is_busy after_take_back in_reach by_need reaped choice taken_blocks empty_machine next_slot after_grant
 scrubbed = refl
 
--- a range within a page block is in reach; one from a block into the next is not, nor is one far away
+-- a range within a page block is in reach; a range from one block into the next is not, nor is a range far away
 abbrev two_frames : List Operation
 two_frames = Grant ∷ Alloc 0 ∷ Alloc 0 ∷ []
 
@@ -100,6 +100,6 @@ released_twice : numbers (Grant ∷ Alloc 0 ∷ Free 1 ∷ Free 0 ∷ Free 0 ∷
 unfolding number_of alloc_step free_step by_need reaped choice taken_blocks empty_machine next_slot after_grant
 released_twice = refl
 
--- a reset leaves nothing
+-- after a reset the machine is the empty one
 after_reset : machine_after (Grant ∷ Alloc 0 ∷ Reset ∷ []) ≡ empty_machine
 after_reset = refl

@@ -98,7 +98,7 @@ grant_kept order m w =
     (slot_put order p.before p.later u m.blocks (all_laid m.caches) m.bytes (subst (λ us. list_any (λ v. eqb v u) us ≡ false) p.was new)
     (subst (λ us. IsLaidOut order us m.blocks (all_laid m.caches) m.bytes) p.was (laid_out order m w))))
 
--- a block in a slot makes it busy
+-- if a block begins in a slot, the block and the slot share a frame
 pub in_slot_overlaps : (order slot : ℕ) (b : Block) → b.first / 2 ^ order ≡ slot → overlaps (slot_block order slot) b ≡ true
 in_slot_overlaps order slot b same = and_from (ltb (slot * 2 ^ order) (b.first + 2 ^ b.order)) (ltb b.first (slot * 2 ^ order + 2 ^ order))
     (lt-ltb (slot * 2 ^ order) (b.first + 2 ^ b.order) (omega (arith, low, pow_pos b.order))) (lt-ltb b.first (slot * 2 ^ order + 2 ^ order) high)
@@ -152,7 +152,7 @@ new_kept {limit} order size align pattern m w sized aligned below patterned =
     (subst (Each IsCache) (sym p.is) (each_put IsCache p.before p.later c (subst (Each IsCache) p.was w.caches) is))
     (subst (λ ls. IsLaidOut order m.slots m.blocks ls m.bytes) (ap all_laid p.was ∙ (sym (laid_without p.before p.later c refl) ∙ ap all_laid (sym p.is))) (laid_out order m w))
 
--- the slabs of one cache are freed
+-- after the slabs of one cache are freed and the cache is removed, the machine is well formed
 pub gone_kept : {limit : ℕ} (order : ℕ) (c : Cache) (m : Machine) → IsWellFormed limit order m → IsIn c m.caches → IsWellFormed limit order (destroyed c m)
 unfolding destroyed
 gone_kept {limit} order c m w i =

@@ -8,7 +8,7 @@ use Rattle.model_core.specs.Operations.{alloc_step}
 use Rattle.model_core.specs.CacheOperations.{take_step}
 use Rattle.model_core.specs.Laws.{AllocReaps, TakeReaps}
 
--- what holds of the machine and of the reaped machine holds of the one that serves the request
+-- what is true both of the machine and of the reaped machine is true of the machine that serves the request
 pub by_need_keeps : (P : Machine → Type 0) (order k : ℕ) (m : Machine) → P m → P (reaped m) → P (by_need order k m)
 unfolding by_need
 by_need_keeps P order k m p q = go _

@@ -20,7 +20,7 @@ reaped_for_a_block : numbers object_in_the_way ≡ Some 0 ∷ Some 0 ∷ Some 0 
 unfolding number_of layout_of alloc_step cache_step create_step next_number take_step give_step grown_cache grown slab_to_use fresh_byte choice by_need reaped taken_blocks empty_machine next_slot after_grant
 reaped_for_a_block = refl
 
--- the slab is gone, its control record too
+-- the cache then has no slab, and the place of the control record reads as zero
 no_slab : map (λ c. c.slabs) (machine_after object_in_the_way).caches ≡ [] ∷ []
 unfolding layout_of alloc_step cache_step create_step next_number take_step give_step grown_cache grown slab_to_use fresh_byte choice by_need reaped taken_blocks empty_machine next_slot after_grant
 no_slab = refl
@@ -29,7 +29,7 @@ record_reads_zero : (read_step 4064 2 (machine_after object_in_the_way)).answer 
 unfolding layout_of alloc_step cache_step create_step next_number take_step give_step read_step in_reach grown_cache grown slab_to_use fresh_byte choice by_need reaped taken_blocks empty_machine next_slot after_grant
 record_reads_zero = refl
 
--- if freeing the empty slab does not give enough space, it is not freed
+-- if the block is not free even without the empty slab, the slab is not freed
 abbrev block_in_the_way : List Operation
 block_in_the_way = Grant ∷ Alloc 0 ∷ Create 64 8 (0 ∷ []) ∷ Take 0 ∷ Give 0 4096 ∷ []
 
@@ -41,12 +41,12 @@ slab_stays : numbers (block_in_the_way ++ (Alloc 3 ∷ Reap ∷ [])) ≡ Some 0 
 unfolding number_of layout_of alloc_step cache_step create_step next_number take_step give_step reap_step grown_cache grown slab_to_use fresh_byte choice by_need reaped taken_blocks empty_machine next_slot after_grant
 slab_stays = refl
 
--- if a block is free, the empty slab is not freed either
+-- if a block is free anyway, the empty slab is not freed either
 block_beside : numbers (Grant ∷ Create 64 8 (0 ∷ []) ∷ Take 0 ∷ Give 0 0 ∷ Alloc 2 ∷ Reap ∷ []) ≡ Some 0 ∷ Some 0 ∷ Some 0 ∷ Some 0 ∷ Some 4 ∷ Some 1 ∷ []
 unfolding number_of layout_of alloc_step cache_step create_step next_number take_step give_step reap_step grown_cache grown slab_to_use fresh_byte choice by_need reaped taken_blocks empty_machine next_slot after_grant
 block_beside = refl
 
--- one cache's empty slabs make room for a slab of another
+-- the empty slabs of one cache are freed for a slab of another
 abbrev eight_given : List Operation
 eight_given = Grant ∷ Create 4096 8 (17 ∷ []) ∷ replicate 8 (Take 0)
     ++ (Give 0 0 ∷ Give 0 4096 ∷ Give 0 8192 ∷ Give 0 12288 ∷ Give 0 16384 ∷ Give 0 20480 ∷ Give 0 24576 ∷ Give 0 28672 ∷ Create 3000 8 (34 ∷ []) ∷ Take 1 ∷ [])
@@ -65,7 +65,7 @@ constructed_anew : (read_step 0 1 (machine_after eight_given)).answer ≡ Ok (34
 unfolding layout_of cache_step create_step next_number take_step give_step read_step in_reach grown_cache grown slab_to_use fresh_byte choice by_need reaped taken_blocks empty_machine next_slot after_grant
 constructed_anew = refl
 
--- the new slab's block lies left of the only block that was free before, which is too small
+-- the new slab is at frame 0, below the only block that was free before, which is too small
 abbrev four_given : List Operation
 four_given = Grant ∷ Create 4096 8 (17 ∷ []) ∷ replicate 4 (Take 0) ++ (Alloc 1 ∷ Give 0 0 ∷ Give 0 4096 ∷ Give 0 8192 ∷ Give 0 12288 ∷ Create 3000 8 (34 ∷ []) ∷ [])
 

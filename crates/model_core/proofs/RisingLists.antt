@@ -1,4 +1,4 @@
--- Lists that rise by key, and look-ups in a list of blocks once one is added. Two lists that rise by key and have the same
+-- Lists that rise by key, and look-ups in a list of blocks after a block is added. Two lists that rise by key and have the same
 -- members are the same.
 use Rattle.std.proofs.Common.{◌≡◌, ◌≢◌, ℕ, ◌+◌, ◌<◌, Bool, true, false, ◌||◌, eqb, List, [], ◌∷◌, ◌++◌, map, Option, Some, None, refl, sym, ap, ◌∙◌, subst, ◌⊎◌, inl, inr, arith}
 use Rattle.std.specs.Prelude.{if◌then◌else◌}
@@ -11,7 +11,7 @@ use Rattle.model_core.specs.WellFormed.{RisesFrom}
 use Rattle.model_core.specs.Elements.{IsIn}
 use Rattle.model_core.proofs.Lists.{some_any, any_in, key_above}
 
--- u is one of the numbers
+-- u is in the list
 abbrev pub has : ℕ → List ℕ → Bool
 has u xs = list_any (λ v. eqb v u) xs
 
@@ -49,7 +49,7 @@ same_keyed {X} key n (x ∷ xs) (y ∷ ys) (lx, r) (ly, s) f g = same (f x (inl 
     same (inr i) (inl e) more = tails (sym e) more
     same (inr i) (inr j) more = absurd (let u = key_above key (key y + 1) x ys s i in let v = key_above key (key x + 1) y xs r j in omega arith)
 
--- .. for rising lists of numbers, by membership and by a test of it
+-- .. and so are two rising lists of numbers with the same members, or for which `has` gives the same answers
 pub same_members : (n : ℕ) (xs ys : List ℕ) → RisesFrom n xs → RisesFrom n ys → ((u : ℕ) → IsIn u xs → IsIn u ys) → ((u : ℕ) → IsIn u ys → IsIn u xs) → xs ≡ ys
 same_members n xs ys r q there back =
     same_keyed (λ u. u) n xs ys (subst (λ us. RisesFrom n us) (sym (map-id xs)) r) (subst (λ us. RisesFrom n us) (sym (map-id ys)) q) there back
@@ -60,7 +60,7 @@ same_rising n xs ys r q same =
 
 -- Blocks
 
--- one more in the middle of a list of blocks
+-- if no block before b begins at its first frame, adding b to a list adds it to the look-ups
 pub order_in-middle : (xs ys : List Block) (b : Block) → Each (λ x. x.first ≢ b.first) xs → (f : ℕ) → order_in (xs ++ b ∷ ys) f ≡ with_taken (order_in (xs ++ ys)) b.first b.order f
 order_in-middle [] ys b e f = turned b.first f (Some b.order) (order_in ys f)
   where

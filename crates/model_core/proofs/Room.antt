@@ -26,7 +26,7 @@ use Rattle.model_core.proofs.VacantBlocks.{IsVacant, some_choice}
 
 -- Lists of numbers
 
--- a number from `a` on and below a + n is in the range of n numbers from `a`
+-- a number x with a ≤ x < a + n is in the range of the n numbers from a on
 pub in_range : (x a n : ℕ) → a ≤ x → x < a + n → IsIn x (range_with_len a n)
 in_range x a zero low high = absurd (omega arith)
 in_range x a (suc n) low high = ⊎_elim (λ same. inl same) (λ other. inr (in_range x (a + 1) n (omega arith) (omega arith))) (cases_eq a x)
@@ -76,7 +76,7 @@ no_longer n (x ∷ xs) ys (l, r) all =
     in_filter (λ y. not (eqb y x)) z ys (all z (inr i)) (ap not (ne_eqb z x (λ same. let above : x + 1 ≤ z = rises_in (x + 1) z xs r i in absurd (omega arith))))) in
     omega arith
 
--- The aligned blocks of one order in these slots, by number. Each slot has w of them.
+-- The numbers of the aligned blocks of one order in these slots. Each slot has w of these blocks.
 
 blocks_in : ℕ → List ℕ → List ℕ
 blocks_in w slots = flat_map (λ u. range_with_len (u * w) w) slots
@@ -103,7 +103,7 @@ blocks_rise w n (u ∷ us) (l, r) =
     let next : (u + 1) * w ≡ u * w + w = omega arith in
     range_rises (n * w) (u * w) w (blocks_in w us) (mul-le-mul_right w l) (subst (λ z. RisesFrom z (blocks_in w us)) next (blocks_rise w (u + 1) us r))
 
--- a block lies in one of the slots
+-- block q is one of the w blocks of a slot in the list
 record IsOfSlot (w q : ℕ) (slots : List ℕ) : Type 0 where
   slot : ℕ
   listed : IsIn slot slots
@@ -131,7 +131,7 @@ count_frames (b ∷ bs) =
     length-append (range_with_len b.first (2 ^ b.order)) (frames_in bs)
     ∙ (ap (λ n. n + length (frames_in bs)) (length-range_with_len b.first (2 ^ b.order)) ∙ ap (λ n. 2 ^ b.order + n) (count_frames bs))
 
--- a frame of a block that begins at f is one of these frames
+-- if a look-up finds a block of order k at f, each frame of that block is in the list
 found_in : (bs : List Block) (f k x : ℕ) → order_in bs f ≡ Some k → HasFrame (block f k) x → IsIn x (frames_in bs)
 unfolding frames_in
 found_in [] f k x e has = absurd (cc)
@@ -149,7 +149,7 @@ found_in (b ∷ bs) f k x e has = go (eqb b.first f) refl e (λ later. found_in 
 
 module _ (order k : ℕ) (slots : List ℕ) (bs : List Block) (rises : RisesFrom 0 slots) (of_slot : k ≤ order)
     (fewer : frames_of bs < length slots * 2 ^ (order - k)) where
-  -- how many blocks of order k a slot has
+  -- the number of blocks of order k in a slot
   abbrev share : ℕ
   share = 2 ^ (order - k)
 
@@ -184,7 +184,7 @@ module _ (order k : ℕ) (slots : List ℕ) (bs : List Block) (rises : RisesFrom
         false≢true (sym (not-true (is_met q) unmet) ∙ any_in (λ p. eqb p q) (x / 2 ^ k) met listed (eq-eqb (x / 2 ^ k) q number));
   }
 
-  -- some block has no taken frame
+  -- not every block in the slots has a taken frame
   all_met : list_any (λ q. not (is_met q)) (blocks_in share slots) ≡ false → ⊥
   all_met none =
       let within : length (blocks_in share slots) ≤ length met = no_longer (0 * share) (blocks_in share slots) met (blocks_rise share 0 slots rises) (λ q i.
@@ -208,7 +208,7 @@ some_first : (o : Option Block) → is_some o ≡ true → (first : ℕ) × (opt
 some_first None e = absurd (false≢true e)
 some_first (Some b) e = (b.first, refl)
 
--- a machine whose taken blocks leave space chooses a block
+-- if the taken blocks have fewer frames than the slots have blocks of order k, a request for this order gets a block
 room_chosen : (order k : ℕ) (m : Machine) → RisesFrom 0 m.slots → k ≤ order → frames_of (taken_blocks m) < length m.slots * 2 ^ (order - k)
     → (first : ℕ) × (choice order m k ≡ Some first)
 unfolding choice

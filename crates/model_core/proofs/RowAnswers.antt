@@ -25,7 +25,7 @@ abbrev pub numbers_from : Machine → List Operation → List (Option ℕ)
 numbers_from m [] = []
 numbers_from m (operation ∷ operations) = number_of operation m ∷ numbers_from (after MOST_CACHES 3 operation m) operations
 
--- at order 3, from the empty machine
+-- the numbers of these operations, run on the empty machine with slots of order 3
 abbrev pub numbers : List Operation → List (Option ℕ)
 numbers operations = numbers_from empty_machine operations
 

@@ -16,7 +16,7 @@ pub in_middle : {X : Type 0} (xs ys : List X) (x : X) → IsIn x (xs ++ x ∷ ys
 in_middle [] ys x = inl refl
 in_middle (y ∷ xs) ys x = inr (in_middle xs ys x)
 
--- all slabs, with the slabs of one cache cut in two
+-- if the slabs of one cache are split into two lists, the list of all slabs is split there too
 pub laid_parts : (before later : List Cache) (c : Cache) (ss ts : List Slab) → c.slabs ≡ ss ++ ts
     → all_laid (before ++ c ∷ later) ≡ (all_laid before ++ map (laid c) ss) ++ (map (laid c) ts ++ all_laid later)
 laid_parts before later c ss ts e =
@@ -25,7 +25,7 @@ laid_parts before later c ss ts e =
     ∙ (ap (λ ls. all_laid before ++ ls) (append_assoc (map (laid c) ss) (map (laid c) ts) (all_laid later))
     ∙ sym (append_assoc (all_laid before) (map (laid c) ss) (map (laid c) ts ++ all_laid later))))
 
--- a cache without slabs adds none
+-- a cache without slabs adds nothing to the list of all slabs
 pub laid_without : (before later : List Cache) (c : Cache) → c.slabs ≡ [] → all_laid (before ++ c ∷ later) ≡ all_laid (before ++ later)
 laid_without before later c e = flat_map-append laid_in before (c ∷ later)
     ∙ (ap (λ ss. all_laid before ++ (map (laid c) ss ++ all_laid later)) e ∙ sym (flat_map-append laid_in before later))
@@ -39,7 +39,7 @@ filter_laid_in p c ss = go (p c.number) refl ss
     go false e [] = refl
     go false e (s ∷ ss) = ap (λ b. cond b (laid c s ∷ filter (λ l. p l.number) (map (laid c) ss)) (filter (λ l. p l.number) (map (laid c) ss))) e ∙ go false e ss
 
--- the slabs of the caches whose numbers pass
+-- the slabs whose cache number passes are the slabs of the caches whose numbers pass
 pub filter_laid : (p : ℕ → Bool) (cs : List Cache) → filter (λ l. p l.number) (all_laid cs) ≡ all_laid (filter (λ c. p c.number) cs)
 filter_laid p [] = refl
 filter_laid p (c ∷ cs) = filter-append (λ l. p l.number) (laid_in c) (all_laid cs)
@@ -62,7 +62,7 @@ filter_found c cs f = ap (λ xs. filter (λ x. eqb x.number c.number) xs) f.is
     ∙ (ap (λ b. cond b (c ∷ filter (λ x. eqb x.number c.number) f.later) (filter (λ x. eqb x.number c.number) f.later)) (eq-eqb c.number c.number refl)
     ∙ ap (λ xs. c ∷ xs) (filter_none c.number f.later f.others_later))))
 
--- the slabs of one cache, by its number
+-- the slabs with the number of cache c are the slabs of c
 pub laid_of : (c : Cache) (cs : List Cache) → Found (λ c. c.number) c cs → filter (λ l. eqb l.number c.number) (all_laid cs) ≡ laid_in c
 laid_of c cs f = filter_laid (λ n. eqb n c.number) cs ∙ (ap all_laid (filter_found c cs f) ∙ append-nil (laid_in c))
 

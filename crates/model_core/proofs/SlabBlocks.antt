@@ -38,7 +38,7 @@ growth_takes limit order first c m w in_c e f =
     (subst (Each (λ x. x.first ≢ first)) was (apart_firsts b (taken_blocks m) (chosen_apart order (layout c).order first m w.apart e))) in
     ap (λ bs. order_in bs f) is ∙ (order_in-middle before later b others f ∙ ap (λ bs. with_taken (order_in bs) first b.order f) (sym was))
 
--- what a look-up finds if the blocks that another look-up finds are gone
+-- what a look-up among all blocks finds, or None if a look-up among the removed blocks finds one
 abbrev unless_gone : Option ℕ → Option ℕ → Option ℕ
 unless_gone gone all = if is_some gone then None else all
 

@@ -22,7 +22,7 @@ use Rattle.model_core.proofs.PageSteps.{by_need_kept}
 pub same_block : (b : Block) (f k : ℕ) → b.first ≡ f → b.order ≡ k → b ≡ block f k
 same_block b f k p q = λ i. block (p i) (q i)
 
--- the block that a look-up finds
+-- if a look-up finds order k at frame f, the block of order k at f is in the list
 pub order_in_is : (bs : List Block) (f k : ℕ) → order_in bs f ≡ Some k → IsIn (block f k) bs
 order_in_is [] f k e = absurd (cc)
 order_in_is (b ∷ bs) f k e = go (eqb b.first f) refl e (order_in_is bs f k)

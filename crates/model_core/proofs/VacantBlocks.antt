@@ -10,14 +10,14 @@ use Rattle.model_core.proofs.BlockHalves.{same_above}
 use Rattle.model_core.proofs.FreeBlocks.{has_first, each_frame_in_one, reserved_is_untaken}
 use Rattle.model_core.proofs.BlockChoice.{choice_is_found}
 
--- an aligned block in a held slot, without a taken frame
+-- the block of order k at f is aligned, lies in a held slot and has no taken frame
 pub record IsVacant (top : ℕ) (held : ℕ → Bool) (taken : Taken) (f k : ℕ) : Type 0 where
   pub aligned : IsAligned top (block f k)
   pub slot : held (f / 2 ^ top) ≡ true
   pub untaken : (x : ℕ) → HasFrame (block f k) x → IsTaken taken x → ⊥
 
 module _ (top : ℕ) (held : ℕ → Bool) (taken : Taken) (slots : ℕ) (below : (u : ℕ) → held u ≡ true → u < slots) where
-  -- a free block with a frame of a vacant one is at least as large
+  -- a free block that has the first frame of a vacant block is at least as large as it
   as_large : (f k : ℕ) → IsVacant top held taken f k → (z : Block) → IsFree top held taken z → HasFrame z f → k ≤ z.order
   as_large f k v z free has = ⊎_elim (λ less. absurd (by less free.3)) (λ large. large) (cases_lt z.order k)
     where

@@ -35,7 +35,7 @@ machine = machine_after slab_and_page
 pub is_well_formed : IsWellFormed MOST_CACHES 3 machine
 is_well_formed = well_formed_left slab_and_page (tt, (refl, (tt, (tt, tt))))
 
--- Frame 0 is an empty slab; there are caches whose slabs have order 3 and order 2 too, without a slab.
+-- Frame 0 is an empty slab. Two more caches have no slabs yet; their slabs will have order 3 and order 2.
 
 abbrev pub slab_given_back : List Operation
 slab_given_back = Grant ∷ Create 100 8 (90 ∷ []) ∷ Take 0 ∷ Give 0 0 ∷ Create 2736 8 (7 ∷ []) ∷ Create 3000 8 (8 ∷ []) ∷ []
@@ -46,7 +46,7 @@ emptied = machine_after slab_given_back
 pub emptied_well_formed : IsWellFormed MOST_CACHES 3 emptied
 emptied_well_formed = well_formed_left slab_given_back (tt, (refl, (tt, (tt, (refl, (refl, tt))))))
 
--- .. and with its object live
+-- the same machine with an object of the slab live
 abbrev pub crowded : Machine
 crowded = machine_after (slab_given_back ++ Take 0 ∷ [])
 
@@ -59,7 +59,7 @@ cache_of_order_3 = record { number = 1; size = 2736; align = 8; pattern = 7 ∷ 
 abbrev cache_of_order_2 : Cache
 cache_of_order_2 = record { number = 2; size = 3000; align = 8; pattern = 8 ∷ []; made = 0; slabs = [] }
 
--- a layout with several colour offsets
+-- the layout of objects of 200 bytes has several colour offsets
 LayoutsFit-met : LayoutsFit → IsLayout 200 8 (layout_of 200 8)
 LayoutsFit-met law = law 200 8 refl refl
 
@@ -137,7 +137,7 @@ TakenApart-met law = law MOST_CACHES 3 machine is_well_formed 0 1 (block 0 0) (o
 TakenSound-met : TakenSound → IsSound 3 (holds machine) (taken_in machine)
 TakenSound-met law = law MOST_CACHES 3 machine is_well_formed
 
--- a block that is found, and one that is found once the slab is freed
+-- one block is found at once, the other only after the empty slab is freed
 AllocTakes-met : AllocTakes → (taken_in (alloc_step 3 1 machine).machine 2 ≡ Some 1) × (taken_in (alloc_step 3 3 emptied).machine 0 ≡ Some 3)
 unfolding layout_of alloc_step cache_step create_step next_number take_step give_step grown_cache grown slab_to_use by_need reaped choice taken_blocks empty_machine next_slot after_grant
 AllocTakes-met law = (law MOST_CACHES 3 1 2 machine is_well_formed refl 2, law MOST_CACHES 3 3 0 emptied emptied_well_formed refl 0)
@@ -159,7 +159,7 @@ ReapReleases-met law = (refl, law MOST_CACHES 3 emptied emptied_well_formed 0, l
 
 -- Space for a block
 
--- two frames are taken, so the slot has space for a block of order 1: it has four of them
+-- two frames are taken and the slot has four blocks of order 1, so there is space for a block of order 1
 BlockIsPromised-met : BlockIsPromised → (first : ℕ) × (choice_by_need 3 1 machine ≡ Some first)
 unfolding layout_of alloc_step cache_step create_step next_number take_step grown_cache grown slab_to_use by_need reaped choice taken_blocks empty_machine next_slot after_grant
 BlockIsPromised-met law = law MOST_CACHES 3 1 machine is_well_formed (record { of_slot = omega arith; fewer = omega arith })

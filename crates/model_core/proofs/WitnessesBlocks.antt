@@ -55,7 +55,7 @@ EachFrameInOne-met law b free has =
     let only = law 3 held taken 5 refl ((choice_is_untaken 3 2 4 machine refl).1 5 (omega arith, omega arith)).1 in
     only.3 b free has ∙ sym (only.3 (block 4 2) upper_half_free (omega arith, omega arith))
 
--- reserving order 0 there leaves the upper halves of both splits
+-- after frame 4 is reserved, the upper halves of both splits are free
 Splits-met : Splits → IsFree 3 held (with_taken taken 4 0) (block 5 0) × IsFree 3 held (with_taken taken 4 0) (block 6 1)
 Splits-met law = (
   (law 3 held taken 4 2 0 upper_half_free (omega arith) (block 5 0)).1 (inr (0, omega arith, omega arith, refl)),
@@ -83,7 +83,7 @@ one_frame = machine_after (Grant ∷ Grant ∷ Alloc 0 ∷ [])
 one_sound : IsSound 3 (holds one_frame) (taken_in one_frame)
 one_sound = taken_sound MOST_CACHES 3 one_frame (well_formed_left (Grant ∷ Grant ∷ Alloc 0 ∷ []) (tt, (tt, (tt, tt))))
 
--- its buddies are free at each order below that of the slot
+-- at each order below 3, the buddy of the block around frame 0 is free
 up_to_the_slot : (j : ℕ) → j ≤ 3 → (j ≡ 3) ⊎ (IsFree 3 (holds one_frame) (taken_in one_frame) (buddy (around 0 j)) → ⊥) → j ≡ 3
 unfolding layout_of alloc_step cache_step create_step next_number take_step grown_cache grown slab_to_use by_need reaped choice taken_blocks empty_machine next_slot after_grant
 up_to_the_slot j within (inl whole) = whole
@@ -92,7 +92,7 @@ up_to_the_slot (suc zero) within (inr taken) = absurd (taken ((free_is_tested 3 
 up_to_the_slot (suc (suc zero)) within (inr taken) = absurd (taken ((free_is_tested 3 (holds one_frame) (taken_in one_frame) (block 4 2)).0 refl))
 up_to_the_slot (suc (suc (suc j))) within (inr taken) = omega arith
 
--- so its release joins it with all of them
+-- so a release of frame 0 joins it with all these buddies
 Joins-met : Joins → IsFree 3 (holds one_frame) (without_taken (taken_in one_frame) 0) (block 0 3)
 unfolding layout_of alloc_step cache_step create_step next_number take_step grown_cache grown slab_to_use by_need reaped choice taken_blocks empty_machine next_slot after_grant
 Joins-met law =

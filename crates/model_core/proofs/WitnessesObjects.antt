@@ -42,7 +42,7 @@ its_byte : HasByte second_object 203
 unfolding layout_of
 its_byte = (omega arith, omega arith)
 
--- every object that has the byte is the second, so the first does not have it
+-- only the second object has the byte at place 203, so the first does not have it
 ObjectsApart-met : ObjectsApart → ((a : Object) → IsObject machine a → HasByte a 203 → a ≡ second_object) × (HasByte first_object 203 → ⊥)
 ObjectsApart-met law =
     let only : (a : Object) → IsObject machine a → HasByte a 203 → a ≡ second_object = λ a there has.
@@ -81,7 +81,7 @@ can_be_requested = (
 abbrev anew : Machine
 anew = machine_after eight_slabs
 
--- the slab of the second cache after its first object is handed out, and after its second is
+-- the slab of the second cache, with its first object live; `second` says whether its second object is live
 abbrev new_slab_with : Bool → Slab
 new_slab_with second = record { first = 0; colour = 0; live = true ∷ second ∷ [] }
 
@@ -96,18 +96,18 @@ handed_out_before : hand_outs MOST_CACHES 3 2048 eight_slabs empty_machine 0 ≡
 unfolding layout_of cache_step create_step next_number take_step give_step write_step in_reach grown_cache grown slab_to_use fresh_byte by_need reaped choice taken_blocks empty_machine next_slot after_grant
 handed_out_before = refl
 
--- .. and the byte that was written to it reads as written
+-- .. and its first byte still has the value that was written
 written_before : anew.bytes 2048 ≡ Some 99
 unfolding layout_of cache_step create_step next_number take_step give_step write_step in_reach grown_cache grown slab_to_use fresh_byte by_need reaped choice taken_blocks empty_machine next_slot after_grant
 written_before = refl
 
--- after the new slab is made, the object has not been handed out since, and reads as the new pattern
+-- after the new slab is made, the object at place 2048 is not handed out yet and reads as the new pattern
 ConstructedFirst-met : ConstructedFirst → (machine_after (eight_slabs ++ Take 1 ∷ [])).bytes (2048 + 0) ≡ Some 22
 unfolding layout_of cache_step create_step next_number take_step give_step write_step in_reach grown_cache grown slab_to_use fresh_byte by_need reaped choice taken_blocks empty_machine next_slot after_grant
 ConstructedFirst-met law = law MOST_CACHES 3 (eight_slabs ++ Take 1 ∷ []) (object_anew false 1) 0 (each_append IsPossible eight_slabs (Take 1 ∷ []) can_be_requested (tt, tt))
     (record { cache_in = (1, omega arith, refl); slab_in = (0, omega arith, refl); index_in = omega arith }) (omega arith) refl
 
--- so does the object of the take that makes the slab, and so does that of the next take
+-- the object of the take that makes the slab reads as the new pattern, and so does the object of the next take
 ConstructedWhenTaken-met : ConstructedWhenTaken
     → ((take_step 3 1 anew).machine.bytes (0 + 5) ≡ Some 22) × ((take_step 3 1 (machine_after (eight_slabs ++ Take 1 ∷ []))).machine.bytes (2048 + 0) ≡ Some 22)
 unfolding layout_of cache_step create_step next_number take_step give_step write_step in_reach grown_cache grown slab_to_use fresh_byte by_need reaped choice taken_blocks empty_machine next_slot after_grant
@@ -157,7 +157,7 @@ written = machine_after both_written
 written_well_formed : IsWellFormed MOST_CACHES 3 written
 written_well_formed = well_formed_left both_written (tt, (refl, (tt, (tt, (tt, (tt, tt))))))
 
--- .. and both are given back and handed out again
+-- the object is given back, the page block is freed, and both are handed out again
 abbrev back_and_forth : List Operation
 back_and_forth = Give 0 0 ∷ Free 1 ∷ Take 0 ∷ Alloc 0 ∷ []
 

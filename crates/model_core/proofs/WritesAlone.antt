@@ -53,7 +53,7 @@ holder_of order m place w (inr h) = record {
 holder_placed : {limit : ℕ} (order : ℕ) (m : Machine) (place : ℕ) → IsWellFormed limit order m → (h : IsHolder m place) → Placed order m.slots h.holder
 holder_placed order m place w h = each_in (Placed order m.slots) h.holder (m.blocks ++ map laid_block (all_laid m.caches)) (subst (Each (Placed order m.slots)) (taken_laid m) w.placed) h.holder_in
 
--- growth leaves the byte of a place in reach
+-- growth does not change the byte of a place in reach
 reached_grown : {limit : ℕ} (order first : ℕ) (c : Cache) (m : Machine) (place : ℕ) → IsWellFormed limit order m → choice order m (layout c).order ≡ Some first → Reached m place → (grown first c m).bytes place ≡ m.bytes place
 reached_grown order first c m place w e r =
     let h : IsHolder m place = holder_of order m place w r in
@@ -61,7 +61,7 @@ reached_grown order first c m place w e r =
     let apart : IsApart b h.holder = each_in (IsApart b) h.holder (m.blocks ++ map laid_block (all_laid m.caches)) (subst (Each (IsApart b)) (taken_laid m) (chosen_apart order (layout c).order first m w.apart e)) h.holder_in in
     grown_byte first c m place false (apart_place place h.holder b (λ x p q. apart x q p) h.here)
 
--- freed slabs leave the byte, if the place is in none of them
+-- a place in a page block, or in a live object of a slab that stays, is in no freed slab
 reached_kept : {limit : ℕ} (order : ℕ) (q : Laid → Bool) (m : Machine) (place : ℕ) → IsWellFormed limit order m → (r : Reached m place)
     → ((h : IsLiveByte m place) → q (laid h.cache h.slab) ≡ false) → list_any (in_block place) (map laid_block (filter q (all_laid m.caches))) ≡ false
 reached_kept order q m place w (inl h) kept =

@@ -3,35 +3,35 @@ use Rattle.std.specs.Prelude.{◌≡◌, ◌⊎◌, ◌↔◌, ℕ, ◌+◌, ◌
 use Rattle.model_core.specs.Blocks.{Block, block, HasFrame, IsAligned, buddy, around, slot_block, Taken, with_taken, without_taken, IsTaken, HasTaken, IsFree, IsChoice, IsWithout, IsSound}
 use Rattle.model_core.specs.Choice.{is_free, choose}
 
--- each frame of a held slot that is not taken lies in exactly one free block
+-- each frame that lies in a held slot and is not taken lies in exactly one free block
 abbrev pub EachFrameInOne : Type 0
 EachFrameInOne = (top : ℕ) (held : ℕ → Bool) (taken : Taken) (x : ℕ) → held (x / 2 ^ top) ≡ true → (IsTaken taken x → ⊥)
     → (b : Block) × IsFree top held taken b × HasFrame b x × ((c : Block) → IsFree top held taken c → HasFrame c x → c ≡ b)
 
--- The free blocks once a block of order k is reserved out of the free block of order j at f: the free block is gone, and the upper
--- halves of its splits are added, one of each order from k to j - 1.
+-- The free blocks after a block of order k is reserved out of the free block of order j at f. That free block is gone, and the
+-- upper halves of its splits are added, one of each order from k to j - 1.
 abbrev pub IsFreeOnceSplit : (Block → Type 0) → ℕ → ℕ → ℕ → Block → Type 0
 IsFreeOnceSplit WasFree f j k b = (WasFree b × (b ≡ block f j → ⊥)) ⊎ ((i : ℕ) × (k ≤ i) × (i < j) × (b ≡ block (f + 2 ^ i) i))
 
--- a reservation at the first frame of a free block splits it
+-- a reservation at the first frame of a free block changes the free blocks as `IsFreeOnceSplit` says
 abbrev pub Splits : Type 0
 Splits = (top : ℕ) (held : ℕ → Bool) (taken : Taken) (f j k : ℕ) → IsFree top held taken (block f j) → k ≤ j → (b : Block)
     → (IsFree top held (with_taken taken f k) b ↔ IsFreeOnceSplit (IsFree top held taken) f j k b)
 
--- When the block of order k at f is released, it is joined up to order j: at each order from k to j - 1
--- its buddy is free, and at order j it is a whole slot or its buddy is not free.
+-- A release of the block of order k at f joins blocks up to order j. At each order from k to j - 1, the buddy of the block around
+-- f is free. At order j, the block around f is a whole slot or its buddy is not free.
 pub record JoinsTo (top : ℕ) (held : ℕ → Bool) (taken : Taken) (f k j : ℕ) : Type 0 where
   pub rises : k ≤ j
   pub within : j ≤ top
   pub joined : (i : ℕ) → k ≤ i → i < j → IsFree top held taken (buddy (around f i))
   pub stops : (j ≡ top) ⊎ (IsFree top held taken (buddy (around f j)) → ⊥)
 
--- The free blocks once the block of order k at f is released and joined up to order j: the buddies that it is joined with are
+-- The free blocks after the block of order k at f is released and joined up to order j. The buddies that it is joined with are
 -- gone, and the joined block is added.
 abbrev pub IsFreeOnceJoined : (Block → Type 0) → ℕ → ℕ → ℕ → Block → Type 0
 IsFreeOnceJoined WasFree f k j b = (b ≡ around f j) ⊎ (WasFree b × ((i : ℕ) → k ≤ i → i < j → b ≡ buddy (around f i) → ⊥))
 
--- a release of a taken block joins it up to some order
+-- if the taken blocks are sound, a release of a taken block joins it up to some order, as `IsFreeOnceJoined` says
 abbrev pub Joins : Type 0
 Joins = (top : ℕ) (held : ℕ → Bool) (taken : Taken) (f k : ℕ) → IsSound top held taken → taken f ≡ Some k
     → (j : ℕ) × JoinsTo top held taken f k j × ((b : Block)
@@ -42,13 +42,13 @@ abbrev pub ReservedIsUntaken : Type 0
 ReservedIsUntaken = (top : ℕ) (held : ℕ → Bool) (taken : Taken) (f j k : ℕ) → IsFree top held taken (block f j) → k ≤ j
     → IsAligned top (block f k) × ((x : ℕ) → HasFrame (block f k) x → (held (x / 2 ^ top) ≡ true) × (IsTaken taken x → ⊥))
 
--- The taken blocks stay aligned, in held slots and apart, if a block is reserved out of a free block ..
+-- The taken blocks stay sound, that is aligned, in held slots and apart, if a block is reserved out of a free block ..
 abbrev pub ReserveStaysSound : Type 0
 ReserveStaysSound = (top : ℕ) (held : ℕ → Bool) (taken : Taken) (f j k : ℕ) → IsSound top held taken
     → IsFree top held taken (block f j) → k ≤ j
     → IsSound top held (with_taken taken f k)
 
--- .. if one is released ..
+-- .. if a block is released ..
 abbrev pub ReleaseStaysSound : Type 0
 ReleaseStaysSound = (top : ℕ) (held : ℕ → Bool) (taken : Taken) (f : ℕ) → IsSound top held taken
     → IsSound top held (without_taken taken f)
@@ -68,12 +68,12 @@ abbrev pub FreeIsTested : Type 0
 FreeIsTested = (top : ℕ) (held : ℕ → Bool) (taken : Taken) (b : Block)
     → (is_free top held taken b ≡ true) ↔ IsFree top held taken b
 
--- with `slots` above every held slot, `choose` finds the choice, or None if no free block is large enough
+-- if `slots` is above every held slot, `choose` returns the choice for order k, or None if no free block is large enough
 abbrev pub ChoiceIsFound : Type 0
 ChoiceIsFound = (top : ℕ) (held : ℕ → Bool) (taken : Taken) (slots k : ℕ) → ((u : ℕ) → held u ≡ true → u < slots)
     → MatchOption (choose top held taken slots k) (IsWithout top held taken k) (IsChoice top held taken k)
 
--- there is at most one choice
+-- for each order there is at most one choice
 abbrev pub OneChoice : Type 0
 OneChoice = (top : ℕ) (held : ℕ → Bool) (taken : Taken) (k : ℕ) (b c : Block) → IsChoice top held taken k b
     → IsChoice top held taken k c → b ≡ c

@@ -3,7 +3,7 @@
 -- `held` is true of the held slots. Free blocks are stored nowhere: they follow from the held slots and the taken blocks.
 use Rattle.std.specs.Prelude.{◌≡◌, ◌⊎◌, ℕ, ◌+◌, ◌-◌, ◌*◌, ◌/◌, ◌%◌, ◌^◌, ◌<◌, ◌≤◌, Bool, true, ◌==◌, if◌then◌else◌, Option, Some, None}
 
--- the 2 ^ order frames from the first on
+-- the 2 ^ order frames from frame `first` on
 pub record Block : Type 0 where
   pub first : ℕ
   pub order : ℕ
@@ -19,7 +19,7 @@ HasFrame b x = (b.first ≤ x) × (x < b.first + 2 ^ b.order)
 abbrev pub IsAligned : ℕ → Block → Type 0
 IsAligned top b = (b.order ≤ top) × (b.first % 2 ^ b.order ≡ 0)
 
--- the other half of the aligned block of the next order
+-- the buddy of an aligned block: the other half of the block of the next order around it
 abbrev pub buddy : Block → Block
 buddy b = block (if b.first % 2 ^ (b.order + 1) == 0 then b.first + 2 ^ b.order else b.first - 2 ^ b.order) b.order
 
@@ -31,11 +31,11 @@ around x k = block (x / 2 ^ k * 2 ^ k) k
 abbrev pub slot_block : ℕ → ℕ → Block
 slot_block top u = block (u * 2 ^ top) top
 
--- the taken blocks, as a map from frames: the first frame of each maps to its order, all other frames to None
+-- the taken blocks as a map: the first frame of each block maps to the block's order, and every other frame to None
 abbrev pub Taken : Type 0
 Taken = ℕ → Option ℕ
 
--- the taken blocks with one more, of order k at frame f
+-- the taken blocks and one more block, of order k at frame f
 abbrev pub with_taken : Taken → ℕ → ℕ → Taken
 with_taken taken f k g = if g == f then Some k else taken g
 
@@ -58,7 +58,7 @@ IsFree top held taken b = IsAligned top b × (held (b.first / 2 ^ top) ≡ true)
     × ((b.order ≡ top) ⊎ HasTaken taken (around b.first (b.order + 1)))
 
 -- The free block that a request for order k is served from. Among the free blocks of order k or more it has the least order, and
--- among those of that order the least first frame. The request gets its first 2 ^ k frames.
+-- among the free blocks of that order the least first frame. The request gets the block's first 2 ^ k frames.
 abbrev pub IsChoice : ℕ → (ℕ → Bool) → Taken → ℕ → Block → Type 0
 IsChoice top held taken k b = IsFree top held taken b × (k ≤ b.order)
     × ((c : Block) → IsFree top held taken c → k ≤ c.order → (b.order < c.order) ⊎ ((b.order ≡ c.order) × (b.first ≤ c.first)))
@@ -67,9 +67,9 @@ IsChoice top held taken k b = IsFree top held taken b × (k ≤ b.order)
 abbrev pub IsWithout : ℕ → (ℕ → Bool) → Taken → ℕ → Type 0
 IsWithout top held taken k = (c : Block) → IsFree top held taken c → k ≤ c.order → ⊥
 
--- what is true of the taken blocks of every machine
+-- what is true of the taken blocks of every well formed machine
 pub record IsSound (top : ℕ) (held : ℕ → Bool) (taken : Taken) : Type 0 where
-  -- each is aligned and lies in a held slot
+  -- each taken block is aligned and lies in a held slot
   pub placed : (f k : ℕ) → taken f ≡ Some k → IsAligned top (block f k) × (held (f / 2 ^ top) ≡ true)
-  -- two that share a frame are the same
+  -- two taken blocks that share a frame are the same
   pub apart : (f k g j x : ℕ) → taken f ≡ Some k → taken g ≡ Some j → HasFrame (block f k) x → HasFrame (block g j) x → f ≡ g

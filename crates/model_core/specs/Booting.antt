@@ -6,7 +6,7 @@ use Rattle.model_core.specs.declared.config.Config.{Config}
 abbrev pub is_between : ℕ → ℕ → ℕ → Bool
 is_between low high n = nat_le low n && nat_le n high
 
--- every number is in its range
+-- each size is in its range
 abbrev pub is_bootable : Config → Bool
 is_bootable c =
     is_between LEAST_ORDER MOST_ORDER c.order && (is_between 1 MOST_SUPERBLOCKS c.superblocks && is_between 1 MOST_TENANTS c.tenants)

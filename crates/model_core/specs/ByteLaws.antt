@@ -47,19 +47,20 @@ pub record IsLeftAlone (limit order : ℕ) (operation : Operation) (m : Machine)
   pub same_slab : in_slab (after limit order operation m) place ≡ in_slab m place
   pub same_slot : holds (after limit order operation m) (slot_of order place) ≡ holds m (slot_of order place)
 
--- a place that is left alone keeps its byte, in reach or not ..
+-- if an operation leaves a place alone, the place keeps its byte, whether or not it is in reach
 abbrev pub BytesStay : Type 0
 BytesStay = (limit order : ℕ) (operation : Operation) (m : Machine) (place : ℕ) → IsWellFormed limit order m
     → IsLeftAlone limit order operation m place → (after limit order operation m).bytes place ≡ m.bytes place
 
--- each of the operations, one after the other, leaves the place alone
+-- each operation of the list leaves the place alone
 abbrev pub AllLeaveAlone : ℕ → ℕ → List Operation → Machine → ℕ → Type 0
 AllLeaveAlone limit order [] m place = ⊤
 AllLeaveAlone limit order (operation ∷ operations) m place =
     IsLeftAlone limit order operation m place × AllLeaveAlone limit order operations (after limit order operation m) place
 
--- .. also over whole runs. So an object that is left alone has the same bytes when it is handed out again as when it was given
--- back, and a page block has the same bytes when it is allocated again as when it was freed.
+-- If every operation of a run leaves a place alone, the place keeps its byte. So an object that is left alone has the same bytes
+-- when it is handed out again as when it was given back. A page block has the same bytes when it is allocated again as when it
+-- was freed.
 abbrev pub RunsKeepBytes : Type 0
 RunsKeepBytes = (limit order : ℕ) (operations : List Operation) (m : Machine) (place : ℕ) → ArePossible operations
     → IsWellFormed limit order m → AllLeaveAlone limit order operations m place
@@ -72,7 +73,7 @@ WritesAlone = (limit order : ℕ) (operation : Operation) (m : Machine) (place :
     → in_reach m place 1 ≡ true → in_reach (after limit order operation m) place 1 ≡ true → writes operation place ≡ false
     → (after limit order operation m).bytes place ≡ m.bytes place
 
--- a place whose slab is freed reads as zero, if its slot stays
+-- if an operation frees the slab of a place and the slot of the place is held afterwards, the place reads as zero
 abbrev pub SlabsLeaveZeroes : Type 0
 SlabsLeaveZeroes = (limit order : ℕ) (operation : Operation) (m : Machine) (place : ℕ) → IsWellFormed limit order m
     → in_slab m place ≡ true → in_slab (after limit order operation m) place ≡ false

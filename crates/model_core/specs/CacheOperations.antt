@@ -1,5 +1,5 @@
--- The steps on the caches and objects of a private machine. Each has an answer, and the machine after it. A refused step leaves
--- the machine unchanged.
+-- The steps on the caches and objects of a private machine. Each step returns an answer and the machine after it. A refused step
+-- leaves the machine unchanged.
 use Rattle.std.specs.Prelude.{ℕ, ◌+◌, ◌^◌, true, false, not, List, [], ◌∷◌, map, find, flat_map, Option, Some, None, Result, Ok, ok_or, if◌then◌else◌, nat_le, ◌==◌}
 use Rattle.std.specs.List.{list_any}
 use Rattle.model_core.specs.declared.refusals.CacheRefusal.{CacheRefusal}
@@ -22,7 +22,8 @@ created number size align pattern m = record m {
 unfoldable pub next_number : Machine → ℕ
 next_number m = least_missing 0 (map (λ c. c.number) m.caches)
 
--- Makes a cache of an accepted size and alignment. The answer is its number, or None if all numbers below the limit are used.
+-- Makes a cache of an accepted size and alignment. The answer is the cache's number, or None if all numbers below the limit are
+-- used.
 unfoldable pub create_step : ℕ → ℕ → ℕ → List ℕ → Machine → Step (Option ℕ)
 create_step limit size align pattern m =
     if nat_le limit (next_number m) then record { answer = None; machine = m }
@@ -38,7 +39,7 @@ cache_step limit size align pattern m =
     else (if not (is_alignment align) then refuse CacheRefusal.BadAlign m
     else cache_answer (create_step limit size align pattern m))
 
--- hands out the first object of the slab that is not live
+-- hands out the slab's first object that is not live
 abbrev pub hand_out : Cache → Slab → Machine → Step (Result ℕ TakeRefusal)
 hand_out c s m = record {
   answer = Ok (object_place (layout c) s.first s.colour (next_object s));
@@ -58,8 +59,8 @@ abbrev pub take_of : ℕ → Machine → Option Cache → Step (Result ℕ TakeR
 take_of order m None = refuse TakeRefusal.NoCache m
 take_of order m (Some c) = take_from order c m (slab_to_use (find is_partial c.slabs) (find is_empty c.slabs))
 
--- Takes an object of the cache with this number. The answer is its first place. If a new slab is needed, empty slabs are freed on
--- demand. Slots have 2 ^ order frames.
+-- Takes an object of the cache with this number. The answer is the object's first place. If a new slab is needed, empty slabs are
+-- freed on demand. Slots have 2 ^ order frames.
 unfoldable pub take_step : ℕ → ℕ → Machine → Step (Result ℕ TakeRefusal)
 take_step order number m = take_of order m (cache_of m number)
 
@@ -74,7 +75,7 @@ abbrev pub give_of : ℕ → Machine → Option Cache → Step (Result (Unit {0}
 give_of place m None = refuse GiveRefusal.NoCache m
 give_of place m (Some c) = give_object c m (find (λ object. object.place == place) (live_objects c))
 
--- gives back the object of the cache that begins at this place; its bytes stay
+-- gives back the live object at this place to the cache with this number; the bytes of the object stay
 unfoldable pub give_step : ℕ → ℕ → Machine → Step (Result (Unit {0}) GiveRefusal)
 give_step number place m = give_of place m (cache_of m number)
 
@@ -89,7 +90,7 @@ destroy_of m (Some c) =
     if list_any (λ s. not (is_empty s)) c.slabs then refuse DestroyRefusal.CacheInUse m
     else record { answer = Ok (frames_of (slab_blocks c)); machine = destroyed c m }
 
--- destroys the cache with this number and frees its slabs; the answer is the number of their frames
+-- destroys the cache with this number if it has no live object, and frees its slabs; the answer is the number of their frames
 unfoldable pub destroy_step : ℕ → Machine → Step (Result ℕ DestroyRefusal)
 destroy_step number m = destroy_of m (cache_of m number)
 

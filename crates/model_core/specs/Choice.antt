@@ -10,22 +10,22 @@ abbrev pub is_any_below : (ℕ → Bool) → ℕ → Bool
 is_any_below p zero = false
 is_any_below p (suc n) = is_any_below p n || p n
 
--- the number found so far, or else n if it passes the test
+-- the number found so far; if none was found, n if it passes the test, else None
 abbrev pub found_or : (ℕ → Bool) → ℕ → Option ℕ → Option ℕ
 found_or p n (Some i) = Some i
 found_or p n None = if p n then Some n else None
 
--- the least number below n that passes the test
+-- the least number below n that passes the test, or None
 abbrev pub least : (ℕ → Bool) → ℕ → Option ℕ
 least p zero = None
 least p (suc n) = found_or p n (least p n)
 
--- a block begins at frame f and has frame x; its order is given, or None if no block begins there
+-- the block of this order that begins at frame f has frame x; the order is None if no block begins at f
 abbrev pub has_frame : ℕ → ℕ → Option ℕ → Bool
 has_frame x f None = false
 has_frame x f (Some order) = nat_le f x && nat_lt x (f + 2 ^ order)
 
--- the test for `IsTaken`
+-- the test for `IsTaken`: some taken block has frame x
 abbrev pub is_taken : Taken → ℕ → Bool
 is_taken taken x = is_any_below (λ f. has_frame x f (taken f)) (suc x)
 
@@ -33,8 +33,8 @@ is_taken taken x = is_any_below (λ f. has_frame x f (taken f)) (suc x)
 abbrev pub is_available : ℕ → (ℕ → Bool) → Taken → ℕ → Bool
 is_available top held taken x = held (x / 2 ^ top) && not (is_taken taken x)
 
--- The test for `IsFree`: the block is aligned and all its frames are available. It is a whole slot, or not all frames of the block
--- of the next order around it are available.
+-- The test for `IsFree`: the block is aligned and all its frames are available. It is a whole slot, or some frame of the block of
+-- the next order around it is not available.
 abbrev pub is_free : ℕ → (ℕ → Bool) → Taken → Block → Bool
 is_free top held taken b = (nat_le b.order top && b.first % 2 ^ b.order == 0)
     && (is_clear (is_available top held taken) b.order (b.first / 2 ^ b.order)

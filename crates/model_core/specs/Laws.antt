@@ -27,14 +27,15 @@ ChoicesMeet = (order k : ℕ) (held : ℕ → Bool) (taken : Taken) (m : Machine
     → ((first j : ℕ) → IsChoice order held taken k (block first j) → choice order m k ≡ Some first)
     × (IsWithout order held taken k → choice order m k ≡ None)
 
--- What a request for a block of order k does. `served first n` is the step that gives it the block at frame `first` of machine n.
+-- What a request for a block of order k does. `served first n` is the step that serves it with the block at frame `first` of
+-- machine n.
 pub record IsByNeed {A : Type 0} (order k : ℕ) (m : Machine) (served : ℕ → Machine → Step A)
     (refused step : Step A) : Type 0 where
   -- if a block is found, no slab is freed
   pub found : (first : ℕ) → choice order m k ≡ Some first → step ≡ served first m
-  -- if one is found only after all empty slabs are freed, exactly these are freed first
+  -- if a block is found only after all empty slabs are freed, exactly these are freed first
   pub reaps : (first : ℕ) → choice order m k ≡ None → choice order (reaped m) k ≡ Some first → step ≡ served first (reaped m)
-  -- if none is found then either, the request is refused
+  -- if no block is found even then, the request is refused
   pub stays : choice order m k ≡ None → choice order (reaped m) k ≡ None → step ≡ refused
 
 -- an alloc frees empty slabs only on demand ..
@@ -62,7 +63,7 @@ abbrev pub KeepsWellFormed : Type 0
 KeepsWellFormed = (limit order : ℕ) (operation : Operation) (m : Machine) → IsPossible operation
     → IsWellFormed limit order m → IsWellFormed limit order (after limit order operation m)
 
--- .. so the machine after any list of them, from the empty one on, is well formed
+-- .. so the machine after any list of these operations on the empty machine is well formed
 abbrev pub RunsWellFormed : Type 0
 RunsWellFormed = (limit order : ℕ) (operations : List Operation) → ArePossible operations
     → IsWellFormed limit order (run limit order operations empty_machine)
@@ -112,7 +113,7 @@ pub record IsObject (m : Machine) (object : Object) : Type 0 where
 abbrev pub place_of : Object → ℕ
 place_of object = object_place (layout object.cache) object.slab.first object.slab.colour object.index
 
--- the byte at the place is one of the object's
+-- the byte at the place is one of the object's bytes
 abbrev pub HasByte : Object → ℕ → Type 0
 HasByte object place = (place_of object ≤ place) × (place < place_of object + object.cache.size)
 

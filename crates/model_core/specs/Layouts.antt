@@ -13,7 +13,7 @@ is_alignment align = list_any (λ n. n == align) (8 ∷ 16 ∷ 32 ∷ 64 ∷ 128
 
 -- the layout of a cache's slabs
 pub record Layout : Type 0 where
-  -- bytes from the beginning of one object to that of the next
+  -- bytes from the beginning of one object to the beginning of the next
   pub chunk : ℕ
   -- a slab has 2 ^ order frames
   pub order : ℕ
@@ -58,7 +58,7 @@ layout_of size align =
     let count = room / chunk in
     record { chunk = chunk; order = slab_order chunk; room = room; count = count; colours = (room - count * chunk) / align + 1 }
 
--- the colour offset of the slab that a cache makes after `made` others
+-- the colour offset of the slab that a cache makes after `made` other slabs
 abbrev pub colour_offset : ℕ → ℕ → Layout → ℕ
 colour_offset align made l = align * (made % l.colours)
 
@@ -75,8 +75,8 @@ abbrev pub in_object : Layout → ℕ → ℕ → ℕ → Bool
 in_object l size colour offset =
     nat_le colour offset && (nat_lt ((offset - colour) / l.chunk) l.count && nat_lt ((offset - colour) % l.chunk) size)
 
--- A slab with this colour offset has space for its objects: they end within `room`, and `room` ends within the slab, before the
--- control record if that is in the frame.
+-- A slab with this colour offset has space for its objects: they end within `room`, and `room` ends within the slab. In a slab of
+-- small objects, `room` ends before the control record.
 pub record IsFit (l : Layout) (colour : ℕ) : Type 0 where
   pub chunked : 16 ≤ l.chunk
   pub some : 0 < l.count

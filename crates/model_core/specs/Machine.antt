@@ -27,7 +27,7 @@ pub record Cache : Type 0 where
   pub slabs : List Slab
 
 pub record Machine : Type 0 where
-  -- the held slots, rising
+  -- the numbers of the held slots, in rising order
   pub slots : List ℕ
   -- the live page blocks, by rising first frame
   pub blocks : List Block
@@ -49,7 +49,7 @@ abbrev pub least_missing : ℕ → List ℕ → ℕ
 least_missing n [] = n
 least_missing n (x ∷ xs) = if x == n then least_missing (n + 1) xs else n
 
--- a number above all of these
+-- the least number above all numbers of the list
 abbrev pub beyond : List ℕ → ℕ
 beyond [] = 0
 beyond (x ∷ xs) = max (x + 1) (beyond xs)

@@ -1,5 +1,5 @@
--- The steps on page blocks, bytes and slots of a private machine. Each has an answer, and the machine after it. A refused step
--- leaves the machine unchanged.
+-- The steps on page blocks, bytes and slots of a private machine. Each step returns an answer and the machine after it. A refused
+-- step leaves the machine unchanged.
 use Rattle.std.specs.Prelude.{ℕ, ◌+◌, ◌^◌, Bool, not, List, length, filter, filter_map, Option, Some, None, Result, Ok, Err, slice_get, if◌then◌else◌, nat_le, nat_lt, ◌&&◌, ◌-◌, ◌==◌}
 use Rattle.std.specs.List.{list_any, range_with_len}
 use Rattle.model_core.specs.declared.limits.TheConstants.{MOST_BYTES}
@@ -30,7 +30,8 @@ abbrev pub alloc_at : ℕ → Machine → Option ℕ → Step (Result ℕ AllocR
 alloc_at k m None = refuse AllocRefusal.NoFrames m
 alloc_at k m (Some first) = record { answer = Ok first; machine = with_block (block first k) m }
 
--- Allocates a page block of order k, and frees empty slabs on demand. The answer is its first frame. Slots have 2 ^ order frames.
+-- Allocates a page block of order k, and frees empty slabs on demand. The answer is the block's first frame. Slots have 2 ^ order
+-- frames.
 unfoldable pub alloc_step : ℕ → ℕ → Machine → Step (Result ℕ AllocRefusal)
 alloc_step order k m =
     if nat_lt order k then refuse AllocRefusal.BadOrder m
@@ -40,13 +41,14 @@ abbrev pub free_at : ℕ → Machine → Option ℕ → Step (Option ℕ)
 free_at first m None = record { answer = None; machine = m }
 free_at first m (Some order) = record { answer = Some order; machine = without_block first m }
 
--- Frees the page block that begins at this frame; its bytes stay. The answer is its order, or None if there is no such block.
+-- Frees the page block that begins at this frame; its bytes stay. The answer is the block's order, or None if no page block
+-- begins there.
 unfoldable pub free_step : ℕ → Machine → Step (Option ℕ)
 free_step first m = free_at first m (order_in m.blocks first)
 
 -- Bytes
 
--- reads a range of 1 to MOST_BYTES bytes
+-- reads a range of 1 to MOST_BYTES bytes; refuses any other length, and a range that is not in reach
 unfoldable pub read_step : ℕ → ℕ → Machine → Step (Result (List ℕ) ReadRefusal)
 read_step place len m =
     if not (nat_le 1 len && nat_le len MOST_BYTES) then refuse ReadRefusal.BadLength m
@@ -57,7 +59,7 @@ read_step place len m =
 abbrev pub written : ℕ → List ℕ → (ℕ → Option ℕ) → ℕ → Option ℕ
 written place new bytes p = if nat_le place p && nat_lt p (place + length new) then slice_get new (p - place) else bytes p
 
--- Writes bytes from a place on. The answer is their number, or None if the range is out of reach.
+-- Writes bytes from a place on. The answer is the number of bytes, or None if the range is not in reach.
 unfoldable pub write_step : ℕ → List ℕ → Machine → Step (Option ℕ)
 write_step place new m =
     if in_reach m place (length new)

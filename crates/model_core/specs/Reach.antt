@@ -22,7 +22,7 @@ within_object c place len object = is_within place len object.place c.size
 abbrev pub within_objects : ℕ → ℕ → Cache → Bool
 within_objects place len c = list_any (within_object c place len) (live_objects c)
 
--- a range of at least one byte, inside one live page block or inside one live object
+-- the range has at least one byte and lies inside one live page block or inside one live object
 unfoldable pub in_reach : Machine → ℕ → ℕ → Bool
 in_reach m place len =
     nat_lt 0 len && (list_any (within_block place len) m.blocks || list_any (within_objects place len) m.caches)

@@ -7,7 +7,7 @@ use Rattle.model_core.specs.Machine.{Cache, Machine, beyond, holds, taken_blocks
 use Rattle.model_core.specs.Slabs.{is_full, is_partial, is_empty, live_objects}
 use Rattle.model_core.specs.CacheOperations.{frames_of}
 
--- the number of frames in the held slots, the number of those in taken blocks, and the number of the others
+-- the number of held frames, of taken frames, and of held frames that are not taken
 
 abbrev pub frames_held : ℕ → Machine → ℕ
 frames_held order m = length m.slots * 2 ^ order
@@ -34,7 +34,7 @@ abbrev pub order_rows : ℕ → Machine → ℕ → List OrderRow
 order_rows order m zero = []
 order_rows order m (suc k) = order_rows order m k ++ (order_row order m k ∷ [])
 
--- the greatest number below n whose count is not 0
+-- the greatest number below n whose count is not 0, or None
 abbrev pub greatest : (ℕ → ℕ) → ℕ → Option ℕ
 greatest count zero = None
 greatest count (suc k) = if count k == 0 then greatest count k else Some k

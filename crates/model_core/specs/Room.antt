@@ -1,4 +1,4 @@
--- When a machine has space for a block, wherever its taken blocks lie.
+-- A machine with few taken frames has space for a block, wherever its taken blocks lie.
 use Rattle.std.specs.Prelude.{◌≡◌, ℕ, ◌-◌, ◌*◌, ◌^◌, ◌<◌, ◌≤◌, length, Some, Ok}
 use Rattle.model_core.specs.Machine.{Cache, Machine, layout}
 use Rattle.model_core.specs.Slabs.{cache_of, reaped, choice_by_need}
@@ -7,13 +7,13 @@ use Rattle.model_core.specs.CacheOperations.{take_step}
 use Rattle.model_core.specs.Reports.{frames_taken}
 use Rattle.model_core.specs.WellFormed.{IsWellFormed}
 
--- The number of taken frames, not counting those of empty slabs, is less than the number of aligned blocks of order k in the held
--- slots. Slots have 2 ^ order frames.
+-- The machine is ample for order k: the number of taken frames, not counting those of empty slabs, is less than the number of
+-- aligned blocks of order k in the held slots. Slots have 2 ^ order frames.
 pub record IsAmple (order k : ℕ) (m : Machine) : Type 0 where
   pub of_slot : k ≤ order
   pub fewer : frames_taken (reaped m) < length m.slots * 2 ^ (order - k)
 
--- then a request for a block of order k gets one, in any well formed machine ..
+-- a well formed machine that is ample for order k has a block for a request of this order ..
 abbrev pub BlockIsPromised : Type 0
 BlockIsPromised = (limit order k : ℕ) (m : Machine) → IsWellFormed limit order m → IsAmple order k m
     → (first : ℕ) × (choice_by_need order k m ≡ Some first)

@@ -28,7 +28,7 @@ pub data Operation : Type 0 where
   Grant : Operation
   -- takes back this slot
   TakeBack : ℕ → Operation
-  -- takes away everything
+  -- leaves the empty machine
   Reset : Operation
 
 -- the operation can be requested: if it makes a cache, the pattern is allowed

@@ -83,7 +83,7 @@ grown first c m = with_cache (grown_cache first c) (record m {
       if in_block place (slab_block c (new_slab c first)) then fresh_byte c (new_slab c first) place else m.bytes place;
 })
 
--- the partial slab if there is one, else the empty one
+-- the partial slab if there is one, else the empty slab if there is one
 unfoldable pub slab_to_use : Option Slab → Option Slab → Option Slab
 slab_to_use (Some partial) empty = Some partial
 slab_to_use None empty = empty
@@ -112,7 +112,7 @@ reaped m = record m { caches = map without_empty m.caches; bytes = zeroed (flat_
 unfoldable pub by_need : ℕ → ℕ → Machine → Machine
 by_need order k m = if is_some (choice order m k) || is_none (choice order (reaped m) k) then m else reaped m
 
--- the first frame of the block that the request gets
+-- the first frame of the block that a request for order k gets if empty slabs are freed on demand
 abbrev pub choice_by_need : ℕ → ℕ → Machine → Option ℕ
 choice_by_need order k m = choice order (by_need order k m) k
 

@@ -5,7 +5,7 @@ ghost use Rattle.model_core.specs.Room.{BlockIsPromised, AllocIsPromised, TakeIs
 ghost use Rattle.model_core.specs.Laws.{ChoiceIsUntaken, ChoicesMeet, AllocReaps, TakeReaps, RefusalsStay, KeepsWellFormed, RunsWellFormed, TakenApart, TakenSound, AllocTakes, FreeReleases, GrowthTakes, ReapReleases, ObjectsApart, RecordsFree, ConstructedFirst, ConstructedWhenTaken};
 ghost use Rattle.model_core.specs.ByteLaws.{AllocKeeps, FreeKeeps, TakeKeeps, GiveKeeps, BytesStay, RunsKeepBytes, WritesAlone, SlabsLeaveZeroes};
 
-/// For each accepted size and alignment the layout fits at every colour offset.
+/// For each accepted size and alignment, the objects of a slab fit at every colour offset.
 pub fn layouts_fit()
     ensures { LayoutsFit }
 {}
@@ -15,7 +15,7 @@ pub fn choice_is_untaken()
     ensures { ChoiceIsUntaken }
 {}
 
-/// Any two representations of the same held slots and taken blocks choose the same block.
+/// Any two representations of the same held slots and taken blocks lead to the same choice.
 pub fn choices_meet()
     ensures { ChoicesMeet }
 {}
@@ -60,11 +60,11 @@ pub fn constructed_first()
     ensures taken { ConstructedWhenTaken }
 {}
 
-/// No byte changes if a page block is allocated without freeing slabs, if one is freed, if an object is taken from an existing
-/// slab, or if one is given back. Over whole runs a place keeps its byte unless it is written, a slab is made or freed there, or
-/// its slot is granted or taken away. If none of these happens, an object or page block that is allocated again has the bytes that
-/// it had when it was freed. An operation changes a byte that is within reach before and after it only if it writes that byte. The
-/// places of a slab that is freed read as zero, if its slot stays held.
+/// No byte changes if a page block is allocated without freeing slabs, if a page block is freed, if an object is taken from an
+/// existing slab, or if an object is given back. Over whole runs a place keeps its byte unless it is written, a slab is made or
+/// freed there, or its slot is granted or taken away. If none of these happens, an object or page block that is allocated again
+/// has the bytes that it had when it was freed. If a byte is in reach before and after an operation, it changes only if the
+/// operation writes it. The places of a slab that is freed read as zero, if its slot stays held.
 pub fn bytes_stay()
     ensures alloc { AllocKeeps }
     ensures free { FreeKeeps }

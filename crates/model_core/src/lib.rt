@@ -1,5 +1,5 @@
-//! The private machine of one tenant: definitions of its memory, its buddy system and its slab caches, which contracts cite
-//! (`specs/`), and the laws about them.
+//! The private machine of one tenant: the definitions of its memory, its buddy system and its slab caches (`specs/`), which
+//! contracts cite, and the laws about them.
 #![tactic(auto)]
 
 pub mod block_laws;

@@ -1,4 +1,4 @@
-//! The rows of a report: for each order, and for each cache.
+//! The rows of a report: one for each order, and one for each cache.
 
 /// The numbers of blocks of one order.
 #[derive(Clone, Copy, Debug, Default, PartialEq, Eq)]
