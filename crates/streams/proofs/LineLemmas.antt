@@ -23,7 +23,7 @@ cut_at (b ∷ bytes) (suc i) h here before =
     let later = cut_at bytes i (omega arith) here (λ k below. before (suc k) (omega arith)) in
     ((before 0 (omega arith), later.0), ap (λ more. b ∷ more) later.1)
 
--- the first LF ends a line
+-- the bytes before the first LF are one line, which the LF ends
 pub found_cut : (bytes : List ℕ) (i : ℕ) → position is_line_feed bytes ≡ Some i
     → (IsOneLine (take i bytes)) × (bytes ≡ (take i bytes ++ 10 ∷ []) ++ drop (i + 1) bytes)
 found_cut bytes i found =
@@ -48,14 +48,15 @@ fails : (test : Bool) → ¬ (test ≡ true) → not test ≡ true
 fails true none = absurd (none refl)
 fails false none = refl
 
--- if no byte before index `n` passes the test and the byte at `n` does, `n` is the first position
+-- if no byte before index n passes the test, and the byte at n passes if there is one, the first position is n, or None at the
+-- end
 first_at : (p : ℕ → Bool) (bytes : List ℕ) (n : ℕ) → n ≤ length bytes → ((k : ℕ) → k < n → ¬ (p (get_or bytes k 0) ≡ true))
     → (n < length bytes → p (get_or bytes n 0) ≡ true) → position p bytes ≡ (if nat_lt n (length bytes) then Some n else None)
 first_at p bytes n within before at =
     ap (λ m. if nat_lt m (length bytes) then Some m else None)
     (prefix_len_is (λ b. not (p b)) bytes n 0 within (λ k below. fails (p (get_or bytes k 0)) (before k below)) (λ some. ap not (at some)))
 
--- the first byte that passes a test
+-- a result that `IsFirstByte` describes is the first position whose byte passes the test
 pub first_byte : (p : ℕ → Bool) (bytes : List ℕ) (found : Option ℕ) → IsFirstByte p bytes found → found ≡ position p bytes
 first_byte p bytes (Some n) is =
     sym (first_at p bytes n (omega (arith, is.0.high)) (λ k below. is.0.before k (omega arith) below) (λ _. is.1)

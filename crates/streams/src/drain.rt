@@ -3,14 +3,15 @@ ghost use Rattle.std.specs.Io.KnownBytes.{Appends, Keeps, WriteAppends};
 
 use crate::feed::Stopped;
 
-/// An upper bound on the number of bytes in a [`Text`].
+/// The largest number of bytes that a [`Text`] may have.
 pub const TEXT_BYTES: usize = 160;
 
 /// A text that is written straight into a drain's buffer.
 pub trait Text {
     ghost bytes: { Self → List ℕ };
 
-    /// Writes the text to the front of the buffer and returns its length in bytes. The bytes after the text may change.
+    /// Writes the text to the front of the buffer and returns the length of the text in bytes. The buffer needs `TEXT_BYTES`
+    /// bytes. Its bytes after the text may change.
     fn write(self, buffer: &mut [u8]) -> usize
         requires space { TEXT_BYTES ≤ length buffer.old }
         ensures text { take result buffer.new ≡ bytes self }
@@ -19,22 +20,23 @@ pub trait Text {
 
 /// A sink that takes replies in pieces.
 pub trait Drain {
-    // The bytes that it has taken, if they are known.
+    // The bytes that the drain has taken, if they are known.
     ghost contents: { Self → Option (List ℕ) } = { λ _. None };
 
-    // The last of these bytes: those that it has not passed on yet.
+    // The last of these bytes: those that the drain has not passed on yet.
     ghost held_back: { Self → List ℕ } = { λ _. [] };
 
     // True if a push has failed.
     ghost has_failed: { Self → Bool };
 
-    // True if it has space for a text of any length up to `TEXT_BYTES`.
+    // True if the drain has space for a text of any length up to `TEXT_BYTES`.
     ghost is_roomy: { Self → Bool };
 
     // True if a send has failed.
     ghost has_failed_to_send: { Self → Bool } = { λ _. false };
 
-    /// Takes a prefix of these bytes, at least one byte, and returns its length. Fails at once if a send has failed.
+    /// Takes a prefix of these bytes, at least one byte, and returns the length of the prefix. Fails at once if a send has
+    /// failed. `bytes` has to be non-empty, and no earlier push may have failed.
     fn push(&mut self, bytes: &[u8]) -> Result<usize, Stopped>
         requires some { 0 < length bytes.now }
         requires fine { has_failed self.old ≡ false }
@@ -44,12 +46,13 @@ pub trait Drain {
         ensures stopped { has_failed_to_send self.old ≡ true → (is_err result ≡ true) × (held_back self.new ≡ held_back self.old) }
         ensures sends { has_failed_to_send self.new ≡ has_failed_to_send self.old };
 
-    /// Returns true if it has space for a text, that is, for `TEXT_BYTES` bytes.
+    /// Returns true if the drain has space for a text of `TEXT_BYTES` bytes. Returns false if a send has failed.
     fn has_space(&self) -> bool
         ensures space { result ≡ is_roomy self.now }
         ensures stopped { has_failed_to_send self.now ≡ true → result ≡ false };
 
-    /// Takes a text, which is written straight into the drain's buffer, and returns the length of the text in bytes.
+    /// Takes a text, which is written straight into the drain's buffer, and returns the length of the text in bytes. Call this
+    /// only if `has_space` returns true.
     fn take_text<T: Text>(&mut self, text: T) -> usize
         requires space { is_roomy self.old ≡ true }
         ensures taken { Appends (contents self.old) (contents self.new) (T.bytes text) }

@@ -2,24 +2,24 @@ ghost use Rattle.std.specs.Prelude.{◌≡◌, ℕ, ◌+◌, ◌<◌, ◌≤◌,
 ghost use Rattle.std.specs.Io.KnownBytes.{ReadConsumes};
 ghost use Rattle.streams.specs.Moves.{moved_count};
 
-/// A feed or a drain has failed. It gave or took no byte in this call.
+/// The error of a feed or a drain that has failed. It gave or took no byte in this call.
 #[derive(Clone, Copy, Debug, PartialEq, Eq)]
 pub struct Stopped;
 
 /// A source that gives a trace in pieces.
 pub trait Feed {
-    // The bytes that it has yet to give, if they are known. It gives them in order, and all of them before it ends.
+    // The bytes that the feed has yet to give, if they are known. It gives them in order, and all of them before it ends.
     ghost remaining: { Self → Option (List ℕ) } = { λ _. None };
 
-    // The largest number of bytes that it may still give.
+    // The largest number of bytes that the feed may still give.
     ghost room_left: { Self → ℕ };
 
     ghost has_ended: { Self → Bool };
 
     ghost has_failed: { Self → Bool };
 
-    /// Writes the next bytes to the front of `into` and returns how many it wrote, at most `room`. Returns 0 at the end, and in
-    /// all later calls.
+    /// Writes the next bytes to the front of `into` and returns how many it wrote, at most [`Feed::room`]. Returns 0 at the end,
+    /// and in all later calls. `into` has to be non-empty, and no earlier pull may have failed.
     fn pull(&mut self, into: &mut [u8]) -> Result<usize, Stopped>
         requires space { 0 < length into.old }
         requires fine { has_failed self.old ≡ false }
@@ -31,7 +31,7 @@ pub trait Feed {
         ensures not_yet { OnErr result (has_ended self.new ≡ has_ended self.old) }
         ensures failed { has_failed self.new ≡ is_err result };
 
-    /// Returns the largest number of bytes that it may still give.
+    /// Returns the largest number of bytes that the feed may still give.
     fn room(&self) -> u64
         ensures { result ≡ room_left self.now };
 

@@ -1,6 +1,6 @@
-//! The source of a trace and the sink for its replies, both in pieces. A [`Feed`] is a source: [`ReaderFeed`] reads from one of
-//! std's readers, and [`LineLimit`] limits the line feeds of another feed. A [`Drain`] is a sink: [`WriterDrain`] writes to one of
-//! std's writers. Only line feeds have a meaning here; other bytes are not interpreted.
+//! The source that gives a trace in pieces, and the sink that takes its replies in pieces. A [`Feed`] is a source: [`ReaderFeed`]
+//! reads from one of std's readers, and [`LineLimit`] limits the line feeds of another feed. A [`Drain`] is a sink:
+//! [`WriterDrain`] writes to one of std's writers. Only line feeds have a meaning here; other bytes are not interpreted.
 #![tactic(auto)]
 
 mod drain;

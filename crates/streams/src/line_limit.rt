@@ -7,18 +7,19 @@ ghost use Rattle.streams.specs.Moves.{moved_count};
 use crate::feed::{Feed, Stopped};
 use std::simd::prelude::*;
 
-/// A feed with a limit on its line feeds. Once it has given that many, the next pull fails unless the inner feed has ended.
+/// A feed with a limit on its line feeds. Once the limit is reached or exceeded, the next pull fails unless the inner feed has
+/// ended.
 #[derive(Debug, Drop)]
 pub struct LineLimit<F: Feed> {
     feed: F,
-    /// The number of line feeds that are left until the limit is reached; 0 if it is exceeded.
+    /// The number of line feeds that are left until the limit is reached; 0 if it is reached or exceeded.
     left: u64,
     failed: bool,
     ghost fine: { failed ≡ false → F.has_failed feed ≡ false },
 }
 
 impl<F: Feed> LineLimit<F> {
-    /// Makes a feed that gives what this feed gives, up to and including the pull that reaches `limit` line feeds.
+    /// Makes a feed that gives what the inner feed gives, up to and including the pull that reaches `limit` line feeds.
     pub fn new(feed: F, limit: u64) -> Self
         requires { F.has_failed feed ≡ false }
         ensures remaining { ⟦<LineLimit<F> as Feed>⟧.remaining result ≡ F.remaining feed }
@@ -54,9 +55,10 @@ impl<F: Feed> Feed for LineLimit<F> {
         ensures stays { ⟦<LineLimit<F> as Feed>⟧.has_ended self.old ≡ true → result ≡ Ok 0 }
         ensures not_yet { OnErr result (⟦<LineLimit<F> as Feed>⟧.has_ended self.new ≡ ⟦<LineLimit<F> as Feed>⟧.has_ended self.old) }
         ensures failed { ⟦<LineLimit<F> as Feed>⟧.has_failed self.new ≡ is_err result }
-        // The line feeds that are given are counted.
+        // Each line feed that is given lowers `left` by one, but not below 0.
         ensures left { self.new.left ≡ self.old.left - count_by (λ b. b == 10) (take (moved_count result) into.new) }
-        // At the limit the pull fails unless the inner feed has ended. Below the limit it fails only if the inner feed does.
+        // At the limit the pull fails unless the inner feed has ended. Below the limit it fails if and only if the inner feed
+        // fails.
         ensures at_limit { self.old.left ≡ 0 → ⟦<LineLimit<F> as Feed>⟧.has_ended self.old ≡ false → is_err result ≡ true }
         ensures below { 0 < self.old.left → F.has_failed self.new.feed ≡ is_err result }
     {

@@ -7,15 +7,15 @@ use thiserror::Error;
 pub struct Tally {
     /// The number of lines run, including blank lines and comments.
     pub lines: u64,
-    /// The number of these lines that were events.
+    /// The number of these lines that are events.
     pub events: u64,
-    /// The number of these lines that were faulty.
+    /// The number of these lines that are faulty.
     pub faults: u64,
     /// The number of bytes that the drain took.
     pub written: u128,
 }
 
-/// Which of the feed and the drain failed, with the counts up to then.
+/// The failure of the feed or of the drain, with the counts up to it.
 #[derive(Clone, Copy, Debug, PartialEq, Eq, Drop, Error)]
 pub enum ReplayError {
     /// The feed failed. All lines that ended in LF were run, and all their replies were pushed. An unfinished line was not run.

@@ -158,7 +158,7 @@ impl<W: Write> WriterDrain<W> {
         Ok(())
     }
 
-    /// Writes the buffered bytes. If a write fails, the unwritten ones stay in the buffer.
+    /// Writes the buffered bytes. If a write fails, the unwritten bytes stay in the buffer.
     fn write_held(&mut self) -> Result<(), Stopped>
         ensures bytes { Keeps (⟦<WriterDrain<W> as Drain>⟧.contents self.old) (⟦<WriterDrain<W> as Drain>⟧.contents self.new) }
         ensures empty { OnOk result (held_bytes self.new.held ≡ []) }
