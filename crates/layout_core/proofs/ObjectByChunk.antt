@@ -34,13 +34,13 @@ chunk_begins l chunk from i same is =
     let least : from / (numbers_of l).chunk * (numbers_of l).chunk ≤ from = div-mul-le_self from (numbers_of l).chunk in
     omega arith
 
--- the chunk that a byte is in is the same by either of two equal chunk sizes
+-- two equal chunk sizes find the same chunk for a byte
 same_chunk : (l : Cut) (chunk colour offset from i j : ℕ) → chunk ≡ (numbers_of l).chunk → i ≡ from / (numbers_of l).chunk → from ≡ offset - colour
     → (offset - colour) / chunk ≡ j → j ≡ i
 same_chunk l chunk colour offset from i j same is from_is at =
     sym at ∙ sym (ap (λ n. n / chunk) from_is) ∙ ap (λ n. from / n) same ∙ sym is
 
--- a byte of an object is in a chunk of the slab
+-- if an equal chunk size finds chunk j for a byte, and the slab has a chunk j, the byte is in a chunk of the slab
 pub chunk_below : (l : Cut) (chunk colour offset from j : ℕ) → chunk ≡ (numbers_of l).chunk → from ≡ offset - colour → (offset - colour) / chunk ≡ j
     → j < (numbers_of l).count → from / (numbers_of l).chunk < (numbers_of l).count
 chunk_below l chunk colour offset from j same from_is at below =

@@ -11,7 +11,7 @@ pub colour_fits : (l : Cut) (colour : ℕ) → is_size l.size ≡ true → is_al
 colour_fits l colour sized aligned is =
     subst (λ x. IsFit (numbers_of l) x) (sym is.1) ((layouts_fit l.size l.align sized aligned).fits is.0)
 
--- the last byte of an object fits into a u32, in any slab
+-- in any slab, each object ends within the first 32768 bytes
 pub ends_within : (l : Cut) (colour chunk i : ℕ) → is_size l.size ≡ true → is_alignment l.align ≡ true → IsColour l colour
     → chunk ≡ (numbers_of l).chunk → i < (numbers_of l).count → colour + (i + 1) * chunk ≤ 32768
 ends_within l colour chunk i sized aligned is same object =

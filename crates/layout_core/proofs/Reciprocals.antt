@@ -15,7 +15,7 @@ product_reaches whole chunk m from over =
     let columns : from / chunk * chunk * m ≤ from * m = mul-le-mul_right m (omega arith) in
     omega arith
 
--- and no chunk after it, if `more`, times the number of chunks up to the right one, is less than the reciprocal
+-- .. and it finds no chunk after the right one if (from / chunk + 1) * more is less than the reciprocal m
 product_stays : (whole chunk m more from : ℕ) → 0 < chunk → m * chunk ≡ whole + more → (from / chunk + 1) * more < m
     → from * m < (from / chunk + 1) * whole
 product_stays whole chunk m more from some is few =
@@ -25,7 +25,7 @@ product_stays whole chunk m more from some is few =
     let rest : (from % chunk + 1) * m ≤ chunk * m = mul-le-mul_right m (omega (arith, mod-lt from some)) in
     omega arith
 
--- the reciprocal times the chunk, and how much it is above 2 ^ 32
+-- m * chunk is above 2 ^ 32 by `more`, which is at most `chunk`
 record IsNear (chunk m : ℕ) : Type 0 where
   pub more : ℕ
   pub is : m * chunk ≡ 2 ^ 32 + more
@@ -48,7 +48,7 @@ exact chunk from some few below =
     (product_reaches (2 ^ 32) chunk (reciprocal_of chunk) from (omega (arith, near.is)))
     (product_stays (2 ^ 32) chunk (reciprocal_of chunk) near.more from some near.is (omega arith))
 
--- a chunk, and all chunks, have at most the bytes of a slab
+-- one chunk has at most 32768 bytes, and so have all chunks of the slab together
 record IsWithin (chunk count : ℕ) : Type 0 where
   pub one : chunk ≤ 32768
   pub all : count * chunk ≤ 32768
@@ -63,7 +63,7 @@ is_within size align chunk order count colours reciprocal fields =
     let some : 1 * chunk ≤ count * chunk = mul-le-mul_right chunk (omega (arith, fit.some, fields.count_is)) in
     record { one = omega arith; all = omega arith }
 
--- a chunk that the product finds is the right one, if it is one of the slab's
+-- if the product finds a chunk of the slab, it is the right chunk
 found : (chunk count from : ℕ) → 0 < chunk → IsWithin chunk count → from * reciprocal_of chunk / 2 ^ 32 < count
     → from * reciprocal_of chunk / 2 ^ 32 ≡ from / chunk
 found chunk count from some within below =
@@ -74,7 +74,7 @@ found chunk count from some within below =
     let rows : (from / chunk + 1) * chunk ≤ count * chunk = mul-le-mul_right chunk (omega arith) in
     exact chunk from some within.one (omega (arith, mod-lt from some, within.all))
 
--- if it finds no chunk of the slab, the byte is after the last one
+-- if the product finds no chunk of the slab, the byte is after the last chunk
 missed : (chunk count from : ℕ) → 0 < chunk → IsWithin chunk count → count ≤ from * reciprocal_of chunk / 2 ^ 32 → count ≤ from / chunk
 missed chunk count from some within above = elim (cases_lt (from / chunk) count) [
   | inl below ↦
@@ -85,7 +85,7 @@ missed chunk count from some within above = elim (cases_lt (from / chunk) count)
   | inr least ↦ least
 ]
 
--- the product of a byte's number and the reciprocal that a layout keeps
+-- a product with the reciprocal that a layout keeps is a product with the reciprocal of its chunk
 product_is : (from reciprocal chunk a b : ℕ) → a ≡ from → b ≡ reciprocal → reciprocal ≡ reciprocal_of chunk
     → a * b / 2 ^ 32 ≡ from * reciprocal_of chunk / 2 ^ 32
 product_is from reciprocal chunk a b a_is b_is is =

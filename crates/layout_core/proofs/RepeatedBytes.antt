@@ -1,4 +1,4 @@
--- Repeated bytes.
+-- How a slice is filled with repeated bytes: each step copies the filled part to the bytes after it.
 use Rattle.std.proofs.Common.{◌≡◌, ℕ, ◌+◌, ◌-◌, ◌*◌, ◌/◌, ◌%◌, ◌<◌, ◌≤◌, ◌++◌, List, length, take, drop, arith, ap, sym, ◌∙◌, inl, inr}
 use Rattle.std.specs.Prelude.{slice_index}
 use Rattle.std.proofs.lemmas.Bool.{cases_lt}
@@ -6,7 +6,7 @@ use Rattle.std.proofs.lemmas.List.{get_or_append_left, get_or-append_right, get_
 use Rattle.std.proofs.lemmas.Nat.{div-add-mod'}
 use Rattle.std.proofs.Math.Nat.{add-mul-mod_self_right}
 
--- whole periods make no difference
+-- adding whole periods does not change the remainder
 pub round : (done period i : ℕ) → done % period ≡ 0 → (done + i) % period ≡ i % period
 round done period i whole =
     let split = div-add-mod' done period in
@@ -18,7 +18,7 @@ twice done period whole =
     let e : done * 2 ≡ done + done = omega arith in
     ap (λ n. n % period) e ∙ round done period done whole ∙ whole
 
--- the filled part is copied behind itself
+-- if the filled part repeats the old bytes, it still does after it is copied to the bytes behind it
 pub copied_on : (old front rest : List ℕ) (more done period : ℕ) → length front ≡ done → more ≤ done → ((i : ℕ) → i < done → i < length rest → i < more)
     → done % period ≡ 0 → ((j : ℕ) → j < done → slice_index front j ≡ slice_index old (j % period))
     → (j : ℕ) → j < done * 2 → j < done + length rest → slice_index (front ++ (take more front ++ drop more rest)) j ≡ slice_index old (j % period)

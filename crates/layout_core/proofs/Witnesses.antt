@@ -1,4 +1,4 @@
--- One instance of each law: numbers that meet its premises, and what it says of them.
+-- One instance of each law: numbers that meet its premises, and what the law says of them.
 use Rattle.std.proofs.Common.{◌≡◌, ℕ, ◌≤◌, refl, arith}
 use Rattle.model_core.specs.Layouts.{LayoutsFit, IsLayout, layout_of}
 use Rattle.layout_core.specs.Cut.{cut}
@@ -8,12 +8,12 @@ use Rattle.layout_core.specs.Laws.{IsLeastOrder, EverySizeHasAnOrder, OffsetsApa
 LayoutsFit-met : LayoutsFit → IsLayout 200 8 (layout_of 200 8)
 LayoutsFit-met law = law 200 8 refl refl
 
--- four frames leave less than an eighth unused, one and two do not
+-- for chunks of 3000 bytes, four frames leave at most an eighth unused; one frame and two frames leave more
 EverySizeHasAnOrder-met : EverySizeHasAnOrder → IsLeastOrder 3000 2
 unfolding layout_of
 EverySizeHasAnOrder-met law = law 3000 8 refl refl
 
--- the last byte of the second object
+-- byte 203 is the last byte of the second object
 it_holds : Holds (cut 100 8) 0 203 1 1
 unfolding layout_of
 it_holds = record { object = omega arith; some = omega arith; from = omega arith; to = omega arith }

@@ -4,7 +4,7 @@ use Rattle.model_core.specs.Layouts.{layout_of, is_size, is_alignment, is_small,
 use Rattle.layout_core.specs.Cut.{cut}
 use Rattle.layout_core.specs.Objects.{Holds}
 
--- the order of a slab: 0 for small chunks, else the least that leaves at most an eighth of the slab unused
+-- the order of a slab: 0 for small chunks, else the least order that leaves at most an eighth of the slab unused
 pub record IsLeastOrder (chunk order : ℕ) : Type 0 where
   pub few : order ≤ 3
   pub small : is_small chunk ≡ true → order ≡ 0

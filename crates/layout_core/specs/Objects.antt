@@ -2,7 +2,7 @@ use Rattle.std.specs.Prelude.{◌≡◌, ℕ, ◌+◌, ◌<◌, ◌≤◌}
 use Rattle.model_core.specs.Layouts.{object_offset, colour_offset}
 use Rattle.layout_core.specs.Cut.{Cut, numbers_of}
 
--- `colour` is the colour offset of a slab with this layout, made after `made` others
+-- `colour` is a colour offset of slabs with this layout
 abbrev pub IsColour : Cut → ℕ → Type 0
 IsColour l colour = (made : ℕ) × (colour ≡ colour_offset l.align made (numbers_of l))
 

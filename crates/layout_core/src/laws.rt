@@ -3,13 +3,13 @@ ghost use Rattle.model_core.specs.Layouts.{LayoutsFit};
 ghost use Rattle.layout_core.specs.Laws.{EverySizeHasAnOrder, OffsetsApart, FewObjects};
 
 /// For each accepted size and alignment, at each colour offset, a slab has space for at least one object. All its objects begin
-/// at multiples of the alignment and end within the slab. Those of a small slab end before the last 32 bytes of its frame.
+/// at multiples of the alignment and end within the slab. The objects of a small slab end before the last 32 bytes of its frame.
 pub fn layouts_fit()
     ensures { LayoutsFit }
 {}
 
-/// Every accepted size and alignment has a slab order of 0 to 3: 0 for small objects, else the least that leaves at most an
-/// eighth of the slab unused.
+/// Every accepted size and alignment has a slab order of 0 to 3. It is 0 for small objects, else the least order that leaves at
+/// most an eighth of the slab unused.
 pub fn every_size_has_an_order()
     ensures { EverySizeHasAnOrder }
 {}

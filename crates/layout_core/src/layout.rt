@@ -96,7 +96,7 @@ impl Layout {
         self.order
     }
 
-    /// Returns the number of bytes from the beginning of one object to that of the next, at least 16.
+    /// Returns the number of bytes from the beginning of one object to the beginning of the next, at least 16.
     pub fn chunk(&self) -> u32
         ensures { result ≡ (numbers_of self.now).chunk }
     {
@@ -124,8 +124,8 @@ impl Layout {
         self.chunk < SMALL
     }
 
-    /// A law: the size and the alignment of every layout are accepted. At each colour offset the objects end within the slab, and
-    /// before the control record if the slab has it in its frame. The call does nothing.
+    /// States a law and does nothing. The size and the alignment of every layout are accepted. At each colour offset the objects
+    /// end within the slab, and the objects of a small slab end before its control record.
     pub fn laws(&self)
         ensures fits { IsLayout self.now.size self.now.align (numbers_of self.now) }
         ensures size { is_size self.now.size ≡ true }
@@ -134,7 +134,8 @@ impl Layout {
         let _ = &self.size;
     }
 
-    /// Returns the offset of object `i` in a slab with this colour offset. Offsets are in bytes.
+    /// Returns the offset of object `i` in a slab with this colour offset. Offsets are in bytes. `colour` has to be a colour
+    /// offset of the layout, and `i` less than the count.
     pub fn offset(&self, colour: u32, i: u32) -> u32
         requires colour { IsColour self.now colour }
         requires object { i < (numbers_of self.now).count }
@@ -217,7 +218,7 @@ fn is_thrifty(chunk: u32, order: u8) -> bool
     bytes % chunk <= bytes / 8
 }
 
-/// Returns the order of a slab: 0 for small objects, else the least that leaves at most an eighth unused.
+/// Returns the order of a slab: 0 for small objects, else the least order that leaves at most an eighth of the slab unused.
 fn slab_order(chunk: u32) -> u8
     requires { 0 < chunk }
     ensures order { result ≡ model_slab_order chunk }

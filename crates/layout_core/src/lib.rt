@@ -1,5 +1,5 @@
-//! The layout of slabs, and the byte patterns of constructed objects (Bonwick, "The Slab Allocator",
-//! USENIX Summer 1994). The numbers are this project's own.
+//! The layout of slabs, and the byte patterns of constructed objects (Bonwick, "The Slab Allocator", USENIX Summer 1994). The
+//! sizes and limits are this project's own.
 #![tactic(auto)]
 
 pub mod laws;

@@ -51,7 +51,7 @@ impl Pattern {
         &self.bytes[..usize::from(self.len)]
     }
 
-    /// Constructs the slice (Bonwick): byte `j` becomes byte `j mod length` of the pattern.
+    /// Fills the slice as a constructed object (Bonwick): byte `j` becomes byte `j mod n` of the pattern, which has `n` bytes.
     pub fn fill(&self, out: &mut [u8])
         ensures { EachIndex out.new (λ j. slice_index out.new j ≡ pattern_byte self.now j) }
     {
