@@ -1,4 +1,4 @@
--- Calls one after another.
+-- What a list of calls does to a world, and which text it writes.
 use Rattle.std.proofs.Common.{◌≡◌, ℕ, ◌≤◌, List, [], ◌∷◌, ◌++◌, Option, Some, None, Result, Ok, Err, refl, sym, ap, subst, ◌∙◌, arith}
 use Rattle.std.proofs.lemmas.List.{append-nil}
 use Rattle.words_core.specs.declared.event.Event.{Event}
@@ -18,7 +18,7 @@ use Rattle.replay_core.proofs.LineLemmas.{lines_cut}
 use Rattle.partmem_c.specs.Lines.{AnswersLine}
 use Rattle.partmem_c.specs.Laws.{Call, lines_of_calls, texts_of, Ran, OwnLinesOfCalls, SameLinesOfCalls, StandsAfterCalls}
 
--- how a line with this reading changes a world, and the text that it writes
+-- after a line with this reading, k' shows the world after the line's event, and the text is the reply in that step
 record Follows (k k' : KernelContent) (reading : Result (Option Event) LineFault) (text : List ℕ) (w : World) : Type 0 where
   pub order : k'.order ≡ k.order
   pub shows : Shows k' (world_after cache_limit k.order w (event_in reading))
@@ -42,7 +42,7 @@ follows k k' (Err fault) text w did shows = record {
   shown = did.1;
 }
 
--- the same for a list of calls
+-- after a list of calls, k' shows the world after the events of their lines, and the texts are the replies
 record AllFollow (k k' : KernelContent) (calls : List Call) (w : World) : Type 0 where
   pub shows : Shows k' (world_after cache_limit k.order w (events_of (lines_of_calls calls)))
   pub shown : texts_of calls ≡ shown_lines None cache_limit k.order (lines_of_calls calls) w
@@ -68,7 +68,7 @@ are_lines : (k k' : KernelContent) (calls : List Call) → Ran k calls k' → Ar
 are_lines k k' [] ran = tt
 are_lines k k' (call ∷ calls) ran = (ran.1, are_lines ran.0 k' calls ran.3)
 
--- the lines are those of their trace
+-- the trace of the lines, each with a line feed, is cut into the same lines again
 cut_again : (k k' : KernelContent) (calls : List Call) → Ran k calls k' → lines_of_trace (with_line_feeds (lines_of_calls calls)) ≡ lines_of_calls calls
 cut_again k k' calls ran =
     ap lines_of_trace (sym (append-nil (with_line_feeds (lines_of_calls calls)))) ∙ lines_cut (lines_of_calls calls) [] (are_lines k k' calls ran)

@@ -3,7 +3,7 @@ use Rattle.std.proofs.Common.{◌≡◌, ℕ, zero, suc, ◌<◌, ◌≤◌, Lis
 use Rattle.std.proofs.lemmas.List.{take_all, length-map}
 use Rattle.partmem_c.specs.Figures.{over}
 
--- the next row is copied behind the earlier ones
+-- if the rows before index `at` are copied, copying the row at `at` copies the rows before at + 1
 pub row_put : {A B : Type 0} (f : A → B) (rows : List A) (before : List B) (at : ℕ) (d : A) → at < length rows → length rows ≤ length before
     → slice_set (map f (take at rows) ++ drop at before) at (f (slice_index_or rows at d)) ≡ map f (take (suc at) rows) ++ drop (suc at) before
 row_put f [] before at d some few = absurd (omega (arith, some))
@@ -12,7 +12,7 @@ row_put f (row ∷ rows) (b ∷ before) zero d some few = refl
 row_put f (row ∷ rows) (b ∷ before) (suc at) d some few =
     ap (λ xs. f row ∷ xs) (row_put f rows before at d (omega (arith, some)) (omega (arith, few)))
 
--- all rows are copied
+-- if `at` is the number of rows, all rows are copied
 pub rows_put : {A B : Type 0} (f : A → B) (rows : List A) (before : List B) (at : ℕ) → at ≤ length rows → length rows ≤ at
     → map f (take at rows) ++ drop at before ≡ over (map f rows) before
 rows_put f rows before at most least =

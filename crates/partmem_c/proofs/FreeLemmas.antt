@@ -1,4 +1,4 @@
--- A free at a place where no frame begins.
+-- A free at a place where no frame begins is refused.
 use Rattle.std.proofs.Common.{◌≡◌, ℕ, ◌^◌, ◌<◌, ◌≤◌, Bool, true, false, if◌then◌else◌, Option, Some, None, get_or, slice_get, refl, ap, ◌∙◌, arith}
 use Rattle.std.proofs.lemmas.List.{get_or_past}
 use Rattle.std.proofs.lemmas.Option.{slice_get-get_or}
@@ -26,7 +26,7 @@ neither_none false x none = none
 abbrev reply_of : ℕ → Option ℕ → Reply
 reply_of t freed = record { addressee = To.Tenant t; body = free_body freed }
 
--- there are fewer frames than 2 ^ 20
+-- no taken block begins at a frame from 2 ^ 20 on
 none_taken : (k : KernelContent) (t frame : ℕ) → IsKernel k → t < k.tenants → 2 ^ 20 ≤ frame → taken_of (holding_of t k.buddy) frame ≡ None
 none_taken k t frame is here large =
     let sizes = is.together.buddy.sizes in

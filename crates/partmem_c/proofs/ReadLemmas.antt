@@ -8,17 +8,17 @@ use Rattle.partmem_c.specs.declared.status.TheConstants.{DONE}
 use Rattle.partmem_c.specs.Events.{numbers_of_body, answered_bytes}
 use Rattle.partmem_c.specs.Calls.{read_over, call_status}
 
--- no bytes are copied
+-- if a reply has no bytes, a read leaves the buffer unchanged
 pub nothing_read : (to : List ℕ) → read_over [] to ≡ to
 nothing_read to = ap (λ (k : ℕ). take k [] ++ drop k to) (zero-min (length to))
 
--- at most `n` bytes change only the first `n` bytes of the buffer
+-- a read of at most n bytes changes only the first n bytes of the buffer
 pub read_not_past : (n : ℕ) (bytes to : List ℕ) → length bytes ≤ n → drop n (read_over bytes to) ≡ drop n to
 read_not_past n bytes to few =
     let count : ℕ = min (length bytes) (length to) in let within : count ≤ length bytes = min-le_left (length bytes) (length to) in
     drop-append-drop count to (take count bytes) n (omega (arith, within, few)) (length-take-le count bytes within)
 
--- a refused call reads nothing
+-- a call that is not done leaves the buffer unchanged
 pub refused_reads_nothing : (body : Body) (to : List ℕ) → call_status (Some (numbers_of_body body)) ≢ DONE
     → read_over (answered_bytes body) to ≡ to
 refused_reads_nothing (Body.Bytes bytes) to failed = absurd (failed refl)

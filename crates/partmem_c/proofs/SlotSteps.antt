@@ -20,7 +20,7 @@ use Rattle.partmem_c.specs.contracts.slot.Slot as slot
 abbrev pub word : Ptr → Val
 word p = vstruct (vcons (ptr_val p) vnil)
 
--- the held kernel, if there is one
+-- a place that is not empty holds a kernel
 pub holds : (held : Option KernelContent) → is_some held ≡ true → (k : KernelContent) × (held ≡ Some k)
 holds (Some k) some = (k, refl)
 holds None some = cc

@@ -18,7 +18,7 @@ pub one_line : (bytes : List ℕ) → has_line_feed bytes ≡ false → IsOneLin
 one_line [] none = tt
 one_line (b ∷ bytes) none = let facts = or_parts (b == 10) (has_line_feed bytes) none in (facts.0, one_line bytes facts.1)
 
--- the text is written, except for the rest
+-- all of the text but its end, `rest`, is at the front of the buffer, and `written` is the number of its bytes there
 pub record IsPart (text rest buffer buffer' : List ℕ) (written : ℕ) : Type 0 where
   pub front : List ℕ
   pub split : text ≡ front ++ rest
@@ -29,7 +29,7 @@ take-front : (xs ys : List ℕ) → take (length xs) (xs ++ ys) ≡ xs
 take-front [] ys = refl
 take-front (x ∷ xs) ys = ap (λ zs. x ∷ zs) (take-front xs ys)
 
--- the next part is copied behind the written ones
+-- after the next part is copied behind the written bytes, only the rest behind this part is left
 pub written_more : (text rest line after buffer now then : List ℕ) (written written' : ℕ) → IsPart text rest buffer now written → rest ≡ line ++ after
     → then ≡ take written now ++ (line ++ drop (written + length line) now) → written' ≡ written + length line
     → IsPart text after buffer then written'
@@ -53,7 +53,7 @@ written_more text rest line after buffer now then written written' had cut put c
 abbrev pub last : ℕ → List ℕ → List ℕ
 last n bytes = take (length bytes - (length bytes - n)) (drop (length bytes - n) bytes)
 
--- copying the first n bytes and the last n copies all bytes, if there are at most 2 * n
+-- if there are at most 2 * n bytes, copying the first n bytes and the last n bytes copies all
 pub ends_put : (n : ℕ) (bytes old mid out : List ℕ) → n ≤ length bytes → length bytes ≤ 2 * n
     → mid ≡ take 0 old ++ (take n bytes ++ drop (0 + length (take n bytes)) old)
     → out ≡ take (length bytes - n) mid ++ (last n bytes ++ drop (length bytes - n + length (last n bytes)) mid)
@@ -77,7 +77,7 @@ ends_put n bytes old mid out long short first second =
     ∙ sym (append_assoc (take k bytes) (drop k bytes) (drop (length bytes) old))
     ∙ ap (λ xs. xs ++ drop (length bytes) old) (take-append-drop k bytes)
 
--- a line with its line feed in front of other bytes
+-- after a line and then a line feed are copied, the buffer is the line, the line feed and the old bytes behind them
 pub ended_put : (line old mid out : List ℕ) → mid ≡ line ++ drop (length line) old
     → out ≡ take (length line) mid ++ (10 ∷ [] ++ drop (length line + 1) mid)
     → out ≡ line ++ 10 ∷ drop (length line + 1) old
@@ -87,7 +87,7 @@ ended_put line old mid out line_first second =
     let front : take (length line) mid ≡ line = ap (take (length line)) line_first ∙ take-front line (drop (length line) old) in
     second ∙ ap (λ xs. xs ++ 10 ∷ drop (length line + 1) mid) front ∙ ap (λ xs. line ++ 10 ∷ xs) rest
 
--- the first line feed is the one behind the line
+-- in a line without line feeds, then a line feed and other bytes, the first line feed is the one after the line
 found_end : (k : ℕ) (line rest : List ℕ) → has_line_feed line ≡ false → position_from (λ b. b == 10) k (line ++ 10 ∷ rest) ≡ Some (k + length line)
 found_end k [] rest none = ap (λ n. Some n) (omega arith)
 found_end k (b ∷ line) rest none =

@@ -1,4 +1,4 @@
--- Calls on machines with 2 and with 3 superblocks that nobody owns, and an instance of the law of threads.
+-- Calls on machines with 2 and with 3 superblocks that have no owner, and an instance of the law of threads.
 use Rattle.std.proofs.Common.{◌≡◌, [], ◌∷◌, Some, true, codes, refl, subst, arith}
 use base.Shift.{Keyless}
 use denote.RawPtr.{block_ptr}
@@ -84,7 +84,7 @@ great_answers_1 = (record { addressee = To.Tenant 1; body = Refused NoFrames }, 
 pub great_ran : Ran great (by_1 ∷ by_0 ∷ []) great
 great_ran = (great, one_line_1, great_answers_1, (great, one_line_0, great_answers_0, refl))
 
--- tenant 0's own lists are equal
+-- tenant 0's own lists on the two machines are equal
 pub equal_lists : HaveSameOwnList cache_limit small.order 2 3 3 4 0 (events_of (lines_of_calls (by_0 ∷ []))) (events_of (lines_of_calls (by_1 ∷ by_0 ∷ [])))
 unfolding reading_of words_of reading_of_words event_of opening_content opening_history opening_world world_step tenant_step answer command_step
 equal_lists = record { tenant = omega arith; tenant' = omega arith; own = refl }

@@ -1,7 +1,7 @@
 -- An instance of the law of offsets: a free at place 4097. And an instance of the law of sights with two tenants. Each is granted
 -- a superblock by a line, allocates a frame in it, by an event as numbers or by a direct call, and stores 100 bytes there. Then
--- there is a blank line. Tenant 1 stores once more, at the place where tenant 0 loads the last of its bytes, and reads it by a
--- line and by a direct call.
+-- there is a blank line, and tenant 1 stores one more byte, at place 104. Tenant 0 loads the last of its own bytes, at the same
+-- place, and reads it by a line and by a direct call.
 use Rattle.std.proofs.Common.{◌≡◌, ℕ, List, [], ◌∷◌, codes, refl, arith}
 use Rattle.std.specs.Prelude.{replicate}
 use Rattle.std.specs.Fmt.{digits}

@@ -77,7 +77,7 @@ loaded_alone = record {
   is = alone_granted.1.together.space.own_bytes.window 0 5 1 (7 ∷ []) refl refl 5;
 }
 
--- the four lines read as their events, and the texts are those of the replies
+-- the four lines read as their events, and the texts are the replies
 granting : (k k' : KernelContent) → Steps k (On.Admin (Do.Grant 0)) k' (granted_reply 0 0 0) → AnswersLine k (reading_of grant_0.line) k' grant_0.text
 unfolding reading_of words_of reading_of_words event_of digits
 granting k k' steps = (granted_reply 0 0 0, steps, refl)
@@ -242,12 +242,12 @@ OwnLinesOfCalls-met : OwnLinesOfCalls → codes "0> frame 0" ∷ codes "0> writt
 unfolding digits
 OwnLinesOfCalls-met law = law opened written_by_both 2 2 0 beside is_opened.shows (omega arith) beside_ran
 
--- tenant 0's own lists are equal
+-- tenant 0's own lists on the two machines are equal
 same_lists : HaveSameOwnList cache_limit 3 2 2 2 2 0 (events_of (lines_of_calls alone)) (events_of (lines_of_calls beside))
 unfolding reading_of words_of reading_of_words event_of hex_on_literals opening_history opening_world world_step grant_step tenant_step answer command_step
 same_lists = record { tenant = omega arith; tenant' = omega arith; own = refl }
 
--- also on machines of different sizes, where tenant 0 is refused
+-- the lines are also the same on machines of different sizes, where tenant 0 is refused
 SameLinesOfCalls-met : SameLinesOfCalls → (lines_for 0 (texts_of alone) ≡ lines_for 0 (texts_of beside))
     × (lines_for 0 (texts_of (by_0 ∷ [])) ≡ lines_for 0 (texts_of (by_1 ∷ by_0 ∷ [])))
 SameLinesOfCalls-met law = (

@@ -1,4 +1,4 @@
--- Everything that is done with a machine of the library, by calls and between them, as actions of the kernel that it holds.
+-- Everything that is done with a machine of the library, by calls and between calls, as actions of the kernel that it holds.
 use Rattle.std.specs.Prelude.{◌≡◌, ℕ, ◌<◌, List, [], ◌∷◌, ◌++◌, length, drop, Option, Some, None, Result, Ok, Err}
 use Rattle.model_core.specs.Machine.{empty_machine}
 use Rattle.words_core.specs.declared.event.Event as events
@@ -29,7 +29,7 @@ pub data Done : Type 0 where
   -- a call of the kernel itself, a store or a load
   Direct : Action → Done
 
--- what was done led from one kernel to the other, as the contract of the call says
+-- what was done leads from kernel k to kernel k', as the contract of the call says
 abbrev pub Did : KernelContent → Done → KernelContent → Type 0
 Did k (Line line text) k' = AnswersLine k (reading_of line) k' text × IsKernel k'
 Did k (Event a bytes numbers buffer buffer') k' =
@@ -48,7 +48,7 @@ IsOfReading (Ok (Some event)) text actions = (reply : Reply) × (actions ≡ Run
 IsOfReading (Ok None) text actions = (actions ≡ []) × (text ≡ [])
 IsOfReading (Err fault) text actions = (actions ≡ []) × (text ≡ text_of (record { addressee = Addressee.Nobody; body = Body.Fault fault }))
 
--- the actions of one thing that was done
+-- these are the actions of one thing that was done
 abbrev pub IsOf : Done → List Action → Type 0
 IsOf (Line line text) actions = IsOfReading (reading_of line) text actions
 IsOf (Event a bytes numbers buffer buffer') actions = (event : events.Event) × (reply : Reply)
@@ -61,8 +61,9 @@ abbrev pub AreOf : List Done → List Action → Type 0
 AreOf [] actions = actions ≡ []
 AreOf (done ∷ all) actions = (first rest : List Action) × IsOf done first × AreOf all rest × (actions ≡ first ++ rest)
 
--- Everything that is done with a machine from boot on, by lines, events, calls and in place, in any order, is a list of actions.
--- From these a tenant sees what its private machine returns for its own list, whatever the others do.
+-- From boot on, everything that is done with a machine is a list of actions: lines, events, calls, stores and loads, in any
+-- order. For these actions a tenant sees what its private machine returns for the tenant's own list, whatever the other tenants
+-- do.
 abbrev pub OwnSightsOfCalls : Type 0
 OwnSightsOfCalls = (k k' : KernelContent) (superblocks tenants t : ℕ) (all : List Done) →
     IsBooted k superblocks tenants → t < tenants → AllDid k all k' →

@@ -20,6 +20,6 @@ LendsHeld s r = Lends slot.the_row kernel.the_row s r (with_held s.now)
 abbrev pub with_kernel : MachineStorage → KernelContent → MachineStorage
 with_kernel m k = record { is_booted = true; slot = with_held m.slot k; agrees = refl }
 
--- when the borrow ends, the machine holds the kernel as it was last written through r; if none was lent, it is as before
+-- when the borrow ends, the machine holds the kernel as it was last written through r; if no kernel was lent, it is as before
 abbrev pub LendsKernel : MutBor MachineStorage → Option (MutBor KernelContent) → Fml
 LendsKernel m r = LendsIf machine.the_row kernel.the_row m r (with_kernel m.now) m.now

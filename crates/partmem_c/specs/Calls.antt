@@ -1,4 +1,4 @@
--- Direct calls: each runs an event, and what it returns follows from the numbers of the reply.
+-- Direct calls: each runs an event, and the call's results follow from the numbers of the reply.
 use Rattle.std.specs.Prelude.{◌≡◌, ◌<◌, ◌≤◌, ℕ, ◌+◌, ◌-◌, ◌*◌, ◌/◌, ◌%◌, ◌^◌, ◌==◌, nat_le, min, ◌&&◌, Bool, if◌then◌else◌, List, [], ◌++◌, length, take, drop, Option, Some, None, is_some}
 use Rattle.words_core.specs.declared.reply.Addressee.{Addressee}
 use Rattle.words_core.specs.declared.reply.Body.{Body}
@@ -29,12 +29,12 @@ pub record IsRun (old : Option KernelContent) (event : Event) (new : Option Kern
   pub is : new ≡ Some after
   pub steps : Steps before event after reply
 
--- The reply to the event of a call. Without a machine there is none, and nothing changes.
+-- The reply to the event of a call. Without a machine there is no reply, and nothing changes.
 abbrev pub Replies : Option KernelContent → Event → Option KernelContent → Option Reply → Type 0
 Replies old event new None = (old ≡ None) × (new ≡ None)
 Replies old event new (Some reply) = IsRun old event new reply
 
--- The call runs this event, and `Returns` holds for what it returns with this reply.
+-- The call runs this event, and `Returns` says what the call returns with this reply.
 pub record RunsCall (old : Option KernelContent) (event : Event) (new : Option KernelContent) (Returns : Option Reply → Type 0)
     : Type 0 where
   pub reply : Option Reply
@@ -90,7 +90,7 @@ abbrev pub reaped_frames : Option ReplyNumbers → ℕ
 reaped_frames None = 0
 reaped_frames (Some numbers) = if numbers.kind == REAPED then numbers.first else 0
 
--- `to` with as many of the bytes as fit written over its front
+-- `to`, after as many of the bytes as fit are copied to its front
 abbrev pub read_over : List ℕ → List ℕ → List ℕ
 read_over bytes to = take (min (length bytes) (length to)) bytes ++ drop (min (length bytes) (length to)) to
 
@@ -112,7 +112,7 @@ read_length len = min len (2 ^ 32 - 1)
 abbrev pub is_writable : List ℕ → Bool
 is_writable bytes = nat_le 1 (length bytes) && nat_le (length bytes) MOST_BYTES
 
--- The frame that begins at a place. If none does, it is a number above that of any frame.
+-- The frame that begins at a place. If no frame begins there, it is a number above the number of any frame.
 abbrev pub frame_at_place : ℕ → ℕ
 frame_at_place place = place / FRAME_BYTES + place % FRAME_BYTES * NO_FRAME
 

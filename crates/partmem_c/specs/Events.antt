@@ -16,12 +16,12 @@ use Rattle.partmem_c.specs.declared.kinds.TheConstants as kind
 use Rattle.partmem_c.specs.declared.events.RequestNumbers.{RequestNumbers}
 use Rattle.partmem_c.specs.declared.telling.ReplyNumbers.{ReplyNumbers}
 
--- these bytes, if there are any and no more than this number
+-- these bytes if their number is from 1 to `most`, else None
 abbrev pub some_bytes : ℕ → List ℕ → Option (ArrayVec ℕ)
 some_bytes most bytes =
     if nat_le 1 (length bytes) && nat_le (length bytes) most then Some (record { items = bytes }) else None
 
--- the commands of the administrator, by their kinds
+-- the administrator's command with these numbers, or None if there is no such command
 abbrev pub admin_command_of : RequestNumbers → Option AdminCommand
 admin_command_of a =
     if a.kind == request.GRANT then Some (AdminCommand.Grant a.tenant)
@@ -31,7 +31,7 @@ admin_command_of a =
     else (if a.kind == request.POOL then Some AdminCommand.Pool
     else None))))
 
--- the commands of a tenant
+-- the tenant's command with these numbers and bytes, or None if there is no such command
 abbrev pub requested_command : RequestNumbers → List ℕ → Option Command
 requested_command a bytes =
     if a.kind == request.ALLOC then Some (Command.Alloc a.first)
@@ -52,7 +52,7 @@ is_plain kind =
     kind == request.ALLOC || (kind == request.FREE || (kind == request.TAKE || (kind == request.GIVE
     || (kind == request.DESTROY || kind == request.REAP))))
 
--- the event of the numbers and bytes, if they are one
+-- the event with these numbers and bytes, or None if they are not an event
 abbrev pub requested_event : RequestNumbers → List ℕ → Option Event
 requested_event a bytes =
     if nat_le a.kind request.POOL then option_map Event.Admin (admin_command_of a)
@@ -116,7 +116,7 @@ abbrev pub status_of_event : Option KernelContent → RequestNumbers → List �
 status_of_event held a bytes status =
     if is_some held then (if is_some (requested_event a bytes) then status else NOT_AN_EVENT) else NO_MACHINE
 
--- the status of a call that also requires a buffer: the first error that applies
+-- the status of a call that also requires a buffer: the first error that applies, or else DONE
 abbrev pub event_status : Option KernelContent → RequestNumbers → List ℕ → List ℕ → ℕ
 event_status held a bytes buffer =
     if not (is_some held) then NO_MACHINE
@@ -142,7 +142,7 @@ pub record RunsEvent (old new : Option KernelContent) (a : RequestNumbers) (byte
   pub says : requested_event a bytes ≡ Some event
   pub answers : AnswersEvent before event after numbers buffer buffer'
 
--- the same for an event that neither uses nor returns bytes, for any bytes and any buffer
+-- with any bytes, the numbers are an event, which was run on the held kernel and leaves any buffer unchanged
 abbrev pub RunsApart : Option KernelContent → Option KernelContent → RequestNumbers → ReplyNumbers → Type 0
 RunsApart old new a numbers = (bytes buffer : List ℕ) → RunsEvent old new a bytes numbers buffer buffer
 
@@ -150,6 +150,6 @@ RunsApart old new a numbers = (bytes buffer : List ℕ) → RunsEvent old new a 
 abbrev pub IsNothingDone : Option KernelContent → Option KernelContent → ReplyNumbers → ReplyNumbers → Type 0
 IsNothingDone old new numbers numbers' = (new ≡ old) × (numbers' ≡ numbers)
 
--- the same, and no byte of the buffer was written
+-- nothing changed, and neither the reply nor the buffer was written
 abbrev pub ChangesNothing : Option KernelContent → Option KernelContent → ReplyNumbers → ReplyNumbers → List ℕ → List ℕ → Type 0
 ChangesNothing old new numbers numbers' buffer buffer' = (new ≡ old) × (numbers' ≡ numbers) × (buffer' ≡ buffer)

@@ -46,7 +46,7 @@ abbrev pub greatest_bytes : Option ℕ → ℕ
 greatest_bytes None = 0
 greatest_bytes (Some order) = block_bytes order
 
--- the rows, and then the rest of the old rows
+-- the old rows, with the new rows written over their front
 abbrev pub over : {A : Type 0} → List A → List A → List A
 over rows before = rows ++ drop (length rows) before
 

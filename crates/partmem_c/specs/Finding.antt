@@ -45,7 +45,7 @@ use_of FrameKind.Full = SLAB
 use_of FrameKind.Partial = SLAB
 use_of FrameKind.Empty = SLAB
 
--- the first frame and the order for a frame in no taken block: those of the slot if it is not held, or else the frame itself and
+-- for a frame in no taken block: the first frame and the order of its slot if the slot is not held, or else the frame itself and
 -- order 0
 abbrev pub untaken : FrameKind → ℕ → ℕ → ℕ × ℕ
 untaken FrameKind.NotHeld frame order = (frame / 2 ^ order * 2 ^ order, order)
@@ -55,7 +55,7 @@ untaken FrameKind.Full frame order = (frame, 0)
 untaken FrameKind.Partial frame order = (frame, 0)
 untaken FrameKind.Empty frame order = (frame, 0)
 
--- These are the first frame and the order of the taken block that contains a frame. If none does, they are those of `untaken`.
+-- `around` is the first frame and the order of the taken block that contains the frame. If no taken block does, it is `untaken`.
 pub record AreAround (k : KernelContent) (t frame : ℕ) (kind : FrameKind) (around : ℕ × ℕ) : Type 0 where
   pub taken : Option (ℕ × ℕ)
   pub block : MatchOption taken (IsTaken (taken_of (holding_of t k.buddy)) frame → ⊥)

@@ -30,21 +30,21 @@ Ran k [] k' = k' ≡ k
 Ran k (call ∷ calls) k' =
     (next : KernelContent) × IsOneLine call.line × AnswersLine k (reading_of call.line) next call.text × Ran next calls k'
 
--- If the first kernel shows a world, the last one shows this world after the lines.
+-- If the first kernel shows a world, the last kernel shows the world after the lines.
 abbrev pub StandsAfterCalls : Type 0
 StandsAfterCalls = (k k' : KernelContent) (calls : List Call) → Ran k calls k' → (w : World) → Shows k w →
     Shows k' (world_after cache_limit k.order w (events_of (lines_of_calls calls)))
 
--- From boot on, whatever the others do: the lines that were written for a tenant are those of its private machine, run on its own
--- list of the trace of all lines.
+-- From boot on, the reply lines that were written for a tenant are those of its private machine, run on the tenant's own list of
+-- the trace of all lines. This holds whatever the other tenants do.
 abbrev pub OwnLinesOfCalls : Type 0
 OwnLinesOfCalls = (k k' : KernelContent) (superblocks tenants t : ℕ) (calls : List Call) →
     Shows k (opening_world superblocks tenants) → t < tenants → Ran k calls k' →
     lines_for t (texts_of calls)
     ≡ private_lines cache_limit k.order superblocks tenants t (with_line_feeds (lines_of_calls calls))
 
--- So two machines of one order, with any numbers of superblocks and tenants, write the same lines for a tenant whose own lists
--- are equal.
+-- So two machines of the same order write the same lines for a tenant if the tenant's own lists on them are equal. Their numbers
+-- of superblocks and tenants may differ.
 abbrev pub SameLinesOfCalls : Type 0
 SameLinesOfCalls = (k k' m m' : KernelContent) (superblocks tenants superblocks' tenants' t : ℕ) (calls calls' : List Call) →
     Shows k (opening_world superblocks tenants) → Shows m (opening_world superblocks' tenants') → m.order ≡ k.order →

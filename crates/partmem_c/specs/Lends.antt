@@ -59,7 +59,7 @@ FindsObject k t cache place (Err refusal) =
 abbrev pub alloc_reply : KernelContent → ℕ → Result Lent Refusal → Reply
 alloc_reply k t outcome = reply_for k t (body_of (λ lent. Body.Frame (lent.place / FRAME_BYTES)) outcome)
 
--- the step of an alloc, and the block is lent
+-- an alloc was a step of the kernel, and its block is lent unless it was refused
 pub record AllocLends (old : KernelContent) (t order : ℕ) (new : KernelContent) (outcome : Result Lent Refusal) : Type 0 where
   pub steps : Steps old (Event.Tenant t (Command.Alloc order)) new (alloc_reply old t outcome)
   pub block : IfOk outcome (λ lent. IsLentAt (FRAME_BYTES * (lent.place / FRAME_BYTES)) (FRAME_BYTES * 2 ^ order) lent)
@@ -67,11 +67,11 @@ pub record AllocLends (old : KernelContent) (t order : ℕ) (new : KernelContent
 abbrev pub take_reply : KernelContent → ℕ → Result Lent Refusal → Reply
 take_reply k t outcome = reply_for k t (body_of (λ lent. Body.Object lent.place) outcome)
 
--- the lent bytes, if any, are those of a live object of the cache
+-- if bytes are lent, they are a live object of the cache
 abbrev pub IsObjectOf : KernelContent → ℕ → ℕ → Lent → Type 0
 IsObjectOf k t cache lent = lent.at ≢ null_ptr → (m : Machine) → ShowsMachine k t m → HasObject m cache lent.place lent.bytes
 
--- the step of a take, and the object is lent
+-- a take was a step of the kernel, and its object is lent unless it was refused
 pub record TakeLends (old : KernelContent) (t cache : ℕ) (new : KernelContent) (outcome : Result Lent Refusal) : Type 0 where
   pub steps : Steps old (Event.Tenant t (Command.Take cache)) new (take_reply old t outcome)
   pub lent : IfOk outcome (λ lent. IsLentAt lent.place lent.bytes lent)
@@ -82,13 +82,13 @@ abbrev pub IsLentIf : Bool → ℕ → ℕ → Lent → Type 0
 IsLentIf true place bytes lent = IsLentAt place bytes lent
 IsLentIf false place bytes lent = lent ≡ no_lent
 
--- the bytes that an alloc lends, by the numbers of its reply: the block in the reply, if there is one
+-- an alloc lends the block in its reply, or nothing if the reply has no block
 abbrev pub IsBlockLent : ℕ → Option ReplyNumbers → Lent → Type 0
 IsBlockLent order None lent = lent ≡ no_lent
 IsBlockLent order (Some numbers) lent =
     IsLentIf (numbers.kind == FRAME) (FRAME_BYTES * numbers.first) (FRAME_BYTES * 2 ^ order) lent
 
--- the bytes that a take lends: the object in the reply, if there is one
+-- a take lends the object in its reply, or nothing if the reply has no object
 abbrev pub IsObjectLent : Option ReplyNumbers → Lent → Type 0
 IsObjectLent None lent = lent ≡ no_lent
 IsObjectLent (Some numbers) lent = IsLentIf (numbers.kind == OBJECT) numbers.first lent.bytes lent

@@ -8,7 +8,8 @@ use Rattle.std_alloc.specs.Box.Ownership.{box_owns}
 use Rattle.kernel_core.specs.Content.{KernelContent}
 use Rattle.kernel_core.specs.contracts.kernel.Kernel.{the_row}
 
--- Without a machine: nothing, and the pointer is null. With one: the kernel at the pointer, and the right to free its block.
+-- Without a machine, the place owns nothing and its pointer is null. With a machine, it owns the kernel at the pointer and the
+-- right to free the kernel's block.
 abbrev pub slot_owns : Ptr → Option KernelContent → Fml
 slot_owns p None = feq Ptr p null_ptr
 slot_owns p (Some k) = fex Global (λ heap. box_owns (ghosts.dealloc_token heap) the_row p k)

@@ -25,7 +25,7 @@ pub struct MachineConfig {
     pub tenants: u32,
 }
 
-/// Boots a machine in a place that holds none: all its memory is zero, and no superblock has an owner.
+/// Boots a machine in a place that holds none. All its memory reads as zero, and no superblock has an owner.
 ///
 /// Returns `HAS_MACHINE`, `BAD_CONFIG`, or `NO_MEMORY` if an allocation was refused. No later call allocates.
 #[unsafe(no_mangle)]

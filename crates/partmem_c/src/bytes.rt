@@ -16,7 +16,7 @@ use model_core::limits::MOST_BYTES;
 use std::alloc::Global;
 use words_core::{Answer, Refusal, Request};
 
-/// Copies bytes of a live page block or a live object, from `place` on, to all of `to`, which has 1 to 64 bytes.
+/// Fills `to`, which has 1 to 64 bytes, with the bytes of a live page block or a live object from `place` on.
 ///
 /// Returns `NO_MACHINE`, `NO_TENANT`, `BAD_LENGTH` or `OUT_OF_REACH`. Then `to` is unchanged, whatever its length.
 #[unsafe(no_mangle)]

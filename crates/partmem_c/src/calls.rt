@@ -1,4 +1,4 @@
-//! The common part of the direct calls: run the event of the command, and return the status of the reply.
+//! The common part of the direct calls: running the event of the command, and the status of the reply.
 
 ghost use Rattle.std.specs.Prelude.{◌≡◌, ◌≢◌, false};
 ghost use Rattle.words_core.specs.Requests.{command_of, IsAskable, asks_bytes};
@@ -15,7 +15,7 @@ use model_core::limits::{FRAME_BYTES, MOST_ORDER};
 use std::alloc::Global;
 use words_core::{AdminCommand, Request};
 
-/// Runs a command of a tenant that reads no bytes, and returns the numbers of its reply, or `None` if there is no machine.
+/// Runs a tenant's command that reads no bytes, and returns the numbers of its reply, or `None` if there is no machine.
 #[inline(always)]
 pub(crate) fn run_command(
     alloc: Global,

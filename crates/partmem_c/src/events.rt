@@ -1,4 +1,4 @@
-//! Runs events one at a time, given as numbers.
+//! Runs events that are given as numbers, one at a time.
 
 ghost use Rattle.std.specs.Prelude.{◌≡◌, ◌≢◌, ◌<◌, ◌≤◌, ◌^◌, ℕ, true, false, List, length, Some, IfSome, is_some, if◌then◌else◌};
 ghost use Rattle.words_core.specs.Requests.{command_of, IsAskable, asks_bytes};
@@ -38,7 +38,8 @@ pub const POOL: u32 = 5;
 pub const ALLOC: u32 = 6;
 /// The tenant frees the page block that begins at frame `first`.
 pub const FREE: u32 = 7;
-/// The tenant reads `second` bytes, 1 to 64, from place `first` on. A read of any other count is also an event, which is refused.
+/// The tenant reads `second` bytes, 1 to 64, from place `first` on. A read of any other number of bytes is also an event, which
+/// is refused.
 pub const READ: u32 = 8;
 /// The tenant writes the 1 to 64 bytes that are passed, from place `first` on.
 pub const WRITE: u32 = 9;
@@ -69,7 +70,7 @@ pub struct RequestNumbers {
     pub second: u32,
 }
 
-/// Returns whether the numbers and bytes are an event.
+/// Returns true if the numbers and bytes are an event.
 #[inline(always)]
 pub fn is_event(request: &RequestNumbers, bytes: &[u8]) -> bool
     ensures { result ≡ is_some (requested_event request.now bytes.now) }
@@ -150,7 +151,7 @@ fn command_of(request: &RequestNumbers, bytes: &[u8]) -> Option<Command>
     }
 }
 
-/// Returns a copy of these bytes, if there are any and they fit.
+/// Returns a copy of these bytes, or `None` if there are none or more than `N`.
 fn some_bytes<const N: usize>(bytes: &[u8]) -> Option<ArrayVec<u8, N>>
     requires { N < 2 ^ 32 }
     ensures { result ≡ some_bytes N bytes.now }
@@ -196,10 +197,10 @@ pub extern "C" fn partmem_event(
     }
 }
 
-/// Returns the kind, or `NOTHING`, which is the kind of no event, if the buffer is too small.
+/// Returns `NOTHING`, which is the kind of no event, if the buffer is too small, and else the kind.
 ///
-/// So one test separates the four frequent kinds, which use neither the bytes nor the buffer, from all others. The pointers of C
-/// are made into slices only after that test.
+/// A caller needs only one test to separate the four frequent kinds, which use neither the bytes nor the buffer, from all others.
+/// The pointers of C are made into slices only after that test.
 #[inline(always)]
 fn kind_with_buffer(kind: u32, buffer: usize) -> u32
     ensures same { result ≢ NOTHING → result ≡ kind }
@@ -225,7 +226,7 @@ fn status_without_buffer(machine: &MachineStorage, request: &RequestNumbers, byt
     }
 }
 
-/// [`partmem_event`] for a kind that neither uses nor returns bytes.
+/// Does what [`partmem_event`] does for a kind that neither uses nor returns bytes.
 ///
 /// Each kind has its own instance, which is not inlined and saves only the registers that it needs. The instance tests whether
 /// there is a machine, so that its caller can end in a tail call.
@@ -293,7 +294,7 @@ fn ask(
     DONE
 }
 
-/// [`other_event`] with only the part of the buffer that it writes into, so the buffer's length is not passed on.
+/// Calls [`other_event`] with only the first `MOST_BYTES` bytes of the buffer, so the buffer's length is not passed on.
 #[inline(always)]
 fn event_in_first(
     alloc: Global,
@@ -320,7 +321,7 @@ fn event_in_first(
     )
 }
 
-/// [`partmem_event`] for the kinds that use the bytes or the buffer, and for the rare ones.
+/// Does what [`partmem_event`] does for the kinds that use the bytes or the buffer, and for the rare kinds.
 #[inline(never)]
 fn other_event(
     alloc: Global,
@@ -438,7 +439,7 @@ pub(crate) fn status_of_none(machine: &MachineStorage) -> u32
     }
 }
 
-/// [`partmem_event`] for any event.
+/// Does what [`partmem_event`] does for any kind.
 #[cold]
 #[inline(never)]
 fn rare_event(

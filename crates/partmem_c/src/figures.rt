@@ -46,7 +46,7 @@ pub struct Figures {
     pub free: u32,
     /// The size of a largest free block in bytes, or 0 if no frame is free.
     pub greatest: u32,
-    /// The share of the free frames outside one largest free block, in thousandths.
+    /// The share of the free frames outside one largest free block, in thousandths, rounded up.
     pub split: u32,
     /// The number of used rows of `order`, from order 0 on.
     pub orders: u32,
@@ -101,7 +101,8 @@ pub extern "C" fn partmem_report(
     put_figures(kernel, tenant, figures)
 }
 
-/// Fills in the figures of a tenant, which were all zeros, and returns the status. If there is no such tenant, they stay zeros.
+/// Fills in the figures of a tenant, which were all zeros, and returns the status. If there is no such tenant, the figures stay
+/// zeros.
 fn put_figures(kernel: &Kernel, tenant: u32, figures: &mut Figures) -> u32
     requires { figures.old ≡ no_figures }
     ensures { PutsFigures kernel.now tenant result figures.new }

@@ -22,7 +22,8 @@ pub const FREED: u32 = 8;
 pub const BYTES: u32 = 9;
 /// The number of bytes written.
 pub const WRITTEN: u32 = 10;
-/// The number of the new cache, its chunk in bytes, the order of its slabs, their number of objects, and the number of its colours.
+/// The number of the new cache, its chunk in bytes, the order of its slabs, the number of objects in a slab, and the number of
+/// colours.
 pub const MADE: u32 = 11;
 /// The number of frames of the cache's slabs, which were freed.
 pub const DESTROYED: u32 = 12;
@@ -33,5 +34,5 @@ pub const GIVEN: u32 = 14;
 /// The number of frames freed.
 pub const REAPED: u32 = 15;
 /// The numbers of frames, taken frames and free frames, the order of the greatest free block plus 1 (0 if there is none), and the
-/// share of the free frames outside it, in thousandths.
+/// share of the free frames outside that block, in thousandths.
 pub const FIGURES: u32 = 16;

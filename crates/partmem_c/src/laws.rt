@@ -11,8 +11,8 @@ use std::alloc::Global;
 use world_core::laws;
 
 /// If only `partmem_line` is called on a machine from boot on, and each call has status `DONE`, the lines are a trace, and the
-/// kernel is in the state after this trace. The lines for a tenant are those that its private machine returns for its own list,
-/// whatever the others do.
+/// kernel is in the state after this trace. The reply lines for a tenant are those of its private machine, run on the tenant's
+/// own list, whatever the other tenants do.
 pub fn own_lines()
     ensures stands { StandsAfterCalls }
     ensures lines { OwnLinesOfCalls }
@@ -22,8 +22,9 @@ pub fn own_lines()
     laws::non_interference();
 }
 
-/// From boot on, lines with an event, events, direct calls, calls of the kernel, and stores and loads in place are actions. From
-/// any list of actions a tenant sees what its private machine returns for its own list, whatever the others do.
+/// From boot on, each of these is an action: a line with an event, a call of `partmem_event`, a direct call, a call of the
+/// kernel, and a store or load in place. For any list of actions, a tenant sees what its private machine returns for the tenant's
+/// own list, whatever the other tenants do.
 pub fn own_sights()
     ensures { OwnSightsOfCalls }
 {
@@ -36,7 +37,7 @@ pub fn offsets_are_refused()
     ensures { OffsetsAreRefused }
 {}
 
-/// Between two calls C holds a kernel with all its invariants. The call changes nothing.
+/// If C holds a kernel between two calls, the kernel has all its invariants. This function changes nothing.
 pub fn is_kernel(alloc: Global, machine: &mut MachineStorage)
     ensures kernel { IfSome machine.old.slot.held (λ k. IsKernel k) }
     ensures same { machine.new.slot.held ≡ machine.old.slot.held }

@@ -14,7 +14,7 @@ use std::alloc::Global;
 use std::ptr::null_mut;
 use words_core::Refusal;
 
-/// Lent bytes: the address and the place of the first, and their number. All zero if nothing is lent.
+/// Lent bytes: the address and the place of the first byte, and the number of bytes. All zero if nothing is lent.
 #[repr(C)]
 #[derive(Clone, Copy)]
 pub struct Lent {

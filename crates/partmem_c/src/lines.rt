@@ -36,7 +36,8 @@ pub const MOST_TEXT_BYTES: usize = MOST_ROWS * MOST_REPLY_BYTES;
 /// The line is passed without its line feed. The reply to a faulty line names the fault. A buffer of `MOST_TEXT_BYTES` bytes is
 /// large enough for any line.
 ///
-/// If the status is not `DONE`, it is `NO_MACHINE`, `NOT_A_LINE` or `BUFFER_TOO_SMALL`, and the buffer is unchanged.
+/// If the status is not `DONE`, it is `NO_MACHINE`, `NOT_A_LINE` or `BUFFER_TOO_SMALL`. The machine and the buffer are then
+/// unchanged.
 #[unsafe(no_mangle)]
 pub extern "C" fn partmem_line(
     alloc: Global,
@@ -107,8 +108,8 @@ fn run_line(kernel: &mut Kernel, line: &[u8], buffer: &mut [u8]) -> Option<usize
     run_any(kernel, line, buffer)
 }
 
-/// [`run_line`] for a longer quick request, such as a write. Returns `None` and does nothing if the line is too long or is not
-/// read as one quick request. Not inlined, since it needs more stack than most quick requests.
+/// Does what [`run_line`] does for a longer quick request, such as a write. Returns `None` and does nothing if the line is too
+/// long or is not read as one quick request. Not inlined, since it needs more stack than most quick requests.
 #[inline(never)]
 fn run_long(kernel: &mut Kernel, line: &[u8], buffer: &mut [u8]) -> Option<usize>
     requires { IsWide buffer.old }
@@ -128,7 +129,7 @@ fn run_long(kernel: &mut Kernel, line: &[u8], buffer: &mut [u8]) -> Option<usize
     Some(answer_apart(read.tenant, read.request, kernel, buffer))
 }
 
-/// [`run_line`] for any line, which is read as an event. Not inlined, since it clears the memory for an event.
+/// Does what [`run_line`] does for any line, which it reads as an event. Not inlined, since it clears the memory for an event.
 #[cold]
 #[inline(never)]
 fn run_any(kernel: &mut Kernel, line: &[u8], buffer: &mut [u8]) -> Option<usize>
@@ -212,8 +213,8 @@ fn answer_request(
     }
 }
 
-/// [`answer_request`] for the command with the number `COMMAND`. Each command has its own instance with one caller. A function
-/// with one caller is always inlined, so the compiler knows which answers are possible where they are written.
+/// Does what [`answer_request`] does for the command with the number `COMMAND`. Each command has its own instance with one
+/// caller. A function with one caller is always inlined, so the compiler knows which answers are possible where they are written.
 #[inline]
 fn answer_as<const COMMAND: usize>(
     tenant: u32,
@@ -232,7 +233,7 @@ fn answer_as<const COMMAND: usize>(
     }
 }
 
-/// [`answer_as`] with the number `RARE`, for any command. Not inlined.
+/// Calls [`answer_as`] with the number `RARE`, for any command. Not inlined.
 #[inline(never)]
 fn answer_apart(tenant: u32, request: Request<'_>, kernel: &mut Kernel, buffer: &mut [u8]) -> usize
     requires askable { IsAskable request }
@@ -244,7 +245,7 @@ fn answer_apart(tenant: u32, request: Request<'_>, kernel: &mut Kernel, buffer: 
 }
 
 /// Writes an answer for a tenant to the front of `buffer`, and returns the number of bytes written. The functions below that
-/// return a `usize` do the same for other replies.
+/// return a `usize` write other replies and return the number of their bytes.
 #[inline(always)]
 fn put_answer(tenant: u8, answer: Answer<'_>, buffer: &mut [u8]) -> usize
     requires few { HasFewBytes answer }
@@ -260,8 +261,8 @@ fn put_answer(tenant: u8, answer: Answer<'_>, buffer: &mut [u8]) -> usize
     len
 }
 
-/// [`put_answer`] for a longer text, or for any addressee. Not inlined, so that [`put_answer`] does not pay for the larger
-/// buffer.
+/// Does what [`put_answer`] does for a longer text, or for any addressee. Not inlined, so that [`put_answer`] does not pay for
+/// the larger buffer.
 #[inline(never)]
 fn put_long_answer(addressee: Addressee, answer: Answer<'_>, buffer: &mut [u8]) -> usize
     requires few { HasFewBytes answer }

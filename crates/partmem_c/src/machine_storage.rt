@@ -20,7 +20,7 @@ impl MachineStorage {
     ghost use Rattle.std.specs.Borrow.{sem};
     ghost use Rattle.partmem_c.specs.Borrowing.{LendsKernel};
 
-    /// Returns whether the place holds a machine.
+    /// Returns true if the place holds a machine.
     pub fn is_booted(&self) -> bool
         ensures { result ≡ is_some self.now.slot.held }
     {

@@ -65,7 +65,7 @@ pub extern "C" fn partmem_free(
     call_status(run_command(alloc, machine, tenant, Request::Free { frame }))
 }
 
-/// Returns the frame that begins at a place. If none does, returns a number above that of any frame.
+/// Returns the frame that begins at a place, or a number above the number of any frame if none begins there.
 #[inline(always)]
 fn frame_at_place(place: u32) -> u32
     ensures { result ≡ frame_at_place place }

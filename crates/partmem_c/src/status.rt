@@ -1,5 +1,5 @@
-//! The statuses that the functions for C return. Refusals have the numbers of the trace format, 1 to 15; errors of the caller
-//! have numbers from 32 on.
+//! The statuses that the functions for C return. Refusals have the numbers of the trace format, 1 to 15; errors have numbers from
+//! 32 on.
 
 /// The call was done.
 pub const DONE: u32 = 0;
@@ -22,7 +22,7 @@ pub const NO_SUPERBLOCK: u32 = 37;
 /// The bytes of a line contain a line feed.
 pub const NOT_A_LINE: u32 = 39;
 
-/// The kind is not that of an event, or there are too few or too many bytes for it.
+/// No event has this kind, or there are too few or too many bytes for the kind.
 pub const NOT_AN_EVENT: u32 = 40;
 
 /// The buffer is smaller than the function requires.

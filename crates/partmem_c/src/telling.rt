@@ -136,7 +136,7 @@ fn top_number(top: Option<u8>) -> u32
     }
 }
 
-/// Returns the bytes of an answer.
+/// Returns the bytes in an answer. Only the answer to a read has bytes.
 #[inline(always)]
 pub fn bytes_in_reply(answer: Answer<'_>) -> &[u8]
     requires { HasFewBytes answer }

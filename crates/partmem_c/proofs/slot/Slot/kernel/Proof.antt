@@ -1,4 +1,4 @@
--- `kernel` lends the kernel at the pointer, and the place follows it.
+-- `kernel` lends the kernel at the pointer, and the place changes with that kernel.
 use Rattle.std.proofs.Common.{◌≡◌, List, [], ◌∷◌, Option, Some, is_some, true, refl, sym, ap, ◌∙◌}
 use Prim.Native.Nat.{ℕ}
 use seplogic.Ra.Ura.{Ura}
@@ -41,7 +41,7 @@ abbrev stayed : Stays f.ended.signature.params f.ended.kept
 stayed = (stay_dropped (mut_ref_to (0 ∷ []) tt (plain (λ _. slot.the_row))) no, tt)
 
 module _ {M : Type 1} {𝓤 : Ura M} (𝓛 : Logic 𝓤) (s : slot.the_row.Denot) (from : Global) (b o rb ro : ℕ) where
-  -- all of the place but its kernel
+  -- everything of the place except its kernel
   abbrev Rest : Fml
   Rest = fsep (ghosts.dealloc_token from (bare (lone the_row.mir)) (block_ptr b o)) (cell_at full_share slot.the_row.mir (word (block_ptr b o) ∷ []) rb ro)
 
