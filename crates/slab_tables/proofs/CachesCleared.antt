@@ -47,7 +47,7 @@ pub emptied_all : (s a b z : Placed) (i : ℕ) → IsEmptied s a (3 * i) → IsE
 emptied_all s a b z i x y w n =
     w.places n ∙ (ap (without (3 * i + 2)) (y.places n) ∙ (ap (λ o. without (3 * i + 2) (without (3 * i + 1) o)) (x.places n) ∙ emptied_thrice i (place_at s.places n)))
 
--- the place is `Some (head, key)`, and its cache is not one of the removed ones
+-- the place is `Some (head, key)`, and the cache of this list is not removed
 pub record IsLeft (gone : ℕ → Bool) (o : Option (ℕ × ℕ)) (head key : ℕ) : Type 0 where
   pub here : o ≡ Some (head, key)
   pub stays : gone (head / 3) ≡ false
@@ -78,7 +78,7 @@ index_stays i n (Some (g, k)) ne = go (eqb (g / 3) i) refl
     go true q = sym (ne_eqb (g / 3) n (λ e. ne (sym e ∙ eqb-true (g / 3) i q)))
     go false q = refl
 
--- the tables without the cache at index i
+-- the tables with these lists, without the cache at index i, and with 0 as its total
 abbrev pub cleared : Content → ℕ → Placed → Content
 cleared s i lists = record { top = s.top; lists = lists; kept = s.kept; caches = set s.caches i None; live = set s.live i 0 }
 
@@ -112,7 +112,7 @@ slabs_cleared s i lists w lt heads machine_frames places = record {
           ∙ sym (total_along n s.lists.places lists.places s.kept machine_frames (λ k. ap (is_of_index n) (places k) ∙ index_stays i n (place_at s.lists.places k) ne)))
     ]
 
--- the caches of tenant t with numbers below c, which are removed one after the other
+-- The caches of tenant t with numbers below c are removed one after the other.
 
 abbrev pub those_below : ℕ → ℕ → ℕ → Bool
 those_below t c n = eqb (n / MOST_CACHES) t && ltb (n % MOST_CACHES) c
@@ -191,7 +191,7 @@ one_more t c lt n = elim (cases_eq (n / MOST_CACHES) t) [
           ]
         ]
 
--- once all caches below c are removed and none has a higher number, the tenant is reset
+-- once all caches with numbers below c are removed, the tenant is reset, if it had no cache with number c or above
 pub cleared_all : (s s' : Content) (t c : ℕ) → IsSlabs s → ((d : ℕ) → c ≤ d → cache_at s t d ≡ None) → IsCleared s s' (those_below t c) → IsReset s s' t
 cleared_all s s' t c w none a = record {
   top = a.top;

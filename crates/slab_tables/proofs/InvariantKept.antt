@@ -14,7 +14,7 @@ use Rattle.slab_tables.specs.Changes.{fresh_kept, made_more, with_new_slab, with
 use Rattle.slab_tables.proofs.LiveTotals.{part, total_set, part_within, total_none, total_few}
 use Rattle.slab_tables.proofs.TableReads.{same_cache, same_place, IsCached, cached, cache_within, placed_at, head_parts, listed, few_live, kind_below, kind_fresh}
 
--- a slab at this place and with this stored state satisfies the invariant
+-- if p is a place in a list, the cache of that list exists, and the stored state k fits the cache and the list
 abbrev pub InOrder : Content → Option (ℕ × ℕ) → Kept → Type 0
 InOrder s p k = (head key : ℕ) → p ≡ Some (head, key) → (c : Cache) × (cache_in s.caches (head / 3) ≡ Some c) × IsListed k c head
 
@@ -27,7 +27,8 @@ with_machine_frame s machine_frame p k live = record {
   live = live;
 }
 
--- the invariant holds after the entries of one machine frame and the totals are replaced
+-- the invariant holds after the place and the state at one machine frame are replaced, if the new ones are in order and each
+-- total changes by the same amount as the machine frame's part of it
 pub slabs_machine_frame : (s : Content) (machine_frame : ℕ) (p : Option (ℕ × ℕ)) (k : Kept) (live : List ℕ) → IsSlabs s → machine_frame < length s.lists.places → InOrder s p k
     → length live ≡ length s.live
     → ((n : ℕ) → n < length s.live → get_or live n 0 + part n (place_at s.lists.places machine_frame) (kept_at s.kept machine_frame) ≡ get_or s.live n 0 + part n p k)
@@ -64,7 +65,8 @@ slabs_machine_frame s machine_frame p k live w lt stands size counts = record {
         let t = total_set n machine_frame p k s.lists.places s.kept lt (omega (arith, w.paired)) in
         omega (arith, t, counts n (omega (arith, w.totals)), w.counted n below)
 
--- the invariant holds after one cache is replaced
+-- the invariant holds after entry i of the caches is replaced, if the new cache is valid and fits all slabs of the old one; if
+-- there is no new cache, the old one must have no slab
 pub slabs_cache : (s : Content) (i : ℕ) (o : Option Cache) → IsSlabs s → i < length s.caches → ((c : Cache) → o ≡ Some c → IsTableCache c)
     → ((machine_frame head key : ℕ) → place_at s.lists.places machine_frame ≡ Some (head, key) → head / 3 ≡ i → (c : Cache) × (o ≡ Some c) × IsListed (kept_at s.kept machine_frame) c head)
     → IsSlabs (record s { caches = set s.caches i o })
@@ -175,7 +177,7 @@ slabs_more s t c cache w lt below vacant fit = slabs_cache s (index_of_cache t c
     let gone : cache_in s.caches (index_of_cache t c) ≡ None = sym (ap (λ b. cond b (cache_in s.caches (index_of_cache t c)) None) (lt-ltb c MOST_CACHES lt)) ∙ vacant in
     absurd (let f : ◌≡◌ {A = Option Cache} None (Some x.0) = sym gone ∙ (sym (ap (cache_in s.caches) is) ∙ x.1) in cc))
 
--- what a slab adds to the total of its own cache and to those of others
+-- a slab adds its live objects to the total of its own cache, and nothing to the total of another
 part_here : (t c kind first n : ℕ) (k : Kept) → kind < 3 → n ≡ index_of_cache t c → part n (Some (head_of t c kind, first)) k ≡ k.live
 part_here t c kind first n k lt is = ap (λ b. cond b k.live 0) (eq-eqb (head_of t c kind / 3) n ((head_parts t c kind lt).0 ∙ sym is))
 
@@ -253,14 +255,14 @@ slabs_count s t c cache first machine_frame count w e below p few =
               )
         ]
 
--- the stored state that the code reads is that of the slab
+-- if the code reads k at the slab's machine frame, k is the stored state of the slab
 pub kept_read : (s : Content) (t c first machine_frame : ℕ) (k : Kept) → IsSlabs s → IsPlacedIn s t c first machine_frame → k ≡ get_or s.kept machine_frame k → k ≡ kept_at s.kept machine_frame
 kept_read s t c first machine_frame k w p read =
     let lt = placed_within s.lists.places machine_frame (head_of t c p.kind, first) p.placed in
     get_or_read s.kept machine_frame k (omega (arith, w.paired)) read blank
 
--- what the code reads when it sets a slab's number of live objects: its cache's total and its stored state; the new total neither
--- overflows nor underflows
+-- when the code sets a slab's number of live objects, it has read the total of the cache and the stored state of the slab; the
+-- new total neither overflows nor underflows
 pub record IsCounting (s : Content) (t c machine_frame count total : ℕ) (k : Kept) : Type 0 where
   pub total_is : total ≡ get_or s.live (index_of_cache t c) 0
   pub kept_is : k ≡ kept_at s.kept machine_frame
@@ -284,7 +286,7 @@ counting s t c cache first machine_frame count total k w tenant e p few read rea
       enough = omega (arith, x.at_least, ap (λ (y : Kept). y.live) same_kept);
     }
 
--- the invariant holds of tables without caches and slabs
+-- the invariant holds for tables without caches and slabs
 pub slabs_opening : (top superblocks tenants : ℕ) → top ≤ MOST_ORDER → superblocks ≤ MOST_SUPERBLOCKS → tenants ≤ MOST_TENANTS → IsSlabs (empty_tables top superblocks tenants)
 slabs_opening top superblocks tenants order few_superblocks few_tenants = record {
   order = order;

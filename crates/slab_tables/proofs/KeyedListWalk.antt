@@ -3,7 +3,7 @@ use Rattle.std.proofs.Common.{ℕ, List, Option, Some, None, IfSome}
 use Rattle.std.specs.Prelude.{MatchOption}
 use Rattle.klist_core.specs.Places.{IsByKey, IsPlacedByKey, IsEmpty, IsFirst, NoneAbove, IsNext}
 
--- the pair is a key and a machine frame; if there is one, its slab is in a list that is linked by key
+-- if there is a pair of a key and a machine frame, the slab at that machine frame is in a list that is linked by key
 abbrev pub IsThere : List (Option (ℕ × ℕ)) → Option (ℕ × ℕ) → Type 0
 IsThere places o = IfSome o (λ p. IsPlacedByKey places p.1)
 

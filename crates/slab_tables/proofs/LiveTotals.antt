@@ -10,7 +10,7 @@ use Rattle.slab_tables.specs.Content.{blank, kept_at, is_of_index, live_total}
 abbrev pub part : ℕ → Option (ℕ × ℕ) → Kept → ℕ
 part n p k = cond (is_of_index n p) k.live 0
 
--- the total after the place and the stored state at one machine frame are replaced
+-- if the place and the state at machine frame i are replaced, the total and the frame's part of it change by the same amount
 pub total_set : (n i : ℕ) (p : Option (ℕ × ℕ)) (k : Kept) (ps : List (Option (ℕ × ℕ))) (ks : List Kept) → i < length ps → i < length ks
     → live_total n (set ps i p) (set ks i k) + part n (place_at ps i) (kept_at ks i) ≡ live_total n ps ks + part n p k
 total_set n i p k [] ks lt there = absurd (omega arith)
@@ -18,7 +18,7 @@ total_set n i p k (q ∷ ps) [] lt there = absurd (omega arith)
 total_set n zero p k (q ∷ ps) (l ∷ ks) lt there = omega arith
 total_set n (suc i) p k (q ∷ ps) (l ∷ ks) lt there = let h = total_set n i p k ps ks (omega arith) (omega arith) in omega (arith, h)
 
--- the total after only the place is replaced
+-- if only the place at machine frame i is replaced, the total and the frame's part of it change by the same amount
 pub total_placed : (n i : ℕ) (p : Option (ℕ × ℕ)) (ps : List (Option (ℕ × ℕ))) (ks : List Kept) → i < length ps → i < length ks
     → live_total n (set ps i p) ks + part n (place_at ps i) (kept_at ks i) ≡ live_total n ps ks + part n p (kept_at ks i)
 total_placed n i p ps ks lt there =
@@ -26,12 +26,12 @@ total_placed n i p ps ks lt there =
     subst (λ (xs : List Kept). live_total n (set ps i p) xs + part n (place_at ps i) (kept_at ks i) ≡ live_total n ps ks + part n p (kept_at ks i)) same
     (total_set n i p (kept_at ks i) ps ks lt there)
 
--- a machine frame's part is at most the total
+-- a machine frame's part of the total is at most the total
 pub part_within : (n i : ℕ) (ps : List (Option (ℕ × ℕ))) (ks : List Kept) → i < length ps → i < length ks
     → part n (place_at ps i) (kept_at ks i) ≤ live_total n ps ks
 part_within n i ps ks lt there = let h = total_placed n i None ps ks lt there in omega (arith, h)
 
--- the total is the same if the same machine frames are the cache's
+-- the total does not change if the slabs of the cache begin at the same machine frames
 pub total_along : (n : ℕ) (ps qs : List (Option (ℕ × ℕ))) (ks : List Kept) → length qs ≡ length ps
     → ((i : ℕ) → is_of_index n (place_at qs i) ≡ is_of_index n (place_at ps i)) → live_total n qs ks ≡ live_total n ps ks
 total_along n [] [] ks same along = refl
@@ -43,7 +43,7 @@ total_along n (p ∷ ps) (q ∷ qs) (k ∷ ks) same along =
     let rest = total_along n ps qs ks (omega arith) (λ i. along (suc i)) in
     ap (λ b. cond b k.live 0 + live_total n qs ks) here ∙ ap (λ x. cond (is_of_index n p) k.live 0 + x) rest
 
--- the total is 0 if no machine frame is the cache's
+-- the total is 0 if no slab of the cache begins at any machine frame
 pub total_none : (n : ℕ) (ps : List (Option (ℕ × ℕ))) (ks : List Kept) → ((i : ℕ) → is_of_index n (place_at ps i) ≡ false) → live_total n ps ks ≡ 0
 total_none n [] ks none = refl
 total_none n (p ∷ ps) [] none = refl
@@ -51,7 +51,7 @@ total_none n (p ∷ ps) (k ∷ ks) none =
     let here : is_of_index n p ≡ false = none 0 in
     ap (λ b. cond b k.live 0 + live_total n ps ks) here ∙ (omega (arith, total_none n ps ks (λ i. none (suc i))))
 
--- if no slab has more than 256 live objects, the total is at most 256 for each machine frame
+-- if no slab has more than 256 live objects, the total is at most 256 times the number of machine frames
 pub total_few : (n : ℕ) (ps : List (Option (ℕ × ℕ))) (ks : List Kept)
     → ((i head key : ℕ) → place_at ps i ≡ Some (head, key) → (kept_at ks i).live ≤ 256) → live_total n ps ks ≤ 256 * length ps
 total_few n [] ks few = omega arith

@@ -153,7 +153,7 @@ module _ (s s' : Content) (from to i : ℕ) (ne : from ≡ to → ⊥) (lt : i <
           ∙ (kept_here s' (from * 2 ^ s.top + i) (to * 2 ^ s.top + i) m.paired a_lt b_lt differ free ∙ (from_stays.1 ∙ ap (λ x. kept_at s.kept (from * 2 ^ s.top + x)) (sym is)))
       kept j below (inr off) = kept_stays s' (from * 2 ^ s.top + i) (to * 2 ^ s.top + i) m.paired a_lt b_lt differ free (to * 2 ^ s.top + j) (off_own to j i off) ∙ m.kept j (omega arith)
 
--- once all machine frames of a superblock are moved, the slot is
+-- if the slabs at the first 2 ^ top machine frames of superblock `from` are moved, all its slabs are moved
 pub moving_all : (s s' : Content) (from to i : ℕ) → i ≡ 2 ^ s.top → IsMoving s s' from to i → IsMoved s s' from to
 moving_all s s' from to i all m = record {
   top = m.top;
@@ -170,7 +170,8 @@ moving_all s s' from to i all m = record {
     off : (n x : ℕ) → (n / 2 ^ s.top ≡ x → ⊥) → (j : ℕ) → j < i → n ≡ x * 2 ^ s.top + j → ⊥
     off n x ne j lt e = ne (ap (λ y. y / 2 ^ s.top) e ∙ div-mul-add x (2 ^ s.top) j (omega arith))
 
--- what the code computes for frame i: its machine frames in both superblocks
+-- when the code moves the slab at frame i, a and b are the machine frames of frame i in the two superblocks, and both are in
+-- range
 pub record IsStep (s s' : Content) (from to i a b : ℕ) : Type 0 where
   pub lt : i < 2 ^ s.top
   pub from_is : a ≡ from * 2 ^ s.top + i

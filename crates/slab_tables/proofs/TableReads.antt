@@ -30,11 +30,11 @@ cached s t c cache e = elim (cases_lt c MOST_CACHES) [
   | inr ge ↦ let none : cache_at s t c ≡ None = ap (λ b. cond b (cache_in s.caches (index_of_cache t c)) None) (le-ltb c MOST_CACHES ge) in absurd (let f : ◌≡◌ {A = Option Cache} None (Some cache) = sym none ∙ e in cc)
 ]
 
--- the cache and the kind of a list
+-- the number of a list, divided by 3, is the index of its cache; the remainder is its kind
 pub head_parts : (t c kind : ℕ) → kind < 3 → (head_of t c kind / 3 ≡ index_of_cache t c) × (head_of t c kind % 3 ≡ kind)
 head_parts t c kind lt = (omega arith, omega arith)
 
--- a place in a list of the cache is that of one of its slabs
+-- a slab in one of the three lists of cache c of tenant t is a slab of that cache
 pub placed_at : (s : Content) (t c head key machine_frame : ℕ) → place_at s.lists.places machine_frame ≡ Some (head, key) → head / 3 ≡ index_of_cache t c → IsPlacedIn s t c key machine_frame
 placed_at s t c head key machine_frame e is =
     let parts : head ≡ head_of t c (head % 3) = omega arith in
@@ -50,7 +50,7 @@ some_below s t c some = elim (cases_lt c MOST_CACHES) [
   | inr ge ↦ absurd (false≢true (subst IsSome (ap (λ b. cond b (cache_in s.caches (index_of_cache t c)) None) (le-ltb c MOST_CACHES ge)) some))
 ]
 
--- the stored state of a slab of the cache fits its list
+-- the stored state of a slab of the cache fits the cache and the slab's list
 pub listed : (s : Content) → IsSlabs s → (t c first machine_frame : ℕ) (cache : Cache) → cache_at s t c ≡ Some cache → (kind : ℕ) → kind < 3
     → place_at s.lists.places machine_frame ≡ Some (head_of t c kind, first) → IsListed (kept_at s.kept machine_frame) cache (head_of t c kind)
 listed s w t c first machine_frame cache e kind lt placed =
@@ -65,7 +65,7 @@ placed_by_kind s w t c first machine_frame cache e slab =
     let stands = listed s w t c first machine_frame cache e slab.kind slab.few slab.placed in
     slab.placed ∙ ap (λ (k : ℕ). Some (head_of t c k, first)) (sym (head_parts t c slab.kind slab.few).1 ∙ stands.kind)
 
--- no slab has more than 256 objects
+-- no slab has more than 256 live objects
 pub few_live : (s : Content) → IsSlabs s → (i head key : ℕ) → place_at s.lists.places i ≡ Some (head, key) → (kept_at s.kept i).live ≤ 256
 few_live s w i head key e =
     let k = w.standing i head key e in

@@ -24,7 +24,7 @@ with_new_slab s t c cache first n = record s {
   caches = slice_set s.caches (index_of_cache t c) (Some (made_more cache));
 }
 
--- the slab has `count` live objects, and is in the list of its kind
+-- the slab at machine frame n has `count` live objects, and is in the list of its kind
 abbrev pub with_count : Content → ℕ → ℕ → Cache → ℕ → ℕ → ℕ → Content
 with_count s t c cache first n count = record s {
   lists = record s.lists { places = slice_set s.lists.places n (Some (head_of t c (kind_of (layout_numbers cache).count count), first)) };
@@ -40,7 +40,7 @@ with_outside s n outside = record s { kept = slice_set s.kept n (record (kept_at
 abbrev pub without_slab : Content → ℕ → Content
 without_slab s n = record s { lists = removed s.lists n }
 
--- cache c of tenant t is replaced, added or removed
+-- the entry of cache c of tenant t is replaced by `cache`; the cache is removed if this is `None`
 abbrev pub with_cache : Content → ℕ → ℕ → Option Cache → Content
 with_cache s t c cache = record s { caches = slice_set s.caches (index_of_cache t c) cache }
 
@@ -83,7 +83,7 @@ pub record IsCleared (s s' : Content) (gone : ℕ → Bool) : Type 0 where
 abbrev pub IsReset : Content → Content → ℕ → Type 0
 IsReset s s' t = IsCleared s s' (λ n. n / MOST_CACHES == t)
 
--- the slab at one machine frame is moved to another, with its stored state
+-- the slab at machine frame `from`, if there is one, is moved to machine frame `to` with its stored state
 abbrev pub with_slab_moved : Content → ℕ → ℕ → Content
 with_slab_moved s from to = record s { lists = replaced s.lists from to; kept = slice_set s.kept to (kept_at s.kept from) }
 

@@ -58,11 +58,11 @@ kind_number Kind.Full = 0
 kind_number Kind.Partial = 1
 kind_number Kind.Empty = 2
 
--- the list of the slabs of one kind of cache c of tenant t
+-- the number of the list in which cache c of tenant t has its slabs of this kind
 abbrev pub head_of : ℕ → ℕ → ℕ → ℕ
 head_of t c kind = 3 * index_of_cache t c + kind
 
--- the stored state of a slab fits the layout of its cache, and the slab's kind is that of the list with number `head`
+-- the stored state of a slab fits the layout of its cache, and the list with number `head` has the slab's kind
 pub record IsListed (kept : Kept) (cache : Cache) (head : ℕ) : Type 0 where
   pub kind : head % 3 ≡ kind_of (layout_numbers cache).count kept.live
   pub few : kept.live ≤ (layout_numbers cache).count
@@ -99,13 +99,13 @@ pub record IsSlabs (s : Content) : Type 0 where
       → (c : Cache) × (cache_in s.caches (head / 3) ≡ Some c) × IsListed (kept_at s.kept n) c head
   pub counted : (n : ℕ) → n < length s.caches → slice_index s.live n ≡ live_total n s.lists.places s.kept
 
--- for each tenant, a number above those of all its caches
+-- for each tenant, `below` has a number, at most 32, that is greater than the numbers of all its caches
 pub record AreBelow (caches : List (Option Cache)) (below : List ℕ) : Type 0 where
   pub tenants : length caches ≡ MOST_CACHES * length below
   pub few : (t : ℕ) → slice_index below t ≤ MOST_CACHES
   pub none : (n : ℕ) → slice_index below (n / MOST_CACHES) ≤ n % MOST_CACHES → cache_in caches n ≡ None
 
--- the invariant of the tables, with `below` as the numbers above the caches
+-- the invariant of the tables and of the numbers in `below`
 pub record AreTables (s : Content) (below : List ℕ) : Type 0 where
   pub slabs : IsSlabs s
   pub ends : AreBelow s.caches below

@@ -9,16 +9,16 @@ use layout_core::{Layout, Pattern};
 pub struct Cache {
     pub layout: Layout,
     pub pattern: Pattern,
-    /// The number of slabs made since the cache was created, modulo the number of its colours.
+    /// The number of slabs that the cache has made, modulo the number of colours of its layout.
     pub made: u32,
 }
 
 /// The state of a slab, except for its list.
 #[derive(Clone, Copy, Debug)]
 pub struct Kept {
-    /// The offset of its first object, in bytes.
+    /// The offset of the slab's first object, in bytes.
     pub colour: u16,
-    /// The number of its live objects.
+    /// The number of live objects in the slab.
     pub live: u16,
     /// For a slab of large objects, one bit for each of its at most 16 objects: 1 if the object is live. The lowest bit is for
     /// object 0.

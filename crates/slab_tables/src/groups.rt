@@ -9,20 +9,21 @@ use std::alloc::{AllocError, Global};
 /// The order of a group of frames. If superblocks have a lower order, a group has that order, so it always lies in one slot.
 const GROUP_ORDER: u8 = 5;
 
-/// For each list that is kept, one bit for each group of its tenant's frames: 1 if the list has slabs there. For each slot of a
-/// tenant, the superblock that was in it when a slab was last made in the slot or moved with it.
+/// Hints about where slabs begin. Each list that is kept in groups has one bit for each group of its tenant's frames: 1 if a slab
+/// of the list begins there. Each slot of a tenant has a superblock: the one that it had when a slab was last made in the slot or
+/// moved with it.
 #[derive(Debug, Drop)]
 pub(crate) struct Groups {
     /// A superblock has `2^order` frames.
     order: u8,
     /// A group has `2^group` frames.
     group: u8,
-    /// The bits of a frame's number that give its index in its group.
+    /// The mask of the bits of a frame's number that give the frame's index in its group.
     inside: u32,
     /// A list has `2^span` words.
     span: u8,
     words: Vec<u64>,
-    /// For each list, whether it is kept.
+    /// For each list, true if it is kept in groups.
     kept: Vec<bool>,
     superblocks: Vec<u32>,
     ghost order_small: { order ≤ 8 },
@@ -76,14 +77,14 @@ impl Groups {
         frame >> self.group == other >> self.group
     }
 
-    /// Returns true if the list is kept.
+    /// Returns true if the list is kept in groups.
     #[inline(always)]
     pub(crate) fn is_kept(&self, list: u32) -> bool {
         let i = list as usize;
         i < self.kept.len() && self.kept[i]
     }
 
-    /// Begins to keep the list, at first with no slab noted.
+    /// Begins to keep the list in groups, and clears all its bits.
     pub(crate) fn keep(&mut self, list: u32) {
         let i = list as usize;
         if i < self.kept.len() {
@@ -96,7 +97,7 @@ impl Groups {
         }
     }
 
-    /// Stops keeping the list.
+    /// Stops keeping the list in groups.
     pub(crate) fn leave(&mut self, list: u32) {
         let i = list as usize;
         if i < self.kept.len() {
@@ -104,7 +105,7 @@ impl Groups {
         }
     }
 
-    /// Notes that a slab of the list begins at a frame.
+    /// Notes that a slab of the list begins at the frame.
     pub(crate) fn put(&mut self, list: u32, frame: u32) {
         let group = frame >> self.group;
         let i = self.word_of(list, group / 64);
@@ -122,7 +123,7 @@ impl Groups {
         }
     }
 
-    /// Notes the machine frame of a frame of the list's tenant.
+    /// Notes the superblock of the frame's slot: the one that contains the machine frame. The frame belongs to the list's tenant.
     pub(crate) fn see(&mut self, list: u32, frame: u32, machine_frame: u32) {
         let i = self.slot_of(list, frame);
         if i < self.superblocks.len() {
@@ -147,8 +148,8 @@ impl Groups {
         None
     }
 
-    /// Returns the machine frame that a frame of the list's tenant had when a slab was last made in its slot or moved with it, or
-    /// `None` if the slot is out of range.
+    /// Returns the machine frame that the frame has if its slot still has the superblock that was last noted. Returns `None` if
+    /// the slot is out of range.
     pub(crate) fn seen_at(&self, list: u32, frame: u32) -> Option<u32> {
         let superblock = *self.superblocks.get(self.slot_of(list, frame))?;
         Some(superblock << self.order | frame % (1 << self.order))
@@ -177,7 +178,7 @@ impl Groups {
         (list as usize) << self.span | i as usize
     }
 
-    /// Returns the index of the frame's slot among those of all tenants.
+    /// Returns the index of the frame's slot among the slots of all tenants. The frame belongs to the list's tenant.
     fn slot_of(&self, list: u32, frame: u32) -> usize {
         let tenant = list as usize / (3 * usize::from(MOST_CACHES));
         usize::from(MOST_SUPERBLOCKS) * tenant + (frame >> self.order) as usize

@@ -29,7 +29,7 @@ impl Kind {
         }
     }
 
-    /// Returns the index of the kind's list among those of a cache, 0 to 2.
+    /// Returns the index of the kind's list among the three lists of a cache, from 0 to 2.
     pub(crate) fn number(self) -> u32
         ensures { result ≡ kind_number self }
     {
@@ -54,7 +54,8 @@ impl Counts {
 
     /// Returns true if the slab is partial before and after the change.
     ///
-    /// A take adds 1 and a give subtracts 1. So the compiler knows which count is less, and only two comparisons are left.
+    /// A take adds 1 and a give subtracts 1. So after inlining the compiler knows which count is less, and two comparisons
+    /// remain.
     #[inline(always)]
     pub(crate) fn stay_partial(self) -> bool
         ensures before { result ≡ true → kind_of self.total self.before ≡ 1 }

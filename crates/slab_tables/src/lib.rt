@@ -1,9 +1,9 @@
 //! The tables of all tenants' slab caches (Bonwick, "The Slab Allocator", USENIX Summer 1994): the caches, their slabs with
 //! their kinds, and the numbers of live objects.
 //!
-//! The tables do not access the memory of slabs. A slab is named by its first machine frame, and by its first frame in the
-//! numbering of its tenant. The live objects of a slab are recorded in the slab's own frame if its objects are small, and here if
-//! they are large.
+//! The tables do not access the memory of slabs. A slab is identified by its first machine frame, or by its first frame in its
+//! tenant's numbering. A slab of small objects records in its own frame which objects are live. For a slab of large objects the
+//! tables have this record.
 //!
 //! Only [`Tables::new`] allocates.
 #![tactic(auto)]

@@ -8,10 +8,11 @@ use crate::kind::Kind;
 use crate::places::index_of;
 use model_core::limits::MOST_CACHES;
 
-/// The list of a cache's slabs of one kind. Its number is `3 * (32 * tenant + cache)` for the full slabs. The next two numbers are
-/// those of the partial and the empty slabs.
+/// The list of a cache's slabs of one kind. The list of the full slabs has the number `3 * (32 * tenant + cache)`. The list of
+/// the partial slabs has the next number, and the list of the empty slabs has the one after it.
 ///
-/// So the lists of full slabs are loose ([`klist_core`]): slabs fill up often, and no call needs the first full one.
+/// Lists whose numbers are multiples of 3 are loose ([`klist_core`]). The full slabs have a loose list, because slabs fill up
+/// often and no call needs the first full one.
 #[derive(Clone, Copy, Debug, PartialEq, Eq)]
 pub struct ListId {
     pub number: u32,
@@ -29,7 +30,7 @@ impl ListId {
         }
     }
 
-    /// Returns the number of the list's cache among those of its tenant.
+    /// Returns the number of the list's cache, from 0 to 31.
     pub fn cache(self) -> u32
         ensures { result ≡ self.number / 3 % MOST_CACHES }
     {

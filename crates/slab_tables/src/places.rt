@@ -1,4 +1,4 @@
-//! The indexes of caches and lists among those of all tenants, and changes of the lists.
+//! The index of a cache among the caches of all tenants, and the lists of slabs with their hints.
 
 ghost use Rattle.std.specs.Prelude.{◌≡◌, ◌≢◌, ℕ, ◌+◌, ◌*◌, ◌^◌, ◌<◌, ◌≤◌, true, Some, None, length, replicate, IsSome, IfSome, IfOk, MatchOption};
 ghost use Rattle.model_core.specs.declared.limits.TheConstants.{MOST_ORDER, MOST_SUPERBLOCKS, MOST_TENANTS, MOST_CACHES};
@@ -22,7 +22,7 @@ pub(crate) fn index_of(t: u8, c: u32) -> usize
     usize::from(MOST_CACHES) * usize::from(t) + c as usize
 }
 
-/// Returns the machine frame at frame `i` of a superblock of `2^order` frames.
+/// Returns the machine frame of frame `i` of the superblock, which has `2^order` frames.
 pub(crate) fn machine_frame_at(order: u8, superblock: u16, i: u32) -> u32
     requires order { order ≤ MOST_ORDER }
     requires frame { i < 2 ^ order }
@@ -31,7 +31,7 @@ pub(crate) fn machine_frame_at(order: u8, superblock: u16, i: u32) -> u32
     (u32::from(superblock) << order) + i
 }
 
-/// A list of fewer slabs than this is walked without using groups.
+/// A list with fewer slabs than this is walked, without a search for a nearby slab.
 const SHORT: u32 = 8;
 
 /// A list that grows to this number of slabs is kept in groups. For fewer slabs a walk costs no more than a lookup in the groups.

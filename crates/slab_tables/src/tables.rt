@@ -25,7 +25,7 @@ pub struct Tables {
     kept: Vec<Kept>,
     caches: Vec<Option<Cache>>,
     live: Vec<u32>,
-    /// For each tenant, a number above those of all its caches.
+    /// For each tenant, a number that is greater than the numbers of all its caches.
     below: Vec<u8>,
 }
 
@@ -40,8 +40,8 @@ impl Model for Tables {
 }
 
 impl Tables {
-    /// Makes tables without caches or slabs, for `superblocks` superblocks of `2^order` frames and `tenants` tenants, within the
-    /// limits of a machine.
+    /// Makes tables without caches or slabs, for `superblocks` superblocks of `2^order` frames and `tenants` tenants. The three
+    /// numbers are at most `MOST_SUPERBLOCKS`, `MOST_ORDER` and `MOST_TENANTS`.
     ///
     /// Allocates all memory that will ever be used. Returns `AllocError` if the allocator refuses it.
     pub fn new(
@@ -106,7 +106,8 @@ impl Tables {
         self.caches[index_of(t, c)].as_ref()
     }
 
-    /// Returns a number above those of all caches of tenant `t`, at most 32. Loops over the caches end there.
+    /// Returns a number, at most 32, that is greater than the numbers of all caches of tenant `t`. A loop over the tenant's
+    /// caches can end there.
     pub fn caches_below(&self, t: u8) -> u32
         requires { IsTenant self.now t }
         ensures few { result ≤ MOST_CACHES }
@@ -165,8 +166,8 @@ impl Tables {
         self.live[index_of(t, c)]
     }
 
-    /// Makes a cache without slabs for tenant `t` and returns its number, the least that no cache of the tenant has. Returns
-    /// `None` and changes nothing if all numbers are used.
+    /// Makes a cache without slabs for tenant `t` and returns its number: the least that no other cache of the tenant has.
+    /// Returns `None` and changes nothing if all numbers are used.
     pub fn create(&mut self, t: u8, layout: Layout, pattern: Pattern) -> Option<u8>
         requires { IsTenant self.old t }
         ensures answer { MatchOption result (IsAllUsed self.old t) (IsLeastNumber self.old t) }
@@ -212,7 +213,7 @@ impl Tables {
         self.caches[index_of(t, c)] = None;
     }
 
-    /// Lowers [`Tables::caches_below`] of tenant `t` to the number after that of its highest cache, or to 0 if it has none.
+    /// Lowers [`Tables::caches_below`] of tenant `t` to one more than its highest cache number, or to 0 if it has no cache.
     pub fn lower(&mut self, t: u8)
         requires { IsTenant self.old t }
         ensures { self.new ≡ self.old }
@@ -225,7 +226,7 @@ impl Tables {
     }
 
     /// Adds the next slab of cache `c` of tenant `t`, which is empty, at frame `first`. The machine frame of `first` is
-    /// `machine_frame`. The cache has then made one more slab, so a copy of it that was read before is out of date.
+    /// `machine_frame`. The cache has then made one more slab, so `cache`, which was read before, is out of date.
     pub fn add_slab(&mut self, t: u8, c: u32, cache: &Cache, first: u32, machine_frame: u32)
         requires tenant { IsTenant self.old t }
         requires cache { cache_at self.old t c ≡ Some cache.now }
@@ -278,7 +279,8 @@ impl Tables {
         self.live[i] = self.live[i] + count - before;
     }
 
-    /// Sets the record of the live objects of the slab at the machine frame, if its objects are large.
+    /// Sets the bits that show which objects of the slab at the machine frame are live. They are used only if the objects are
+    /// large.
     pub fn set_outside(&mut self, machine_frame: u32, outside: u16)
         requires { machine_frame < length self.old.lists.places }
         ensures { self.new ≡ with_outside self.old machine_frame outside }

@@ -5,18 +5,18 @@ use Rattle.slab_tables.proofs.InvariantKept.{counting, kept_read, slabs_count}
 use Rattle.slab_tables.proofs.tables.Tables.set_count.Goals as goal
 use Rattle.slab_tables.proofs.tables.Tables.set_count.Goals.{After-order-slab}
 
--- the new kind's list, by the numbers that the code has
+-- the list that the code computes from the new count is the list of the slab's kind after the change
 listed_as : (c : After-order-slab) → head_of c.args.t c.args.c (kind_of c.count-total.result c.args.count)
     ≡ head_of c.args.t c.args.c (kind_of (layout_numbers c.args.cache.now).count c.args.count)
 listed_as c = ap (λ n. head_of c.args.t c.args.c (kind_of n c.args.count)) c.count-total.ensures
 
--- the state read is the stored state of the slab
+-- the state that the code reads is the stored state of the slab
 read_as : (c : After-order-slab) → c.index.result.now ≡ kept_at c.self.inside.kept.items c.args.machine_frame
 read_as c =
     kept_read (shown c.self.inside) c.args.t c.args.c c.args.first c.args.machine_frame c.index.result.now c.self.invariant.slabs
     (rw (← c.self.view_is) at c.requires.slab) c.index.ensures
 
--- the list of the kind before
+-- the list that the code computes from the old count is the list of the slab's kind before the change
 listed_from : (c : After-order-slab) → head_of c.args.t c.args.c (kind_of c.count-total.result c.from-before.result)
     ≡ head_of c.args.t c.args.c (kind_of (layout_numbers c.args.cache.now).count (kept_at c.self.inside.kept.items c.args.machine_frame).live)
 listed_from c =
