@@ -19,7 +19,7 @@ use Rattle.machine_changes.specs.Shows.{byte_or_zero}
 use Rattle.machine_changes.proofs.PageHoldings.{same_space}
 use Rattle.slab_core.specs.Calls.{IsFilled, IsConstructed}
 
--- only bytes change
+-- if r' is v, and v differs from r only in its banks, r' differs from r only in its banks
 pub banks_of : (r r' v : spaces.Content) → r' ≡ v → v ≡ record r { banks = v.banks } → r' ≡ record r { banks = r'.banks }
 banks_of r r' v e h = e ∙ h ∙ ap (λ (x : spaces.Content). record r { banks = x.banks }) (sym e)
 
@@ -34,7 +34,7 @@ some_if false o h = absurd (false≢true h)
 pub spare_twice : (r r' r'' : spaces.Content) → SpareStays r r' → r'' ≡ record r' { banks = r''.banks } → SpareStays r' r'' → SpareStays r r''
 spare_twice r r' r'' k e k' m none = k' m none ∙ k m (ap (λ (x : spaces.Content). spaces.owner_at x.owners m) (sym e) ∙ none)
 
--- a range inside a range that lies in one held slot lies in that slot too
+-- if a range lies in one held slot, each range inside it lies in one held slot too
 pub inner_held : (r : spaces.Content) (t place len p n : ℕ) → IsSome (home_of r t place len) → 0 < n → place ≤ p → p + n ≤ place + len
     → 0 < r.unit → IsSome (home_of r t p n)
 inner_held r t place len p n home some low high unit =
@@ -52,7 +52,7 @@ inner_held r t place len p n home some low high unit =
     subst (λ b. IsSome (if b then spaces.superblock_at r.slots t (p / r.unit) else None)) (sym inside)
     (subst (λ u. IsSome (spaces.superblock_at r.slots t u)) (sym slot) both.1)
 
--- A write over a range changes no other byte of the tenant
+-- A write over a range changes exactly the bytes of the range, and no other byte of the tenant
 module _ (r : spaces.Content) (t place len : ℕ) (w : List ℕ) (mine : OwnBytes r) (home : IsSome (home_of r t place len)) (sized : length w ≡ len) where
   abbrev pub filled : spaces.Content
   filled = with_window r t place len w
@@ -71,7 +71,7 @@ module _ (r : spaces.Content) (t place len : ℕ) (w : List ℕ) (mine : OwnByte
       let both = and_parts (leb place p) (ltb p (place + len)) e in
       out (leb-true place p both.0) (ltb-true p (place + len) both.1)))
 
--- the bytes of a block
+-- each place from the first byte of a block to its last lies in a frame of the block
 pub inside_from : (p f k : ℕ) → 4096 * f ≤ p → p < 4096 * f + 4096 * 2 ^ k → HasFrame (block f k) (p / 4096)
 inside_from p f k low high = (omega arith, omega arith)
 
@@ -80,7 +80,7 @@ module _ (cache : own.Cache) (f colour : ℕ) (cut : IsLayout cache.layout.size 
   pub fit : IsFit (layout_numbers cache) colour
   fit = subst (λ x. IsFit (layout_numbers cache) x) (sym is.1) (cut.fits is.0)
 
-  -- an object ends before each later one begins, and the last one ends within `room`
+  -- object i ends at or before the offset of each later index n
   pub ends : (i n : ℕ) → i < n → object_offset (layout_numbers cache) colour i + cache.layout.size ≤ object_offset (layout_numbers cache) colour n
   ends i n less =
       let rows : (i + 1) * (layout_numbers cache).chunk ≤ n * (layout_numbers cache).chunk = mul-le-mul_right _ (omega arith) in
@@ -151,14 +151,14 @@ module _ (cache : own.Cache) (f colour : ℕ) (cut : IsLayout cache.layout.size 
           ∙ ap (λ n. Some (slice_index filling.bytes n)) offset ∙ ap (λ b. Some b) (filling.constructed j less)
 
 module _ (cache : own.Cache) (f colour : ℕ) where
-  -- if the whole block lies in a held slot, the control record does
+  -- if the whole block lies in a held slot, the control record lies in one too
   pub record_held : (r : spaces.Content) (t : ℕ) → 0 < r.unit → IsSome (home_of r t (4096 * f) (4096 * 2 ^ (layout_numbers cache).order))
       → IsSome (home_of r t (4096 * f + 4064) 32)
   record_held r t unit home =
       let frames : 0 < 2 ^ (layout_numbers cache).order = pow_pos (layout_numbers cache).order in
       inner_held r t (4096 * f) (4096 * 2 ^ (layout_numbers cache).order) (4096 * f + 4064) 32 home (omega arith) (omega arith) (omega arith) unit
 
-  -- before the first object is constructed
+  -- if the objects are large, `IsConstructed` holds for 0 objects before anything is written
   pub begun : (r : spaces.Content) (t : ℕ) → is_small (layout_numbers cache).chunk ≡ false → IsConstructed r r t cache f colour 0
   begun r t large = record {
     space = refl;

@@ -46,7 +46,7 @@ filter_none p [] none = refl
 filter_none p (x ∷ xs) none =
     ap (λ v. cond v (x ∷ filter p xs) (filter p xs)) (none x (inl refl)) ∙ filter_none p xs (λ y i. none y (inr i))
 
--- if only the element with key c adds to the list, the list is that element's
+-- if g has no blocks for any cache of the list except cache c, the blocks of the list are those of cache c
 one_only : (g : Cache → List Block) (c k : ℕ) (x : Cache) (xs : List Cache) → RisesFrom k (map (λ y. y.number) xs) → at (λ y. y.number) c xs ≡ Some x
     → ((y : Cache) → IsIn y xs → y.number ≢ c → g y ≡ []) → flat_map g xs ≡ g x
 one_only g c k x [] rises e none = absurd (some_none (sym e))
@@ -93,7 +93,7 @@ module _ (r : spaces.Content) (b : buddies.Content) (s : Content) (t c : ℕ) (w
       (λ none. absurd (let l = to_list r b s w a t c 1 (omega arith) m x h ex y i (some_kind y e none) in unused.1 l.machine_frame y.first l.place))
       (cases_Bool (is_full y))) (cases_Bool (is_empty y))
 
-  -- conversely, if all are, the cache is unused
+  -- if no slab of the cache in the machine has a live object, the cache is unused
   pub unused_of : (x : Cache) → cache_of m c ≡ Some x → list_any (λ y. not (is_empty y)) x.slabs ≡ false → IsUnused s t c
   unused_of x ex none = (not_kind 0 (omega arith), not_kind 1 (omega arith))
     where
@@ -134,7 +134,7 @@ step_done c m x e none =
     ap (destroy_of m) e
     ∙ ap (λ (v : Bool). if v then refuse CacheInUse m else record { answer = Ok (frames_of (slab_blocks x)); machine = destroyed x m }) none
 
--- there is no cache
+-- if there is no cache c, a destroy is refused
 pub no_cache_step : (r : spaces.Content) (b : buddies.Content) (s : Content) (t c : ℕ) (m : Machine) → ShowsMachine r b s t m → cache_at s t c ≡ None
     → destroy_step c m ≡ refuse NoCache m
 no_cache_step r b s t c m h vacant = step_none c m (no_cache r b s t c m h vacant)
@@ -164,7 +164,7 @@ left_of {r' = r'} {b' = b'} {s = s} {s' = s'} {t = t} c {cache = cache} cached t
       within = among_all r' b' s' t c agree (subst (λ n. t < n) (sym (ap (λ x. length x.slots) spares.space)) tenant) small;
     }
 
--- what the parts show after the cache is removed
+-- after the cache is removed, the answer and the machine that is shown are those of `destroy_step`
 pub record IsDestroyed (r : spaces.Content) (b : buddies.Content) (s : Content) (t c : ℕ) (m : Machine) (frames : ℕ) : Type 0 where
   pub answer : Ok frames ≡ (destroy_step c m).answer
   pub shown : ShowsMachine r b (with_cache s t c None) t (destroy_step c m).machine
@@ -274,7 +274,7 @@ module _ {r : spaces.Content} {b : buddies.Content} {s : Content} {t : ℕ} (c :
     pub destroyed_as : (frames : ℕ) → frames ≡ empty_frames_in (cache_of m c) → IsDestroyed r' b' s' t c m frames
     destroyed_as frames e = let there = cache_shown r b s t m h c cache cached in done there.shown there.cached frames e
 
--- removing the cache's entry changes nothing of other tenants
+-- removing the cache's entry changes nothing that other tenants have
 pub spares_entry : (r : spaces.Content) (b : buddies.Content) {s : Content} {t c : ℕ} → IsLeft s t c → Spares t r r b b s (with_cache s t c None)
 spares_entry r b {s = s} {t = t} {c = c} left = record {
   others = cache_others s t c None left.small left.within r b;

@@ -1,4 +1,4 @@
--- How many frames there are in empty slabs.
+-- The number of frames in empty slabs.
 use Rattle.std.proofs.Common.{◌≡◌, ℕ, ◌+◌, ◌*◌, ◌%◌, ◌^◌, ◌<◌, ◌≤◌, cond, ltb, List, [], ◌∷◌, ◌++◌, map, length, Some, None, refl, sym, ap, ◌∙◌, inl, inr, ⊎_elim, arith}
 use Rattle.std.specs.Prelude.{filter, flat_map}
 use Rattle.std.proofs.lemmas.Bool.{cases_eq, cases_lt, lt-ltb, le-ltb}
@@ -31,7 +31,7 @@ frames_append f x xs = go (f x)
     go [] = omega arith
     go (b ∷ bs) = let more = go bs in omega arith
 
--- the blocks of a cache's slabs all have the cache's order
+-- the slabs `ys` of cache c have as many frames as one slab has, times their number
 pub frames_each : (c : Cache) (ys : List Slab) → frames_of (map (slab_block c) ys) ≡ length ys * 2 ^ (layout c).order
 frames_each c [] = omega arith
 frames_each c (y ∷ ys) = let more = frames_each c ys in omega arith
@@ -53,7 +53,7 @@ none_at c k (x ∷ xs) (low, rises) less =
 abbrev sum_of : List Cache → ℕ
 sum_of xs = frames_of (flat_map empty_blocks xs)
 
--- the frames after the cache with the next number is added
+-- the caches below c + 1 have as many frames in empty slabs as the caches below c and cache c, if it exists, together
 pub frames_next : (c k : ℕ) (xs : List Cache) → RisesFrom k (map (λ x. x.number) xs)
     → frames_of (flat_map empty_blocks (below (c + 1) xs)) ≡ frames_of (flat_map empty_blocks (below c xs)) + empty_frames_in (at (λ x. x.number) c xs)
 frames_next c k [] rises = refl
@@ -95,7 +95,7 @@ none_first (x ∷ xs) = ap (λ v. cond v (x ∷ below 0 xs) (below 0 xs)) (le-lt
 pub frames_first : (xs : List Cache) → frames_of (flat_map empty_blocks (below 0 xs)) ≡ 0
 frames_first xs = ap (λ ys. frames_of (flat_map empty_blocks ys)) (none_first xs)
 
--- if all numbers are below c, these are all caches
+-- if each cache of the list has a number below c, the caches below c are the whole list
 pub below_all : (c : ℕ) (xs : List Cache) → ((x : Cache) → IsIn x xs → x.number < c) → below c xs ≡ xs
 below_all c [] all = refl
 below_all c (x ∷ xs) all =
@@ -109,7 +109,7 @@ frames_few count order few small =
     let rows : count * 2 ^ order ≤ count * 8 = mul-le-mul_left count power in
     (omega arith, omega arith)
 
--- the frames of a cache's empty slabs follow from the length of their list
+-- the number of frames in a cache's empty slabs is the length of their list, times the frames of one slab
 pub frames_counted : (s : Content) (t c count : ℕ) (cache : own.Cache) → IsSlabs s → ArePlaces s.lists → cache_at s t c ≡ Some cache
     → count ≡ length (keys_of s.lists.places (head_of t c 2)) → (r : spaces.Content) (b : buddies.Content) (m : Machine)
     → Agree r b s → IsSteady r b s t → ShowsMachine r b s t m → empty_frames_in (cache_of m c) ≡ count * 2 ^ (layout_numbers cache).order

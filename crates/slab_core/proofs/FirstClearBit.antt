@@ -31,7 +31,8 @@ clear_word word less other =
       },
     )
 
--- the first clear bit among the lower 16 bits of a wider word
+-- if a 32-bit word is below 2 ^ 16, its number of trailing ones is the index of its first clear bit, or 16 if the low 16 bits are
+-- set
 pub clear_half : (word : ℕ) → word < 65536 → IsClear 16 word (trailing_ones w32 word)
 clear_half word less =
     let x = bit_at-trailing_ones w32 word (omega arith) in
@@ -44,7 +45,7 @@ clear_half word less =
       clear = λ low. ne_eqb (bit_at word (trailing_ones w32 word)) 1 (λ e. omega (arith, x.1));
     }
 
--- byte k of a little-endian word
+-- byte k of a word in little-endian order is word / 2 ^ (8 * k) % 256
 byte_of : (word k : ℕ) → k < 8 → get_or (to_le_bytes w64 word) k 0 ≡ word / 2 ^ (8 * k) % 256
 byte_of word zero less = omega arith
 byte_of word (suc zero) less = omega arith
@@ -56,13 +57,13 @@ byte_of word (suc (suc (suc (suc (suc (suc zero)))))) less = omega arith
 byte_of word (suc (suc (suc (suc (suc (suc (suc zero))))))) less = omega arith
 byte_of word (suc (suc (suc (suc (suc (suc (suc (suc k)))))))) less = absurd (omega arith)
 
--- the low eight bits of a number
+-- n % 256 has the same low eight bits as n
 low_bit : (n r : ℕ) → r < 8 → bit_at (n % 256) r ≡ bit_at n r
 low_bit n r less =
     let split : n ≡ n / 256 * 2 ^ 8 + n % 256 = omega arith in
     sym (ap (λ m. bit_at m r) split ∙ bit_at_cat_low (n / 256) 8 (n % 256) r less)
 
--- bit j of a word that was read from bytes is bit j % 8 of byte j / 8
+-- if a word was read from the eight bytes at index `at`, its bit j is bit j % 8 of byte at + j / 8
 bit_of_word : (bytes : List ℕ) (at word j : ℕ) → to_le_bytes w64 word ≡ slice_range bytes at (at + 8) → j < 64
     → bit_at (get_or bytes (at + j / 8) 0) (j % 8) ≡ bit_at word j
 bit_of_word bytes at word j read less =
@@ -82,7 +83,7 @@ bit_of_word bytes at word j read less =
         let split : 8 * k + j % 8 ≡ j = omega arith in
         ap (λ n. n % 2) (div-div-eq-div-mul word (2 ^ (8 * k)) (2 ^ (j % 8)) ∙ (ap (λ p. word / p) (sym (pow-add 2 (8 * k) (j % 8))) ∙ ap (λ n. word / 2 ^ n) split))
 
--- the same for word i of a record
+-- if a word is bytes 8 * i to 8 * i + 7 of a record, its bit k is bit 64 * i + k of the record
 bit_there : (bytes : List ℕ) (i word k j : ℕ) → to_le_bytes w64 word ≡ slice_range bytes (8 * i) (8 * i + 8) → k < 64 → j ≡ 64 * i + k
     → is_set (get_or bytes (j / 8) 0) (j % 8) ≡ is_set word k
 bit_there bytes i word k j read less is =
@@ -95,7 +96,8 @@ bit_there bytes i word k j read less is =
 abbrev pub AreOnes : List ℕ → ℕ → Type 0
 AreOnes bytes end = (j : ℕ) → j < end → is_set (get_or bytes (j / 8) 0) (j % 8) ≡ true
 
--- the same up to bit k of word i, if all bits of that word below k are 1
+-- if all bits of a record below word i are 1, and all bits of word i below bit k are 1, all bits of the record below 64 * i + k
+-- are 1
 pub ones_more : (bytes : List ℕ) (i word k : ℕ) → AreOnes bytes (64 * i) → to_le_bytes w64 word ≡ slice_range bytes (8 * i) (8 * i + 8) → k ≤ 64 → ((j : ℕ) → j < k → is_set word j ≡ true)
     → AreOnes bytes (64 * i + k)
 ones_more bytes i word k ones read few bits j less = elim (cases_lt j (64 * i)) [
@@ -103,14 +105,14 @@ ones_more bytes i word k ones read few bits j less = elim (cases_lt j (64 * i)) 
   | inr high ↦ bit_there bytes i word (j - 64 * i) j read (omega arith) (omega arith) ∙ bits (j - 64 * i) (omega arith)
 ]
 
--- the same up to the end of word i, if all bits of that word are 1
+-- if all bits of a record below word i are 1, and all bits of word i are 1, all bits of the record below word i + 1 are 1
 pub ones_full : (bytes : List ℕ) (i word : ℕ) → AreOnes bytes (64 * i) → to_le_bytes w64 word ≡ slice_range bytes (8 * i) (8 * i + 8) → word ≡ 2 ^ 64 - 1
     → AreOnes bytes (64 * (i + 1))
 ones_full bytes i word ones read full =
     let more : 64 * i + 64 ≡ 64 * (i + 1) = omega arith in
     subst (AreOnes bytes) more (ones_more bytes i word 64 ones read (omega arith) (λ j less. ap (λ x. is_set x j) full ∙ eq-eqb (bit_at (2 ^ 64 - 1) j) 1 (bit_at_ones 64 j less)))
 
--- the first clear bit of word i is a clear bit of the record
+-- the first clear bit of word i is clear in the record
 pub clear_there : (bytes : List ℕ) (i word k : ℕ) → to_le_bytes w64 word ≡ slice_range bytes (8 * i) (8 * i + 8) → k < 64 → IsClear 64 word k
     → is_set (get_or bytes ((64 * i + k) / 8) 0) ((64 * i + k) % 8) ≡ false
 clear_there bytes i word k read less is = bit_there bytes i word k (64 * i + k) read less refl ∙ is.clear less
@@ -124,7 +126,8 @@ full_by_ones bytes at ones within small =
     sym (ap (λ n. bit_at (get_or bytes n 0) ((8 * at + j) % 8)) byte ∙ ap (bit_at (get_or bytes at 0)) bit)
     ∙ (eqb-true (bit_at (get_or bytes ((8 * at + j) / 8) 0) ((8 * at + j) % 8)) 1 (ones (8 * at + j) (omega arith)) ∙ sym (bit_at_ones 8 j less)))
 
--- the first number that fails the test, or n if none does
+-- If the test holds from k to k + i - 1 and fails at k + i, or if i is n, the first false one of the n flags from k on has index
+-- i. Index n means that none is false.
 pub first_clear : (k n i : ℕ) (p : ℕ → Bool) → i ≤ n → ((j : ℕ) → k ≤ j → j < k + i → p j ≡ true) → (i < n → p (k + i) ≡ false) → position_or_len not (flags_from k n p) ≡ i
 first_clear k zero i p few ones clear = omega arith
 first_clear k (suc n) zero p few ones clear =
@@ -135,7 +138,8 @@ first_clear k (suc n) (suc i) p few ones clear =
     let rest = first_clear (suc k) n i p (omega arith) (λ j low high. ones j (omega arith) (omega arith)) (λ less. ap p (omega arith) ∙ clear (omega arith)) in
     ap (λ b. position_or_len not (b ∷ flags_from (suc k) n p)) up ∙ omega (arith, rest)
 
--- the same for n tests, if the first failing number below a bound of at least n is known
+-- If i is the first number that fails the test, or `bound` if none below `bound` does, the first false one of n flags has index
+-- min i n. Here n is at most `bound`.
 pub least_of : (n bound i : ℕ) (p : ℕ → Bool) → n ≤ bound → i ≤ bound → ((j : ℕ) → j < i → p j ≡ true) → (i < bound → p i ≡ false) → min i n ≡ position_or_len not (flags n p)
 least_of n bound i p few below ones clear = elim (cases_lt i n) [
   | inl less ↦

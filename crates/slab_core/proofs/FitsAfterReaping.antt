@@ -36,7 +36,7 @@ pub fits_answers : {r : spaces.Content} {b : buddies.Content} {s : Content} {t k
 fits_answers {r = r} {b = b} {s = s} {t = t} {k = k} parts st order {fits = fits} by m shows =
     same_answer fits (is_some (choice s.top (reaped m) k)) by (fitting_meets r b s t k m st (counted r b s parts.slabs parts.agree t) shows order)
 
--- a frame of a smaller block is a frame of a larger one that begins at the same frame
+-- a frame of a block is a frame of each larger block that begins at the same frame
 wider : (f j k x : ℕ) → j ≤ k → HasFrame (block f j) x → HasFrame (block f k) x
 wider f j k x le has =
     let two : 0 < 2 = omega arith in
@@ -115,7 +115,7 @@ module _ {r : spaces.Content} {b : buddies.Content} {s : Content} {t k : ℕ} (w
         untaken = λ x has is. none_around (fits_around fit x has (fit.idle x has is));
       }))
 
-  -- if no free block is large enough, a block would fit only around an empty slab
+  -- if no free block is large enough, a block fits if and only if one fits around an empty slab
   pub fits_by_slabs : k ≤ s.top → (HasFreeBlock b t k → ⊥) → (slabs : Bool) → (slabs ≡ true) ↔ WouldFitInSlabs r b s t k
       → (slabs ≡ true) ↔ WouldFit r b s t k
   fits_by_slabs fits none true by = (λ e. slab_fits fits (by.0 refl), λ fit. refl)

@@ -16,12 +16,12 @@ use Rattle.slab_core.specs.Fitting.{IsUnusedBlock, WouldFitAround, AreRefused}
 use Rattle.slab_core.proofs.LargeFreeBlocks.{held_within}
 use Rattle.slab_core.proofs.IdleFrames.{listed_taken}
 
--- how many frames the search still has ahead, at most
+-- an upper bound on the number of frames that the search has still to pass
 abbrev pub left : Option (ℕ × ℕ) → ℕ
 left None = 0
 left (Some p) = 65536 - p.0
 
--- `next` is what follows the place in its list
+-- `next` is the entry with the next key in list p.0, after key p.1, or `None` if there is none
 abbrev pub Follows : List (Option (ℕ × ℕ)) → Option (ℕ × ℕ) → ℕ × ℕ → Type 0
 Follows places next p = MatchOption next (NoneAbove places p.0 p.1) (λ q. IsNext places p.0 p.1 q.0 q.1)
 
@@ -35,7 +35,7 @@ module _ (r : spaces.Content) (b : buddies.Content) (s : Content) (t c k : ℕ) 
     pub placed : place_at s.lists.places n ≡ Some (head_of t c 2, f)
     pub none : IsNoneBefore f
 
-  -- the state of the search: at the slab `next`, or finished without a block if there is none
+  -- the search has reached the slab `next`, or `next` is `None` and no block fits
   pub record IsSearched (next : Option (ℕ × ℕ)) : Type 0 where
     pub rest : MatchOption next (WouldFitAround r b s t c k → ⊥) (λ p. IsNextSlab p.0 p.1)
 
@@ -55,7 +55,7 @@ module _ {r : spaces.Content} {b : buddies.Content} {s : Content} {t c k : ℕ} 
         let below : slab < b.superblocks * 2 ^ s.top = (div-lt_iff_lt-mul (pow_pos s.top)).0 (held_within b t (slab / 2 ^ s.top) sized lt held) in
         omega (arith, below, a.machine_frames)
 
-    -- `next` is what follows the slab in its list
+    -- `next` is the slab after this one in its list, or `None` if this slab is the last
     abbrev pub IsAfter : Option (ℕ × ℕ) → Type 0
     IsAfter next = Follows s.lists.places next (head_of t c 2, slab)
 
@@ -91,7 +91,7 @@ module _ {r : spaces.Content} {b : buddies.Content} {s : Content} {t c k : ℕ} 
               (cases_lt slab f);
         }
 
--- the refused blocks after one more block is refused
+-- if the block with number i is refused too, `AreRefused` still holds after i is added to the set
 pub refused_more : (r : spaces.Content) (b : buddies.Content) (s : Content) (t k : ℕ) (before after : ℕ → Bool) (i : ℕ) → AreRefused r b s t k before
     → ((n : ℕ) → after n ≡ (eqb n i || before n)) → (IsUnusedBlock r b s t (i * 2 ^ k) k → ⊥) → AreRefused r b s t k after
 refused_more r b s t k before after i refused more none n is = elim (cases_eq n i) [

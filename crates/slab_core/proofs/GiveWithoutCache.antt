@@ -1,4 +1,4 @@
--- A give if the tenant has no such cache.
+-- A give to a cache that the tenant does not have.
 use Rattle.std.proofs.Common.{◌≡◌, ℕ, None, ap, ◌∙◌}
 use Rattle.std.specs.Prelude.{option_map}
 use Rattle.model_core.specs.Machine.{Machine}
@@ -12,7 +12,7 @@ use Rattle.slab_tables.specs.Content.{Content, cache_at}
 use Rattle.machine_changes.specs.Shows.{bare, ShowsMachine}
 use Rattle.machine_changes.proofs.SlabFacts.{none_mapped}
 
--- the machine has no cache with a number that has none in the tables
+-- if the tables have no cache c of tenant t, the tenant's machine has none either
 pub no_cache : (r : spaces.Content) (b : buddies.Content) (s : Content) (t c : ℕ) (m : Machine) → ShowsMachine r b s t m → cache_at s t c ≡ None → cache_of m c ≡ None
 no_cache r b s t c m h none = none_mapped (cache_of m c) (h.caches c ∙ ap (option_map (bare c)) none)
 

@@ -45,7 +45,7 @@ no_place : (o : Option (ℕ × ℕ)) → ((head key : ℕ) → o ≡ Some (head,
 no_place None none = refl
 no_place (Some p) none = absurd (none p.0 p.1 refl)
 
--- a slab is made exactly if a free block is large enough
+-- the result `None` is right if no free block is large enough
 pub none_free : {A : Type 0} (b : buddies.Content) (t k : ℕ) → IsWithout b.top (buddies.is_held (buddies.holding_of t b)) (buddies.taken_of (buddies.holding_of t b)) k
     → (o : Option A) → o ≡ None → IsSome o ↔ HasFreeBlock b t k
 none_free b t k without o none = (λ e. absurd (false≢true (sym (ap is_some none) ∙ e)), λ h. absurd (without h.found h.free h.enough))
@@ -54,7 +54,7 @@ pub some_free : {A : Type 0} (b : buddies.Content) (t k f j : ℕ) → IsChoice 
     → (p : A) → IsSome (Some p) ↔ HasFreeBlock b t k
 some_free b t k f j chosen p = (λ e. record { found = block f j; free = chosen.0; enough = chosen.1 }, λ h. refl)
 
--- the block chosen for one order is the one chosen for an equal order
+-- if two orders are equal, the block chosen for one is the block chosen for the other
 pub chosen_for : (b : buddies.Content) (t k k' f j : ℕ) → k ≡ k'
     → IsChoice b.top (buddies.is_held (buddies.holding_of t b)) (buddies.taken_of (buddies.holding_of t b)) k (block f j)
     → IsChoice b.top (buddies.is_held (buddies.holding_of t b)) (buddies.taken_of (buddies.holding_of t b)) k' (block f j)
@@ -62,7 +62,7 @@ chosen_for b t k k' f j e is =
     subst (λ i. IsChoice b.top (buddies.is_held (buddies.holding_of t b)) (buddies.taken_of (buddies.holding_of t b)) i (block f j)) e is
 
 module _ {r : spaces.Content} {b : buddies.Content} {s : Content} (t k : ℕ) (a : Agree r b s) where
-  -- a chosen block lies in a slot that the tenant holds
+  -- the first frame of a chosen block has a machine frame
   pub has_machine_frame : (f j : ℕ) → IsChoice b.top (buddies.is_held (buddies.holding_of t b)) (buddies.taken_of (buddies.holding_of t b)) k (block f j)
       → machine_frame_of s.top r.slots t f ≡ None → ⊥
   has_machine_frame f j chosen none =
@@ -76,7 +76,7 @@ module _ {r : spaces.Content} {b : buddies.Content} {s : Content} (t k : ℕ) (a
       go None held e = false≢true held
       go (Some m) held e = some_none e
 
-  -- no block is larger than a superblock
+  -- if the order is above that of a superblock, no free block is large enough
   pub none_large : b.top < k → IsWithout b.top (buddies.is_held (buddies.holding_of t b)) (buddies.taken_of (buddies.holding_of t b)) k
   none_large large z free enough = absurd (let small = free.0.0 in omega arith)
 
@@ -161,7 +161,7 @@ module _ {r : spaces.Content} {b : buddies.Content} {s : Content} {t c : ℕ} {c
   pub few : f < 65536
   few = omega (arith, frame_within, chosen.parts.buddy.sizes.taken t known, a.machine_frames, ap (λ top. b.superblocks * 2 ^ top) a.order, w.small)
 
-  -- no slab begins at the block
+  -- no slab begins at the block's machine frame
   pub vacant : place_at s.lists.places n ≡ None
   vacant = no_place (place_at s.lists.places n) (λ head key e.
       let there = chosen.steady.listed f n head key under e in
@@ -210,7 +210,7 @@ module _ {r : spaces.Content} {b : buddies.Content} {s : Content} {t c : ℕ} {c
     abbrev s' : Content
     s' = with_new_slab s t c cache f n
 
-    -- the object of a byte and its offset in the object follow from one division
+    -- a byte of an object has the byte that the pattern has for its offset in the object
     constructed : (place : ℕ) → is_inside place f cache ≡ true
         → in_object (layout_numbers cache) cache.layout.size (fresh_kept cache).colour (place - 4096 * f) ≡ true
         → byte_at r' t place ≡ Some (pattern_byte cache.pattern ((place - 4096 * f - (fresh_kept cache).colour) % (layout_numbers cache).chunk))
@@ -366,7 +366,7 @@ module _ {r : spaces.Content} {b : buddies.Content} {s : Content} {t c : ℕ} {c
         let same : head_of t c 2 ≡ head = ap (λ (p : ℕ × ℕ). p.0) (some_same (sym placed_now ∙ placed)) in omega arith)
         mine
 
-    -- the machine's cache has grown
+    -- the parts show the machine with the grown cache
     shown_grown : (m : Machine) (x : Cache) → ShowsMachine r b s t m → cache_of m c ≡ Some x → ShowsMachine r' reserved s' t (grown f x m)
     shown_grown m x h ex = grown_shows r r' b reserved s s' t c cache f n m x one_grown chosen.steady cut (λ g i y e there here. untaken y here (g, i, e, there)) ex h
 

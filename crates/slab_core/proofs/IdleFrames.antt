@@ -81,7 +81,7 @@ module _ (r : spaces.Content) (b : buddies.Content) (s : Content) (t : ℕ) (st 
         st.sound.apart i.first (layout_numbers i.cache).order f k f (st.stands i.number i.first i.machine_frame i.cache i.slab).taken taken i.within has in
         false≢true (sym busy ∙ ap (idle_at (λ n. true) r s t) (sym same) ∙ idle_begins r s t f i)
 
--- each entry in the list of a cache's empty slabs is a taken block of the tenant
+-- for each entry in the list of a cache's empty slabs, a taken block of the tenant begins at the entry's frame
 pub listed_taken : (r : spaces.Content) (b : buddies.Content) (s : Content) (t c f n : ℕ) → IsSlabs s → Agree r b s → c < MOST_CACHES
     → place_at s.lists.places n ≡ Some (head_of t c 2, f) → (k : ℕ) × (buddies.taken_of (buddies.holding_of t b) f ≡ Some k)
 listed_taken r b s t c f n w a less placed =

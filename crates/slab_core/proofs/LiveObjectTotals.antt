@@ -1,4 +1,4 @@
--- How many objects of a cache are live, counted over its lists and over its slabs.
+-- The number of live objects of a cache, counted over its lists and over its slabs.
 use Rattle.std.proofs.Common.{◌≡◌, ℕ, suc, ◌+◌, ◌*◌, ◌/◌, ◌≤◌, Bool, true, false, not, cond, eqb, ltb, List, [], ◌∷◌, map, Option, Some, None, length, refl, sym, ap, ◌∙◌, inl, inr, arith}
 use Rattle.std.specs.Prelude.{filter, ◌&&◌, flat_map}
 use Rattle.std.proofs.lemmas.Bool.{cases_eq, eq-eqb, ne_eqb, eqb-true}
@@ -17,7 +17,7 @@ abbrev pub sum_of : (ℕ → ℕ) → List (ℕ × ℕ) → ℕ
 sum_of live [] = 0
 sum_of live (p ∷ ps) = live p.1 + sum_of live ps
 
--- the number of live objects in slabs
+-- the number of live objects in these slabs
 abbrev pub sum_live : List Slab → ℕ
 sum_live [] = 0
 sum_live (y ∷ ys) = count_true y.live + sum_live ys
@@ -99,7 +99,8 @@ total_of_lists live n i (Some (head, key) ∷ ps) (k ∷ ks) few same =
       sum_with live (3 * n + 2) i head key (list_from (3 * n + 2) (i + 1) ps),
     )
 
--- the sum over a list with the first frames of slabs is the number of live objects in these slabs
+-- if a list has the first frames of some slabs, and `live` gives their numbers of live objects, the sum over the list is the
+-- number of live objects in these slabs
 pub sum_of_slabs : (live : ℕ → ℕ) (qs : List (ℕ × ℕ)) (ys : List Slab) → map (λ q. q.0) qs ≡ map (λ y. y.first) ys
     → ((q : ℕ × ℕ) (y : Slab) → IsIn q qs → IsIn y ys → q.0 ≡ y.first → live q.1 ≡ count_true y.live) → sum_of live qs ≡ sum_live ys
 sum_of_slabs live [] [] e same = refl

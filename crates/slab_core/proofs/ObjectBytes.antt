@@ -1,4 +1,4 @@
--- The bytes of a live object: its size is that of its cache, and they are a range of the tenant's bytes.
+-- A live object has the size of its cache's objects, and its bytes are a range of the tenant's bytes.
 use Rattle.std.proofs.Common.{◌≡◌, ℕ, sym, ap, ◌∙◌, arith}
 use Rattle.model_core.specs.Machine.{Cache, Machine}
 use Rattle.space_core.specs.Content as spaces

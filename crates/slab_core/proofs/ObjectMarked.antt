@@ -24,7 +24,7 @@ use Rattle.slab_core.proofs.LocalChange.{IsLocal, agreed_still, spares_of, agree
 use Rattle.slab_core.proofs.RecordBits.{flags_changed, count_cleared, count_set}
 use Rattle.slab_core.proofs.SlabFacts.{IsHeld, held, machine_frame_within}
 
--- the number of live objects after one is marked live or free
+-- `count` is one more than `before` if an object was marked live, and one less if an object was marked free
 abbrev pub IsCountOf : Bool → ℕ → ℕ → Type 0
 IsCountOf live before count = (live ≡ true → count ≡ before + 1) × (live ≡ false → count + 1 ≡ before)
 
@@ -45,7 +45,7 @@ module _ {r : spaces.Content} {b : buddies.Content} {s : Content} {t c f n i : �
   flag_was : get_or flags_before i false ≡ not v
   flag_was = flag_at (layout_numbers cache).count i (is_live r t cache (kept_at s.kept n) f) false less ∙ was
 
-  -- the new number is the number of set flags
+  -- the new number of live objects is the number of set flags after the change
   count_marked : (count : ℕ) → IsCountOf v (kept_at s.kept n).live count → count ≡ count_true (set flags_before i v)
   count_marked count is = by_case v flag_was is
     where
@@ -53,7 +53,7 @@ module _ {r : spaces.Content} {b : buddies.Content} {s : Content} {t c f n i : �
       by_case true flag e = let m = count_set flags_before i (omega (arith, long)) flag in let d = e.0 refl in omega (arith, h.counted)
       by_case false flag e = let m = count_cleared flags_before i (omega (arith, long)) flag in let d = e.1 refl in omega (arith, h.counted)
 
-  -- if the object was live, the number was at least 1
+  -- if the object was live, the slab had at least 1 live object
   pub some_live : v ≡ false → 1 ≤ (kept_at s.kept n).live
   some_live e =
       let m = count_cleared flags_before i (omega (arith, long)) (flag_was ∙ ap not e) in omega (arith, h.counted)

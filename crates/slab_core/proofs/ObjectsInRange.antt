@@ -20,7 +20,7 @@ use Rattle.slab_core.specs.declared.reaching.ObjectSpan.{ObjectSpan}
 use Rattle.slab_core.specs.Reaching.{IsAround}
 use Rattle.slab_core.proofs.SlabOfObject.{in_frame}
 
--- if no live object contains a range, none is found
+-- if nothing satisfies R, the answer `false` is right
 pub nowhere : {R : Found → Type 0} → ((o : Found) → R o → ⊥) → (false ≡ true) ↔ ((o : Found) × R o)
 nowhere none = (λ e. absurd (false≢true e), λ o. absurd (none o.0 o.1))
 
@@ -55,7 +55,7 @@ module _ (r : spaces.Content) (b : buddies.Content) (s : Content) (t place len :
         false≢true (sym none ∙ subst (λ f. has_slab s (machine_frame_of s.top r.slots t f) ≡ true) (begins_there o h) (has_it r s t h.number o.first o.machine_frame o.cache h.object.slab))
 
     module _ (c n : ℕ) (cache : own.Cache) (q : IsSlab r s t c first n cache) where
-      -- an object that contains the range is one of this slab
+      -- object i of this slab is live and contains the range, which is not empty
       record IsHere (i : ℕ) : Type 0 where
         begin : ℕ
         object : IsLiveObject r s t c begin (found cache first n i)
@@ -90,7 +90,7 @@ module _ (r : spaces.Content) (b : buddies.Content) (s : Content) (t place len :
       not_live i only dead o h =
           false≢true (sym dead ∙ (ap (is_live r t cache (kept_at s.kept n) first) (sym (only.only o.index (holds o h))) ∙ (here o h).object.live))
 
-      -- the only object of the slab around the range contains it, if it is live
+      -- if object i is the only one of the slab that holds the range, and it is live, `IsAround` holds for it
       pub is_around : (i offset bytes : ℕ) → IsOnly (Holds cache.layout (kept_at s.kept n).colour (place - 4096 * first) len) i
           → is_live r t cache (kept_at s.kept n) first i ≡ true
           → offset ≡ object_offset (layout_numbers cache) (kept_at s.kept n).colour i → bytes ≡ cache.layout.size
@@ -109,14 +109,14 @@ module _ (r : spaces.Content) (b : buddies.Content) (s : Content) (t place len :
             to = omega arith;
           }
 
--- a live object around the range contains it
+-- if `IsAround` holds for an object, `HasRange` holds for that object
 has_range : (r : spaces.Content) (s : Content) (t place len : ℕ) (o : ObjectSpan) → IsAround r s t place len o → (x : Found) × HasRange r s t place len x
 has_range r s t place len o is = (
   is.object,
   record { number = o.cache; begin = o.place; object = is.live; some = is.some; from = is.from; to = omega (arith, is.to, is.size) },
 )
 
--- the search finds an object exactly if a live object contains the range
+-- the search finds an object if and only if a live object contains the range
 pub is_found : (r : spaces.Content) (s : Content) (t place len : ℕ) (o : Option ObjectSpan)
     → MatchOption o (HasNone r s t place len) (IsAround r s t place len) → (is_some o ≡ true) ↔ ((x : Found) × HasRange r s t place len x)
 is_found r s t place len None none = nowhere none

@@ -24,14 +24,14 @@ bit_stays word i j other =
     let same : bit_at (bit_xor word (2 ^ i)) j ≡ bit_at word j = omega arith in
     ap (λ x. eqb x 1) same
 
--- tests that agree on n numbers from k on give the same flags
+-- if two tests agree on the n numbers from k on, they give the same flags
 same_flags : (k n : ℕ) (p q : ℕ → Bool) → ((i : ℕ) → k ≤ i → i < k + n → q i ≡ p i) → flags_from k n q ≡ flags_from k n p
 same_flags k zero p q same = refl
 same_flags k (suc n) p q same =
     ap (λ b. b ∷ flags_from (suc k) n q) (same k (omega arith) (omega arith))
     ∙ ap (λ bs. p k ∷ bs) (same_flags (suc k) n p q (λ i low high. same i (omega arith) (omega arith)))
 
--- the flags after the test of one number changes
+-- if a test changes only for number k + i, only flag i changes
 pub flags_changed : (k n i : ℕ) (p q : ℕ → Bool) (v : Bool) → i < n → q (k + i) ≡ v → ((j : ℕ) → k ≤ j → j < k + n → j ≢ k + i → q j ≡ p j)
     → flags_from k n q ≡ set (flags_from k n p) i v
 flags_changed k zero i p q v less here other = absurd (omega arith)
@@ -42,7 +42,7 @@ flags_changed k (suc n) (suc i) p q v less here other =
     ap (λ b. b ∷ flags_from (suc k) n q) (other k (omega arith) (omega arith) (λ same. omega arith))
     ∙ ap (λ bs. p k ∷ bs) (flags_changed (suc k) n i p q v (omega arith) (ap q (omega arith) ∙ here) (λ j low high ne. other j (omega arith) (omega arith) (λ same. ne (omega arith))))
 
--- how many flags are set after one is cleared or set
+-- clearing a set flag lowers the number of set flags by 1, and setting a clear flag raises it by 1
 pub count_cleared : (xs : List Bool) (i : ℕ) → i < length xs → get_or xs i false ≡ true → count_true (set xs i false) + 1 ≡ count_true xs
 count_cleared [] i less up = absurd (omega arith)
 count_cleared (x ∷ xs) zero less up = let one : count_true (x ∷ xs) ≡ 1 + count_true xs = ap (λ b. cond b 1 0 + count_true xs) up in omega arith

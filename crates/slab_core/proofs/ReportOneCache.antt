@@ -1,4 +1,4 @@
--- The row of a cache in a report is that of the machine.
+-- The row that is reported for a cache is the row of the machine's cache.
 use Rattle.std.proofs.Common.{◌≡◌, ℕ, ◌+◌, ◌*◌, ◌<◌, Some, length, get_or, sym, ap, ◌∙◌, arith}
 use Rattle.std.specs.Prelude.{filter, Option, option_map}
 use Rattle.std.proofs.lemmas.List.{length-map}
@@ -67,7 +67,7 @@ module _ (r : spaces.Content) (b : buddies.Content) (s : Content) (t c : ℕ) (m
       ∙ (ap (λ k. sum_live (filter is_full x.slabs) + (k + sum_of live (list_of s.lists.places (3 * n + 2)))) partial
       ∙ (ap (λ k. sum_live (filter is_full x.slabs) + (sum_live (filter is_partial x.slabs) + k)) empty ∙ (kinds ∙ sym (objects_counted x x.slabs))))))
 
-  -- the row of the cache
+  -- if a row has the lengths of the three lists and the cache's total, it is the row of the machine's cache
   pub row_is : index_of_cache t c < length s.caches → (full partial empty live : ℕ) → full ≡ length (keys_of s.lists.places (head_of t c 0))
       → partial ≡ length (keys_of s.lists.places (head_of t c 1)) → empty ≡ length (keys_of s.lists.places (head_of t c 2))
       → live ≡ get_or s.live (index_of_cache t c) 0

@@ -38,7 +38,7 @@ or_cases false w e = inr e
 
 -- Slabs that are idle
 
--- the test of the index of cache c of tenant t
+-- i is the index of cache c of tenant t
 abbrev pub this : ℕ → ℕ → ℕ → Bool
 this t c i = eqb i (index_of_cache t c)
 
@@ -181,7 +181,7 @@ module _ {these : ℕ → Bool} {r r' : spaces.Content} {b b' : buddies.Content}
     tables = tables';
   }
 
-  -- the superblocks are in the same slots as before
+  -- superblocks and slots still correspond one to one
   pub still_apart : IsOneToOne r → IsOneToOne r'
   still_apart apart = record {
     superblocks = λ u v m n e e'. apart.superblocks u v m n
@@ -275,7 +275,7 @@ module _ {r : spaces.Content} {b : buddies.Content} {s : Content} {t : ℕ} (w :
 
 -- One cache, slab by slab
 module _ {r : spaces.Content} {s : Content} {t c : ℕ} where
-  -- the slab at this frame is the cache's, and is idle
+  -- the cache's empty slab that begins at frame f is idle
   pub one_idle : {first machine_frame : ℕ} {cache : own.Cache} → IsEmptySlab r s t c first machine_frame cache → (f : ℕ) → eqb f first ≡ true → idle_at (this t c) r s t f ≡ true
   one_idle {first = first} {machine_frame = machine_frame} {cache = cache} is f e =
       let p = placed_as r s t c first machine_frame cache is.slab in
@@ -302,7 +302,7 @@ none_any {r = r} {b = b} {s = s} t w a apart none f e =
     let i = idle_listed w a (λ g n head key. slab_listed r b s w a t g n head key apart) (λ x. true) f e in
     none i.number i.small i.machine_frame f i.placed
 
--- if a cache does not exist, its list is empty
+-- if a cache does not exist, its list of empty slabs is empty
 pub no_cache : (s : Content) (t c : ℕ) → IsSlabs s → c < MOST_CACHES → cache_at s t c ≡ None → IsEmpty s.lists.places (head_of t c 2)
 no_cache s t c w small vacant n key placed =
     bare_without s t c w small vacant n (head_of t c 2) key placed (omega arith)
@@ -328,7 +328,7 @@ below_next {r' = r'} {s' = s'} {s'' = s''} {t = t} {c = c} st g k spares agree t
       (λ high. let same : d ≡ c = omega arith in subst (λ x. IsEmpty s''.lists.places (head_of t x 2)) (sym same) none) (cases_lt d c);
 }
 
--- no cache has the next number
+-- if cache c does not exist, the idle slabs of the caches with numbers below c + 1 are freed too
 pub below_none : {r r' : spaces.Content} {b b' : buddies.Content} {s s' : Content} {t c : ℕ} → IsGivingBelow r r' b b' s s' t c
     → c < MOST_CACHES → cache_at s' t c ≡ None → IsGivingBelow r r' b b' s s' t (c + 1)
 below_none {s' = s'} {t = t} {c = c} g small vacant = record {
@@ -338,7 +338,7 @@ below_none {s' = s'} {t = t} {c = c} g small vacant = record {
       subst (λ x. IsEmpty s'.lists.places (head_of t x 2)) (sym same) (no_cache s' t c g.giving.tables small vacant)) (cases_lt d c);
 }
 
--- a slab is idle exactly if it is empty in the machine
+-- a slab is idle if and only if it is empty in the machine
 pub idle_empty : (r : spaces.Content) (b : buddies.Content) (s : Content) (t : ℕ) (m : Machine) → IsSlabs s → Agree r b s → ShowsMachine r b s t m
     → (c f : ℕ) (x : Cache) (y : Slab) → cache_of m c ≡ Some x → slab_of x f ≡ Some y → idle_at (λ i. true) r s t f ≡ is_empty y
 idle_empty r b s t m w a h c f x y ex ey =

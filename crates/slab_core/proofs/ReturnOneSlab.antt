@@ -33,7 +33,7 @@ some_place : (n f : ℕ) (o : Option (ℕ × ℕ)) → is_of_cache n f o ≡ tru
 some_place n f None e = absurd (false≢true e)
 some_place n f (Some p) e = (p, refl)
 
--- the size of a slab in bytes fits 32 bits
+-- the size of a slab in bytes is below 2 ^ 32
 pub len_is : (order : ℕ) → order ≤ 3 → 4096 * 2 ^ order % 4294967296 ≡ 4096 * 2 ^ order
 len_is order few = let power : 2 ^ order ≤ 2 ^ 3 = pow-le-pow_right (omega arith) few in omega arith
 
@@ -53,7 +53,7 @@ module _ {r : spaces.Content} {b : buddies.Content} {s : Content} {t c f n : ℕ
       let some : 0 < 2 ^ k = pow_pos k in
       range_held r t s.top f k (4096 * f) (4096 * 2 ^ k) a.unit placed.0.0 placed.0.1 placed.1 (omega arith) (omega arith) (omega arith)
 
-  -- the slab's machine frame is one of the tables
+  -- the slab's machine frame is in the tables
   pub machine_frame_within : n < length s.lists.places
   machine_frame_within =
       let is = some_place (index_of_cache t c) f (place_at s.lists.places n) q.listed in

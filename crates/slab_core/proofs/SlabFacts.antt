@@ -1,4 +1,4 @@
--- Facts about a tenant's slab if the parts agree.
+-- What holds for a tenant's slab when the parts agree.
 use Rattle.std.proofs.Common.{◌≡◌, ℕ, ◌/◌, ◌<◌, ◌≤◌, false, Some, length, sym, ap, ◌∙◌, subst}
 use Rattle.model_core.specs.declared.limits.TheConstants.{MOST_CACHES}
 use Rattle.model_core.specs.Layouts.{IsLayout, is_small}
@@ -13,7 +13,7 @@ use Rattle.machine_changes.specs.Shows.{live_of, is_live, IsSlab, Agree}
 use Rattle.machine_changes.proofs.Lookups.{some_same}
 use Rattle.machine_changes.proofs.SteadyParts.{within, in_table, placed_as, agreed}
 
--- a slab of the tenant, with what the parts say of it
+-- what the parts say about a slab of the tenant
 pub record IsHeld (r : spaces.Content) (b : buddies.Content) (s : Content) (t c f n : ℕ) (cache : own.Cache) : Type 0 where
   pub head : ℕ
   pub index : head / 3 ≡ index_of_cache t c
@@ -57,10 +57,10 @@ in_tables s t c cache w cached =
     record { layout = fit.layout; few = (fit.layout.fits 0).few; few_large = (few_objects cache.layout.size cache.layout.align fit.size fit.align).1 }
 
 module _ {r : spaces.Content} {s : Content} {t c f n : ℕ} {cache : own.Cache} (q : IsSlab r s t c f n cache) where
-  -- these hold of the slab's cache
+  -- `IsInTables` holds for the slab's cache
   pub slab_cache : IsSlabs s → IsInTables cache
   slab_cache w = in_tables s t c cache w q.cached
 
-  -- the slab's machine frame is one of the tables
+  -- the slab's machine frame is in the tables
   pub machine_frame_within : n < length s.lists.places
   machine_frame_within = let p = placed_as r s t c f n cache q in within s.lists.places n (p.head, f) p.place

@@ -18,7 +18,7 @@ use Rattle.machine_changes.specs.Objects.{IsLiveObject, IsNoObject}
 use Rattle.machine_changes.proofs.Lookups.{some_none, some_same}
 use Rattle.slab_core.proofs.SlabFacts.{held}
 
--- an aligned block is the one around each of its frames
+-- an aligned block is the aligned block of its order around each of its frames
 pub around_frame : (f k x : ℕ) → f % 2 ^ k ≡ 0 → HasFrame (block f k) x → f ≡ (around x k).first
 around_frame f k x aligned has =
     sym (first_is f k aligned) ∙ ap (λ n. n * 2 ^ k) (sym (number_of_frame f k x aligned has) ∙ number_is k x)
@@ -57,7 +57,7 @@ module _ {r : spaces.Content} {b : buddies.Content} {s : Content} {t c : ℕ} {c
       subst (λ p. HasFrame (block f k) (p / 4096)) o.begins (in_frame f k (object_offset (layout_numbers cache) colour i) (object_within (layout_numbers cache) colour i fit o.index)) in
       around_frame f k (place / 4096) ((sound parts tenant).placed f k h.taken).0.1 has ∙ sym is_first
 
-  -- each object that begins at the place is one of the slab at the aligned block around it
+  -- each live object that begins at the place lies in the slab at the aligned block around the place
   pub there : (o : Found) → IsLiveObject r s t c place o → IsLiveObject r s t c place (found cache first o.machine_frame o.index)
   there o is =
       let mine : IsLiveObject r s t c place (found cache o.first o.machine_frame o.index) =

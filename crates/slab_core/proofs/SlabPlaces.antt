@@ -25,7 +25,7 @@ record_under r s t c f n j cache q unit less =
     let same : n / 2 ^ s.top ≡ m.0 = ap (λ x. x / 2 ^ s.top) m.2 ∙ superblock_of_machine_frame s.top m.0 f in
     ap (spaces.superblock_at r.slots t) slot ∙ (m.1 ∙ ap (λ x. Some x) (sym same))
 
--- so does the byte with an object's bit
+-- the byte that has an object's bit lies in the superblock of its slab's machine frame too
 module _ {r : spaces.Content} {s : Content} {t c f n i : ℕ} {cache : own.Cache} (q : IsSlab r s t c f n cache) (w : IsSlabs s) (less : i < (layout_numbers cache).count) where
   pub object_under : {place m : ℕ} → r.unit ≡ 4096 * 2 ^ s.top → place ≡ 4096 * f + 4064 + i / 8 → m ≡ n / 2 ^ s.top
       → spaces.superblock_at r.slots t (place / r.unit) ≡ Some m

@@ -9,7 +9,7 @@ use Rattle.slab_core.specs.Objects.{IsTurned, IsToCount, IsRecounted}
 use Rattle.slab_core.proofs.ObjectMarked.{IsCountOf, some_live, count_below, is_placed, alone, counted}
 
 module _ {r r' : spaces.Content} {b : buddies.Content} {s s' : Content} {t c : ℕ} {o : Found} {v : Bool} (k : IsToCount r r' b s s' t c o v) where
-  -- what `set_count` requires of the tables
+  -- the tables have what `set_count` requires
   pub some_now : v ≡ false → 1 ≤ (kept_at s'.kept o.machine_frame).live
   some_now dead = let x = some_live k.slabs k.agree k.slab k.index v k.was dead in let same = k.turned.live in omega arith
 

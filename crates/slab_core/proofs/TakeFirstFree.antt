@@ -27,7 +27,7 @@ use Rattle.machine_changes.proofs.SlabFacts.{under_is, superblock_of_machine_fra
 use Rattle.slab_core.proofs.SlabFacts.{IsHeld, held}
 use Rattle.slab_core.proofs.SlabOfObject.{in_frame, object_within}
 
--- flag i is clear; if not all flags are set, the search finds such a flag
+-- flag i is one of the flags and is clear; if not all flags are set, the search finds a clear one
 pub record IsDown (xs : List Bool) (i : ℕ) : Type 0 where
   pub within : i < length xs
   pub down : get_or xs i false ≡ false

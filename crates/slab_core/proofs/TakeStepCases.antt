@@ -38,7 +38,7 @@ step_new : (top k : ℕ) (m : Machine) (x : Cache) (o : Option ℕ) → (layout 
 step_new top k m x o order is =
     ap (λ j. take_new x (by_need top j m) (choice_by_need top j m)) order ∙ ap (take_new x (by_need top k m)) is
 
--- A new slab is in the grown machine
+-- The grown machine has the new slab
 
 in_put : {X : Type 0} (key : X → ℕ) (x : X) (xs : List X) → IsIn x (put_rising key x xs)
 in_put key x xs =
@@ -60,7 +60,7 @@ module _ (m : Machine) (c f : ℕ) (x : Cache) (ex : cache_of m c ≡ Some x) wh
       in_found (λ y. y.first) 0 (new_slab x f) (grown_cache f x).slabs (h.slabs_rise c (grown_cache f x) grown_there)
       (in_put (λ y. y.first) (new_slab x f) x.slabs)
 
--- the slab that a take uses in the machine
+-- in the machine, a take from cache c uses the slab at frame `first`
 pub record IsUsed (top c : ℕ) (m : Machine) (first : ℕ) : Type 0 where
   pub shown : Cache
   pub slab : Slab
@@ -68,7 +68,8 @@ pub record IsUsed (top c : ℕ) (m : Machine) (first : ℕ) : Type 0 where
   pub standing : slab_of shown first ≡ Some slab
   pub step : take_step top c m ≡ hand_out shown slab m
 
--- the slab that a take makes, in the machine grown on demand
+-- in the machine, a take from cache c grows the machine on demand and uses the new slab at frame f; the parts show the grown
+-- machine
 pub record IsMade (top c : ℕ) (m : Machine) (r : spaces.Content) (b : buddies.Content) (s : Content) (t f : ℕ) : Type 0 where
   pub after : Machine
   pub shown : Cache

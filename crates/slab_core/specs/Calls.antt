@@ -42,7 +42,7 @@ abbrev pub is_idle : (ℕ → Bool) → Content → Option ℕ → Bool
 is_idle these s None = false
 is_idle these s (Some n) = is_of_these these (place_at s.lists.places n) && (kept_at s.kept n).live == 0
 
--- the same at frame f of tenant t
+-- an empty slab of one of these caches begins at frame f of tenant t
 abbrev pub idle_at : (ℕ → Bool) → spaces.Content → Content → ℕ → ℕ → Bool
 idle_at these r s t f = is_idle these s (machine_frame_of s.top r.slots t f)
 
@@ -55,7 +55,8 @@ empty_frames_in (Some c) = frames_of (empty_blocks c)
 abbrev pub IsUnused : Content → ℕ → ℕ → Type 0
 IsUnused s t c = IsEmpty s.lists.places (head_of t c 0) × IsEmpty s.lists.places (head_of t c 1)
 
--- an empty slab of cache c of tenant t begins at machine frame n; the cache was `before` until it made the slab
+-- an empty slab of cache c of tenant t begins at frame `first` and machine frame n; `before` is the cache before it made this
+-- slab
 pub record IsNew (r : spaces.Content) (s : Content) (t c : ℕ) (before : own.Cache) (first n : ℕ) : Type 0 where
   pub slab : IsSlab r s t c first n (made_more before)
   pub empty : (kept_at s.kept n).live ≡ 0

@@ -29,7 +29,7 @@ pub record IsUnusedTo (r : spaces.Content) (b : buddies.Content) (s : Content) (
   pub unused : (x : ℕ) → frame ≤ x → x < next → IsUnusedFrame r b s t x
   pub border : IsBorder b t next
 
--- an aligned block in a held slot of tenant t; no taken block begins before it and reaches into it
+-- the block is aligned and lies in a held slot of tenant t; no taken block begins before it and reaches into it
 pub record IsWhole (b : buddies.Content) (t f k : ℕ) : Type 0 where
   pub aligned : IsAligned b.top (block f k)
   pub held : IsSome (buddies.superblock_at (buddies.holding_of t b) (f / 2 ^ b.top))
@@ -46,7 +46,7 @@ pub record WouldFitAround (r : spaces.Content) (b : buddies.Content) (s : Conten
   pub empty : place_at s.lists.places machine_frame ≡ Some (head_of t c 2, first)
   pub unused : IsUnusedBlock r b s t (around first k).first k
 
--- the same for some cache of tenant t
+-- some empty slab of tenant t begins in an aligned block of order k whose frames are not taken, except by empty slabs
 abbrev pub WouldFitInSlabs : spaces.Content → buddies.Content → Content → ℕ → ℕ → Type 0
 WouldFitInSlabs r b s t k = (c : ℕ) × (c < MOST_CACHES) × WouldFitAround r b s t c k
 

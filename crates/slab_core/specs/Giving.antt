@@ -18,13 +18,13 @@ pub record BeginsAt (r : spaces.Content) (s : Content) (t c place : ℕ) (o : Fo
   pub begins : object_place (layout_numbers o.cache) o.first (kept_at s.kept o.machine_frame).colour o.index ≡ place
   pub dead : is_live r t o.cache (kept_at s.kept o.machine_frame) o.first o.index ≡ false → IsNoObject r s t c place
 
--- `was` is true if bit k of the bytes was 1; if so, only that bit has changed, and otherwise nothing has
+-- `was` says whether bit k of the bytes was 1: if it was, only this bit changes, to 0; if it was not, nothing changes
 pub record IsLowered (before after : List ℕ) (k : ℕ) (was : Bool) : Type 0 where
   pub told : was ≡ is_set (slice_index before (k / 8)) (k % 8)
   pub turned : was ≡ true → after ≡ slice_set before (k / 8) (bit_xor (slice_index before (k / 8)) (2 ^ (k % 8)))
   pub kept : was ≡ false → after ≡ before
 
--- the same for the control record at a place of tenant t; the rest of the memory is as before
+-- bit k of the control record at a place of tenant t is cleared as in `IsLowered`; the rest of the memory is as before
 pub record IsRecordLowered (r r' : spaces.Content) (t place k : ℕ) (was : Bool) : Type 0 where
   pub before : List ℕ
   pub after : List ℕ

@@ -25,8 +25,8 @@ abbrev pub found_in : own.Cache → Object → Found
 found_in cache o = found cache o.slab.first o.slab.machine_frame o.index
 
 -- The bit of object o of tenant t is flipped in the record of its slab: o is live if it was free, and free if it was live. No
--- other object's bit has changed, and no byte of the memory outside the record. In the stored states, only that record has
--- changed, if it is stored there.
+-- other object's bit has changed, nor has any byte of the memory outside the record. In the stored states, only the record of
+-- this slab may have changed.
 pub record IsTurned (r r' : spaces.Content) (s s' : Content) (t : ℕ) (o : Found) : Type 0 where
   pub turned : is_live r' t o.cache (kept_at s'.kept o.machine_frame) o.first o.index
       ≡ not (is_live r t o.cache (kept_at s.kept o.machine_frame) o.first o.index)
@@ -56,7 +56,8 @@ pub record IsToCount (r r' : spaces.Content) (b : buddies.Content) (s s' : Conte
   pub was : is_live r t o.cache (kept_at s.kept o.machine_frame) o.first o.index ≡ not live
   pub turned : IsTurned r r' s s' t o
 
--- the same after the number is updated
+-- object o is marked as `live` says, its slab's number of live objects is updated, and the parts agree again; no other tenant is
+-- affected
 pub record IsRecounted (r r' : spaces.Content) (b : buddies.Content) (s s' : Content) (t c : ℕ) (o : Found) (live : Bool) : Type 0 where
   pub marked : IsMarked r r' s s' t c o live
   pub spares : Spares t r r' b b s s'
@@ -75,7 +76,7 @@ pub record IsRaised (before after : List ℕ) (k : ℕ) : Type 0 where
   pub clear : is_set (slice_index before (k / 8)) (k % 8) ≡ false
   pub turned : after ≡ slice_set before (k / 8) (bit_xor (slice_index before (k / 8)) (2 ^ (k % 8)))
 
--- the same for the control record at a place of tenant t; the rest of the memory is as before
+-- the first clear bit of the control record at a place of tenant t is set, as in `IsRaised`; the rest of the memory is as before
 pub record IsRecordRaised (r r' : spaces.Content) (t place k : ℕ) : Type 0 where
   pub before : List ℕ
   pub after : List ℕ

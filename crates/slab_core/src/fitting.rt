@@ -38,8 +38,8 @@ fn has_free(buddy: &Buddy, t: u8, k: u8) -> bool
 impl Slabs {
     /// Returns true if a block of order `k` would be found for tenant `t` after all its empty slabs were freed.
     ///
-    /// If a large enough block is free, or no slab is empty, this follows from counts and the heads of lists. Otherwise it
-    /// checks only the frames of those blocks of order `k` in which empty slabs begin.
+    /// If a large enough block is free, or no slab is empty, it reads only counts and the heads of lists. Otherwise it checks
+    /// only the frames of those blocks of order `k` in which empty slabs begin.
     pub fn would_fit(&self, space: &Space, buddy: &Buddy, t: u8, k: u8) -> bool
         requires tenant { t < length space.now.slots }
         requires order { k ≤ self.now.top }
@@ -58,7 +58,7 @@ impl Slabs {
         has_free(buddy, t, k) || view.would_fit_in_slabs(&mut [0; MOST_WORDS], k)
     }
 
-    /// The same as [`Slabs::would_fit`], for a caller that knows that no free block is large enough. Stores the set of refused
+    /// Returns the same as [`Slabs::would_fit`]. The caller knows that no free block is large enough. Stores the set of refused
     /// blocks in `self`, not on the stack.
     #[cold]
     #[inline(never)]
@@ -83,7 +83,7 @@ impl Slabs {
     }
 }
 
-/// What a search reads: the parts, and the tenant.
+/// The parts that a search reads, and the tenant that it is for.
 #[derive(Clone, Copy)]
 struct View<'a> {
     tables: &'a Tables,
@@ -145,7 +145,8 @@ impl View<'_> {
         false
     }
 
-    /// The same as `would_fit_around`, for cache `c` alone. Skips the blocks in `refused`, and adds the blocks that it refuses.
+    /// Returns true if a block of order `k` would fit around an empty slab of cache `c`. Skips the blocks in `refused`, and adds
+    /// to it the blocks that it refuses.
     fn would_fit_in_cache(self, refused: &mut [u64], c: u32, k: u8) -> bool
         requires tenant { self.tenant < length self.space.now.slots }
         requires cache { c < MOST_CACHES }
@@ -196,9 +197,9 @@ impl View<'_> {
         true
     }
 
-    /// Returns a frame above `frame`. No frame from `frame` to the one before the returned frame is taken, except by empty slabs.
-    /// Returns `None` if `frame` is taken by anything else. `begins` is the order of the taken block that begins at `frame`, if
-    /// one does.
+    /// Returns a frame `next` above `frame`. No frame from `frame` to `next - 1` is taken, except by empty slabs. Returns `None`
+    /// if `frame` is taken, but not by an empty slab. `begins` is the order of the taken block that begins at `frame`, or `None`
+    /// if no taken block begins there.
     #[inline(always)]
     fn past_unused(self, frame: u32, begins: Option<u8>) -> Option<u32>
         requires tenant { self.tenant < length self.space.now.slots }
@@ -220,7 +221,7 @@ impl View<'_> {
         }
     }
 
-    /// Returns true if an empty slab begins at a frame.
+    /// Returns true if an empty slab begins at the frame.
     fn is_idle(self, frame: u32) -> bool
         requires tenant { self.tenant < length self.space.now.slots }
         requires machine_frames { length self.tables.now.lists.places ≡ length self.space.now.owners * 2 ^ self.tables.now.top }

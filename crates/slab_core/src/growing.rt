@@ -104,7 +104,7 @@ impl Slabs {
     }
 }
 
-/// Fills an object of the cache with the pattern, repeated.
+/// Fills the object at `place` with the cache's pattern, repeated.
 fn fill(space: &mut Space, cache: TenantCache<'_>, place: u32)
     requires tenant { cache.tenant < length space.old.slots }
     requires in_reach { IsSome (home_of space.old cache.tenant place cache.kept.now.layout.size) }

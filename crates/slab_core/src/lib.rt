@@ -109,7 +109,7 @@ impl Slabs {
     }
 
     /// Returns the lists of the slabs of all caches. A node of a list is the machine frame at which a slab begins, and its key is
-    /// the slab's first frame. [`slab_tables::ListId`] has the number of each list.
+    /// the slab's first frame in its tenant's numbering. [`slab_tables::ListId`] has the number of each list.
     pub fn lists(&self) -> &Lists
         ensures same { result.now ≡ self.now.lists }
         ensures hold { ListsHold self.now }

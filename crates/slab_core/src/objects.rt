@@ -1,4 +1,4 @@
-//! Objects of slabs: which one begins at a place, and whether it is live.
+//! Finds the object that begins at a place, tests whether it is live, and marks it free.
 
 ghost use Rattle.std.specs.Prelude.{◌≡◌, ℕ, ◌*◌, ◌+◌, ◌/◌, ◌%◌, ◌^◌, ◌<◌, ◌≤◌, Some, length, IfSome, MatchOption, not, true, false};
 ghost use Rattle.model_core.specs.declared.limits.TheConstants.{FRAME_BYTES, RECORD_OFFSET, MOST_CACHES, MOST_ORDER};
@@ -76,8 +76,8 @@ fn lower(bytes: &mut [u8], bit: u32) -> bool
     true
 }
 
-/// Clears a bit of the control record at place `place` of tenant `t` and returns true if it was set. The record lies in this
-/// superblock.
+/// Clears a bit of the control record at place `place` of tenant `t` and returns true if it was set. The record lies in
+/// `superblock`.
 #[inline(always)]
 fn lower_in_record(space: &mut Space, superblock: u16, t: u8, place: u32, bit: u32) -> bool
     requires home { home_of space.old t place 32 ≡ Some superblock }
@@ -96,7 +96,7 @@ pub(crate) fn block_around(place: u32, order: u8) -> u32
     place / FRAME_BYTES >> order << order
 }
 
-/// Returns the machine frame at a frame of tenant `t`, or `None` if the tenant does not hold the slot.
+/// Returns the machine frame of a frame of tenant `t`, or `None` if the tenant does not hold the frame's slot.
 pub(crate) fn machine_frame_in(tables: &Tables, space: &Space, t: u8, frame: u32) -> Option<u32>
     requires tenant { t < length space.now.slots }
     requires machine_frames { length tables.now.lists.places ≡ length space.now.owners * 2 ^ tables.now.top }
@@ -110,10 +110,10 @@ pub(crate) fn machine_frame_in(tables: &Tables, space: &Space, t: u8, frame: u32
     Some(machine_frame_under(frame, slot, m, order))
 }
 
-/// Returns the machine frame at a frame in slot `slot`, which has this superblock of `2^order` frames.
+/// Returns the machine frame of `frame`, which lies in slot `slot`. The slot has this superblock of `2^order` frames.
 ///
-/// Moves the frame up or down by the difference between the two numbers. If the difference wraps, the sum wraps back. This takes
-/// fewer instructions than computing the frame's index in the slot and adding it.
+/// Adds the difference between the first machine frame of the superblock and the first frame of the slot. If the difference wraps
+/// around, the sum wraps back. This takes fewer instructions than computing the frame's index in the slot first.
 #[inline(always)]
 fn machine_frame_under(frame: u32, slot: u32, superblock: u16, order: u8) -> u32
     requires slot { slot ≡ frame / 2 ^ order }
@@ -124,7 +124,7 @@ fn machine_frame_under(frame: u32, slot: u32, superblock: u16, order: u8) -> u32
 }
 
 impl Slabs {
-    /// Returns the machine frame at a frame of tenant `t`, or `None` if the tenant does not hold the slot.
+    /// Returns the machine frame of a frame of tenant `t`, or `None` if the tenant does not hold the frame's slot.
     pub(crate) fn machine_frame(&self, space: &Space, t: u8, frame: u32) -> Option<u32>
         requires tenant { t < length space.now.slots }
         requires machine_frames { length self.now.lists.places ≡ length space.now.owners * 2 ^ self.now.top }
@@ -159,8 +159,8 @@ impl Slabs {
         }
     }
 
-    /// Returns true if a slab begins at a machine frame. The same as [`Slabs::is_slab`], for a caller that has already looked up
-    /// the superblock.
+    /// Returns true if a slab begins at the machine frame. A caller that has already looked up the superblock saves the lookup of
+    /// [`Slabs::is_slab`].
     #[inline(always)]
     pub fn is_slab_in(&self, machine_frame: u32) -> bool
         requires { machine_frame < length self.now.lists.places }
@@ -184,7 +184,7 @@ impl Slabs {
         }
     }
 
-    /// Returns true if an object of a slab is live.
+    /// Returns true if the object is live.
     pub(crate) fn is_live_object(
         &self,
         space: &Space,

@@ -47,9 +47,8 @@ impl Slabs {
         self.object_in(space, buddy, t, first, machine_frame, order, place, len)
     }
 
-    /// Returns true if a range lies inside one live object. The same as [`Slabs::object_at`], for a caller that has already
-    /// looked up the taken block around `place`. The block has `2^order` frames and begins at frame `first` of the tenant, which
-    /// is machine frame `machine_frame`.
+    /// Returns the same as [`Slabs::object_at`]. The caller has already looked up the taken block around `place`. The block has
+    /// `2^order` frames and begins at frame `first` of the tenant, whose machine frame is `machine_frame`.
     pub fn object_in(
         &self,
         space: &Space,
@@ -73,8 +72,8 @@ impl Slabs {
             .is_some()
     }
 
-    /// Returns the live object that contains a range, or `None` if none does or `len` is 0. The caller has already looked up the
-    /// taken block around `place`, as for [`Slabs::object_in`].
+    /// Returns the live object that contains the `len` bytes from `place` on, or `None` if none does or `len` is 0. The caller
+    /// has already looked up the taken block around `place`, as for [`Slabs::object_in`].
     #[inline(always)]
     pub fn object_around(
         &self,

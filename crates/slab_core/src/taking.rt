@@ -28,7 +28,7 @@ use model_core::refusals::TakeRefusal;
 use slab_tables::Kind;
 use space_core::Space;
 
-/// Reads eight bytes as one little-endian number.
+/// Reads the eight bytes from index `at` on as one little-endian number.
 #[inline(always)]
 fn eight_at(bytes: &[u8], at: usize) -> u64
     requires { at + 8 ≤ length bytes.now }
@@ -77,7 +77,7 @@ fn raise(bytes: &mut [u8]) -> u32
 }
 
 /// Sets the first clear bit of the control record at place `place` of tenant `t` and returns the index of the bit. The record
-/// lies in this superblock.
+/// lies in `superblock`.
 #[inline(always)]
 fn raise_in_record(space: &mut Space, superblock: u16, t: u8, place: u32) -> u32
     requires home { home_of space.old t place 32 ≡ Some superblock }
@@ -90,11 +90,11 @@ fn raise_in_record(space: &mut Space, superblock: u16, t: u8, place: u32) -> u32
 /// An object that a take has allocated, with what a caller needs to lend its bytes.
 #[derive(Clone, Copy, Debug, PartialEq, Eq)]
 pub struct Taken {
-    /// Its first place.
+    /// The place of the object's first byte.
     pub place: u32,
-    /// Its size in bytes.
+    /// The object's size in bytes.
     pub size: u32,
-    /// The superblock that contains its bytes.
+    /// The superblock that contains the object's bytes.
     pub superblock: u16,
 }
 
@@ -130,7 +130,7 @@ impl Slabs {
         }
     }
 
-    /// The same as [`Slabs::take`], but also returns the object's size and superblock, so that a caller that lends the bytes need
+    /// Does the same as [`Slabs::take`], and also returns the object's size and superblock. So a caller that lends the bytes need
     /// not look up the cache and the slot again.
     #[inline(always)]
     pub fn take_object(
@@ -164,10 +164,10 @@ impl Slabs {
         self.take_new(space, buddy, t, c)
     }
 
-    /// The same as [`Slabs::take_object`], for a cache whose slabs are all full. The object is the first of a new slab.
+    /// Does the same as [`Slabs::take_object`] for a cache whose slabs are all full. The object is the first of a new slab.
     ///
-    /// This is a separate function because it passes a borrow of its copy of the cache to a call, so that this copy has to be in
-    /// memory. The copy in `take_object` then need not be in memory.
+    /// It is a separate function so that the copy of the cache in `take_object` need not be in memory. The copy here has to be in
+    /// memory, because a call borrows it.
     #[cold]
     #[inline(never)]
     fn take_new(
@@ -285,8 +285,8 @@ impl Slabs {
         self.laws_with(space, buddy, cache.tenant);
         let superblock = self.superblock(slab.machine_frame);
         let index = self.mark_least_free(space, cache, slab);
-        // Read here, next to the count that `recount` reads. If it were read before the object is marked, its address would be
-        // computed twice.
+        // The colour is read here, next to the count that `recount` reads. If it were read before the object is marked, its
+        // address would be computed twice.
         let colour = u32::from(self.tables.kept_of(slab.machine_frame).colour);
         self.recount(cache, Object { slab, index }, true);
         Taken {

@@ -24,7 +24,7 @@ pub returns-in_default-clause-shows : goal.returns-in_default-clause-shows
 returns-in_default-clause-shows c = λ m h.
     subst (λ z. ShowsMachine c.args.space.now c.args.buddy.now c.args.self.now c.args.t z.machine) (sym (no_cache_step c.args.space.now c.args.buddy.now c.args.self.now c.args.t c.args.c m h (vacant c))) h
 
--- the cache in the tables
+-- the cache that was read is cache c of tenant t in the tables
 cached : (c : In-Some) → cache_at c.args.self.now c.args.t c.args.c ≡ Some c.in-Some.kept
 cached c = subst (λ s. cache_at s c.args.t c.args.c ≡ Some c.in-Some.kept) c.self.view_is (sym c.cache.ensures ∙ sym c.copied.ensures ∙ c.in-Some.is)
 

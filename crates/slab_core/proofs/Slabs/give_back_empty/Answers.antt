@@ -15,7 +15,7 @@ loop-first-init c = record {
   lists = λ head none. none;
 }
 
--- the slab that is freed next
+-- the slab that is freed next is the first one in the list of the cache's empty slabs
 first : (c : In-Some) → IsFirst c.loop-first.self.lists.places (head_of c.args.cache.tenant c.args.cache.number 2) c.in-Some.first c.in-Some.machine_frame
 first c =
     subst (λ s. IsFirst s.lists.places (head_of c.args.cache.tenant c.args.cache.number 2) c.in-Some.first c.in-Some.machine_frame) c.self-in-loop-first.view_is

@@ -8,7 +8,7 @@ use Rattle.slab_tables.specs.Content.{Content, head_of}
 use Rattle.slab_core.specs.Calls.{IsUnused}
 use Rattle.slab_core.proofs.Slabs.in_use.Goals as goal
 
--- a list is empty exactly if its length is 0
+-- a list is empty if and only if its length is 0
 counted : (s : Content) (h n : ℕ) → n ≡ length (keys_of s.lists.places h) → (nat_lt 0 n ≡ false) ↔ IsEmpty s.lists.places h
 counted s h n e = (λ f. (no_keys s.lists.places h).0 (omega (arith, e, ltb-false 0 n f)), λ none. le-ltb 0 n (omega (arith, e, (no_keys s.lists.places h).1 none)))
 

@@ -21,7 +21,7 @@ returns-in_err-c c =
     (no_slab x.space.now x.buddy.now x.self.now x.t x.place x.len c.laws_with.ensures.steady x.first x.order c.requires.taken c.requires.around
     (ap (has_slab x.self.now) c.requires.machine_frame ∙ c.in_err-c.ensures))
 
--- the slab is one of the cache that was read
+-- the slab belongs to the cache that was read
 slab : (c : After-from-colour) → IsSlab c.args.space.now c.args.self.now c.args.t c.in_ok-c.c c.args.first c.args.machine_frame c.unwrap-kept.result.now
 slab c =
     let q = c.in_ok-c.ensures in

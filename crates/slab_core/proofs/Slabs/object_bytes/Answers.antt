@@ -13,7 +13,7 @@ returns-in_default-clause-refused c =
     (give_refused x.space.now x.buddy.now x.self.now x.t x.c x.place m h
     (sym (ap (λ (s : Content). cache_at s x.t x.c) c.self.view_is) ∙ (sym c.cache.ensures ∙ ap (option_map (λ y. y.now)) c.in_default.is)))
 
--- the cache in the tables
+-- the cache that was read is cache c of tenant t in the tables
 cached : (c : In-Some) → cache_at c.args.self.now c.args.t c.args.c ≡ Some c.in-Some.kept.now
 cached c =
     sym (ap (λ (s : Content). cache_at s c.args.t c.args.c) c.self.view_is)
