@@ -34,7 +34,7 @@ seen-append limit order (x ∷ xs) ys m =
     ap (then_seen first.sights) (seen-append limit order xs ys first.machine)
     ∙ ap (λ sights. record { sights = sights; machine = rest.machine }) (sym (append_assoc first.sights (own_seen limit order xs first.machine).sights rest.sights))
 
--- an own list of entries only is a private run of them
+-- if the own list has only entries, the private machine runs these entries
 entered : (limit order : ℕ) (entries : List Entry) (m : Machine)
     → own_seen limit order (map Enters entries) m
     ≡ record { sights = map Told (private_run limit order entries m).replies; machine = (private_run limit order entries m).machine }
@@ -54,7 +54,7 @@ pub record Has (k : KernelContent) (t : ℕ) (m : Machine) : Type 0 where
   pub shows : Shows k world
   pub machine : slice_get world.machines t ≡ Some m
 
--- `seen` is what the private machine m gives for `owns`, and kernel k' has the machine afterwards
+-- `seen` is what the private machine m gives for `owns`, and kernel k' shows the machine afterwards
 pub record Follows (n t : ℕ) (owns : List Own) (m : Machine) (seen : List Sight) (k' : KernelContent) : Type 0 where
   pub sights : seen ≡ (own_seen cache_limit n owns m).sights
   pub order : k'.order ≡ n
@@ -77,7 +77,7 @@ run_follows k k' event reply t m had steps is =
       };
     })
 
--- what a store does to the private machine
+-- A store is a write for the private machine of its tenant, and nothing for any other.
 abbrev if_own : {A : Type 0} → Bool → A → List A
 if_own own x = if own then x ∷ [] else []
 
@@ -129,7 +129,7 @@ follows k k' (Runs event reply) t m had did = run_follows k k' event reply t m h
 follows k k' (StoresAt named place bytes) t m had did = store_follows k k' named place bytes t m had did
 follows k k' (LoadsAt named place byte) t m had did = load_follows k k' named place byte t m had did
 
--- one own list after the other
+-- if the kernel follows `owns`, and then `owns'` from the machine afterwards, it follows both lists in one
 both : (order t : ℕ) (owns owns' : List Own) (m : Machine) (sights sights' : List Sight) (k' l' : KernelContent) → Follows order t owns m sights k'
     → Follows order t owns' (own_seen cache_limit order owns m).machine sights' l' → Follows order t (owns ++ owns') m (sights ++ sights') l'
 both order t owns owns' m sights sights' k' l' one more =
@@ -150,7 +150,7 @@ all_follow k k' (action ∷ actions) t m had did =
     both k.order t (own_in t action) (own_actions t actions) m (sights_in t action) (sights_of t actions) did.0 k' one
     (subst (λ order. Follows order t (own_actions t actions) next (sights_of t actions) k') one.order (all_follow did.0 k' actions t next one.has did.2))
 
--- a booted kernel shows the empty machine
+-- a booted kernel shows the empty machine for each tenant
 pub booted_has : (k : KernelContent) (superblocks tenants t : ℕ) → IsBooted k superblocks tenants → t < tenants → Has k t empty_machine
 booted_has k superblocks tenants t booted here =
     record { kernel = booted.kernel; world = opening_world superblocks tenants; shows = booted.shows; machine = opening-machine superblocks tenants t here }

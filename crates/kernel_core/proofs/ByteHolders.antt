@@ -54,7 +54,7 @@ module _ (r : spaces.Content) (b : buddies.Content) (s : tables.Content) (t plac
         (λ o. none o.0 o.1)
         reach.inside)
 
-  -- a live object around the byte is one of the machine
+  -- if a live object of the parts contains the byte, the machine has the same live object there
   pub object_around : (o : ObjectSpan) → IsAround r s t place 1 o → (m : Machine) → ShowsMachine (content_of r b s) t m
       → HasObjectAround m place o.cache o.place o.bytes
   object_around o is m shown = record {
@@ -64,7 +64,7 @@ module _ (r : spaces.Content) (b : buddies.Content) (s : tables.Content) (t plac
     below = omega (arith, is.to);
   }
 
--- What a tenant gets, by its number
+-- What is returned to a tenant that is named by its number
 module _ (k : KernelContent) (t tenant place : ℕ) (same : t ≡ tenant) (less : t < k.tenants) where
   abbrev Told : ℕ → Option Holder → Type 0
   Told u o = (m : Machine) → ShowsMachine k u m → MatchOption o (in_reach m place 1 ≡ false) (IsHolder m place)

@@ -26,7 +26,8 @@ use Rattle.kernel_core.specs.Steps.{StepsMachine}
 use Rattle.kernel_core.proofs.CallsAsCommands.{answered, called, commanded, by_err, by_none}
 use Rattle.kernel_core.proofs.CallEffects.{marks_kept}
 
--- a take, with the order of the superblocks as the tables have it
+-- If a call takes `take_step` on the tenant's machine and changes nothing of others, it is the step of a `take` command. The step
+-- uses the order that the tables have.
 pub taken : (r r' : spaces.Content) (b b' : buddies.Content) (s s' : tables.Content) (t : ℕ) → Agree r b s → Spares t r r' b b' s s'
     → (number : ℕ) (told : Result ℕ TakeRefusal)
     → ((m : Machine) → ShowsMachine (content_of r b s) t m → told ≡ (take_step s.top number m).answer)
@@ -41,7 +42,7 @@ taken r r' b b' s s' t agree spares number told answer shows refused =
     (λ m shown. subst (λ top. ShowsMachine (content_of r' b' s') t (take_step top number m).machine) order (shows m shown))
     (by_err take_body told (λ place. refl) refused)
 
--- what holds after a refused `take_object` holds after the refused take
+-- if P holds when `take_object` is refused, P holds when the take is refused
 pub untaken : (P : Type 0) (told : Result Taken TakeRefusal) → OnErr told P → OnErr (place_taken told) P
 untaken P (Ok it) left = left
 untaken P (Err refusal) left = left

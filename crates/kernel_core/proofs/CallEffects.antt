@@ -25,14 +25,14 @@ mark_kept : (o : Option Owner) (was : Bool) → mark_after o o was ≡ was
 mark_kept None was = refl
 mark_kept (Some o) was = refl
 
--- no owner and no mark changes
+-- if neither the owners nor the marks change, `MarksFollow` holds
 pub marks_kept : (old new : spaces.Content) → new.owners ≡ old.owners → new.marks ≡ old.marks → MarksFollow old new
 marks_kept old new owners marks m =
     ap (λ bs. spaces.mark_at bs m) marks
     ∙ sym (ap (λ os. mark_after (spaces.owner_at old.owners m) (spaces.owner_at os m) (spaces.mark_at old.marks m)) owners
     ∙ mark_kept (spaces.owner_at old.owners m) (spaces.mark_at old.marks m))
 
--- next, superblock m gets another owner, and the mark that follows from it
+-- `MarksFollow` still holds if superblock m then gets owner o and the mark that follows from its owners
 pub marks_replaced : (old now : spaces.Content) (m : ℕ) (o : Option Owner) (is : Bool) → MarksFollow old now → m < length now.owners → m < length now.marks
     → mark_after (spaces.owner_at old.owners m) o (spaces.mark_at old.marks m) ≡ is
     → MarksFollow old (record now { owners = slice_set now.owners m o; marks = slice_set now.marks m is })
@@ -51,7 +51,8 @@ marks_replaced old now m o is follows owner mark told n = ⊎_elim
 
 -- Calls
 
--- a call for tenant t that changes nothing of others, returns the step's answer and leaves the step's machine
+-- a call for tenant t does the step if it changes nothing that others have, returns the step's answer and leaves the step's
+-- machine
 pub does_called : {A : Type 0} (r r' : spaces.Content) (b b' : buddies.Content) (s s' : tables.Content) (t : ℕ) → Spares t r r' b b' s s'
     → (step : Machine → Step A) (told : A)
     → ((m : Machine) → ShowsMachine (content_of r b s) t m → told ≡ (step m).answer)
@@ -73,11 +74,11 @@ does_called r r' b b' s s' t spares step told answer shows =
       spare = spares.spare;
     }
 
--- a refused call, which changes none of the parts
+-- if a call changes none of the parts, it does not change the kernel's content
 pub same_of : (r r' : spaces.Content) (b b' : buddies.Content) (s s' : tables.Content) → (r' ≡ r) × ((b' ≡ b) × (s' ≡ s)) → content_of r' b' s' ≡ content_of r b s
 same_of r r' b b' s s' same = λ i. content_of (same.0 i) (same.1.0 i) (same.1.1 i)
 
--- unchanged parts keep everything
+-- if the kernel does not change, each tenant keeps everything
 pub keeps_all : (k : KernelContent) (t : ℕ) → Keeps k k t
 keeps_all k t = record {
   space = same_space t k.space;
@@ -85,7 +86,7 @@ keeps_all k t = record {
   slabs = record { top = refl; caches = λ c. refl; lists = λ f n under. refl; kept = λ f n under. refl };
 }
 
--- a call that changes nothing, like its step, for each machine that the parts show
+-- if the step changes no machine that the parts show, a call that changes nothing and returns the step's answer does the step
 pub does_nothing : {A : Type 0} (k : KernelContent) (t : ℕ) (step : Machine → Step A) (told : A)
     → ((m : Machine) → ShowsMachine k t m → step m ≡ record { answer = told; machine = m })
     → Does k t step k.space.owners k told
@@ -99,7 +100,7 @@ does_nothing {A} k t step told same = record {
   spare = λ _ _. refl;
 }
 
--- What holds of the fields
+-- What holds for the fields of a kernel
 
 -- each tenant has a row in the memory's table of slots
 pub has_row : (r : spaces.Content) (b : buddies.Content) (s : tables.Content) (t : ℕ) → Agree r b s → t < length b.tenants → t < length r.slots
@@ -122,13 +123,13 @@ parts_agree r b s holds = record {
   agree = holds.agree;
 }
 
--- then the premise of the laws holds of each tenant
+-- if the parts hold together, `IsSteady`, which the laws require, holds for each tenant
 pub steady : (r : spaces.Content) (b : buddies.Content) (s : tables.Content) (t : ℕ) → HoldTogether r b s → t < length b.tenants → IsSteady r b s t
 steady r b s t holds known =
     (agree_steady r b s t holds.slabs holds.agree (has_row r b s t holds.agree known) holds.space.apart holds.buddy.sizes
     (λ u less. holds.buddy.sound u less)).0
 
--- what holds of a kernel's content holds of the fields
+-- if the parts of a kernel's content hold together, so do the fields that it was made from
 pub opened : (r : spaces.Content) (b : buddies.Content) (s : tables.Content) (k : KernelContent) → content_of r b s ≡ k → HoldTogether k.space k.buddy k.slabs → HoldTogether r b s
 opened r b s k is holds = subst (λ (x : KernelContent). HoldTogether x.space x.buddy x.slabs) (sym is) holds
 
@@ -140,7 +141,7 @@ pub same_sizes : (r r' : spaces.Content) (b : buddies.Content) (s s' : tables.Co
     → SameSizes (content_of r b s) (content_of r' (buddies.with_holding t h b) s')
 same_sizes r r' b s s' t h = record { order = refl; superblocks = refl; tenants = length-set b.tenants t h }
 
--- a superblock in a slot has a number below the number of superblocks
+-- the superblock in a slot has a number below the number of superblocks
 pub superblock_there : (r : spaces.Content) → spaces.IsSpace r → (t u m : ℕ) → spaces.superblock_at r.slots t u ≡ Some m → m < length r.owners
 superblock_there r facts t u m at = go (cases_lt m (length r.owners))
   where
@@ -148,7 +149,7 @@ superblock_there r facts t u m at = go (cases_lt m (length r.owners))
     go (inl less) = less
     go (inr past) = absurd (some_none (sym ((facts.agree t u m).0 at) ∙ get_or_past r.owners m None past))
 
--- the parts with another memory; their sizes are those of the buddy systems
+-- if the parts of k agree, the content with another memory differs from k only in the memory
 pub with_space : (k : KernelContent) (r : spaces.Content) → PartsAgree k → content_of r k.buddy k.slabs ≡ record k { space = r }
 with_space k r agree = λ i. record {
   order = agree.top i;

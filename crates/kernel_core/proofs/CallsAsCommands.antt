@@ -25,7 +25,7 @@ use Rattle.kernel_core.specs.Does.{Does}
 use Rattle.kernel_core.proofs.CallEffects.{does_called, does_nothing, same_of}
 use Rattle.kernel_core.specs.Steps.{StepsMachine, body_of}
 
--- the call does the command's step, and the reply has its answer
+-- if a call does the step of the command, and changes nothing when it is refused, it is a step of the tenant's machine
 pub commanded : {A : Type 0} (k k' : KernelContent) (t : ℕ) (command : Command) (body : A → Body) (step : Machine → Step A) (told : A)
     → ((m : Machine) → command_step cache_limit k.order command m ≡ with_body body (step m))
     → Does k t step k.space.owners k' told → (is_refused (body told) ≡ true → k' ≡ k) → StepsMachine k t command k' (body told)
@@ -42,7 +42,8 @@ commanded k k' t command body step told same does refused = record {
   refused = refused;
 }
 
--- a call that changes nothing of other tenants
+-- If a call changes nothing that other tenants have, and does the step of the command, it is a step of the tenant's machine. It
+-- must change nothing when it is refused.
 pub called : {A : Type 0} (r r' : spaces.Content) (b b' : buddies.Content) (s s' : tables.Content) (t : ℕ) → Spares t r r' b b' s s'
     → (command : Command) (body : A → Body) (step : Machine → Step A) (told : A)
     → ((m : Machine) → command_step cache_limit b.top command m ≡ with_body body (step m))
@@ -63,24 +64,25 @@ pub by_none : {A P : Type 0} (body : Option A → Body) (x : Option A) → ((a :
 by_none body (Some a) done same is = absurd (both_ways (is_refused (body (Some a))) (done a) is)
 by_none body None done same is = same
 
--- a refusal that `?` passes on
+-- if `?` passes a refusal on, the body of the reply is that refusal
 pub passed : {A E : Type 0} (told : A → Body) (refusal : E → Refusal) (e : E) (y : Result A Refusal) → IsErrAnd y (λ r. r ≡ refusal e)
     → body_of told y ≡ Refused (refusal e)
 passed told refusal e y is = let found = err_from_is_err_and y is in ap (body_of told) found.1 ∙ ap (λ r. Refused r) found.2
 
--- a command that changes nothing, like its step, for each machine that the kernel shows
+-- if the command changes no machine that the kernel shows, a call that changes nothing and returns the command's answer is its
+-- step
 pub answered : (k : KernelContent) (t : ℕ) (command : Command) (body : Body)
     → ((m : Machine) → ShowsMachine k t m → command_step cache_limit k.order command m ≡ record { answer = body; machine = m }) → StepsMachine k t command k body
 answered k t command body same = record { does = does_nothing k t (command_step cache_limit k.order command) body same; refused = λ _. refl }
 
--- a report
+-- if the figures are the machine's, returning them is the step of a `report`
 pub reported : (k : KernelContent) (t : ℕ) (told : figures.Report) → ((m : Machine) → ShowsMachine k t m → told ≡ figures_of k.order m)
     → StepsMachine k t Command.Report k (Say.Report told)
 unfolding command_step report_step
 reported k t told are =
     answered k t Command.Report (Say.Report told) (λ m shown. ap (λ r. record { answer = Say.Report r; machine = m }) (sym (are m shown)))
 
--- the reply to a cache that is made
+-- if the numbers are the layout's, the reply to a cache that is made has these numbers
 pub made : (size align number chunk order count colours : ℕ) (l : Cut) → l ≡ cut size align
     → chunk ≡ (numbers_of l).chunk → order ≡ (numbers_of l).order → count ≡ (numbers_of l).count → colours ≡ (numbers_of l).colours
     → cache_body size align (Ok number) ≡ Say.Cache number chunk order count colours

@@ -12,7 +12,7 @@ use Rattle.kernel_core.specs.Records.{RecordsStand}
 same_order : (k : KernelContent) → PartsAgree k → k.slabs.top ≡ k.order
 same_order k agree = sym agree.agree.order ∙ agree.top
 
--- byte i of the record in frame f, which lies in superblock m
+-- byte i of the record in frame f is a byte of superblock m, in which the frame lies
 place_is : (k : KernelContent) (f m n i : ℕ) → n ≡ m * 2 ^ k.slabs.top + f % 2 ^ k.slabs.top
     → record_at k.space k.slabs n i ≡ slice_index (superblock_bytes k m) (4096 * (f % 2 ^ k.slabs.top) + 4064 + i)
 place_is k f m n i is =

@@ -37,7 +37,7 @@ free_here taken x ended none (f, k, is, here) = go (cases_order f x)
     go (inr (inl below)) = absurd (omega (arith, ended f k is below, here.1))
     go (inr (inr above)) = absurd (omega (arith, here.0))
 
--- at the end of a taken block, all blocks that begin before it have ended
+-- at the end of a taken block, all taken blocks that begin earlier have ended
 pub block_next : (top : ℕ) (held : ℕ → Bool) (taken : Taken) → IsSound top held taken → (x j : ℕ) → AreEndedBefore taken x → taken x ≡ Some j
     → AreEndedBefore taken (x + 2 ^ j)
 block_next top held taken sound x j ended here f k is less = go (cases_order f x)
@@ -51,7 +51,7 @@ block_next top held taken sound x j ended here f k is less = go (cases_order f x
         let some : 0 < 2 ^ k = pow_pos k in
         absurd (omega (arith, above, sound.apart x j f k f here is (omega arith, less) (omega arith, omega (arith, some))))
 
--- at the first frame of a slot, all blocks that begin before it have ended
+-- at the first frame of a slot, all taken blocks that begin earlier have ended
 pub slot_begins : (top : ℕ) (held : ℕ → Bool) (taken : Taken) → IsSound top held taken → (slot : ℕ) → AreEndedBefore taken (slot * 2 ^ top)
 slot_begins top held taken sound slot f k is less = go (cases_lt (slot * 2 ^ top) (f + 2 ^ k))
   where
@@ -67,19 +67,19 @@ slot_begins top held taken sound slot f k is less = go (cases_lt (slot * 2 ^ top
         let same : slot * 2 ^ top / 2 ^ top ≡ f / 2 ^ top = frame_slot top (slot * 2 ^ top) (block f k) (sound.placed f k is).0 (omega (arith, less), over) in
         absurd (omega (arith, before, same, mul-div_cancel slot some))
 
--- a shift by an order is a power of two, and does not overflow
+-- 1, shifted by an order of at most 8, is a power of two and does not overflow
 pub small_shift : (order : ℕ) → order ≤ 8 → (1 * 2 ^ order % 18446744073709551616 ≡ 2 ^ order) × (0 < 2 ^ order) × (2 ^ order ≤ 256)
 small_shift order few = (one_shl order 64 (omega arith), pow_pos order, pow_mono few)
 
--- the first frame of a slot
+-- the number of a slot's first frame does not overflow
 pub slot_first : (slot order : ℕ) → slot < 65536 → order ≤ 8 → slot * 2 ^ order % 4294967296 ≡ slot * 2 ^ order
 slot_first slot order small few = shl_whole slot 16 order 32 small (omega (arith, few))
 
--- the slot of a frame and its index in the slot
+-- the frame with index `at` in a slot lies in that slot and has that index
 pub frame_of_slot : (slot order at : ℕ) → at < 2 ^ order → ((slot * 2 ^ order + at) / 2 ^ order ≡ slot) × ((slot * 2 ^ order + at) % 2 ^ order ≡ at)
 frame_of_slot slot order at less = (div-mul-add slot (2 ^ order) at less, mod-mul-add slot (2 ^ order) at less)
 
--- what holds of the first cells of a slot and of the next run of cells holds of both together
+-- if P holds for the first `at` cells and for the frames of the next run, it holds for all cells up to the end of the run
 pub runs_more : (P : ℕ → FrameKind → Type 0) (old new : List FrameKind) (at frames most : ℕ) (kind : FrameKind)
     → ((k : ℕ) (cell : FrameKind) → k < at → slice_get old k ≡ Some cell → P k cell)
     → ((k : ℕ) → k < at → slice_get new k ≡ slice_get old k)
@@ -101,13 +101,13 @@ module _ (r : spaces.Content) (b : buddies.Content) (s : Content) (t : ℕ) (st 
   pub none_taken : (IsTaken (buddies.taken_of (buddies.holding_of t b)) f → ⊥) → IsTaken (taken_in m) f → ⊥
   none_taken none (g, k, taken, here) = none (g, k, sym (taken_meets r b s t m st h g) ∙ taken, here)
 
-  -- a taken block that is not a slab's is a page block
+  -- a taken block at which no slab begins is a page block
   pub in_page : (first k : ℕ) → buddies.taken_of (buddies.holding_of t b) first ≡ Some k → HasFrame (block first k) f
       → showing.has_slab s (showing.machine_frame_of s.top r.slots t first) ≡ false → IsTaken (order_in m.blocks) f
   in_page first k taken here none =
       (first, k, h.blocks first ∙ ap (λ v. cond v None (buddies.taken_of (buddies.holding_of t b) first)) none ∙ taken, here)
 
-  -- a taken block at which a slab begins is the block of a slab, of the kind of its list
+  -- if a slab begins at a taken block, the block's frames lie in a slab of the kind that the list has
   pub in_slab : IsSlabs s → showing.Agree r b s → (first k : ℕ) → buddies.taken_of (buddies.holding_of t b) first ≡ Some k → HasFrame (block first k) f
       → (machine_frame head key kind : ℕ) → showing.machine_frame_of s.top r.slots t first ≡ Some machine_frame → place_at s.lists.places machine_frame ≡ Some (head, key)
       → kind < 3 → head % 3 ≡ kind → IsInSlab m f (is_kind kind)
@@ -135,7 +135,7 @@ module _ (r : spaces.Content) (b : buddies.Content) (s : Content) (t : ℕ) (st 
 abbrev pub IsListed : KernelContent → ℕ → ℕ → ℕ → Type 0
 IsListed k t first list = (machine_frame key : ℕ) × (showing.machine_frame_of k.slabs.top k.space.slots t first ≡ Some machine_frame) × (place_at k.slabs.lists.places machine_frame ≡ Some (list, key))
 
--- The same of the fields and of the content that they show.
+-- The facts above hold for a kernel's content and the fields that it was made from.
 module _ (r : spaces.Content) (b : buddies.Content) (s : Content) (t : ℕ) (k : KernelContent) (is : content_of r b s ≡ k) (holds : HoldTogether k.space k.buddy k.slabs)
     (less : t < k.tenants) (m : Machine) (h : ShowsMachine k t m) (f : ℕ) where
   together : HoldTogether r b s

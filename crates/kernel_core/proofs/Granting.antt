@@ -1,4 +1,4 @@
--- Granting a superblock without owner to a tenant.
+-- Granting a superblock without an owner to a tenant.
 use Rattle.std.proofs.Common.{◌≡◌, ℕ, ◌<◌, false, Some, None, is_none, position, length, slice_set, refl, sym, ap, subst, arith, ◌≤◌, slice_get, ◌∙◌}
 use Rattle.std.proofs.lemmas.Option.{slice_get_past}
 use Rattle.model_core.specs.Operations.{after_grant, next_slot}
@@ -30,7 +30,7 @@ use Rattle.kernel_core.specs.Does as calls
 use Rattle.kernel_core.specs.Steps.{Steps}
 use Rattle.kernel_core.proofs.KernelToWorld.{steps_done, steps_answered, unnamed}
 
--- the first superblock without owner is in no slot, and no slab begins on it
+-- the first superblock without an owner is in no slot, and no slab begins on it
 pub free_is_spare : (r : spaces.Content) (b : buddies.Content) (s : tables.Content) (m : ℕ) → HoldTogether r b s → position is_none r.owners ≡ Some m → IsSpare b s m
 free_is_spare r b s m holds free = unowned_is_spare r b s m holds (unowned-from_position r.owners m free)
 
@@ -43,7 +43,7 @@ pub record IsGrantable (r : spaces.Content) (b : buddies.Content) (s : tables.Co
   pub slot_below : u < length r.owners
   pub below : m < length r.owners
 
--- the buddy systems afterwards
+-- the buddy systems after tenant t gets superblock m in slot u
 abbrev pub buddy_after : ℕ → ℕ → ℕ → buddies.Content → buddies.Content
 buddy_after t u m b = buddies.with_holding t (buddies.with_slot u m (buddies.holding_of t b)) b
 
@@ -52,7 +52,7 @@ pub changes : (r : spaces.Content) (b : buddies.Content) (s : tables.Content) (t
 changes r b s t u m g =
     granted_shows r b s t u m g.together (has_row r b s t g.together.agree g.tenant) g.least g.slot_below g.below (unowned-from_position r.owners m g.free)
 
--- the first superblock without owner becomes the least slot that the tenant does not hold
+-- a grant puts the first superblock without an owner in the least slot that the tenant does not hold
 pub does_granted : (r : spaces.Content) (b : buddies.Content) (s : tables.Content) (t u m : ℕ) → IsGrantable r b s t u m
     → Does (content_of r b s) t (slot_grant_step b.top) (slice_set r.owners m (Some (owned_by t u))) (content_of (with_grant r t u m) (buddy_after t u m b) s) u
 does_granted r b s t u m g =
@@ -82,7 +82,7 @@ granted_world k w t m x u = record {
   world = record { owners = slice_set k.space.owners m (Some (owned_by t u)); machines = slice_set w.machines t (after_grant k.order x) };
 }
 
--- what a grant does to the world
+-- a grant in a world returns `granted_reply`, and `granted_world` is the world afterwards
 grant_is : (k : KernelContent) (w : World) (t m : ℕ) (x : Machine) → Shows k w → slice_get w.machines t ≡ Some x → position is_none k.space.owners ≡ Some m
     → world_step cache_limit k.order (On.Admin (Do.Grant t)) w ≡ granted_world k w t m x (next_slot x)
 unfolding world_step grant_step
@@ -97,7 +97,7 @@ grant_is k w t m x shown here free =
       };
     }) shown.owners
 
--- the first superblock without owner becomes the least slot that the tenant does not hold
+-- a call that puts the first superblock without an owner in slot u of tenant t, as a grant does, is a step of the world
 pub steps_granted : (k k' : KernelContent) (t n u m : ℕ) → t ≡ n → t < k.tenants → PartsAgree k' → position is_none k.space.owners ≡ Some m
     → Does k t (calls.slot_grant_step k.order) (slice_set k.space.owners m (Some (owned_by t u))) k' u
     → Steps k (On.Admin (Do.Grant n)) k' (granted_reply t u m)
@@ -106,14 +106,14 @@ steps_granted k k' t n u m same known agree free does = subst (λ v. Steps k (On
     (λ w x shown shows here. grant_is k w t m x shown here free ∙ ap (granted_world k w t m x) (sym (does.answer x shows)))
     (λ v named. unnamed t v named) refl)
 
--- there is no such tenant
+-- a grant to a tenant that does not exist is refused
 pub grant_without_tenant : (k : KernelContent) (t : ℕ) → k.tenants ≤ t → Steps k (On.Admin (Do.Grant t)) k (record { addressee = To.Admin; body = Refused NoTenant })
 unfolding grant_step world_step
 grant_without_tenant k t unknown =
     steps_answered k (On.Admin (Do.Grant t)) To.Admin (Refused NoTenant)
     (λ w shown. ap (λ o. grant_step k.order t w o (position is_none w.owners)) (slice_get_past w.machines t (omega (arith, shown.tenants))))
 
--- every superblock has an owner
+-- if every superblock has an owner, a grant is refused
 pub grant_without_superblock : (k : KernelContent) (t n : ℕ) → t ≡ n → t < k.tenants → position is_none k.space.owners ≡ None
     → Steps k (On.Admin (Do.Grant n)) k (record { addressee = To.Admin; body = Refused PoolEmpty })
 unfolding grant_step world_step

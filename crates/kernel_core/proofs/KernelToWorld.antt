@@ -33,7 +33,7 @@ use Rattle.machine_changes.proofs.OneMachineShown.{one_machine}
 pub keeps_shows : (k k' : KernelContent) (t : ℕ) (m : Machine) → Keeps k k' t → ShowsMachine k t m → ShowsMachine k' t m
 keeps_shows k k' t m keeps shown = kept_shows_same k.space k'.space k.buddy k'.buddy k.slabs k'.slabs t keeps m shown
 
--- the world after one tenant's machine and the owners change
+-- if nothing changes except the owners and the machine of tenant t, the kernel shows the world with the new owners and machine
 pub shows_changed : (k k' : KernelContent) (w : World) (t : ℕ) (m m' : Machine) (owners : List (Option Owner)) → Shows k w → PartsAgree k' → k'.tenants ≡ k.tenants → owners ≡ k'.space.owners
     → slice_get w.machines t ≡ Some m → ShowsMachine k' t m' → ((u : ℕ) → u ≢ t → Keeps k k' u) → Shows k' (record { owners = owners; machines = slice_set w.machines t m' })
 shows_changed k k' w t m m' owners shown agree same_tenants same_owners here shown' keeps = record {
@@ -50,7 +50,7 @@ shows_changed k k' w t m m' owners shown agree same_tenants same_owners here sho
       (cases_eq u t);
 }
 
--- a reply to an event that changes nothing
+-- if an event changes no world that the kernel shows, a call that changes nothing and returns the same reply is its step
 pub steps_answered : (k : KernelContent) (event : Event) (to : Addressee) (body : Body)
     → ((w : World) → Shows k w → world_step cache_limit k.order event w ≡ answer to body w)
     → Steps k event k (record { addressee = to; body = body })
@@ -92,7 +92,7 @@ steps_done k k' event reply t step owned told known agree does same only done = 
 pub unnamed : (t u : ℕ) → (t == u) ≡ false → u ≢ t
 unnamed t u named same = both_ways (t == u) named (eq-eqb t u (sym same))
 
--- a tenant that does not exist is refused
+-- a command of a tenant that does not exist is refused
 pub unknown_tenant : (k : KernelContent) (t : ℕ) (command : Command) → k.tenants ≤ t
     → Steps k (On.Tenant t command) k (record { addressee = To.Nobody; body = Refused NoTenant })
 unfolding world_step tenant_step
@@ -100,7 +100,7 @@ unknown_tenant k t command past =
     steps_answered k (On.Tenant t command) To.Nobody (Refused NoTenant)
     (λ w shown. ap (λ o. tenant_step cache_limit k.order t command w o) (slice_get_past w.machines t (omega (arith, shown.tenants))))
 
--- a command of a tenant is a step of its machine
+-- a step of a tenant's machine for a command is a step of the world
 pub steps_asked : (k k' : KernelContent) (t u : ℕ) (command : Command) (body : Body) → t ≡ u → t < k.tenants → ((w : World) → Shows k w → PartsAgree k')
     → StepsMachine k t command k' body → Steps k (On.Tenant u command) k' (record { addressee = To.Tenant t; body = body })
 unfolding world_step tenant_step

@@ -41,7 +41,7 @@ pub length-fit : (xs ws : List ℕ) → length (fit xs ws) ≡ length xs
 length-fit xs ws =
     length-take (length xs) (ws ++ drop (length ws) xs) ∙ omega (arith, length-append ws (drop (length ws) xs), length-drop (length ws) xs)
 
--- writing bytes of the window's length is a store
+-- writing a list of the window's length to a window is a store
 pub window_fitted : (r : spaces.Content) (t place len : ℕ) (xs ws : List ℕ) → length xs ≡ len → with_window r t place len (fit xs ws) ≡ stored t place (fit xs ws) r
 window_fitted r t place len xs ws long = ap (λ n. with_window r t place n (fit xs ws)) (sym (length-fit xs ws ∙ long))
 
@@ -82,7 +82,7 @@ module _ (r : spaces.Content) (b : buddies.Content) (s : tables.Content) (t plac
         ∙ ap (λ x. content_of x b s) (ap (λ n. with_window r t place n xs) long ∙ window_same r t place len xs is long));
   }
 
--- a range that is not in reach of the parts is not in reach of the machine
+-- if a range is not in reach in the parts, it is not in reach in the machine
 pub lend_beyond : (k : KernelContent) (t place len : ℕ) → IsRequested k.space k.buddy k.slabs t → (IsInReach k.space k.buddy k.slabs t place len → ⊥)
     → (m : Machine) → ShowsMachine k t m → in_reach m place len ≡ false
 lend_beyond k t place len asked beyond m shown = out_of_reach k.space k.buddy k.slabs t place len asked m shown beyond

@@ -1,4 +1,4 @@
--- The bytes that can be lent: a page block around a place, and a live object that begins at one.
+-- The bytes that can be lent: a page block around a place, or a live object that begins at a place.
 use Rattle.std.proofs.Common.{◌≡◌, inl, inr, ℕ, ◌*◌, ◌/◌, ◌%◌, ◌^◌, ◌<◌, ◌≤◌, Bool, true, false, if◌then◌else◌, Option, Some, None, refl, sym, ap, ◌∙◌, subst, arith}
 use Rattle.std.specs.Prelude.{is_some}
 use Rattle.std.proofs.lemmas.Bool.{false≢true, lt-ltb, le-ltb}
@@ -31,7 +31,7 @@ use Rattle.kernel_core.proofs.KernelToWorld.{unknown_tenant, steps_asked}
 use Rattle.kernel_core.proofs.CallEffects.{steady}
 use Rattle.kernel_core.proofs.PageCalls.{block_slot, IsRequested, not_held, home_is}
 
--- a taken block that is not a slab's
+-- a block of order k is taken, and no slab begins at it
 record IsPage (v : Bool) (o : Option ℕ) (k : ℕ) : Type 0 where
   page : v ≡ false
   taken : o ≡ Some k
@@ -40,7 +40,7 @@ page_from : (v : Bool) (o : Option ℕ) (k : ℕ) → (if v then None else o) �
 page_from true o k is = absurd (some_none (sym is))
 page_from false o k is = record { page = refl; taken = is }
 
--- a page block has at most 2^20 bytes
+-- the size of a page block in bytes does not overflow
 size_is : (order : ℕ) → order ≤ 8 → 4096 * 2 ^ order % 4294967296 ≡ 4096 * 2 ^ order
 size_is order few =
     let two : 0 < 2 = omega arith in
@@ -51,7 +51,7 @@ module _ (r : spaces.Content) (b : buddies.Content) (s : tables.Content) (t plac
   st : IsSteady r b s t
   st = steady r b s t asked.together asked.tenant
 
-  -- a place in a page block of the machine lies in one of the parts
+  -- if a place lies in a page block of the machine, it lies in a page block of the parts
   page_of : (m : Machine) → ShowsMachine (content_of r b s) t m → IsTaken (order_in m.blocks) (place / 4096) → IsInPage r b s t place 1
   page_of m shown taken =
       let f : ℕ = taken.0 in
@@ -121,7 +121,7 @@ module _ (r : spaces.Content) (b : buddies.Content) (s : tables.Content) (t plac
         size = size;
       }
 
-  -- the bytes of a live object
+  -- the range lies inside a live object
   module _ (bytes : ℕ) (object : (o : Found) × HasRange r s t place bytes o) where
     reach : IsInReach r b s t place bytes
     reach = record { some = object.1.some; inside = inr object }
@@ -134,7 +134,7 @@ module _ (r : spaces.Content) (b : buddies.Content) (s : tables.Content) (t plac
     object_held None under = absurd (not_held r b s t place bytes asked under reach)
     object_held (Some m) under = (m, refl)
 
--- a page block that begins at a frame
+-- a page block begins at frame `first`
 module _ (r : spaces.Content) (b : buddies.Content) (s : tables.Content) (t first order : ℕ) (asked : IsRequested r b s t) (page : IsPageAt r b s t first order) where
   same_frame : 4096 * first / 4096 ≡ first
   same_frame = omega arith
@@ -160,9 +160,9 @@ module _ (r : spaces.Content) (b : buddies.Content) (s : tables.Content) (t firs
   pub page_span : (m : ℕ) → IsBlockSpan (record { tenant = t; place = 4096 * first; bytes = 4096 * 2 ^ order % 4294967296; superblock = m }) t first order
   page_span m = record { tenant = refl; place = refl; bytes = size_is order page_few }
 
--- What a tenant gets, by its number
+-- What is returned to a tenant that is named by its number
 
--- a refusal to a tenant that exists
+-- if tenant t exists and `Why` holds for it, the tenant with the same number exists and `Why` holds for it
 pub refused_for : (k : KernelContent) (t tenant : ℕ) (Why : ℕ → Type 0) → t ≡ tenant → t < k.tenants → Why t → (tenant < k.tenants) × Why tenant
 refused_for k t tenant Why same less why = subst (λ u. (u < k.tenants) × Why u) same (less, why)
 
@@ -180,7 +180,7 @@ reply_known k k' t tenant command body same less agree steps =
     (subst (λ u. Steps k (On.Tenant tenant command) k' (record { addressee = To.Tenant u; body = body })) same
     (steps_asked k k' t tenant command body same less (λ w shown. agree) steps))
 
--- the same for a refused command
+-- a refused command of a tenant that exists is a step of the world, with the refusal as its reply
 pub reply_refused : (k k' : KernelContent) (t tenant : ℕ) (command : Command) (refusal : Refusal) → t ≡ tenant → t < k.tenants → PartsAgree k
     → StepsMachine k t command k' (Refused refusal) → Steps k (On.Tenant tenant command) k' (reply_for k tenant (Refused refusal))
 reply_refused k k' t tenant command refusal same less agree steps =

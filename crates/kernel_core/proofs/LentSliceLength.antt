@@ -28,7 +28,7 @@ use Rattle.std.proofs.Math.ListN.{drop_of_length-le}
 use Rattle.std.proofs.lemmas.List.{append-nil, take_all}
 use Rattle.kernel_core.specs.Lending.{fit}
 
--- a list of the same length is unchanged
+-- `fit` does not change a list that has the right length
 pub fit-same : (xs ws : List ℕ) → length ws ≡ length xs → fit xs ws ≡ ws
 fit-same xs ws e =
     ap (λ (rest : List ℕ). take (length xs) (ws ++ rest)) (drop_of_length-le xs (omega (arith, e)))
@@ -46,7 +46,7 @@ module _ {M : Type 1} {𝓤 : Ura M} (𝓛 : Logic 𝓤) (ℓ : Lifetime) (κ : 
       rewrite ! 0 (λ (l : List ℕ). ‵ (cells (mem u8) l b o)) (sym (fit-same xs ws e)) refl $
       feq_i ! ℕ (length (fit xs ws)) (length xs) (ap length (fit-same xs ws e) ∙ e) $ fjoin ! $ keep ! (0 ∷ []) $ done !)
 
-  -- the slice under a new name, which the old name follows; its machine value has the length
+  -- the slice under a new name, which the old name follows; its machine value has the length of xs
   abbrev pub fitted_lent : List Val → GName → Item 𝓤
   fitted_lent vs δ = given (vs ≡ slice_val (b, o) (length xs) ∷ []) (given (Room u8 (length xs))
       (‵ ((MutSlice ℓ κ u8).own_val (lent δ) (slice_val (b, o) (length xs) ∷ [])) ⊛ ‵ (flft κ q) ⊛ ‵ (follows (Array u8 0) (Array u8 0) γ δ (fit xs))))

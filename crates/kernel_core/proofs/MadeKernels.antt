@@ -46,7 +46,7 @@ kernel_of r b s together = record { agree = parts_agree r b s together; together
 abbrev pub to_tenant : ℕ → Body → Reply
 to_tenant t body = record { addressee = To.Tenant t; body = body }
 
--- a superblock is granted
+-- a grant puts superblock m in slot u of tenant t
 pub grant_acts : (r : spaces.Content) (b : buddies.Content) (s : tables.Content) (t u m : ℕ) → IsGrantable r b s t u m → buddies.BuddyLaws (buddy_after t u m b)
     → Acts (content_of r b s) (Runs (On.Admin (Do.Grant t)) (granted_reply t u m)) (content_of (with_grant r t u m) (buddy_after t u m b) s)
 grant_acts r b s t u m g laws =
@@ -62,7 +62,7 @@ grant_acts r b s t u m g laws =
       is,
     )
 
--- a page block is taken out of the chosen free block
+-- the buddy systems after tenant t has taken the block of order k at frame f
 abbrev reserved : ℕ → ℕ → ℕ → buddies.Content → buddies.Content
 reserved t f k b = buddies.with_holding t (buddies.with_block f k (buddies.holding_of t b)) b
 
@@ -90,7 +90,7 @@ alloc_acts r b s t k f j together tenant small chosen laws =
       is,
     )
 
--- a byte is read
+-- A byte is read
 
 one_byte : (xs : List ℕ) (x : ℕ) → length xs ≡ 1 → slice_index xs 0 ≡ x → xs ≡ x ∷ []
 one_byte [] x one is = absurd (omega arith)
@@ -132,7 +132,7 @@ in_frame r b s t place len taken page some inside = record {
   inside = inl (record { first = 0; order = 0; taken = taken; page = page; begins = omega arith; ends = inside });
 }
 
--- Two superblocks of 8 frames and two tenants. Each tenant may hold one slot and may have taken its first frame
+-- Two superblocks of 8 frames and two tenants. Each tenant may hold one slot, and may have taken the first frame of that slot.
 
 abbrev pub holder : Option ℕ → Option ℕ → buddies.Holding
 holder superblock taken = record { slots = superblock ∷ None ∷ []; taken = taken ∷ replicate 15 None }
@@ -195,7 +195,7 @@ module _ (a x b y : Option ℕ) (placed : IsPlaced a x) (placed' : IsPlaced b y)
     apart = apart;
   }
 
--- the free block that a request for one frame is served from if nothing is taken
+-- if nothing is taken, a request for one frame is served from the whole slot, which is the free block of order 3 at frame 0
 pub chosen : (m : ℕ) → IsChoice 3 (buddies.is_held (holder (Some m) None)) (buddies.taken_of (holder (Some m) None)) 0 (block 0 3)
 chosen m = choice_is_found 3 (buddies.is_held (holder (Some m) None)) (buddies.taken_of (holder (Some m) None)) 2 0 below
   where
@@ -204,7 +204,7 @@ chosen m = choice_is_found 3 (buddies.is_held (holder (Some m) None)) (buddies.t
     below (suc zero) is = omega arith
     below (suc (suc u)) is = absurd (false≢true is)
 
--- the memory after boot
+-- The memory, the tables and the kernel after boot
 
 abbrev pub opened_space : spaces.Content
 opened_space = spaces.empty_space (4096 * 2 ^ 3) 2 2

@@ -1,4 +1,4 @@
--- Moving a slot to a superblock without owner.
+-- Moving a slot to a superblock without an owner.
 use Rattle.std.proofs.Common.{◌≡◌, ℕ, ◌<◌, true, false, Some, None, is_none, length, position, slice_set, refl, ap, arith, ◌≤◌, Option, is_some, IsSome, List, map, slice_get, sym, ◌∙◌, subst}
 use Rattle.std.proofs.lemmas.List.{length-set}
 use Rattle.std.proofs.lemmas.Option.{slice_get_past}
@@ -31,7 +31,7 @@ use Rattle.kernel_core.specs.Steps.{Steps}
 use Rattle.kernel_core.proofs.KernelToWorld.{steps_done, steps_answered, unnamed}
 use Rattle.kernel_core.proofs.Owners.{is_under, given_up_one}
 
--- superblock `from` is in slot u of tenant t, and `to` is the first superblock without owner
+-- superblock `from` is in slot u of tenant t, and `to` is the first superblock without an owner
 pub record IsMovable (r : spaces.Content) (b : buddies.Content) (s s' : tables.Content) (t u from to : ℕ) : Type 0 where
   pub together : HoldTogether r b s
   pub tenant : t < length b.tenants
@@ -128,7 +128,7 @@ move_without_slot k t n u same known none = subst (λ v. Steps k (On.Admin (Do.M
     lacking : (w : World) (x : Machine) (free : Option ℕ) → holds x u ≡ false → move_step t u w (Some x) free ≡ answer To.Admin (Refused NoSlot) w
     lacking w x free lacks = rw lacks refl
 
--- every superblock has an owner
+-- if every superblock has an owner, a move is refused
 pub move_without_superblock : (k : KernelContent) (t n u : ℕ) → t ≡ n → t < k.tenants → IsSome (superblock_at k t u) → position is_none k.space.owners ≡ None
     → Steps k (On.Admin (Do.Move n u)) k (record { addressee = To.Admin; body = Refused PoolEmpty })
 unfolding world_step move_step

@@ -21,7 +21,7 @@ pub opening_agrees : (order superblocks tenants : ℕ)
 unfolding opening_content
 opening_agrees order superblocks tenants = (opening_shows order superblocks tenants).agree
 
--- the number of tenants is the length of the list of their holdings
+-- the content that is made from the parts at boot is `opening_content`
 pub opening_is : (order superblocks tenants : ℕ)
     → content_of (opening_content order superblocks tenants).space (opening_content order superblocks tenants).buddy (opening_content order superblocks tenants).slabs
     ≡ opening_content order superblocks tenants
@@ -37,7 +37,7 @@ opening_is order superblocks tenants = λ i. record {
 
 -- The world after boot
 
--- the sizes are within the limits
+-- if the configuration is bootable, its sizes are within the limits
 pub bootable : (c : Config) → is_bootable c ≡ true → (c.order ≤ MOST_ORDER) × (c.superblocks ≤ MOST_SUPERBLOCKS) × (c.tenants ≤ MOST_TENANTS)
 bootable c is =
     let first = and_parts (is_between LEAST_ORDER MOST_ORDER c.order) (is_between 1 MOST_SUPERBLOCKS c.superblocks && is_between 1 MOST_TENANTS c.tenants) is in

@@ -40,14 +40,14 @@ is_under s t u m space here = record {
       other (some_same (sym ((space.agree t u n).1 (owner_is t u (spaces.owner_at s.owners n) owns)) ∙ here)));
 }
 
--- a search for its owner finds its number
+-- a search for the owner of slot u of tenant t finds superblock m
 pub found_under : (s : spaces.Content) (t u m : ℕ) → IsUnder s t u m → position_or_len (is_owner t u) s.owners ≡ m
 found_under s t u m under =
     position_or_len_is (is_owner t u) s.owners m None (omega (arith, under.within))
     (λ n below. under.only n (λ same. absurd (omega arith)))
     (λ _. ap (is_owner t u) under.owner ∙ owner_self t u)
 
--- the owners after only this superblock loses its owner
+-- if superblock m loses its owner, all superblocks in slot u of tenant t have lost their owners, and no others have
 pub given_up_one : (s : spaces.Content) (t u m : ℕ) → IsUnder s t u m → slice_set s.owners m None ≡ map (given_up (is_owner t u)) s.owners
 given_up_one s t u m under =
     same_lists (slice_set s.owners m None) (map (given_up (is_owner t u)) s.owners)

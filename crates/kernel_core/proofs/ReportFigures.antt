@@ -1,4 +1,4 @@
--- The figures of a report follow from those of the tenant in the buddy system.
+-- The figures of a report follow from the tenant's figures in the buddy system.
 use Rattle.std.proofs.Common.{◌≡◌, ◌≢◌, ℕ, ◌+◌, ◌*◌, ◌%◌, ◌^◌, ◌<◌, ◌≤◌, cond, List, [], ◌∷◌, ◌++◌, Option, Some, None, sym, ap, ◌∙◌, add-one, arith, length, ap₂}
 use Rattle.std.specs.Prelude.{IfSome}
 use Rattle.std.proofs.lemmas.Bool.{eq-eqb, ne_eqb}
@@ -21,23 +21,23 @@ use Rattle.kernel_core.proofs.CallEffects.{steady}
 abbrev row : ℕ → ℕ → OrderRow
 row free taken = record { free = free; taken = taken }
 
--- the row of order k comes after those of the lower orders
+-- if `rows` are the rows of the orders below k, they and the row of order k are the rows of the orders below k + 1
 pub rows_more : (order k : ℕ) (m : Machine) (rows : List OrderRow) (row : OrderRow) → rows ≡ order_rows order m k → row ≡ order_row order m k
     → rows ++ row ∷ [] ≡ order_rows order m (k + 1)
 rows_more order k m rows row e e' =
     ap (λ (l : List OrderRow). l ++ row ∷ []) e ∙ ap (λ (x : OrderRow). order_rows order m k ++ x ∷ []) e' ∙ sym (ap (order_rows order m) (add-one k))
 
--- if there are blocks of order k, it is the greatest order so far
+-- if there are blocks of order k, k is the greatest order below k + 1 that has blocks
 pub greatest_some : (count : ℕ → ℕ) (k : ℕ) → count k ≢ 0 → Some k ≡ greatest count (k + 1)
 greatest_some count k some =
     sym (ap (greatest count) (add-one k) ∙ ap (λ v. cond v (greatest count k) (Some k)) (ne_eqb (count k) 0 some))
 
--- if there is none of order k, the greatest order stays the same
+-- if there are no blocks of order k, the greatest order below k + 1 that has blocks is the greatest one below k
 pub greatest_none : (count : ℕ → ℕ) (k : ℕ) (o : Option ℕ) → o ≡ greatest count k → count k ≡ 0 → o ≡ greatest count (k + 1)
 greatest_none count k o e none =
     e ∙ sym (ap (greatest count) (add-one k) ∙ ap (λ v. cond v (greatest count k) (Some k)) (eq-eqb (count k) 0 none))
 
--- adding the frames of one more order does not overflow
+-- adding the frames of order k gives the frames of the orders below k + 1, without overflow
 pub live_more : (b : buddies.Content) (t k live taken : ℕ) → AreWithin b t → k < b.top + 1 → live ≡ frames_below (buddies.holding_of t b) k
     → taken ≡ buddies.taken_block_count k (buddies.holding_of t b)
     → (live + taken * 2 ^ k % 4294967296 ≡ frames_below (buddies.holding_of t b) (k + 1)) × (frames_below (buddies.holding_of t b) (k + 1) ≤ 65536)
@@ -60,13 +60,13 @@ below_more (Some j) k is = omega arith
 pub within : (k : KernelContent) (t : ℕ) → PartsAgree k → HoldTogether k.space k.buddy k.slabs → t < k.tenants → AreWithin k.buddy t
 within k t agree holds known = figures_fit k.buddy t holds.buddy (omega (arith, agree.holdings))
 
--- the figures are those of the machine that the parts show
+-- the tenant's figures in the buddy system are the figures of the machine that the parts show
 pub meet : (k : KernelContent) (t : ℕ) (m : Machine) → PartsAgree k → HoldTogether k.space k.buddy k.slabs → t < k.tenants → ShowsMachine k t m → HasFigures k.buddy t m
 meet k t m agree holds known shown =
     let inside : t < length k.buddy.tenants = omega (arith, agree.holdings) in
     figures_meet k.space k.buddy k.slabs t m holds.agree (steady k.space k.buddy k.slabs t holds inside) holds.buddy inside shown
 
--- the number of frames in held slots fits 32 bits, and is at least the number of frames in taken blocks
+-- the number of frames in taken blocks is at most the number in held slots, which the code computes in 32 bits
 pub live_below : (b : buddies.Content) (t slots order live : ℕ) → AreWithin b t → slots ≡ buddies.held_slots (buddies.holding_of t b) → order ≡ b.top
     → live ≡ frames_below (buddies.holding_of t b) (b.top + 1) → live ≤ slots * 2 ^ order % 4294967296
 live_below b t slots order live small e e' live_is =
@@ -83,19 +83,19 @@ frames_read b t m slots order has within e e' =
     let held = has.held in
     omega arith
 
--- no frame is free
+-- if no frame is free, the greatest order of a free block is `None`
 pub top_none : (order : ℕ) (m : Machine) (free : ℕ) (top : Option ℕ) → free ≡ frames_free order m → free ≡ 0 → top ≡ None
     → top ≡ greatest_free order m
 top_none order m free top e none is =
     is ∙ sym (ap (λ v. cond v None (greatest (free_count order m) (order + 1))) (eq-eqb (frames_free order m) 0 (sym e ∙ none)))
 
--- some frame is free
+-- if some frame is free, the greatest order that has free blocks is the greatest order of a free block
 pub top_some : (order : ℕ) (m : Machine) (free : ℕ) (top : Option ℕ) → free ≡ frames_free order m → free ≢ 0
     → top ≡ greatest (free_count order m) (order + 1) → top ≡ greatest_free order m
 top_some order m free top e some is =
     is ∙ sym (ap (λ v. cond v None (greatest (free_count order m) (order + 1))) (ne_eqb (frames_free order m) 0 (λ none. some (e ∙ none))))
 
--- a report equals that of the machine if each figure does
+-- if each figure is the machine's, the report is the machine's
 pub figures_are : (order : ℕ) (m : Machine) (frames live free : ℕ) (top : Option ℕ) (split : ℕ) (orders : List OrderRow) (caches : List CacheRow)
     → frames ≡ frames_held order m → live ≡ frames_taken m → free ≡ frames_free order m → top ≡ greatest_free order m
     → split ≡ split_share free top → orders ≡ order_rows order m (order + 1) → caches ≡ rows_of_caches m

@@ -38,7 +38,7 @@ use Rattle.kernel_core.specs.Shows.{Shows}
 use Rattle.kernel_core.specs.Steps.{Steps}
 use Rattle.kernel_core.proofs.KernelToWorld.{steps_done, steps_answered, unnamed}
 
--- those of the first m superblocks that tenant t owned are taken back, `told` in number
+-- Of the first m superblocks, those that tenant t owned are taken back. Their number is `told`.
 pub record IsGivingUp (old now : Content) (t m told : ℕ) : Type 0 where
   pub small : told ≤ m
   pub count : told ≡ count_by (is_of t) (take m old.owners)
@@ -59,7 +59,7 @@ next_less n m other = ⊎_elim
     (λ le. le-ltb n (m + 1) (omega (arith, other)) ∙ sym (le-ltb n m le))
     (cases_lt n m)
 
--- the next superblock is the tenant's, and is taken back
+-- if superblock m is the tenant's and is taken back too, the tenant's superblocks below m + 1 are taken back
 pub giving_takes : (old now : Content) (t slot m told : ℕ) → IsGivingUp old now t m told → IsSpace now → OthersStay now → m < length old.owners → owner_at now.owners m ≡ Some (owned_by t slot)
     → IsGivingUp old (with_take_back now t slot m) t (m + 1) (told + 1)
 giving_takes old now t slot m told g space stay below own =
@@ -88,7 +88,7 @@ giving_takes old now t slot m told g space stay below own =
       others = λ u other. same_twice u old now (with_take_back now t slot m) (g.others u other) (stay.take_back t slot m u other);
     }
 
--- afterwards tenant t owns no superblock
+-- the result of `owner_without t` is never a slot of tenant t
 never_own : (t slot : ℕ) (o : Option Owner) → owner_without t o ≡ Some (owned_by t slot) → ⊥
 never_own t slot None is = some_none (sym is)
 never_own t slot (Some o) is = ⊎_elim
@@ -135,14 +135,14 @@ giving_ends old now t told space g = record {
         absurd (never_own t slot (owner_at old.owners n)
         (sym (past_all old now t (length old.owners) told g (omega arith) n (owned_below n (owned_by t slot) own)) ∙ own))
 
--- all superblocks of tenant t are taken back, `told` in number, and the tenant has no cache
+-- All superblocks of tenant t are taken back, and the tenant has no cache. The number of superblocks taken back is `told`.
 pub record IsEmptying (r r' : spaces.Content) (b : buddies.Content) (s s' : tables.Content) (t told : ℕ) : Type 0 where
   pub together : HoldTogether r b s
   pub tenant : t < length b.tenants
   pub gives : GivesUp r r' t told
   pub caches : IsReset s s' t
 
--- the buddy systems afterwards
+-- the buddy systems after tenant t has lost all slots and blocks
 abbrev pub buddy_after : ℕ → buddies.Content → buddies.Content
 buddy_after t b = buddies.with_holding t (buddies.nothing_held b.top b.superblocks) b
 
@@ -202,7 +202,7 @@ reset_without_tenant k t unknown =
     steps_answered k (On.Admin (Do.Reset t)) To.Admin (Refused NoTenant)
     (λ w shown. ap (λ o. reset_step t w o) (slice_get_past w.machines t (omega (arith, shown.tenants))))
 
--- the reply with the owner of each superblock
+-- returning the owner of each superblock is the step of the event `pool`
 pub steps_told : (k : KernelContent) (owners : List (Option Owner)) → owners ≡ k.space.owners → Steps k (On.Admin Do.Pool) k (record { addressee = To.Admin; body = Owners (record { items = owners }) })
 unfolding world_step
 steps_told k owners same = steps_answered k (On.Admin Do.Pool) To.Admin (Owners (record { items = owners }))

@@ -46,7 +46,7 @@ pub record IsIdle (r : spaces.Content) (b : buddies.Content) (s : tables.Content
   pub below : m < length r.owners
   pub idle : IsBusy b t u → ⊥
 
--- the buddy systems afterwards
+-- the buddy systems after slot u is taken back from tenant t
 abbrev pub buddy_after : ℕ → ℕ → buddies.Content → buddies.Content
 buddy_after t u b = buddies.with_holding t (buddies.without_slot u (buddies.holding_of t b)) b
 
@@ -120,7 +120,7 @@ take_without_tenant k t u unknown =
     steps_answered k (On.Admin (Do.TakeBack t u)) To.Admin (Refused NoTenant)
     (λ w shown. ap (λ o. slot_step k.order t u w o) (slice_get_past w.machines t (omega (arith, shown.tenants))))
 
--- if the machine refuses, so does the reply
+-- if the machine refuses a take-back, so does the kernel, with the same refusal
 pub take_refused : (k : KernelContent) (t n u : ℕ) (refusal : TakeBackRefusal) → t ≡ n → t < k.tenants → Does k t (take_back_step k.order u) k.space.owners k (Err refusal)
     → Steps k (On.Admin (Do.TakeBack n u)) k (record { addressee = To.Admin; body = Refused (take_back_refusal refusal) })
 take_refused k t n u refusal same known does =

@@ -9,7 +9,7 @@ use Rattle.kernel_core.specs.Content.{PartsAgree, opening_content}
 use Rattle.kernel_core.specs.Shows.{Shows}
 use Rattle.kernel_core.proofs.Opening.{opening_world_shown}
 
--- superblocks of 8 frames
+-- with superblocks of 8 frames, the parts agree before the first event
 opening_agrees : (superblocks tenants : ℕ) → superblocks ≤ MOST_SUPERBLOCKS → tenants ≤ MOST_TENANTS → PartsAgree (opening_content 3 superblocks tenants)
 unfolding opening_content
 opening_agrees superblocks tenants few many = record {

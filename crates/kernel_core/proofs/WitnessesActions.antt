@@ -1,6 +1,6 @@
--- Instances of the laws of worlds, of stores and of actions. In one world tenant 0 is alone. It takes a frame, 100 bytes are
--- stored there, which is more than one write has, and it reads the last of them. In the other world tenant 1 comes first, and
--- has a frame and stores of its own.
+-- Instances of the laws of worlds, of stores and of actions. In one world tenant 0 is alone. It allocates a frame, stores 100
+-- bytes there, which is more than one write can have, and reads the last of them. In the other world tenant 1 comes first. It
+-- allocates a frame and stores bytes of its own.
 use Rattle.std.proofs.Common.{◌≡◌, ℕ, List, [], ◌∷◌, Some, None, refl, ◌∙◌, arith, length, ◌<◌, position, is_none}
 use Rattle.std.specs.Prelude.{replicate}
 use Rattle.model_core.specs.Machine.{empty_machine}
@@ -30,7 +30,7 @@ use Rattle.kernel_core.proofs.Stores.{stores_are_writes}
 abbrev pub bytes : List ℕ
 bytes = replicate 100 7
 
--- superblock m, the first without owner, becomes slot 0 of a tenant that holds none
+-- superblock m, the first without an owner, can be granted to a tenant in slot 0, which the tenant does not hold
 pub first_slot : (r : spaces.Content) (b : buddies.Content) (t m : ℕ) → HoldTogether r b no_slabs → t < length b.tenants → position is_none r.owners ≡ Some m
     → spaces.superblock_at r.slots t 0 ≡ None → m < length r.owners → IsGrantable r b no_slabs t 0 m
 first_slot r b t m together tenant free vacant below = record {
@@ -209,7 +209,7 @@ beside_acts = (
 
 -- The laws
 
--- the worlds before and after the first grant
+-- before and after the first grant, the kernel shows no other world than the one named here
 OneWorld-met : OneWorld → ((w : World) → Shows opened w → w ≡ opening_world 2 2)
     × ((w : World) → Shows alone_1 w → w ≡ (world_step cache_limit 3 (On.Admin (Do.Grant 0)) (opening_world 2 2)).world)
 OneWorld-met law = (
@@ -232,7 +232,7 @@ LoadsAreOwn-met law =
     (alone_1, alone_granted, (alone_2, alone_taken, (alone_3, alone_stored, refl)))).has in
     law alone_3 has.world _ 0 104 7 has.kernel has.shows has.machine alone_loaded
 
--- what tenant 0 sees in both worlds, and its own list
+-- tenant 0 sees the same in both worlds, and has the same own list
 abbrev seen : List Sight
 seen = Told (Frame 0) ∷ Loaded (Some 7) ∷ Told (Bytes (record { items = 7 ∷ [] })) ∷ []
 

@@ -21,13 +21,13 @@ pub record HasStepped (before : KernelContent) (t : ℕ) (request : Request) (an
 abbrev pub RestsStepped : MutBor KernelContent → ℕ → Request → Answer → Fml
 RestsStepped kernel t request answer = Rests the_row kernel (HasStepped kernel.now t request answer)
 
--- the request of an existing tenant was a step of the world, with the answer to that tenant
+-- the request of tenant t was a step of the world, and the reply has this answer
 abbrev pub RestsRequestedKnown : MutBor KernelContent → ℕ → Request → Answer → Fml
 RestsRequestedKnown kernel t request answer =
     Rests the_row kernel (λ after. Steps kernel.now (Event.Tenant t (command_of request)) after (reply_of_answer t answer))
 
--- the request of a tenant was a step of the world, with the answer to that tenant; if there is no such tenant, nobody gets a
--- reply
+-- If there is an answer, the tenant exists, its request was a step of the world, and the reply has this answer. If there is none,
+-- the request was refused with `NoTenant`, and nobody gets a reply.
 abbrev pub HasAsked : KernelContent → ℕ → Request → Option (ℕ × Answer) → KernelContent → Type 0
 HasAsked before tenant request result after = MatchOption result
     (Steps before (Event.Tenant tenant (command_of request)) after (record { addressee = Addressee.Nobody; body = Body.Refused Refusal.NoTenant }))

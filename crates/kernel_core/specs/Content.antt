@@ -74,7 +74,7 @@ mark_after None (Some owner) was = false
 mark_after None None was = was
 mark_after (Some owner) (Some next) was = was
 
--- each superblock's mark follows from its owners and its earlier mark
+-- each superblock's mark follows from its owners before and after the call, and from its mark before
 abbrev pub MarksFollow : spaces.Content → spaces.Content → Type 0
 MarksFollow old new = (m : ℕ) → spaces.mark_at new.marks m
     ≡ mark_after (spaces.owner_at old.owners m) (spaces.owner_at new.owners m) (spaces.mark_at old.marks m)

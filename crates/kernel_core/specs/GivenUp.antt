@@ -6,7 +6,7 @@ use Rattle.space_core.specs.Content.{Content, superblock_at}
 use Rattle.space_core.specs.Laws.{IsSameFor}
 use Rattle.kernel_core.specs.Content.{MarksFollow}
 
--- the owner, or none if it was tenant t
+-- the owner, or `None` if the owner is tenant t
 abbrev pub owner_without : ℕ → Option Owner → Option Owner
 owner_without t owner = if is_of t owner then None else owner
 

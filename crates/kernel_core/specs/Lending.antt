@@ -18,18 +18,18 @@ use Rattle.kernel_core.specs.Shows.{ShowsMachine}
 use Rattle.kernel_core.specs.declared.lending.Span.{Span}
 use Rattle.kernel_core.specs.contracts.kernel.Kernel.{the_row}
 
--- ws, cut to the length of xs, or extended to it with the end of xs; this is ws if ws is as long as xs
+-- ws with the length of xs: a longer ws is cut, and a shorter one is extended by the end of xs
 abbrev pub fit : List ℕ → List ℕ → List ℕ
 fit xs ws = take (length xs) (ws ++ drop (length ws) xs)
 
--- the `len` bytes of tenant t from the place on, or none if they do not lie in one held slot
+-- the `len` bytes of tenant t from the place on, or no bytes if the range does not lie in one held slot
 abbrev pub bytes_in : Content → ℕ → ℕ → ℕ → List ℕ
 bytes_in r t place len = unwrap_or (window_of r t place len) []
 
 abbrev pub LendsWithin : MutBor Content → ℕ → ℕ → ℕ → MutBor (List ℕ) → Fml
 LendsWithin s t place len r = Lends spaces.the_row (Array u8 0) s r (λ ws. with_window s.now t place len (fit (bytes_in s.now t place len) ws))
 
--- the parts with the bytes ws left in the range, cut or extended to its length
+-- the parts with the bytes ws stored in the range; ws is first cut or extended to the range's length, as by `fit`
 abbrev pub with_left : KernelContent → ℕ → ℕ → ℕ → List ℕ → KernelContent
 with_left k t place len ws = record k { space = stored t place (fit (bytes_in k.space t place len) ws) k.space }
 
@@ -72,7 +72,7 @@ pub record IsBlockSpan (span : Span) (t frame order : ℕ) : Type 0 where
   pub place : span.place ≡ FRAME_BYTES * frame
   pub bytes : span.bytes ≡ FRAME_BYTES * 2 ^ order
 
--- nothing is lent, because there is no such tenant, or because of `Why`
+-- nothing is lent: either there is no such tenant, or there is one and `Why` holds for the refusal
 abbrev pub IsNotLent : KernelContent → ℕ → (Refusal → Type 0) → Refusal → Type 0
 IsNotLent k tenant Why refusal = ((k.tenants ≤ tenant) × (refusal ≡ Refusal.NoTenant)) ⊎ ((tenant < k.tenants) × Why refusal)
 

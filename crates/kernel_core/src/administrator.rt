@@ -118,7 +118,7 @@ impl Kernel {
         })
     }
 
-    /// Returns the reply to a request for the table of owners. It is the reply that [`Kernel::step`] returns for that event.
+    /// Returns the reply to the event `pool`, with the table of owners. [`Kernel::step`] returns the same reply for that event.
     #[cold]
     #[inline(never)]
     pub fn pool(&self) -> Reply

@@ -56,7 +56,7 @@ impl Kernel {
         })
     }
 
-    /// Destroys a cache and returns the number of frames in its slabs.
+    /// Destroys a cache and returns the number of frames freed.
     pub(crate) fn destroy(&mut self, t: u8, cache: u32) -> Result<u32, Refusal>
         requires { t < self.old.tenants }
         ensures { StepsMachine self.old t (Command.Destroy cache) self.new (body_of Destroyed result) }
@@ -67,7 +67,7 @@ impl Kernel {
         )
     }
 
-    /// Takes an object of a cache and returns its first place.
+    /// Takes an object of a cache and returns the place of its first byte.
     pub(crate) fn take(&mut self, t: u8, cache: u32) -> Result<u32, Refusal>
         requires { t < self.old.tenants }
         ensures steps { StepsMachine self.old t (Command.Take cache) self.new (body_of Object result) }
@@ -76,7 +76,7 @@ impl Kernel {
         Ok(self.slabs.take(&mut self.space, &mut self.buddy, t, cache)?)
     }
 
-    /// The same as [`Kernel::take`], but also returns all that a caller needs to lend the object.
+    /// Does the same as [`Kernel::take`], and also returns what a caller needs to lend the object.
     // Always inlined: its result is then kept in registers, not written to memory and read again.
     #[inline(always)]
     pub(crate) fn take_object(&mut self, t: u8, cache: u32) -> Result<Taken, Refusal>
@@ -105,7 +105,8 @@ impl Kernel {
 
     /// Gives an object of a tenant back to its cache.
     ///
-    /// Refuses with `NoTenant`, then in the same cases as a `give`.
+    /// Refuses with `NoTenant`, then with `NoCache` if the tenant has no such cache, then with `NotAnObject` if no live object of
+    /// the cache begins at `place`.
     #[inline(always)]
     pub fn give_object(&mut self, tenant: u32, cache: u32, place: u32) -> Result<(), Refusal>
         ensures { Steps self.old (On.Tenant tenant (Command.Give cache place)) self.new

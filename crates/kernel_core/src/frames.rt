@@ -53,7 +53,7 @@ impl Kernel {
 
     /// Sets the cells to the kinds of the frames of a slot of tenant `t`: cell 0 to the kind of the first frame, and so on. The
     /// kinds are those that [`Kernel::frame_at`] returns, but this function looks up each block only once. If there are more
-    /// cells than frames, the others may be set to anything.
+    /// cells than frames, the remaining cells may be set to anything.
     pub fn show_frames(&self, t: u8, slot: u16, cells: &mut [FrameKind])
         requires { t < self.now.tenants }
         ensures { (m : Machine) (k : ℕ) (cell : FrameKind) → ShowsMachine self.now t m → k < 2 ^ self.now.order
@@ -69,7 +69,7 @@ impl Kernel {
         }
     }
 
-    /// The same as [`Kernel::show_frames`], for a slot in which the tenant has this superblock.
+    /// Does the same as [`Kernel::show_frames`] for a slot in which the tenant has this superblock.
     fn show_held(&self, superblock: u16, t: u8, slot: u16, cells: &mut [FrameKind])
         requires tenant { t < self.now.tenants }
         requires held { superblock_at self.now t slot ≡ Some superblock }
@@ -98,9 +98,10 @@ impl Kernel {
         u32::from(slot) << self.order()
     }
 
-    /// Returns the kind of frame `first` of tenant `t`, and a number of frames from `first` on that all have this kind: those of
-    /// the taken block that begins at `first`, or one free frame if no block begins there. `order` is the order of that block.
-    /// The result is valid only if no block that begins before `first` contains it.
+    /// Returns the kind of frame `first` of tenant `t`, and a number of frames from `first` on that all have this kind. The
+    /// number is the size of the taken block that begins at `first`. If no block begins there, the frame is free and the number
+    /// is 1. `order` is the order of the block, or `None`. The result is valid only if no block that begins before `first`
+    /// contains it.
     fn run_at(&self, superblock: u16, t: u8, first: u32, order: Option<u8>) -> (FrameKind, usize)
         requires tenant { t < self.now.tenants }
         requires held { superblock_at self.now t (first / 2 ^ self.now.order) ≡ Some superblock }
@@ -155,7 +156,7 @@ impl Kernel {
         Some(ListId { number })
     }
 
-    /// The same as `list_at`, for a caller that knows the superblock in the slot of the frame.
+    /// Returns the same as `list_at`. The caller knows the superblock of the frame's slot.
     fn list_in(&self, superblock: u16, t: u8, first: u32) -> Option<ListId>
         requires tenant { t < self.now.tenants }
         requires held { superblock_at self.now t (first / 2 ^ self.now.order) ≡ Some superblock }
@@ -169,7 +170,7 @@ impl Kernel {
         Some(ListId { number })
     }
 
-    /// Returns the machine frame at a frame of tenant `t`, or `None` if the tenant does not hold the slot.
+    /// Returns the machine frame of a frame of tenant `t`, or `None` if the tenant does not hold the frame's slot.
     fn machine_frame_of(&self, t: u8, frame: u32) -> Option<u32>
         requires { t < self.now.tenants }
         ensures value { result ≡ machine_frame_of self.now.slabs.top self.now.space.slots t frame }
@@ -180,8 +181,8 @@ impl Kernel {
         Some(self.machine_frame_in(superblock, t, frame))
     }
 
-    /// The same as `machine_frame_of`, for a caller that knows the superblock in the slot of the frame. Only the contract uses
-    /// `t`.
+    /// Returns the machine frame of a frame of tenant `t`. The caller knows the superblock of the frame's slot. Only the contract
+    /// uses `t`.
     #[inline(always)]
     pub(crate) fn machine_frame_in(&self, superblock: u16, t: u8, frame: u32) -> u32
         requires { superblock_at self.now t (frame / 2 ^ self.now.order) ≡ Some superblock }
@@ -206,8 +207,8 @@ fn kind_in(list: ListId) -> FrameKind
     }
 }
 
-/// Sets the cells `begin..end`, which must be `Free`. Most blocks have one frame. The cell of such a block is set without the
-/// loop, because the loop is compiled to a call of `memset`.
+/// Sets the cells `begin..end`, which must be `Free`. Most blocks have one frame. Their cells are set without the loop, because
+/// the loop is compiled to a call of `memset`.
 fn set_cells(cells: &mut [FrameKind], begin: usize, end: usize, kind: FrameKind)
     requires inside { end ≤ length cells.old }
     requires free { (k : ℕ) (cell : FrameKind) → begin ≤ k → k < end → slice_get cells.old k ≡ Some cell → cell ≡ Free }

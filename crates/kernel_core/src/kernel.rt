@@ -163,7 +163,7 @@ impl Kernel {
         }
     }
 
-    /// Runs a command of the administrator. The reply has its own copy of the owners.
+    /// Runs a command of the administrator. A reply with the table of owners has its own copy of the table.
     fn reply_to_admin(&mut self, command: &AdminCommand) -> Reply
         ensures { Steps self.old (Event.Admin command.now) self.new result }
     {
@@ -221,7 +221,7 @@ impl Kernel {
         Some((t, self.ask_known(t, request)))
     }
 
-    /// The same as [`Kernel::ask`], for a tenant that exists.
+    /// Does the same as [`Kernel::ask`] for tenant `t`, which must exist, and returns only the answer.
     #[inline(always)]
     pub fn ask_known(&mut self, t: u8, request: Request<'_>) -> Answer<'_>
         requires tenant { t < self.old.tenants }
@@ -288,7 +288,7 @@ impl Kernel {
         answer
     }
 
-    /// Returns the reply to a request for a report. It is the reply that [`Kernel::step`] returns for that event.
+    /// Returns the reply to the event `report` of a tenant. [`Kernel::step`] returns the same reply for that event.
     #[cold]
     #[inline(never)]
     pub fn report(&self, tenant: u32) -> Reply

@@ -30,8 +30,8 @@ pub fn is_kernel(kernel: &Kernel)
     kernel.laws();
 }
 
-/// If only bytes inside one live page block or one live object of a tenant change, that is the step of a `write` of these bytes
-/// by the tenant, even if they are more than a `write` can have. The kernel keeps its invariants.
+/// If only bytes inside one live page block or one live object of a tenant change, the tenant's `write` of these bytes makes the
+/// same change. This holds even if there are more bytes than a `write` can have. The kernel keeps its invariants.
 pub fn stores_are_writes()
     ensures { StoresAreWrites }
 {}

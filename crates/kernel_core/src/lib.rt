@@ -21,8 +21,8 @@
 //! assert_eq!(rt; refused.body, Body::Refused(Refusal::NoFrames));
 //! ```
 //!
-//! A crate that does this has the line `NAME: kernel_core words_core` in `crates.txt`. `step` requires that the pattern of a
-//! `cache` command has at least one byte. It requires nothing of other commands.
+//! A crate that calls the kernel like this has the line `NAME: kernel_core words_core` in `crates.txt`. `step` requires that the
+//! pattern of a `cache` command has at least one byte. It requires nothing of other commands.
 #![tactic(auto)]
 
 mod administrator;

@@ -43,7 +43,7 @@ pub struct BlockFigures {
 }
 
 impl Kernel {
-    /// Returns the figures of frames and blocks in a report of tenant `t`, without those of its caches.
+    /// Returns the figures of frames and blocks in a report of tenant `t`, without the figures of its caches.
     pub fn block_figures(&self, t: u8) -> BlockFigures
         requires { t < self.now.tenants }
         ensures frames { (m : Machine) → ShowsMachine self.now t m → result.frames ≡ frames_held self.now.order m }
@@ -61,7 +61,7 @@ impl Kernel {
     }
 
     /// Returns the figures of tenant `t`'s memory: its frames, its blocks of each order, and its caches. They are the contents of
-    /// the reply of [`Kernel::report`], in a value of half the size.
+    /// the reply of [`Kernel::report`]. A [`Report`] has half the size of that reply.
     pub fn figures(&self, t: u8) -> Report
         requires { t < self.now.tenants }
         ensures machine { (m : Machine) → ShowsMachine self.now t m → result ≡ figures_of self.now.order m }
@@ -113,8 +113,8 @@ fn orders_of(buddy: &Buddy, t: u8) -> Blocks
     Blocks { orders, live, top }
 }
 
-/// Returns the share of the `free` frames that are outside one of the largest free blocks, in thousandths. `top` is the order of
-/// that block, or `None` if no block is free. Returns 0 if no block is free.
+/// Returns the share of the `free` frames that are outside one largest free block, in thousandths. `top` is the order of that
+/// block, or `None` if no block is free. Returns 0 if no block is free.
 fn split_share(free: u32, top: Option<u8>) -> u32
     requires free { IfSome top (λ k. 0 < free) }
     requires order { IfSome top (λ k. k ≤ MOST_ORDER) }

@@ -1,4 +1,4 @@
--- `lend_within` lends the window of `window_in` under a new name: a walk over its MIR by hand.
+-- `lend_within` lends the window of `window_in` under a new name. The proof follows its MIR by hand.
 use Rattle.std.proofs.Common.{◌≡◌, ℕ, List, [], ◌∷◌, Option, Some, unwrap_or, length, refl, sym, ap, w8, w16, w32, MutBor}
 use mir.Syntax.{named}
 use mir.Val.{vptr, vint}

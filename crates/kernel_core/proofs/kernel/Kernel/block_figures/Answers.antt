@@ -11,7 +11,7 @@ use Rattle.kernel_core.proofs.kernel.Kernel.block_figures.Goals.{After-orders_of
 pub orders_of-blocks-requires-clause-fit : goal.orders_of-blocks-requires-clause-fit
 orders_of-blocks-requires-clause-fit c = rw c.buddy-buddy.ensures (within c.args.self.now c.args.t c.laws.ensures.agree c.laws.ensures.together c.requires)
 
--- the figures of the tenant in the buddy system are those of the machine
+-- the tenant's figures in the buddy system are the machine's figures
 has : (c : After-orders_of-blocks) → (m : Machine) → ShowsMachine c.args.self.now c.args.t m → HasFigures c.buddy-buddy.result.now c.args.t m
 has c m shown = rw c.buddy-buddy.ensures (meet c.args.self.now c.args.t m c.laws.ensures.agree c.laws.ensures.together c.requires shown)
 

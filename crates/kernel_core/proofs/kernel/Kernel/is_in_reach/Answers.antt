@@ -37,7 +37,7 @@ small c =
     let shift = small_shift c.in-Some.order few in
     (shift.0, shift.1, shift.2, few, st.few c.in-Some.first c.in-Some.order c.in-Some.ensures.0)
 
--- whether a slab begins at the block
+-- the call returned whether a slab begins at the block
 told : (c : After-is_slab_in) → has_slab c.self.inside.slabs (machine_frame_of c.self.inside.slabs.top c.self.inside.space.slots c.args.t c.in-Some.first) ≡ c.is_slab_in.result
 told c =
     ap (has_slab c.self.inside.slabs) (ap (λ (k : KernelContent). machine_frame_of k.slabs.top k.space.slots c.args.t c.in-Some.first) c.self.view_is ∙ c.machine_frame_in-machine_frame.ensures.value)

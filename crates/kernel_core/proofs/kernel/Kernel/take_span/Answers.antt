@@ -15,7 +15,7 @@ use Rattle.kernel_core.proofs.LendSpans.{reply_unknown, reply_known, reply_refus
 use Rattle.kernel_core.proofs.kernel.Kernel.take_span.Goals as goal
 use Rattle.kernel_core.proofs.kernel.Kernel.take_span.Goals.{After-laws-2}
 
--- the tenant exists afterwards
+-- the tenant still exists after the take
 there : (c : After-laws-2) → c.in-Some.t < c.take_object.new.self.tenants
 there c = let same = c.in_ok-taken.ensures.steps.does.sizes.tenants in let before = c.in-Some.ensures.1 in omega arith
 
