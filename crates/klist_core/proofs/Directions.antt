@@ -5,7 +5,7 @@ use Rattle.std.proofs.lemmas.Bool.{cases_lt, cases_eq}
 use Rattle.klist_core.specs.Places.{IsByKey}
 use Rattle.klist_core.specs.Links.{NoneFrom, IsLeastFrom, IsNearest, IsFollowing, up, back_from}
 
--- keys below the limit rise by `rank` as they fall by `back`
+-- for keys below the limit, `rank` rises if and only if `back` falls
 pub record IsDirection (limit : ℕ) (rank back : ℕ → ℕ) : Type 0 where
   pub same : (x y : ℕ) → x < limit → y < limit → rank x ≡ rank y → x ≡ y
   pub turned : (x y : ℕ) → x < limit → y < limit → rank x < rank y → back y < back x
@@ -31,7 +31,7 @@ pub record IsLastBelow (rank : ℕ → ℕ) (place : ℕ → Option (ℕ × ℕ)
 pub record IsKeyed (limit : ℕ) (place : ℕ → Option (ℕ × ℕ)) (h : ℕ) : Type 0 where
   pub below : (i k : ℕ) → place i ≡ Some (h, k) → k < limit
 
--- the node before a key, found in the other direction
+-- the nearest node in the other direction from a key is the last node below the key
 pub last_below : {limit : ℕ} (rank back : ℕ → ℕ) (place : ℕ → Option (ℕ × ℕ)) (h k : ℕ) (o : Option ℕ) → IsDirection limit rank back → IsKeyed limit place h → k < limit
     → IsNearest back place h (back k + 1) o → IsLastBelow rank place h (rank k) o
 last_below {limit} rank back place h k None d keyed small v = record { is = above }
@@ -61,7 +61,7 @@ last_below {limit} rank back place h k (Some j) d keyed small v = record { is = 
       | inr le ↦ le
     ]
 
--- the node before a new key is the one before the node after it, or the last node if no node comes after it
+-- the node before a new key is the node before the next node, or the last node if there is no next node
 across_none : {limit : ℕ} (rank back : ℕ → ℕ) (place : ℕ → Option (ℕ × ℕ)) (h k : ℕ) (o : Option ℕ) → IsDirection limit rank back → IsKeyed limit place h → k < limit → ((i : ℕ) → place i ≢ Some (h, k))
     → NoneFrom rank place h (rank k + 1) → IsNearest back place h 0 o → IsNearest back place h (back k + 1) o
 across_none {limit} rank back place h k None d keyed small fresh after v = record { is = λ i k' e. let v' = v.is i k' e in absurd (omega arith) }

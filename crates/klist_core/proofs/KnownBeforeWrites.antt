@@ -62,7 +62,7 @@ removal_known heads nodes n x h t within got is = record {
     fitting : (o : Option ℕ) → IsWithin o (length (places_of nodes)) → IsWithin o (length nodes)
     fitting o w = record { below = λ i e. omega (arith, w.below i e, length-map nodes place_in) }
 
--- node n is linked into list h under the key k between these two nodes: in the gap, or at the end of a loose list
+-- a new node with the key k belongs between these two nodes of list h: in the gap, or at the end of a loose list
 pub record IsLinkPlace (heads : List Head) (nodes : List Node) (h k : ℕ) (t : IsLinked heads nodes) (g : Option ℕ × Option ℕ) : Type 0 where
   pub before : IsNearest (back_from (t.now + 1)) (ranks t.came (places_of nodes)) h (back_from (t.now + 1) (rank_in h t.now k) + 1) g.0
   pub after : IsNearest up (ranks t.came (places_of nodes)) h (up (rank_in h t.now k) + 1) g.1
@@ -129,7 +129,7 @@ insertion_known heads nodes h n k o g t in_heads within fits free fresh gap is =
     fitting : (o : Option ℕ) → IsWithin o (length (places_of nodes)) → IsWithin o (length nodes)
     fitting o w = record { below = λ i e. omega (arith, w.below i e, same_length) }
 
--- the tables with node n in list h
+-- after node n is linked into list h, the tables are linked
 pub linked_in : (heads : List Head) (nodes : List Node) (h n k : ℕ) (g : Option ℕ × Option ℕ) → IsInsertion heads nodes h n k g
     → IsLinked (heads_linked heads h n g.0 g.1) (nodes_linked nodes h n k g.0 g.1)
 linked_in heads nodes h n k g x =
@@ -143,7 +143,7 @@ shown_in heads nodes h n k g x =
     shown_rewired heads _ nodes _ h n (linked_node h k g.0 g.1) g.0 g.1 (Some n) (Some n) ((head_at heads h).len + 1)
     (rewired heads nodes h n (linked_node h k g.0 g.1) g.0 g.1 (Some n) (Some n) ((head_at heads h).len + 1) x.in_heads x.in_nodes x.left x.right)
 
--- .. without node n, which was read as x
+-- .. and the tables without node n, which was read as x, are rewired
 without : (heads : List Head) (nodes : List Node) (n : ℕ) (x : Node) (h : ℕ) → IsRemoval heads nodes n x h
     → IsRewired heads (heads_unlinked heads h x.previous x.next) nodes (nodes_unlinked nodes n x.previous x.next) h n free_node x.previous x.next x.next x.previous ((head_at heads h).len - 1)
 without heads nodes n x h r = rewired heads nodes h n free_node x.previous x.next x.next x.previous ((head_at heads h).len - 1) r.in_heads r.in_nodes r.left r.right
@@ -156,7 +156,7 @@ pub shown_out : (heads : List Head) (nodes : List Node) (n : ℕ) (x : Node) (h 
     → shown (heads_unlinked heads h x.previous x.next) (nodes_unlinked nodes n x.previous x.next) ≡ removed (shown heads nodes) n
 shown_out heads nodes n x h r = shown_rewired heads _ nodes _ h n free_node x.previous x.next x.next x.previous _ (without heads nodes n x h r)
 
--- .. and with node j in its place
+-- the tables after node n, which was read as x, is replaced by node j
 abbrev pub heads_replaced : List Head → (h j : ℕ) → Node → List Head
 heads_replaced heads h j x = heads_linked (heads_unlinked heads h x.previous x.next) h j x.previous x.next
 

@@ -5,7 +5,7 @@ use Rattle.std.proofs.lemmas.Bool.{cases_eq}
 use Rattle.klist_core.specs.Links.{up, IsNearest}
 use Rattle.klist_core.proofs.NearestChanged.{same_key}
 
--- o has the least key of the nodes of list h that are below n, and the bound is this key
+-- o has the least key of the nodes of list h that are below n, and the bound is this key, or 2 ^ 32 if there is none
 pub record IsLeastUntil (place : ℕ → Option (ℕ × ℕ)) (h n bound : ℕ) (o : Option ℕ) : Type 0 where
   pub found : MatchOption o (bound ≡ 2 ^ 32) (λ j. place j ≡ Some (h, bound))
   pub least : (i k : ℕ) → i < n → place i ≡ Some (h, k) → bound ≤ k

@@ -1,4 +1,4 @@
--- What the links say of lists that are linked by key, and of any list.
+-- The ends and links of a table give the nearest nodes of a list that is linked by key, and some node of any list.
 use Rattle.std.proofs.Common.{◌≡◌, ℕ, ◌^◌, ◌<◌, true, List, Option, Some, None, length, refl, ap, ◌∙◌, arith}
 use Rattle.std.specs.Prelude.{MatchOption}
 use Rattle.std.proofs.lemmas.Bool.{eq-eqb}
@@ -8,7 +8,7 @@ use Rattle.klist_core.specs.declared.Head.{Head}
 use Rattle.klist_core.specs.declared.Node.{Node}
 use Rattle.klist_core.proofs.Ranks.{unranked, ranked_there, ranked_by_key, nearest_by_key, start_limit, next_limit}
 
--- some node of a list, whichever way it is linked
+-- the first linked node of a list is a node of the list, and if there is none, the list is empty
 some_ranked : (came : ℕ → ℕ) (places : List (Option (ℕ × ℕ))) (h : ℕ) (o : Option ℕ) → IsNearest up (ranks came places) h 0 o → MatchOption o (IsEmpty places h) (λ n. is_in h (place_at places n) ≡ true)
 some_ranked came places h None v = λ i k e. let u = v.is i _ (ranked_there (came i) h k (place_at places i) e) in omega (arith, u)
 some_ranked came places h (Some j) v =
@@ -17,7 +17,7 @@ some_ranked came places h (Some j) v =
     ap (is_in h) w.1 ∙ eq-eqb h h refl
 
 module _ (heads : List Head) (nodes : List Node) (t : IsLinked heads nodes) where
-  -- the limits of keys
+  -- each key is below `now` and below 2 ^ 32
   keyed : (i h k : ℕ) → place_at (places_of nodes) i ≡ Some (h, k) → (k < t.now) × (k < 2 ^ 32)
   keyed i h k e = let u = t.table.keyed i h k e in (omega (arith, u, t.wide), u)
 

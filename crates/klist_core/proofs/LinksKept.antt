@@ -1,4 +1,4 @@
--- The links of a table after an insertion and after a removal.
+-- After an insertion, a removal or a replacement the tables are linked.
 use Rattle.std.proofs.Common.{◌≡◌, ℕ, ◌+◌, ◌%◌, ◌^◌, ◌<◌, ◌≤◌, List, Option, Some, None, length, set, ap, sym, ◌∙◌, subst, inl, inr, arith}
 use Rattle.std.specs.Prelude.{◌≢◌, count_by}
 use Rattle.std.proofs.lemmas.Bool.{cases_eq}
@@ -15,7 +15,7 @@ use Rattle.klist_core.proofs.Chains.{IsApart, chain_inserted, chain_removed}
 use Rattle.klist_core.proofs.PlacesChanged.{placed_within, put_by_insertion, put_by_removal, apart_large, table_inserted, table_removed, count_inserted, count_inserted_elsewhere, count_removed, count_removed_elsewhere}
 use Rattle.klist_core.proofs.TableWrites.{IsWithin, IsRewired}
 
--- a nearest node has a place in the list
+-- a nearest node is in the list
 pub nearest_placed : (rank : ℕ → ℕ) (place : ℕ → Option (ℕ × ℕ)) (h b : ℕ) (o : Option ℕ) → IsNearest rank place h b o → (i : ℕ) → o ≡ Some i → (k : ℕ) × (place i ≡ Some (h, k))
 nearest_placed rank place h b None v i e = absurd (let f : ◌≡◌ {A = Option ℕ} None (Some i) = e in cc)
 nearest_placed rank place h b (Some j) v i e =
@@ -29,7 +29,7 @@ nearest_within rank came places h b o v = record {
       let u = unranked (came i) h w.0 (place_at places i) w.1 in placed_within places i (h, u.0) u.1;
 }
 
--- the node before node n in the list with it is the node before its place in the list without it
+-- the last node below the rank of node n in the list with node n is also the last one below it in the list without node n
 pub last_below_small : (rank : ℕ → ℕ) (small large : ℕ → Option (ℕ × ℕ)) (h n k : ℕ) (o : Option ℕ) → IsPut small large h n k → IsLastBelow rank large h (rank k) o → IsLastBelow rank small h (rank k) o
 last_below_small rank small large h n k None p l = record { is = λ i k' e. l.is i k' (raised p i (h, k') e) }
 last_below_small rank small large h n k (Some j) p l =
@@ -47,14 +47,14 @@ last_below_small rank small large h n k (Some j) p l =
 table_of : ℕ → List (Option (ℕ × ℕ)) → Placed
 table_of heads places = record { heads = heads; places = places }
 
--- what callers see of rewired tables
+-- in rewired tables, callers see that only the place of node n has changed
 pub shown_rewired : (heads heads' : List Head) (nodes nodes' : List Node) (h n : ℕ) (own : Node) (previous next a b : Option ℕ) (m : ℕ)
     → IsRewired heads heads' nodes nodes' h n own previous next a b m → shown heads' nodes' ≡ record { heads = length heads; places = set (places_of nodes) n (place_in own) }
 unfolding table_of
 shown_rewired heads heads' nodes nodes' h n own previous next a b m w =
     ap (λ (x : ℕ). table_of x (places_of nodes')) w.heads_stay ∙ ap (λ (x : List (Option (ℕ × ℕ))). table_of (length heads) x) w.places
 
--- chains over the places of rewired tables
+-- tables with equal places and equally many lists have the same chains
 chain_rewired : (rank came : ℕ → ℕ) (places places' : List (Option (ℕ × ℕ))) (heads heads' : ℕ) (ends links : ℕ → Option ℕ) → places' ≡ places → heads' ≡ heads
     → IsChain rank (ranks came places) heads ends links → IsChain rank (ranks came places') heads' ends links
 chain_rewired rank came places places' heads heads' ends links e f v =
@@ -68,7 +68,8 @@ AreApart came places = (i j h r : ℕ) → ranks came places i ≡ Some (h, r) �
 pub ranked_before : (heads : List Head) (nodes : List Node) (t : IsLinked heads nodes) (i h r : ℕ) → ranks t.came (places_of nodes) i ≡ Some (h, r) → r < t.now
 ranked_before heads nodes t = rank_below t.came t.now (places_of nodes) t.before (λ i h k e. omega (arith, t.wide, t.table.keyed i h k e))
 
--- node n is inserted into list h, at this time if the list is loose
+-- If node n is inserted into list h between the nodes where its rank belongs, the tables are linked. In a loose list the rank is
+-- the time.
 pub linked_inserted : (heads heads' : List Head) (nodes nodes' : List Node) (h n k time : ℕ) (previous next : Option ℕ) (m : ℕ) (t : IsLinked heads nodes)
     → IsRewired heads heads' nodes nodes' h n (linked_node h k previous next) previous next (Some n) (Some n) m → m ≡ (head_at heads h).len + 1
     → h < length heads → n < length nodes → k < 2 ^ 32 → time ≤ t.now → place_at (places_of nodes) n ≡ None → ((i : ℕ) → place_at (places_of nodes) i ≢ Some (h, k))
@@ -215,7 +216,7 @@ linked_removed heads heads' nodes nodes' h n k x m t read w less e = record {
       | inr ne ↦ w.other_len g ne ∙ (t.counted g lt ∙ sym (count_removed_elsewhere (places_of nodes) g h n k ne within e))
     ]
 
--- node n is removed from list h, and node j is put in its place
+-- if node n is removed from list h and node j is put in its place, the tables are linked
 pub linked_replaced : (heads heads1 heads2 : List Head) (nodes nodes1 nodes2 : List Node) (h n j k : ℕ) (x : Node) (m m' : ℕ) → IsLinked heads nodes → x ≡ node_at nodes n
     → IsRewired heads heads1 nodes nodes1 h n free_node x.previous x.next x.next x.previous m → m + 1 ≡ (head_at heads h).len
     → place_at (places_of nodes) n ≡ Some (h, k) → j < length nodes1 → place_at (places_of nodes1) j ≡ None

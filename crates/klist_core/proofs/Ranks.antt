@@ -41,7 +41,7 @@ pub nearest_ranked : (rank came : ℕ → ℕ) (places : List (Option (ℕ × �
 nearest_ranked rank came places h b o lt v =
     nearest_same rank (place_at places) (ranks came places) h b o (λ i k e. ranked_by_key (came i) h k (place_at places i) lt e) (λ i k e. key_ranked (came i) h k (place_at places i) lt e) v
 
--- ranks are below the present time, if keys and times are
+-- if all keys and times of insertion are below the present time, so are all ranks
 pub rank_below : (came : ℕ → ℕ) (now : ℕ) (places : List (Option (ℕ × ℕ))) → ((i : ℕ) → came i < now) → ((i h k : ℕ) → place_at places i ≡ Some (h, k) → k < now)
     → (i h r : ℕ) → ranks came places i ≡ Some (h, r) → r < now
 rank_below came now places before keyed i h r e =
@@ -104,7 +104,7 @@ come_before came now time n i le lt = go (eqb i n)
     go true = omega (arith, le)
     go false = omega (arith, lt)
 
--- no node of the list has the rank of a key that the list does not have, nor that of the present time
+-- if no node of list h has the key k, none has the rank of a node that is now inserted under this key
 pub rank_is_new : (came : ℕ → ℕ) (now : ℕ) (places : List (Option (ℕ × ℕ))) → ((i h r : ℕ) → ranks came places i ≡ Some (h, r) → r < now) → (h k : ℕ) → ((i : ℕ) → place_at places i ≢ Some (h, k))
     → (i : ℕ) → ranks came places i ≢ Some (h, rank_in h now k)
 rank_is_new came now places below h k fresh i e = elim (cases_eq (h % 3) 0) [
@@ -112,7 +112,7 @@ rank_is_new came now places below h k fresh i e = elim (cases_eq (h % 3) 0) [
   | inr other ↦ fresh i (key_ranked (came i) h k (place_at places i) (omega (arith, other)) (e ∙ ap (λ (r : ℕ). Some (h, r)) (by_key h now k (omega (arith, other)))))
 ]
 
--- node n is inserted into list h, with a rank that the list does not have
+-- if list h does not have the rank of node n, inserting n under its key also inserts it under its rank
 pub put_ranked : (came : ℕ → ℕ) (time : ℕ) (places : List (Option (ℕ × ℕ))) (h n k : ℕ) → IsPut (place_at places) (place_at (set places n (Some (h, k)))) h n k
     → ((i : ℕ) → ranks came places i ≢ Some (h, rank_in h time k)) → IsPut (ranks came places) (ranks (come came time n) (set places n (Some (h, k)))) h n (rank_in h time k)
 put_ranked came time places h n k p fresh = record {
@@ -122,7 +122,7 @@ put_ranked came time places h n k p fresh = record {
   fresh = fresh;
 }
 
--- node n is removed, which was in list h under the rank r
+-- removing node n from list h also removes its rank: the ranks before are those after, with n put under its rank
 pub put_unranked : (came : ℕ → ℕ) (places : List (Option (ℕ × ℕ))) (h n k : ℕ) → IsPut (place_at (set places n None)) (place_at places) h n k
     → ((i j g r : ℕ) → ranks came places i ≡ Some (g, r) → ranks came places j ≡ Some (g, r) → i ≡ j)
     → IsPut (ranks came (set places n None)) (ranks came places) h n (rank_in h (came n) k)

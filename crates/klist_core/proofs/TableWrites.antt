@@ -14,7 +14,7 @@ use Rattle.klist_core.proofs.Chains.{IsRelinked}
 pub record IsWithin (o : Option ℕ) (len : ℕ) : Type 0 where
   pub below : (i : ℕ) → o ≡ Some i → i < len
 
--- a write that does not change the field f
+-- if y has the same field f as element i, writing y there changes no element's field f
 unseen : {X Y : Type 0} (f : X → Y) (xs : List X) (i j : ℕ) (y d : X) → f y ≡ f (get_or xs i d) → f (get_or (set xs i y) j d) ≡ f (get_or xs j d)
 unseen {X} {Y} f xs i j y d e = sym (get_or-map f (set xs i y) j d) ∙ (ap (λ (zs : List Y). get_or zs j (f d)) (map-set_same f xs i y d e) ∙ get_or-map f xs j d)
 
@@ -42,7 +42,7 @@ places_before : (o to : Option ℕ) (nodes : List Node) → places_of (nodes_lin
 places_before None to nodes = refl
 places_before (Some i) to nodes = map-set_same place_in nodes i (record (node_at nodes i) { previous = to }) (node_at [] 0) refl
 
--- writes in one direction do not change the links of the other
+-- writes of links in one direction do not change the links in the other direction
 next_before : (o to : Option ℕ) (nodes : List Node) (i : ℕ) → (node_at (nodes_linked_before o to nodes) i).next ≡ (node_at nodes i).next
 next_before None to nodes i = refl
 next_before (Some j) to nodes i = unseen (λ (n : Node). n.next) nodes j i (record (node_at nodes j) { previous = to }) (node_at [] 0) refl
@@ -67,7 +67,8 @@ len_before : (o : Option ℕ) (h : ℕ) (to : Option ℕ) (heads : List Head) (g
 len_before None h to heads g = unseen (λ (x : Head). x.len) heads h g (record (head_at heads h) { last = to }) (head_at [] 0) refl
 len_before (Some i) h to heads g = refl
 
--- what they change in one direction, in which f reads the end of a list and g the link of a node: list h gets the end x
+-- Here f reads the end of a list in one direction, and g the link of a node. If list h gets the head x, whose end is `to`, no
+-- other end changes, and no link but that of node n.
 ends_relinked : (f : Head → Option ℕ) (g : Node → Option ℕ) (h n : ℕ) (to : Option ℕ) (ends links : ℕ → Option ℕ) (heads : List Head) (nodes : List Node) (x : Head) → h < length heads → f x ≡ to
     → ((i : ℕ) → f (head_at heads i) ≡ ends i) → ((i : ℕ) → i ≢ n → g (node_at nodes i) ≡ links i)
     → IsRelinked ends links (λ i. f (head_at (set heads h x) i)) (λ i. g (node_at nodes i)) h n None to
@@ -78,7 +79,7 @@ ends_relinked f g h n to ends links heads nodes x lt is e l = record {
   other_link = λ i ne _. l i ne;
 }
 
--- node j becomes y, with another link in that direction
+-- if node j becomes y, whose link is `to`, no end changes in that direction, and no other link but that of node n
 links_relinked : (f : Head → Option ℕ) (g : Node → Option ℕ) (h n j : ℕ) (to : Option ℕ) (ends links : ℕ → Option ℕ) (heads : List Head) (nodes : List Node) (y : Node) → j < length nodes → g y ≡ to
     → ((i : ℕ) → f (head_at heads i) ≡ ends i) → ((i : ℕ) → i ≢ n → g (node_at nodes i) ≡ links i)
     → IsRelinked ends links (λ i. f (head_at heads i)) (λ i. g (node_at (set nodes j y) i)) h n (Some j) to
@@ -101,7 +102,7 @@ before_relinks : (o : Option ℕ) (h n : ℕ) (to : Option ℕ) (ends links : �
 before_relinks None h n to ends links heads nodes lt w e f = ends_relinked (λ (x : Head). x.last) (λ (x : Node). x.previous) h n to ends links heads nodes _ lt refl e f
 before_relinks (Some j) h n to ends links heads nodes lt w e f = links_relinked (λ (x : Head). x.last) (λ (x : Node). x.previous) h n j to ends links heads nodes _ (w.below j refl) refl e f
 
--- the same links, read from other tables
+-- if other tables have the same ends and links, they are relinked in the same way
 relinked_same : (ends links e e' l l' : ℕ → Option ℕ) (h n : ℕ) (o to : Option ℕ) → IsRelinked ends links e l h n o to → ((g : ℕ) → e' g ≡ e g) → ((i : ℕ) → l' i ≡ l i)
     → IsRelinked ends links e' l' h n o to
 relinked_same ends links e e' l l' h n o to r f g = record {

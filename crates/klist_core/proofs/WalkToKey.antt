@@ -21,18 +21,18 @@ pub record IsBehind (place : ℕ → Option (ℕ × ℕ)) (h key i : ℕ) (o : O
   pub after : IsNearest up place h (up own + 1) o
 
 module _ (place : ℕ → Option (ℕ × ℕ)) (h key : ℕ) where
-  -- the node after is the first one above the key: there is none ..
+  -- the node after node i is the first one above the key: if there is none, no node is above the key ..
   pub behind_last : (i : ℕ) → IsBehind place h key i None → IsNearest up place h (up key + 1) None
   behind_last i v = record { is = λ j k e. let u = v.after.is j k e in omega (arith, v.below) }
 
-  -- .. or its key is above
+  -- .. and if there is one whose key is above, it is the first
   pub behind_next : (i j r : ℕ) → IsBehind place h key i (Some j) → IfSome (place j) (λ p. r ≡ p.1) → key < r → IsNearest up place h (up key + 1) (Some j)
   behind_next i j r v read lt =
       let l : IsLeastFrom up place h (up v.own + 1) j v.after.is.0 = v.after.is.1 in
       let is : r ≡ v.after.is.0 = rw l.here at read in
       record { is = (v.after.is.0, record { here = l.here; from = omega (arith, is); least = λ x k e le. l.least x k e (omega (arith, v.below)) }) }
 
-  -- so node i is the last one below the key
+  -- then node i is the last node below the key
   pub behind_previous : (i : ℕ) (o : Option ℕ) → IsKeyed (2 ^ 32) place h → key < 2 ^ 32 → IsBehind place h key i o → IsNearest up place h (up key + 1) o
       → IsNearest down place h (down key + 1) (Some i)
   behind_previous i o keyed fits v n = record { is = (v.own, record { here = v.here; from = omega (arith, v.below); least = λ x k e le. least o v.after n x k e le }) }
@@ -49,7 +49,7 @@ module _ (place : ℕ → Option (ℕ × ℕ)) (h key : ℕ) where
         | inr ge ↦ omega arith
       ]
 
-  -- the walk goes on to the next node, whose key is not above
+  -- if the key of the next node is not above the key, the walk goes on to that node
   pub behind_on : (i j r : ℕ) (o' : Option ℕ) → ((x : ℕ) → place x ≢ Some (h, key)) → IsBehind place h key i (Some j) → IfSome (place j) (λ p. r ≡ p.1) → r ≤ key
       → IsByKey h → IsFollowing up place j o' → IsBehind place h key j o'
   behind_on i j r o' fresh v read le by_key w =
@@ -63,7 +63,7 @@ module _ (place : ℕ → Option (ℕ × ℕ)) (h key : ℕ) where
   pub behind_placed : (i j : ℕ) → IsBehind place h key i (Some j) → IsSome (place j)
   behind_placed i j v = let l : IsLeastFrom up place h (up v.own + 1) j v.after.is.0 = v.after.is.1 in ap is_some l.here
 
-  -- and comes nearer to the key
+  -- and the walk is then nearer to the key
   pub behind_nearer : (i j r : ℕ) → IsBehind place h key i (Some j) → IfSome (place j) (λ p. r ≡ p.1) → r ≤ key → key < 2 ^ 32
       → 2 ^ 32 - key_in (place j) < 2 ^ 32 - key_in (place i)
   behind_nearer i j r v read le fits =

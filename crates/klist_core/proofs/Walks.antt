@@ -25,7 +25,7 @@ module _ (rank : ℕ → ℕ) (place : ℕ → Option (ℕ × ℕ)) (h bound : �
   pub way_placed : (j : ℕ) → IsOnWay rank place h bound (Some j) → IsSome (place j)
   way_placed j v = let p : IsNotPast rank place h bound j v.is.0 = v.is.1 in ap is_some p.here
 
-  -- the walk stands at a node whose key was read as k
+  -- if the walk has come to node j, whose key was read as k, node j is not past the first node of at least the bound
   pub way_read : (o : Option ℕ) (j k : ℕ) → o ≡ Some j → IsOnWay rank place h bound o → IfSome (place j) (λ p. k ≡ p.1) → IsNotPast rank place h bound j k
   way_read o j k at v read =
       let w = rw at at v in

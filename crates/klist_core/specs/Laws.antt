@@ -5,7 +5,7 @@ use Rattle.model_core.specs.WellFormed.{RisesFrom}
 use Rattle.klist_core.specs.Places.{Placed, ArePlaces, place_at, is_in, inserted, removed}
 use Rattle.klist_core.specs.Lists.{list_of, keys_of, put_by_key, without_node}
 
--- each list rises by key
+-- the keys of each list ascend
 abbrev pub ListsRise : Type 0
 ListsRise = (s : Placed) (h : ℕ) → ArePlaces s → RisesFrom 0 (keys_of s.places h)
 
@@ -13,7 +13,7 @@ ListsRise = (s : Placed) (h : ℕ) → ArePlaces s → RisesFrom 0 (keys_of s.pl
 abbrev pub ListsHoldPlaces : Type 0
 ListsHoldPlaces = (places : List (Option (ℕ × ℕ))) (h k i : ℕ) → Contains (list_of places h) (k, i) ↔ (place_at places i ≡ Some (h, k))
 
--- .. and exactly their keys
+-- .. and its keys are exactly the keys of its nodes
 abbrev pub KeysHoldPlaces : Type 0
 KeysHoldPlaces = (places : List (Option (ℕ × ℕ))) (h k : ℕ) → Contains (keys_of places h) k ↔ ((i : ℕ) × (place_at places i ≡ Some (h, k)))
 
@@ -21,7 +21,7 @@ KeysHoldPlaces = (places : List (Option (ℕ × ℕ))) (h k : ℕ) → Contains 
 abbrev pub ListsCountPlaces : Type 0
 ListsCountPlaces = (places : List (Option (ℕ × ℕ))) (h : ℕ) → (length (list_of places h) ≡ count_by (is_in h) places) × (length (keys_of places h) ≡ count_by (is_in h) places)
 
--- node i is in no list, and no node of list h has the key k
+-- node i of the table is in no list, and no node of list h has the key k
 pub record MayInsert (s : Placed) (h i k : ℕ) : Type 0 where
   pub node : i < length s.places
   pub free : place_at s.places i ≡ None

@@ -1,5 +1,5 @@
--- What the links of a table mean. A list can be followed in two directions, up and down the keys. The definitions are the same for
--- both.
+-- What the links of a table mean. A list can be followed in two directions, up and down the keys. The definitions are the same
+-- for both directions.
 use Rattle.std.specs.Prelude.{◌≡◌, ◌≢◌, ℕ, ◌+◌, ◌-◌, ◌%◌, ◌^◌, ◌<◌, ◌≤◌, ◌==◌, if◌then◌else◌, Option, Some, None, List, length, map, slice_index_or, count_by, MatchOption}
 use Rattle.klist_core.specs.Places.{Placed, ArePlaces, IsByKey, place_at, is_in}
 use Rattle.klist_core.specs.Raw.{raw_place}
@@ -37,11 +37,11 @@ pub record IsGap (place : ℕ → Option (ℕ × ℕ)) (h key : ℕ) (g : Option
   pub previous : IsNearest down place h (down key + 1) g.0
   pub next : IsNearest up place h (up key + 1) g.1
 
--- o is the node after node i in this direction
+-- o is the node after node i in this direction, or None if node i is the last of its list
 abbrev pub IsAfter : (ℕ → ℕ) → (ℕ → Option (ℕ × ℕ)) → ℕ → Option ℕ → Type 0
 IsAfter rank place i o = (h k : ℕ) → place i ≡ Some (h, k) → IsNearest rank place h (rank k + 1) o
 
--- the same, if the list of node i is linked by key
+-- if the list of node i is linked by key, o is the node after node i in this direction, or None if node i is the last
 abbrev pub IsFollowing : (ℕ → ℕ) → (ℕ → Option (ℕ × ℕ)) → ℕ → Option ℕ → Type 0
 IsFollowing rank place i o = (h k : ℕ) → IsByKey h → place i ≡ Some (h, k) → IsNearest rank place h (rank k + 1) o
 
@@ -80,11 +80,11 @@ abbrev pub ranked : ℕ → Option (ℕ × ℕ) → Option (ℕ × ℕ)
 ranked time None = None
 ranked time (Some p) = Some (p.0, if p.0 % 3 == 0 then time else p.1)
 
--- the same for node i of a table; `came` gives the time at which each node was inserted
+-- the list and rank of node i of a table; `came` gives the time at which each node was inserted
 abbrev pub ranks : (ℕ → ℕ) → List (Option (ℕ × ℕ)) → ℕ → Option (ℕ × ℕ)
 ranks came places i = ranked (came i) (place_at places i)
 
--- the links and the lengths that are stored in a table are those of its lists
+-- the links and lengths that are stored in a table agree with its lists
 pub record IsLinked (heads : List Head) (nodes : List Node) : Type 0 where
   pub table : ArePlaces (shown heads nodes)
   -- The time, before `now`, at which each node was inserted. Any numbers will do that agree with the links of the loose lists.

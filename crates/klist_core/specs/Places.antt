@@ -25,7 +25,8 @@ pub record IsPlacedByKey (places : List (Option (ℕ × ℕ))) (i : ℕ) : Type 
   pub here : place_at places i ≡ Some (list, key)
   pub by_key : IsByKey list
 
--- what is true of every table: its numbers fit into 32 bits, and no two nodes of a list have the same key
+-- what is true of every table: its numbers fit into 32 bits, each node's list is one of its lists, and no two nodes of a list
+-- have the same key
 pub record ArePlaces (s : Placed) : Type 0 where
   pub few : s.heads < 2 ^ 32
   pub small : length s.places < 2 ^ 32
@@ -33,15 +34,15 @@ pub record ArePlaces (s : Placed) : Type 0 where
   pub keyed : (i h k : ℕ) → place_at s.places i ≡ Some (h, k) → k < 2 ^ 32
   pub apart : (i j h k : ℕ) → place_at s.places i ≡ Some (h, k) → place_at s.places j ≡ Some (h, k) → i ≡ j
 
--- node i put into list h under the key k
+-- the table after node i is put into list h under the key k
 abbrev pub inserted : Placed → ℕ → ℕ → ℕ → Placed
 inserted s h i k = record s { places = slice_set s.places i (Some (h, k)) }
 
--- node i taken out of its list
+-- the table after node i is taken out of its list
 abbrev pub removed : Placed → ℕ → Placed
 removed s i = record s { places = slice_set s.places i None }
 
--- node j takes the place of node i, which is then in no list
+-- the table after node j takes the place of node i, which is then in no list
 abbrev pub replaced : Placed → ℕ → ℕ → Placed
 replaced s i j = record s { places = slice_set (slice_set s.places i None) j (place_at s.places i) }
 

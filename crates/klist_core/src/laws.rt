@@ -1,6 +1,5 @@
-//! The laws of ordered lists. Each is the contract of an empty function, to be called where a proof
-//! needs the law. `list_of places head` is a list, as pairs of a key and a node. `keys_of` has only its
-//! keys.
+//! The laws of ordered lists. Each is the contract of an empty function, to be called where a proof needs the law. For a list,
+//! `list_of places head` has the pairs of key and node, and `keys_of places head` has the keys.
 
 ghost use Rattle.klist_core.specs.Laws.{ListsRise, ListsHoldPlaces, KeysHoldPlaces, ListsCountPlaces, InsertionChangesOneList, RemovalChangesOneList};
 

@@ -23,7 +23,7 @@ use std::marker::Model;
 
 pub mod laws;
 
-/// The number of a node or a list, or none, in four bytes: `u32::MAX` means none.
+/// An optional number of a node or a list, in four bytes. `u32::MAX` means none.
 #[derive(Clone, Copy, Debug)]
 struct Link {
     raw: u32,
@@ -304,8 +304,9 @@ impl Lists {
         self.put(head, node, key, None);
     }
 
-    /// Does the same as [`Lists::insert`] for a list that is not loose, but the search begins at the node `near` if that is in
-    /// the list. Takes constant time if `near` becomes a neighbour of the new node. A bad hint only costs time.
+    /// Does the same as [`Lists::insert`] for a list that is not loose, but the search begins at the node `near`, if `near` is in
+    /// the list. Otherwise it begins at the end of the list whose key is nearer. Takes constant time if `near` becomes a
+    /// neighbour of the new node. A bad hint only costs time.
     pub fn insert_near(&mut self, head: u32, node: u32, key: u32, near: u32)
         requires head { head < self.old.heads }
         requires by_key { IsByKey head }
@@ -380,8 +381,8 @@ impl Lists {
         unlink_node(heads, nodes, head, node, previous, next);
     }
 
-    /// Inserts a node between the two nodes of `gap`, or at the end of a loose list if `gap` is `None`. If one of the two is
-    /// `None`, the gap is at that end of the list.
+    /// Inserts a node between the two nodes of `gap`, or at the end of a loose list if `gap` is `None`. If the first of the two
+    /// is `None`, the new node becomes the first of the list. If the second is `None`, it becomes the last.
     fn put(&mut self, head: u32, node: u32, key: u32, gap: Option<(Option<u32>, Option<u32>)>)
         requires head { head < self.old.heads }
         requires node { node < length self.old.places }
@@ -443,7 +444,8 @@ impl Lists {
         }
     }
 
-    /// Returns the end of the list whose key is nearer to `key`, or `None` if the list is empty.
+    /// Returns the first node of the list if its key is nearer to `key` than the key of the last node, or else the last node.
+    /// Returns `None` if the list is empty.
     fn nearer_end(&self, head: u32, key: u32) -> Option<u32>
         requires head { head < self.now.heads }
         requires by_key { IsByKey head }
@@ -481,7 +483,8 @@ impl Lists {
         (previous, next)
     }
 
-    /// Returns the first node of the list with a key above `key`. The search begins after `from`, whose key is not above `key`.
+    /// Returns the first node of the list with a key above `key`, or `None` if there is none. The search begins after `from`,
+    /// whose key is not above `key`.
     fn first_above(&self, head: u32, key: u32, from: u32) -> Option<u32>
         requires by_key { IsByKey head }
         requires from { (k : ℕ) × (place_at self.now.places from ≡ Some (head, k)) × (k ≤ key) }
@@ -497,7 +500,8 @@ impl Lists {
         next
     }
 
-    /// Returns the last node of the list with a key below `key`. The search begins before `from`, whose key is not below `key`.
+    /// Returns the last node of the list with a key below `key`, or `None` if there is none. The search begins before `from`,
+    /// whose key is not below `key`.
     fn last_below(&self, head: u32, key: u32, from: u32) -> Option<u32>
         requires by_key { IsByKey head }
         requires from { (k : ℕ) × (place_at self.now.places from ≡ Some (head, k)) × (key ≤ k) }
@@ -596,7 +600,7 @@ impl Lists {
     }
 }
 
-/// Returns the two nodes of the gap, or the last node of the list and `None` if there is no gap.
+/// Returns the two nodes of `gap`. If `gap` is `None`, returns the last linked node of the list, and `None`.
 #[inline(always)]
 fn link_place(
     heads: &[Head],
@@ -612,7 +616,8 @@ fn link_place(
     }
 }
 
-/// Puts a node into the list, linked between two nodes. `None` means an end of the list.
+/// Puts `node` into the list under `key`, between the nodes `previous` and `next`. If `previous` is `None`, `node` becomes the
+/// first of the list. If `next` is `None`, it becomes the last.
 #[inline(always)]
 fn link_node(
     heads: &mut [Head],
@@ -644,7 +649,7 @@ fn link_node(
     heads[head as usize].len += 1;
 }
 
-/// Frees a node of the list and links its neighbours to each other. `None` means an end of the list.
+/// Takes `node` out of the list and links its neighbours `previous` and `next` to each other. `None` means an end of the list.
 #[inline(always)]
 fn unlink_node(
     heads: &mut [Head],

@@ -13,7 +13,7 @@ loop-next-init c =
 pub key_of-requires : goal.key_of-requires
 key_of-requires c = way_placed up (place_at c.args.self.now.places) c.args.head (up c.args.key + 1) c.in-Some.node (rw c.in-Some.is at c.loop-next.invariant)
 
--- the node whose key was read
+-- the node whose key was read is not past the node that the search looks for
 here : (c : After-key_of) → IsNotPast up (place_at c.args.self.now.places) c.args.head (up c.args.key + 1) c.in-Some.node c.key_of.result
 here c = way_read _ _ _ _ _ _ _ c.in-Some.is c.loop-next.invariant c.key_of.ensures
 

@@ -13,7 +13,7 @@ loop-previous-init c =
 pub key_of-requires : goal.key_of-requires
 key_of-requires c = way_placed down (place_at c.args.self.now.places) c.args.head (down c.args.key + 1) c.in-Some.node (rw c.in-Some.is at c.loop-previous.invariant)
 
--- the node whose key was read
+-- the node whose key was read is not past the node that the search looks for
 here : (c : After-key_of) → IsNotPast down (place_at c.args.self.now.places) c.args.head (down c.args.key + 1) c.in-Some.node c.key_of.result
 here c = way_read _ _ _ _ _ _ _ c.in-Some.is c.loop-previous.invariant c.key_of.ensures
 
