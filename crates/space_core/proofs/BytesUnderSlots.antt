@@ -47,7 +47,7 @@ same_for t s s' unit slots banks =
     let reads = reads_same t s s' unit (λ u. ap (option_map (bank s'.banks)) (slots u) ∙ bank_kept s.banks s'.banks (superblock_at s.slots t u) (banks u)) in
     record { slots = slots; banks = banks; bytes = reads.bytes; windows = reads.windows }
 
--- what stays the same twice stays the same
+-- if b is the same for tenant t as a, and c is the same as b, then c is the same as a
 pub same_twice : (t : ℕ) (a b c : Content) → IsSameFor t a b → IsSameFor t b c → IsSameFor t a c
 same_twice t a b c first second = record {
   slots = λ u. second.slots u ∙ first.slots u;
@@ -56,6 +56,6 @@ same_twice t a b c first second = record {
   windows = λ place len. second.windows place len ∙ first.windows place len;
 }
 
--- a superblock in a slot has an owner
+-- a superblock in a slot is not one of those that have no owner
 pub not_unowned : {s : Content} → IsSpace s → (t u n m : ℕ) → superblock_at s.slots t u ≡ Some n → owner_at s.owners m ≡ None → n ≢ m
 not_unowned {s} facts t u n m under unowned same = let owned = (facts.agree t u n).0 under in let here = ap (owner_at s.owners) same in absurd (cc)

@@ -14,7 +14,7 @@ use Rattle.space_core.proofs.Mapping.{within_from_some, superblock-lt}
 use Rattle.space_core.proofs.BytesUnderSlots.{not_unowned}
 use Rattle.space_core.proofs.MappingKept.{superblock_at-with_entry, length-row_of-with_slot, counted-set, agree-set}
 
--- only a tenant has a slot with a superblock in it
+-- if slot u of t has a superblock, t is one of the tenants
 pub tenant-lt : (slots : List (List (Option ℕ))) (t u m : ℕ) → superblock_at slots t u ≡ Some m → t < length slots
 tenant-lt slots t u m under =
     elim (cases_lt t (length slots)) [
@@ -79,7 +79,7 @@ granted-IsSpace {s} facts t u m tenant slot within vacant unowned =
       ];
     }
 
--- a move is a take-back and a grant, and then the bytes of the old superblock written into the new one
+-- a move is a take-back, then a grant, and then a write of the old superblock's bytes into the new superblock
 moved_is : (s : Content) (t u from to : ℕ) → t < length s.slots → with_bank (with_grant (with_take_back s t u from) t u to) to (bank s.banks from) ≡ with_move s t u from to
 moved_is s t u from to tenant =
     let row = slots_of s.slots t in

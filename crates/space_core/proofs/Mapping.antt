@@ -1,11 +1,11 @@
--- What owners and slots say of each other.
+-- The slots have only superblocks of the table of owners.
 use Rattle.std.proofs.Common.{◌≡◌, ℕ, ◌<◌, List, length, get_or, Option, Some, None, IfSome, inl, inr}
 use Rattle.std.proofs.lemmas.List.{get_or_past}
 use Rattle.std.proofs.lemmas.Bool.{cases_lt}
 use Rattle.model_core.specs.Owners.{owned_by}
 use Rattle.space_core.specs.Content.{Content, IsSpace, superblock_at}
 
--- only a place within a list has an entry
+-- if entry i of a list is not None, i is below the length of the list
 pub within_from_some : {A : Type 0} (xs : List (Option A)) (i : ℕ) (x : A) → get_or xs i None ≡ Some x → i < length xs
 within_from_some xs i x is =
     elim (cases_lt i (length xs)) [ inl lt ↦ lt | inr past ↦ let none = get_or_past xs i None past in cc ]

@@ -29,7 +29,7 @@ test_above a p e high = grind (arith, nat_tests)
 in_slot : (unit place len : ℕ) → is_in_slot unit place len ≡ true → (0 < len) × (place % unit + len ≤ unit)
 in_slot unit place len e = (grind (arith, nat_tests), grind (arith, nat_tests))
 
--- what it means that a range has a home
+-- if superblock m is the home of a range, the range is not empty, lies in one slot, and m is in that slot
 pub home_is : (s : Content) (t place len m : ℕ) → home_of s t place len ≡ Some m → (0 < len) × (place % s.unit + len ≤ s.unit) × (superblock_at s.slots t (place / s.unit) ≡ Some m)
 home_is s t place len m = go (is_in_slot s.unit place len) refl
   where
@@ -37,7 +37,7 @@ home_is s t place len m = go (is_in_slot s.unit place len) refl
     go true passes e = let both = in_slot s.unit place len passes in (both.0, both.1, e)
     go false no_home e = absurd (cc)
 
--- the byte at a place of a known superblock
+-- if superblock m is in the slot of place p, the byte at p is the byte of m at the offset of p
 byte_is : (s : Content) (t p i m : ℕ) → superblock_at s.slots t (p / s.unit) ≡ Some m → p % s.unit ≡ i → byte_at s t p ≡ Some (get_or (bank s.banks m) i 0)
 byte_is s t p i m under place = ap (byte_under s.banks (p % s.unit)) under ∙ ap (λ (j : ℕ). Some (get_or (bank s.banks m) j 0)) place
 

@@ -5,7 +5,7 @@ use Rattle.std.proofs.lemmas.Nat.{same_from_place}
 use Rattle.std.proofs.Math.Nat.{div-add-mod}
 use Rattle.space_core.specs.Windows.{put_within}
 
--- the place i bytes on, if it is in the same slot
+-- if the offset of place + i is below the unit too, place + i is in the same slot
 pub place-add : (unit place i : ℕ) → 0 < unit → place % unit + i < unit → ((place + i) / unit ≡ place / unit) × ((place + i) % unit ≡ place % unit + i)
 place-add unit place i some within =
     same_from_place ((place + i) / unit) ((place + i) % unit) (place / unit) (place % unit + i) unit (omega arith) within (omega (arith, div-add-mod (place + i) unit, div-add-mod place unit))

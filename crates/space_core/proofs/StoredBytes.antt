@@ -48,12 +48,12 @@ shown-set unit stored m bytes = map-set (or_zeros unit) stored m bytes
 pub bank-shown : (unit : ℕ) (stored : List (List ℕ)) (m : ℕ) → m < length stored → get_or (shown_banks unit stored) m [] ≡ or_zeros unit (get_or stored m [])
 bank-shown unit stored m lt = get_or-map (or_zeros unit) stored m [] [] lt
 
--- superblocks without stored bytes
+-- superblocks without stored bytes are shown as zero
 pub shown-none : (unit n : ℕ) → shown_banks unit (replicate n []) ≡ replicate n (replicate unit 0)
 shown-none unit zero = refl
 shown-none unit (suc n) = ap (λ (banks : List (List ℕ)). replicate unit 0 ∷ banks) (shown-none unit n)
 
--- the bytes of a superblock that has stored bytes
+-- a superblock that has stored bytes shows them
 pub bank-shown_full : (unit : ℕ) (stored : List (List ℕ)) (m : ℕ) → get_or stored m [] ≢ [] → get_or (shown_banks unit stored) m [] ≡ get_or stored m []
 bank-shown_full unit stored m full =
     elim (cases_lt m (length stored)) [
@@ -70,7 +70,7 @@ shown-written_out unit stored m = elim (cases_lt m (length stored)) [
   | inr past ↦ ap (shown_banks unit) (set_past stored m (or_zeros unit (get_or stored m [])) past)
 ]
 
--- and then it has stored bytes
+-- after its zeros are written out, a superblock has stored bytes
 pub written_out-full : (unit : ℕ) (stored : List (List ℕ)) (m : ℕ) → 0 < unit → m < length stored → get_or (set stored m (or_zeros unit (get_or stored m []))) m [] ≢ []
 written_out-full unit stored m some lt =
     full-from_length (get_or (set stored m (or_zeros unit (get_or stored m []))) m [])
@@ -88,22 +88,22 @@ stored_out {s} facts before stored m same written within = record {
   full = subst (λ (xs : List (List ℕ)). get_or xs m [] ≢ []) (sym written) (written_out-full s.unit before m facts.some (omega (arith, facts.paired, ap length same, length-shown s.unit before)));
 }
 
--- one byte is written to a superblock that has stored bytes
+-- if one byte is written to a superblock that has stored bytes, the superblock shows it
 pub shown-set_byte : (unit : ℕ) (stored : List (List ℕ)) (m i byte : ℕ) → get_or stored m [] ≢ [] → shown_banks unit (set stored m (set (get_or stored m []) i byte)) ≡ set (shown_banks unit stored) m (set (get_or (shown_banks unit stored) m []) i byte)
 shown-set_byte unit stored m i byte full =
     let bytes = get_or stored m [] in
     shown-set unit stored m (set bytes i byte)
     ∙ (ap (λ xs. set (shown_banks unit stored) m xs) (or_zeros-full unit (set bytes i byte) (set-full bytes i byte full)) ∙ ap (λ xs. set (shown_banks unit stored) m (set xs i byte)) (sym (bank-shown_full unit stored m full)))
 
--- the bytes of the superblock at an index
+-- the stored bytes that are read at an index are those that the superblock shows
 pub shown-read : (unit : ℕ) (banks : List (Vec ℕ)) (m : ℕ) (read : Vec ℕ) → m < length banks → read ≡ get_or banks m read → get_or (lists_of banks) m [] ≢ [] → get_or (shown_banks unit (lists_of banks)) m [] ≡ read.items
 shown-read unit banks m read lt is full = bank-shown_full unit (lists_of banks) m full ∙ get_or-lists_of banks m read lt is
 
--- and the number of these bytes
+-- .. and there are as many as a superblock has
 pub length-shown_read : {s : Content} → IsSpace s → (banks : List (Vec ℕ)) → s.banks ≡ shown_banks s.unit (lists_of banks) → (m : ℕ) (read : Vec ℕ) → m < length s.owners → get_or s.banks m [] ≡ read.items → length read.items ≡ s.unit
 length-shown_read {s} facts banks same m read lt here = ap length (sym here) ∙ facts.sized m (omega (arith, facts.paired))
 
--- the bytes of a superblock are copied to another one
+-- if the stored bytes of one superblock are copied to another, so are the bytes that it shows
 pub shown-copied : (unit : ℕ) (stored : List (List ℕ)) (from to : ℕ) → from < length stored → shown_banks unit (set stored to (get_or stored from [])) ≡ set (shown_banks unit stored) to (get_or (shown_banks unit stored) from [])
 shown-copied unit stored from to lt =
     shown-set unit stored to (get_or stored from []) ∙ ap (λ bytes. set (shown_banks unit stored) to bytes) (sym (bank-shown unit stored from lt))

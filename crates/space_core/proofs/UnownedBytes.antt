@@ -12,14 +12,14 @@ use Rattle.space_core.specs.Laws.{SpareStays, SpareBytes}
 use Rattle.space_core.proofs.BankLemmas.{with_bank, with_banks}
 use Rattle.space_core.proofs.OwnBytes.{home_is}
 
--- superblock m, which has an owner afterwards, gets other bytes
+-- if only the bytes of superblock m change, and m has an owner afterwards, superblocks without an owner keep their bytes
 spare_written : (s s' : Content) (m : ℕ) (o : Owner) (xs : List ℕ) → owner_at s'.owners m ≡ Some o → s'.banks ≡ set s.banks m xs → SpareStays s s'
 spare_written s s' m o xs owned written n none = elim (cases_eq n m) [
   | inl same ↦ let here = ap (owner_at s'.owners) same in absurd (cc)
   | inr differ ↦ ap (λ banks. bank banks n) written ∙ get_or-set_other s.banks m n xs [] differ
 ]
 
--- .. as a superblock in a slot has
+-- .. so they keep them if superblock m is in a slot and is written
 under_written : {s : Content} → IsSpace s → (t u m : ℕ) (xs : List ℕ) → superblock_at s.slots t u ≡ Some m → SpareStays s (with_bank s m xs)
 under_written {s} facts t u m xs under = spare_written s (with_bank s m xs) m (owned_by t u) xs ((facts.agree t u m).0 under) refl
 

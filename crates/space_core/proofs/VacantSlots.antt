@@ -32,7 +32,7 @@ full_from_none : {A : Type 0} (xs : List (Option A)) → position is_none xs ≡
 full_from_none xs none =
     elim (cases_lt (position_or_len is_none xs) (length xs)) [ inl lt ↦ grind (arith, nat_tests) | inr le ↦ le ]
 
--- if an owner is None, not every entry is the tenant's
+-- if some superblock has no owner, tenant t does not own all superblocks
 count_by-lt-length : (t : ℕ) (owners : List (Option Owner)) (m : ℕ) → m < length owners → owner_at owners m ≡ None → count_by (is_of t) owners < length owners
 count_by-lt-length t owners m within none =
     let o : Option Owner = Some (owned_by t zero) in
@@ -40,7 +40,7 @@ count_by-lt-length t owners m within none =
     let bound = count_by-le-length (is_of t) (set owners m o) in
     omega (arith, one_more, bound, length-set owners m o, ap (λ p. one_if (is_of t p)) none, ap one_if (is_of_self t zero))
 
--- if the search finds something, there is a superblock without owner
+-- if the search finds something, some superblock has no owner
 pub unowned_from_pool : (owners : List (Option Owner)) → IsSome (position is_none owners) → (m : ℕ) × (m < length owners) × (owner_at owners m ≡ None)
 unowned_from_pool owners pool = go (position is_none owners) refl pool
   where

@@ -10,7 +10,7 @@ slot_bytes s t u = option_map (bank s.banks) (superblock_at s.slots t u)
 abbrev pub is_in_slot : ℕ → ℕ → ℕ → Bool
 is_in_slot unit place len = nat_lt 0 len && nat_le (place % unit + len) unit
 
--- the superblock that such a range of tenant t lies in, if t holds the slot
+-- the superblock in which the range of tenant t lies, if the range is in one slot and t holds the slot
 abbrev pub home_of : Content → ℕ → ℕ → ℕ → Option ℕ
 home_of s t place len = if is_in_slot s.unit place len then superblock_at s.slots t (place / s.unit) else None
 
@@ -18,7 +18,7 @@ abbrev pub bytes_under : List (List ℕ) → ℕ → ℕ → Option ℕ → Opti
 bytes_under banks from len None = None
 bytes_under banks from len (Some m) = Some (slice_range (bank banks m) from (from + len))
 
--- the bytes of the range
+-- the bytes of the range, if it is in one slot and t holds the slot
 abbrev pub window_of : Content → ℕ → ℕ → ℕ → Option (List ℕ)
 window_of s t place len = bytes_under s.banks (place % s.unit) len (home_of s t place len)
 
@@ -30,7 +30,7 @@ abbrev pub banks_with : List (List ℕ) → ℕ → List ℕ → Option ℕ → 
 banks_with banks from w None = banks
 banks_with banks from w (Some m) = slice_set banks m (put_within (bank banks m) from w)
 
--- s with w written over the range
+-- s with w written over the range, if it is in one slot and t holds the slot
 abbrev pub with_window : Content → ℕ → ℕ → ℕ → List ℕ → Content
 with_window s t place len w = record s { banks = banks_with s.banks (place % s.unit) w (home_of s t place len) }
 
@@ -46,6 +46,6 @@ abbrev pub banks_with_byte : List (List ℕ) → ℕ → ℕ → Option ℕ → 
 banks_with_byte banks i b None = banks
 banks_with_byte banks i b (Some m) = slice_set banks m (slice_set (bank banks m) i b)
 
--- s with byte b at a place of tenant t
+-- s with byte b at a place of tenant t, if t holds the slot
 abbrev pub with_byte : Content → ℕ → ℕ → ℕ → Content
 with_byte s t place b = record s { banks = banks_with_byte s.banks (place % s.unit) b (superblock_at s.slots t (place / s.unit)) }

@@ -31,15 +31,15 @@ use std::marker::Model;
 // A frame has 2^12 bytes.
 const FRAME_BITS: u8 = 12;
 
-/// Every superblock has an owner.
+/// The error if every superblock has an owner.
 #[derive(Clone, Copy, Debug, PartialEq, Eq)]
 pub struct PoolEmpty;
 
-/// The tenant does not hold the slot.
+/// The error if the tenant does not hold the slot.
 #[derive(Clone, Copy, Debug, PartialEq, Eq)]
 pub struct NoSlot;
 
-/// Why a superblock was not moved.
+/// The reason why a superblock was not moved.
 #[derive(Clone, Copy, Debug, PartialEq, Eq)]
 pub enum MoveRefusal {
     /// The tenant does not hold the slot.
@@ -64,7 +64,7 @@ pub struct Space {
     // writing.
     banks: Vec<Vec<u8>>,
     marks: Vec<bool>,
-    // The bytes that a superblock with an empty vector reads as.
+    // The bytes of a superblock with an empty vector: all zero.
     zeros: Vec<u8>,
 }
 

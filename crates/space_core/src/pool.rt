@@ -14,7 +14,7 @@ impl Space {
     /// Gives the least superblock without an owner to tenant `t`, as the least slot that the tenant does not
     /// hold, and returns the slot and the superblock. The slot reads as zero.
     ///
-    /// Refused with `PoolEmpty` if every superblock has an owner.
+    /// Returns `PoolEmpty` and changes nothing if every superblock has an owner.
     pub fn grant(&mut self, t: u8) -> Result<(u16, u16), PoolEmpty>
         requires { t < length self.old.slots }
         ensures superblock { MatchResult result
@@ -37,7 +37,7 @@ impl Space {
     /// Takes back a slot of tenant `t` and returns its superblock. The superblock keeps its bytes and is
     /// marked, so it is scrubbed before it is granted again.
     ///
-    /// Refused with `NoSlot` if the tenant does not hold the slot.
+    /// Returns `NoSlot` and changes nothing if the tenant does not hold the slot.
     pub fn take_back(&mut self, t: u8, slot: u32) -> Result<u16, NoSlot>
         requires { t < length self.old.slots }
         ensures superblock { MatchResult result
@@ -57,8 +57,8 @@ impl Space {
     /// new superblock. All bytes are copied, so the tenant reads what it read before. The old superblock
     /// keeps its bytes and is marked, so it is scrubbed before it is granted again.
     ///
-    /// Refused with `NoSlot` if the tenant does not hold the slot, else with `PoolEmpty` if every
-    /// superblock has an owner.
+    /// Returns `NoSlot` if the tenant does not hold the slot, or else `PoolEmpty` if every superblock has an owner. In both cases
+    /// nothing changes.
     pub fn move_slot(&mut self, t: u8, slot: u32) -> Result<(u16, u16), MoveRefusal>
         requires { t < length self.old.slots }
         ensures from { IfOk result (λ p. superblock_at self.old.slots t slot ≡ Some p.0) }

@@ -25,8 +25,8 @@ impl Space {
         Some(part(self.bytes(usize::from(m)), at as usize, len as usize))
     }
 
-    /// Borrows the `len` bytes of tenant `t` from `place` on for writing. When the borrow ends, the range has
-    /// the written bytes, and the rest of RAM is unchanged.
+    /// Borrows the `len` bytes of tenant `t` from `place` on for writing. The range must not be empty, and must lie in one slot
+    /// that the tenant holds. When the borrow ends, the range has the written bytes, and the rest of RAM is unchanged.
     pub fn window_mut(&mut self, t: u8, place: u32, len: u32) -> &mut [u8]
         requires tenant { t < length self.old.slots }
         requires in_reach { IsSome (home_of self.old t place len) }
@@ -53,7 +53,8 @@ impl Space {
         self.part_mut(usize::from(m), at as usize, len as usize)
     }
 
-    /// Sets the `len` bytes of tenant `t` from `place` on to zero.
+    /// Sets the `len` bytes of tenant `t` from `place` on to zero. The range must not be empty, and must lie in one slot that the
+    /// tenant holds.
     pub fn zero(&mut self, t: u8, place: u32, len: u32)
         requires tenant { t < length self.old.slots }
         requires in_reach { IsSome (home_of self.old t place len) }
@@ -62,7 +63,7 @@ impl Space {
         self.window_mut(t, place, len).fill(0);
     }
 
-    /// Returns the byte at a place of tenant `t`.
+    /// Returns the byte at a place of tenant `t`, which must hold the slot of the place.
     pub fn byte(&self, t: u8, place: u32) -> u8
         requires tenant { t < length self.now.slots }
         requires held { IsSome (superblock_at self.now.slots t (place / self.now.unit)) }
@@ -86,7 +87,7 @@ impl Space {
         self.bytes(m)[at as usize]
     }
 
-    /// Writes one byte at a place of tenant `t`. Superblock `m` is in the slot of the place. Only the contract uses `t`.
+    /// Writes one byte at a place of tenant `t`. Superblock `m` must be in the slot of the place. Only the contract uses `t`.
     #[inline(always)]
     pub fn set_byte_in(&mut self, m: u16, t: u8, place: u32, byte: u8)
         requires { superblock_at self.old.slots t (place / self.old.unit) ≡ Some m }

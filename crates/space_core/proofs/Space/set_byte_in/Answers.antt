@@ -12,7 +12,7 @@ use Rattle.space_core.proofs.StoredBytes.{length-shown, bank-shown_full, shown-s
 use Rattle.space_core.proofs.Space.set_byte_in.Goals as goal
 use Rattle.space_core.proofs.Space.set_byte_in.Goals.{After-write_out}
 
--- the bytes of the superblock are stored before one is written
+-- after `write_out`, the bytes of the superblock are stored
 in_store : (c : After-write_out) → IsStored (the_view c.self.inside) (lists_of c.write_out.new.banks.items) c.from-m.result
 in_store c =
     let s = the_view c.self.inside in
