@@ -27,7 +27,7 @@ changed_here taken f o g e = cond-true (g == f) o (taken g) (eq-eqb g f e)
 pub changed_other : (taken : Taken) (f : ℕ) (o : Option ℕ) (g : ℕ) → (g ≡ f → ⊥) → changed taken f o g ≡ taken g
 changed_other taken f o g ne = cond-false (g == f) o (taken g) (ne_eqb g f ne)
 
--- a table of the first n frames, with one entry written
+-- the table of the first n frames of the changed taken blocks is the old table with entry f replaced
 pub map_changed : (taken : Taken) (n f : ℕ) (o : Option ℕ) → map (changed taken f o) (range_with_len 0 n) ≡ set (map taken (range_with_len 0 n)) f o
 map_changed taken n f o = same_lists _ _
     (length-map-range_with_len (changed taken f o) 0 n ∙ sym (length-map-range_with_len taken 0 n) ∙ sym (length-set (map taken (range_with_len 0 n)) f o))
@@ -45,7 +45,7 @@ map_changed taken n f o = same_lists _ _
         ∙ sym (get_or-set_other (map taken (range_with_len 0 n)) f g o d ne ∙ get_or-map-range_with_len taken 0 n g g d lt (omega arith))
 
 module _ (top : ℕ) (superblocks : List StoredSuperblock) (tenants : List StoredTenant) (t u m x : ℕ) (s : StoredSuperblock) (tenant : StoredTenant) (o : Option ℕ) where
-  -- the frame of the tenant
+  -- the tenant's number of frame x of slot u
   abbrev pub frame : ℕ
   frame = u * 2 ^ top + x
 
@@ -58,7 +58,7 @@ module _ (top : ℕ) (superblocks : List StoredSuperblock) (tenants : List Store
   abbrev pub held : ℕ → Bool
   held = held_by (stored_tenant t tenants)
 
-  -- tenant and s are the tenant and the superblock afterwards
+  -- `s` and `tenant` are superblock m and tenant t after the entry at frame x becomes o
   pub record IsStep : Type 0 where
     pub listed : t < length tenants
     pub at : superblock_at (stored_tenant t tenants) u ≡ Some m
@@ -97,7 +97,7 @@ module _ (top : ℕ) (superblocks : List StoredSuperblock) (tenants : List Store
     held_same : held_by tenant ≡ held_by (stored_tenant t tenants)
     held_same = λ i v. ap is_some (slot_same v) i
 
-    -- frame g of the superblock in a slot
+    -- afterwards, the stored state has at frame g the entry of `new_taken`
     found : (g : ℕ) (a : Option ℕ) → superblock_at (stored_tenant t tenants) (g / 2 ^ top) ≡ a → taken_by top (set superblocks m s) tenant g ≡ new_taken g
     found g None e =
         ap (λ a. order_under (set superblocks m s) a (g % 2 ^ top)) (slot_same (g / 2 ^ top) ∙ e)
@@ -137,7 +137,7 @@ module _ (top : ℕ) (superblocks : List StoredSuperblock) (tenants : List Store
     taken_now : taken_by top (set superblocks m s) tenant ≡ new_taken
     taken_now = λ i g. found g (superblock_at (stored_tenant t tenants) (g / 2 ^ top)) refl i
 
-    -- what the tenant holds afterwards
+    -- afterwards the tenant holds what it held, with the entry at the frame replaced by o
     pub holding_now : holding_shown top (set superblocks m s) tenant ≡ record (holding_shown top superblocks (stored_tenant t tenants)) { taken = set (holding_shown top superblocks (stored_tenant t tenants)).taken frame o }
     holding_now =
         ap (λ (taken : Taken). held_from tenant.slots (map taken (range_with_len 0 (length tenant.slots * 2 ^ top)))) taken_now

@@ -17,7 +17,7 @@ blank_of = record { slots = []; free = []; taken = [] }
 abbrev pub bare_of : StoredSuperblock
 bare_of = record { tree = record { order = 0; words = [] }; orders = [] }
 
--- the slots of `tenant'` have the superblocks that those of `tenant` had, which may be stored elsewhere now
+-- `tenant'` holds the same slots as `tenant`; the superblock in each has the same stored state, perhaps at another index
 pub record StandsAsBefore (superblocks superblocks' : List StoredSuperblock) (tenant tenant' : StoredTenant) : Type 0 where
   pub held : held_by tenant' ≡ held_by tenant
   pub same : (u m : ℕ) → superblock_at tenant' u ≡ Some m → (i : ℕ) × (superblock_at tenant u ≡ Some i) × (superblock_of m superblocks' ≡ superblock_of i superblocks)
@@ -46,7 +46,7 @@ module _ (top : ℕ) (superblocks : List StoredSuperblock) where
           get_or_past (holding_shown top superblocks tenant).taken f None (subst (λ n. n ≤ f) (sym (length-map-range_with_len (taken_by top superblocks tenant) 0 (length tenant.slots * 2 ^ top))) ge)
           ∙ sym (ap (λ o. order_under superblocks o (f % 2 ^ top)) (get_or_past tenant.slots (f / 2 ^ top) None (le-div (length tenant.slots) f (2 ^ top) (pow_pos top) ge)))
 
-  -- a superblock in no slot of a tenant may change
+  -- if a superblock in no slot of a tenant changes, the tenant's taken blocks stay
   pub taken_stays : (m : ℕ) (s : StoredSuperblock) (tenant : StoredTenant) → ((w : ℕ) → superblock_at tenant w ≡ Some m → ⊥) → taken_by top (set superblocks m s) tenant ≡ taken_by top superblocks tenant
   taken_stays m s tenant other = taken_as_before top superblocks (set superblocks m s) tenant tenant
       (record { held = refl; same = λ u i at. (i, at, get_or-set_other superblocks m i s _ (λ e. other u (at ∙ ap Some e))) })
@@ -73,7 +73,8 @@ module _ (top : ℕ) (superblocks : List StoredSuperblock) (tenants : List Store
       same : (f : ℕ) → taken_of (holding_of t (content_shown top superblocks tenants)) f ≡ taken_by top superblocks (stored_tenant t tenants) f
       same f = ap (λ h. taken_of h f) (holding_at t lt) ∙ taken_shown top superblocks (stored_tenant t tenants) f
 
-  -- one tenant's entry is replaced, and what the others show stays
+  -- if one tenant's entry is replaced by one that shows h, and the taken blocks of the other tenants stay, this tenant holds h
+  -- and nothing else changes
   pub content_replaced : (t : ℕ) (superblocks' : List StoredSuperblock) (tenant' : StoredTenant) (h : Holding) → length superblocks' ≡ length superblocks
       → ((v : ℕ) → (v ≡ t → ⊥) → v < length tenants → taken_by top superblocks' (stored_tenant v tenants) ≡ taken_by top superblocks (stored_tenant v tenants))
       → holding_shown top superblocks' tenant' ≡ h → content_shown top superblocks' (set tenants t tenant') ≡ with_holding t h (content_shown top superblocks tenants)
@@ -85,7 +86,7 @@ module _ (top : ℕ) (superblocks : List StoredSuperblock) (tenants : List Store
       holding_from : StoredTenant → Taken → Holding
       holding_from tenant taken = record { slots = tenant.slots; taken = map taken (range_with_len 0 (length tenant.slots * 2 ^ top)) }
 
-      -- what tenant v shows, by its tenant
+      -- entry v of the mapped list is what tenant v shows
       here : (v : ℕ) (d : Holding) → v < length tenants → get_or (map (holding_shown top superblocks') (set tenants t tenant')) v d ≡ holding_shown top superblocks' (stored_tenant v (set tenants t tenant'))
       here v d lt = get_or-map (holding_shown top superblocks') (set tenants t tenant') v blank_of d (subst (λ n. v < n) (sym (length-set tenants t tenant')) lt)
 
@@ -141,7 +142,7 @@ tenant_within tenants t u m at = go (cases_lt t (length tenants))
     go (inl lt) = lt
     go (inr past) = absurd (none-some m (sym (ap (λ r. superblock_at r u) (get_or_past tenants t blank_of past)) ∙ at))
 
--- a fact about a tenant's slots and taken blocks, in the terms of contracts
+-- what is true of a tenant's stored slots and taken blocks is true of those that contracts see
 pub by_shown : (P : ℕ → (ℕ → Bool) → Taken → Type 0) (top : ℕ) (superblocks : List StoredSuperblock) (tenants : List StoredTenant) (t : ℕ) (c : Content) → IsShown top superblocks tenants t c
     → P top (held_by (stored_tenant t tenants)) (taken_by top superblocks (stored_tenant t tenants)) → P c.top (is_held (holding_of t c)) (taken_of (holding_of t c))
 by_shown P top superblocks tenants t c s p =
@@ -152,15 +153,15 @@ by_shown P top superblocks tenants t c s p =
 pub slot_at : (top : ℕ) (superblocks : List StoredSuperblock) (tenants : List StoredTenant) (c : Content) → content_shown top superblocks tenants ≡ c → (t u : ℕ) → held_at (holding_of t c) u ≡ superblock_at (stored_tenant t tenants) u
 slot_at top superblocks tenants c e t u = ap (λ x. held_at (holding_of t x) u) (sym e) ∙ slot_shown top superblocks tenants t u
 
--- a slot of a tenant that was read
+-- if `tenant` is the stored entry of tenant t, the superblock that is read in slot u of it is in slot u of t
 pub slot_read : (tenants : List StoredTenant) (t : ℕ) (tenant : StoredTenant) → t < length tenants → tenant ≡ get_or tenants t tenant → (u : ℕ) (o : Option ℕ) → o ≡ superblock_at tenant u → superblock_at (stored_tenant t tenants) u ≡ o
 slot_read tenants t tenant lt e u o at = ap (λ r. superblock_at r u) (sym (get_or_read tenants t tenant lt e blank_of)) ∙ sym at
 
--- `1 << top` in the code
+-- `1 << top` in the code is 2 ^ top
 pub size_is : (top : ℕ) → top ≤ 8 → 1 * 2 ^ top % 2 ^ 32 ≡ 2 ^ top
 size_is top le = one_shl top 32 (omega arith)
 
--- a slot that has a superblock is in the list
+-- if slot u has a superblock, u is below the number of slots
 pub slot_within : (slots : List (Option ℕ)) (u m : ℕ) → get_or slots u None ≡ Some m → u < length slots
 slot_within slots u m at = go (cases_lt u (length slots))
   where

@@ -32,7 +32,7 @@ count_one p r (suc n) x lt off on same = go (cases_eq x n) (count_one p r n x)
         let last : bit (p n) ≡ bit (r n) = ap bit (same n (omega arith) (λ e. ne (sym e))) in
         omega arith
 
--- if a number passes, the count is not 0
+-- if a number below n passes the test, the count is not 0
 pub count_some : (p : ℕ → Bool) (n x : ℕ) → x < n → p x ≡ true → 0 < count_below p n
 count_some p zero x lt on = absurd (omega arith)
 count_some p (suc n) x lt on = go (cases_lt x n) (count_some p n x)
@@ -41,7 +41,7 @@ count_some p (suc n) x lt on = go (cases_lt x n) (count_some p n x)
     go (inl below) rest = let before = rest below on in omega arith
     go (inr here) rest = let last : bit (p n) ≡ 1 = ap bit (ap p (let e : n ≡ x = omega arith in e) ∙ on) in omega arith
 
--- if the count is not 0, a number passes
+-- if the count is not 0, a number below n passes the test
 pub count_found : (p : ℕ → Bool) (n : ℕ) → 0 < count_below p n → (f : ℕ) × (f < n) × (p f ≡ true)
 count_found p zero some = absurd (omega arith)
 count_found p (suc n) some = go (cases_Bool (p n)) (count_found p n)
@@ -53,7 +53,7 @@ count_found p (suc n) some = go (cases_Bool (p n)) (count_found p n)
         let found = rest (omega arith) in
         (found.0, omega (arith, found.1), found.2)
 
--- a frame of one of the first n slots
+-- a frame of one of the first n slots is below n * 2 ^ top
 pub frame_below : (top n x : ℕ) → x / 2 ^ top < n → x < n * 2 ^ top
 frame_below top n x lt = go (cases_lt x (n * 2 ^ top))
   where
@@ -68,7 +68,7 @@ module _ (top : ℕ) (held held' : ℕ → Bool) (taken taken' : Taken) (f k j s
   abbrev pub small : ℕ → ℕ → Bool
   small i g = is_free top held' taken' (block g i)
 
-  -- a block that is free afterwards was free, unless it is a buddy of the block taken out
+  -- a block that is free afterwards was free before, unless it is one of the halves that are split off
   kept_back : (i g : ℕ) → (k ≤ i → i < j → IsOtherHalf f i g → ⊥) → IsFree top held' taken' (block g i) → IsFree top held taken (block g i)
   kept_back i g off free = go (open_after (is_available top held taken) (is_available top held' taken') top f k j out i g (free_is_open top held' taken' (block g i) free))
     where
@@ -88,7 +88,7 @@ module _ (top : ℕ) (held held' : ℕ → Bool) (taken taken' : Taken) (f k j s
   same_place : (i x : ℕ) → i ≤ top → number_at i x ≡ number_at i f → x < slots * 2 ^ top
   same_place i x le same = frame_below top slots x (subst (λ n. n < slots) (sym (same_slot top i x f le same)) within)
 
-  -- the numbers of free blocks of orders below the block, and above the one that it is taken out of, stay
+  -- the number of free blocks of an order below k or above j stays
   pub count_kept : (i : ℕ) → (i < k) ⊎ (j < i) → count_below (small i) (slots * 2 ^ top) ≡ count_below (large i) (slots * 2 ^ top)
   count_kept i apart = count_same (small i) (large i) (slots * 2 ^ top) (λ g lt. agree i g (λ le below half. not_between apart le below) (λ e same. not_at apart e))
     where
@@ -103,7 +103,7 @@ module _ (top : ℕ) (held held' : ℕ → Bool) (taken taken' : Taken) (f k j s
       not_at (inl a) e = omega arith
       not_at (inr a) e = omega arith
 
-  -- the free block that it is taken out of
+  -- the first frame of the free block of order j out of which the block is taken
   abbrev pub whole : ℕ
   whole = f / 2 ^ j * 2 ^ j
 
@@ -170,7 +170,7 @@ module _ (top : ℕ) (held held' : ℕ → Bool) (taken taken' : Taken) (f k j s
   pub half_counts : (i : ℕ) → k ≤ i → i < j → 0 < count_below (small i) (slots * 2 ^ top)
   half_counts i up lt = omega (arith, count_half i up lt)
 
-  -- a tenant's counts of free blocks change as the free blocks do
+  -- if a tenant's counts change as in `IsTakenOut`, they change as the numbers of its free blocks do
   pub free_balance : (whole part : StoredTenant) → IsTakenOut k j whole part → (i : ℕ)
       → slice_index part.free i + count_below (large i) (slots * 2 ^ top) ≡ slice_index whole.free i + count_below (small i) (slots * 2 ^ top)
   free_balance whole part counts i = go (cases_order i j) (cases_lt i k)

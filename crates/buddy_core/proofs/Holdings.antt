@@ -12,7 +12,7 @@ own_holding t h c here = get_or-set_same c.tenants t h _ here
 pub other_holding : (t u : ℕ) (h : Holding) (c : Content) → u ≢ t → holding_of u (with_holding t h c) ≡ holding_of u c
 other_holding t u h c other = get_or-set_other c.tenants t u h _ other
 
--- the taken blocks after one is added or removed
+-- after a block is added or removed, the taken blocks are those of `with_taken` or `without_taken`
 module _ (h : Holding) (f : ℕ) where
   pub taken-with_block : (k : ℕ) → f < length h.taken → taken_of (with_block f k h) ≡ with_taken (taken_of h) f k
   taken-with_block k lt = λ i g. go g (cases_eq g f) i

@@ -1,4 +1,4 @@
--- A superblock in no slot, and a tenant that holds nothing.
+-- The invariants hold for superblocks in no slot and for tenants that hold nothing.
 use Rattle.std.proofs.Common.{◌≡◌, ◌⊎◌, inl, inr, refl, sym, ◌∙◌, ap, ap₂, subst, ℕ, ◌+◌, ◌*◌, ◌/◌, ◌%◌, ◌^◌, ◌<◌, ◌≤◌, false, Option, None, List, length, map, replicate, cond, zero, suc, ◌∷◌, arith}
 use Rattle.std.specs.Prelude.{is_some, count_by}
 use Rattle.std.specs.List.{range_with_len}
@@ -25,7 +25,7 @@ module _ (top : ℕ) (superblocks : List StoredSuperblock) where
   begins_none : (n f : ℕ) → taken_by top superblocks (bare_tenant top n) f ≡ None
   begins_none n f = ap (λ o. order_under superblocks o (f % 2 ^ top)) (no_slot n (f / 2 ^ top))
 
-  -- it has no taken block
+  -- the table of its taken blocks has only None
   table_blank : (n size : ℕ) → map (taken_by top superblocks (bare_tenant top n)) (range_with_len 0 size) ≡ replicate {A = Option ℕ} size None
   table_blank n size = same_lists _ _
       (length-map-range_with_len (taken_by top superblocks (bare_tenant top n)) 0 size ∙ sym (length-replicate {A = Option ℕ} size None))
@@ -63,7 +63,7 @@ module _ (top : ℕ) (superblocks : List StoredSuperblock) where
       none_counted : (k n : ℕ) → count_by (has_order k) (replicate n None) ≡ 0
       none_counted k n = sum_by-replicate (λ x. cond (has_order k x) 1 0) n None ∙ (let e : n * 0 ≡ 0 = omega arith in e)
 
--- what is stored of an empty buddy system
+-- a buddy system in which no tenant holds anything has the invariants and is shown as `empty_buddy`
 module _ (top superblocks tenants : ℕ) where
   size : length (replicate superblocks (bare_superblock top)) ≡ superblocks
   size = length-replicate superblocks (bare_superblock top)
@@ -101,7 +101,7 @@ module _ (top superblocks tenants : ℕ) where
       mapped zero = refl
       mapped (suc n) = ap₂ ◌∷◌ (blank_holding top (replicate superblocks (bare_superblock top)) superblocks) (mapped n)
 
--- a tenant whose slots and counts are all cleared
+-- a tenant whose slots and counts are all cleared is a tenant that holds nothing
 pub cleared_tenant : (top n : ℕ) (old new : StoredTenant) → HasTenantSizes top n old → new.slots ≡ replicate (length old.slots) None → new.free ≡ replicate (length old.free) 0 → new.taken ≡ replicate (length old.taken) 0 → new ≡ bare_tenant top n
 cleared_tenant top n old new sizes slots free taken =
     ap (λ a. tenant_from a new.free new.taken) (slots ∙ ap (λ l. replicate {A = Option ℕ} l None) sizes.slots)

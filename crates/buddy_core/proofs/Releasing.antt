@@ -23,7 +23,7 @@ use Rattle.buddy_core.proofs.TreeSlots.{less_in_slot, same_elsewhere, open_in_sl
 use Rattle.buddy_core.proofs.RootOrders.{word_before}
 use Rattle.buddy_core.proofs.BlockSteps.{IsStep, changed}
 
--- a superblock and a tenant before and after: order k is released at frame x, and joined to order j
+-- s' and tenant' are s and tenant after the block of order k at frame x is released and joined to a block of order j
 pub record Released (j k x : ℕ) (s : StoredSuperblock) (tenant : StoredTenant) (s' : StoredSuperblock) (tenant' : StoredTenant) : Type 0 where
   pub order : s'.tree.order ≡ s.tree.order
   pub stored : x < length s.orders
@@ -31,7 +31,7 @@ pub record Released (j k x : ℕ) (s : StoredSuperblock) (tenant : StoredTenant)
   pub words : (small large : ℕ → Bool) → Shows s.tree.order small s.tree.words → IsLess small large k x → Shows s.tree.order large s'.tree.words
   pub counts : IsTakenOut k j tenant' tenant
 
--- the taken block that begins at a frame of the tenant: order k, at frame x of superblock m
+-- a taken block of order k begins at this frame of the tenant, which is frame x of superblock m
 pub record IsAt (top : ℕ) (superblocks : List StoredSuperblock) (tenants : List StoredTenant) (t frame k m x : ℕ) : Type 0 where
   pub listed : t < length tenants
   pub slot : superblock_at (stored_tenant t tenants) (frame / 2 ^ top) ≡ Some m
@@ -39,7 +39,7 @@ pub record IsAt (top : ℕ) (superblocks : List StoredSuperblock) (tenants : Lis
   pub here : taken_by top superblocks (stored_tenant t tenants) (frame / 2 ^ top * 2 ^ top + x) ≡ Some k
   pub whole : frame / 2 ^ top * 2 ^ top + x ≡ frame
 
--- what begins at a frame of the tenant: what its slot's superblock has there
+-- the order of the taken block that begins at a frame of the tenant is the one that is stored in the superblock of its slot
 pub begins_at : (top : ℕ) (superblocks : List StoredSuperblock) (tenants : List StoredTenant) → top ≤ 8 → (t : ℕ) (now : Content) → IsShown top superblocks tenants t now → (frame : ℕ)
     → (o : Option ℕ) → superblock_at (stored_tenant t tenants) (frame / 2 ^ top) ≡ o → order_under superblocks o (frame % (1 * 2 ^ top % 2 ^ 32)) ≡ taken_of (holding_of t now) frame
 begins_at top superblocks tenants small t now s frame o slot =
@@ -85,7 +85,7 @@ module _ {top : ℕ} {superblocks : List StoredSuperblock} {tenants : List Store
   out_of : (j : ℕ) × TakesOut (is_available top (held_by (stored_tenant t tenants)) (changed (taken_by top superblocks (stored_tenant t tenants)) (frame / 2 ^ top * 2 ^ top + x) None)) (is_available top (held_by (stored_tenant t tenants)) (taken_by top superblocks (stored_tenant t tenants))) top (frame / 2 ^ top * 2 ^ top + x) k j
   out_of = releasing top (held_by (stored_tenant t tenants)) (taken_by top superblocks (stored_tenant t tenants)) (frame / 2 ^ top * 2 ^ top + x) k mine.sound at.here
 
-  -- the order of the joined block
+  -- the order of the free block to which the released block is joined
   pub joined_order : ℕ
   joined_order = out_of.0
 
@@ -125,7 +125,7 @@ module _ {top : ℕ} {superblocks : List StoredSuperblock} {tenants : List Store
   shown_after words change = change _ _ (mine.shows (frame / 2 ^ top) m at.slot)
       (less_in_slot (is_available top held freed) (is_available top held taken) top (frame / 2 ^ top) x k joined_order out)
 
-  -- the order that the tree returns
+  -- the order that the tree returns is that of the joined block
   pub joined_is : (j : ℕ) (s : StoredSuperblock) → s ≡ superblock_of m superblocks
       → ((small large : ℕ → Bool) → Shows s.tree.order small s.tree.words → IsLess small large k x → (k ≤ j) × IsOpen large s.tree.order j (number_at j x)) → j ≡ joined_order
   joined_is j s e answer =

@@ -1,4 +1,4 @@
--- The block that a reservation finds, and the superblock and the tenant after it.
+-- The block that a reservation finds, and the superblock and the tenant after the reservation.
 use Rattle.std.proofs.Common.{◌≡◌, ◌⊎◌, inl, inr, refl, sym, ◌∙◌, ap, subst, ℕ, ◌+◌, ◌*◌, ◌/◌, ◌^◌, ◌<◌, ◌≤◌, Bool, Option, Some, None, List, length, get_or, set, arith}
 use Rattle.std.specs.Prelude.{slice_index}
 use Rattle.std.proofs.lemmas.List.{get_or_past}
@@ -29,7 +29,7 @@ use Rattle.buddy_core.proofs.TreeSlots.{root_tells, least_free, less_in_slot, sa
 use Rattle.buddy_core.proofs.RootOrders.{word_after}
 use Rattle.buddy_core.proofs.BlockSteps.{IsStep, changed}
 
--- a superblock and a tenant before and after: order k is taken at frame x out of a free block of order j
+-- s' and tenant' are s and tenant after a block of order k at frame x is taken out of a free block of order j
 pub record Reserved (j k x : ℕ) (s : StoredSuperblock) (tenant : StoredTenant) (s' : StoredSuperblock) (tenant' : StoredTenant) : Type 0 where
   pub order : s'.tree.order ≡ s.tree.order
   pub stored : x < length s.orders
@@ -38,7 +38,7 @@ pub record Reserved (j k x : ℕ) (s : StoredSuperblock) (tenant : StoredTenant)
       → Shows s.tree.order small s'.tree.words
   pub counts : IsTakenOut k j tenant tenant'
 
--- a source stays one if equal superblocks and slots are stored
+-- a source in some superblocks and slots is a source in equal ones
 pub source_at : (superblocks' superblocks : List StoredSuperblock) (slots' slots : List (Option ℕ)) (k : ℕ) (p : Source) → superblocks' ≡ superblocks → slots' ≡ slots → IsSource superblocks' slots' k p → IsSource superblocks slots k p
 source_at superblocks' superblocks slots' slots k p e d source = subst (λ ss. IsSource superblocks ss k p) d (subst (λ ss. IsSource ss slots' k p) e source)
 
@@ -46,12 +46,12 @@ module _ (top : ℕ) (superblocks : List StoredSuperblock) (tenants : List Store
   kept_tenant : IsTenantKept top superblocks (stored_tenant t tenants)
   kept_tenant = kept.each t listed
 
-  -- a free block sets the bit of its order in its superblock's first word
+  -- if a free block lies in superblock m, the bit of its order in the root word of m is 1
   bit_of : (c : Block) (m : ℕ) → IsFree top (held_by (stored_tenant t tenants)) (taken_by top superblocks (stored_tenant t tenants)) c → superblock_at (stored_tenant t tenants) (c.first / 2 ^ top) ≡ Some m → HasBit superblocks m c.order
   bit_of c m free at =
       (root_tells top (held_by (stored_tenant t tenants)) (taken_by top superblocks (stored_tenant t tenants)) (c.first / 2 ^ top) (superblock_of m superblocks).tree.words (kept_tenant.shows (c.first / 2 ^ top) m at) c.order).1 (c.first, free, refl)
 
-  -- the tenant counts free blocks of exactly the orders whose bits are set
+  -- the tenant counts free blocks of exactly the orders whose bits are 1 in a root word of its superblocks
   pub counted : IsCounted superblocks (stored_tenant t tenants)
   counted j = (λ some. forth (cases_lt top j) some, back)
     where
@@ -83,7 +83,7 @@ module _ (top : ℕ) (superblocks : List StoredSuperblock) (tenants : List Store
         let found = (root_tells top (held_by (stored_tenant t tenants)) (taken_by top superblocks (stored_tenant t tenants)) p.slot (superblock_of p.superblock superblocks).tree.words (kept_tenant.shows p.slot p.superblock source.at) p.order).0 source.bit in
         found.1.0.0
 
--- the first free block of the order that was found, at frame x of the superblock there
+-- the first free block of the order `p.order` in the slot of the source begins at frame x of its superblock
 pub record IsFound (top : ℕ) (superblocks : List StoredSuperblock) (tenants : List StoredTenant) (t k : ℕ) (p : Source) (x : ℕ) : Type 0 where
   pub listed : t < length tenants
   pub source : IsSource superblocks (stored_tenant t tenants).slots k p
@@ -91,11 +91,11 @@ pub record IsFound (top : ℕ) (superblocks : List StoredSuperblock) (tenants : 
   pub aligned : number_at p.order x * 2 ^ p.order ≡ x
   pub least : IsLeast (λ y. is_available top (held_by (stored_tenant t tenants)) (taken_by top superblocks (stored_tenant t tenants)) (p.slot * 2 ^ top + y)) top p.order (number_at p.order x)
 
--- what a search of a tree of order n returns
+-- x is what a search for `p.order` in a tree of order n returns
 abbrev pub Answers : Source → ℕ → ℕ → List ℕ → Type 0
 Answers p x n words = (x < 2 ^ n) × ((ok : ℕ → Bool) → Shows n ok words → bit_at (slice_index words 0) p.order ≡ 1 → (number_at p.order x * 2 ^ p.order ≡ x) × IsLeast ok n p.order (number_at p.order x))
 
--- the search of that superblock finds it
+-- what the search of the source's superblock returns is this first free block
 pub found_at : (top : ℕ) (superblocks : List StoredSuperblock) (tenants : List StoredTenant) → IsKept top superblocks tenants → (t : ℕ) → t < length tenants → (k : ℕ) (p : Source) → IsSource superblocks (stored_tenant t tenants).slots k p
     → (tree : StoredTree) → tree ≡ (superblock_of p.superblock superblocks).tree → (x : ℕ) → Answers p x tree.order tree.words → IsFound top superblocks tenants t k p x
 found_at top superblocks tenants kept t listed k p source tree read x answers = record { listed = listed; source = source; inside = here.0; aligned = first.0; least = first.1 }
@@ -168,7 +168,7 @@ module _ {top : ℕ} {superblocks : List StoredSuperblock} {tenants : List Store
       (let up = mul-le-mul_right (2 ^ top) (let le : p.slot + 1 ≤ length superblocks = omega (arith, slot_lt) in le) in
       let parts : (p.slot + 1) * 2 ^ top ≡ p.slot * 2 ^ top + 2 ^ top = omega arith in omega arith)
 
-  -- nothing is taken at the first frame of a free block
+  -- no taken block begins at the first frame of the free block
   was_none : (o : Option ℕ) → taken_by top superblocks (stored_tenant t tenants) (p.slot * 2 ^ top + x) ≡ o → o ≡ None
   was_none None e = refl
   was_none (Some i) e = absurd (first_of.0.2 (p.slot * 2 ^ top + x, has_first (p.slot * 2 ^ top + x) p.order, (p.slot * 2 ^ top + x, i, e, has_first (p.slot * 2 ^ top + x) i)))

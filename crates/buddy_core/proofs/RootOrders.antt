@@ -13,7 +13,7 @@ module _ (top k j f : ℕ) (large small : ℕ → Bool) (le : k ≤ j) (free : I
   out : TakesOut large small top f k j
   out = record { order = le; open_block = free; inside = less.gone; outside = less.kept }
 
-  -- each order afterwards is one from before, or that of a half
+  -- each order in the root word afterwards was there before, or is that of a half
   pub word_after : (i : ℕ) → bit_at (slice_index after 0) i ≡ 1 → (bit_at (slice_index before 0) i ≡ 1) ⊎ ((k ≤ i) × (i < j))
   word_after i bit = go ((node_tells small top 0 top 0 i after shows' (omega arith) (omega arith)).0 bit)
     where
@@ -25,7 +25,7 @@ module _ (top k j f : ℕ) (large small : ℕ → Bool) (le : k ≤ j) (free : I
             | inr half ↦ inr (half.0, half.1)
           ]
 
-  -- each order before is that of the free block, or stays
+  -- each order in the root word before is that of the free block, or is still there afterwards
   pub word_before : (i : ℕ) → bit_at (slice_index before 0) i ≡ 1 → (i ≡ j) ⊎ (bit_at (slice_index after 0) i ≡ 1)
   word_before i bit = go ((node_tells large top 0 top 0 i before shows (omega arith) (omega arith)).0 bit)
     where

@@ -23,7 +23,7 @@ module _ (top : ℕ) (superblocks : List StoredSuperblock) (tenants : List Store
   size : length after ≡ length superblocks
   size = ap length (swapped.3 bare_of) ∙ length-set (set superblocks from (superblock_of m superblocks)) m (superblock_of from superblocks) ∙ length-set superblocks from (superblock_of m superblocks)
 
-  -- the tenant afterwards
+  -- tenant t with superblock m in the slot
   abbrev pub moved : StoredTenant
   moved = record (stored_tenant t tenants) { slots = set (stored_tenant t tenants).slots slot (Some m) }
 
@@ -88,7 +88,7 @@ module _ (top : ℕ) (superblocks : List StoredSuperblock) (tenants : List Store
   order_now i lt (inr _) (inl e) = ap (λ (z : StoredSuperblock). z.tree.order) (ap (λ n. superblock_of n after) e ∙ swapped.1 bare_of) ∙ kept.order from (mine.within slot from here)
   order_now i lt (inr a) (inr b) = ap (λ (z : StoredSuperblock). z.tree.order) (superblock_other i a b) ∙ kept.order i lt
 
-  -- a superblock in no slot is blank: the old one, which is now stored as the new one was, or another one
+  -- A superblock in no slot is blank. The old superblock is blank because it is now stored as the new one was.
   bare_now : (i : ℕ) → i < length superblocks → ((v u : ℕ) → superblock_at (stored_tenant v (set tenants t moved)) u ≡ Some i → ⊥) → (i ≡ from) ⊎ (i ≡ from → ⊥) → superblock_of i after ≡ bare_superblock top
   bare_now i lt none (inl e) = ap (λ n. superblock_of n after) e ∙ swapped.0 bare_of ∙ kept.bare m m_lt unused
   bare_now i lt none (inr ne) =
@@ -120,7 +120,7 @@ module _ (top : ℕ) (superblocks : List StoredSuperblock) (tenants : List Store
       shows : Taken → ℕ → Holding
       shows taken n = record { slots = set (stored_tenant t tenants).slots slot (Some m); taken = map taken (range_with_len 0 (n * 2 ^ top)) }
 
-  -- the superblock in each slot has the orders that it had
+  -- the superblock in each slot has the orders that it had, so the summaries still bound the free blocks
   pub move_bounded : (summaries : List (List ℕ)) → AreBounded superblocks tenants summaries → AreBounded after (set tenants t moved) summaries
   move_bounded summaries bounded = bounded_still bounded after (set tenants t moved) (length-set tenants t moved) (λ v u i j at bit. go v u i j at bit (cases_eq v t))
     where

@@ -51,7 +51,7 @@ pub record IsSlotStep (top : ℕ) (superblocks : List StoredSuperblock) (tenant 
   pub size : length tenant'.slots ≡ length tenant.slots
   pub others : (v : ℕ) → (v ≡ u → ⊥) → superblock_at tenant' v ≡ superblock_at tenant v
   pub apart : (v : ℕ) → (v ≡ u → ⊥) → superblock_at tenant v ≡ Some m → ⊥
-  -- nothing begins in the slot, before and after
+  -- no taken block begins in the slot, before or after
   pub none_before : (g : ℕ) → g / 2 ^ top ≡ u → taken_by top superblocks tenant g ≡ None
   pub none_after : (g : ℕ) → g / 2 ^ top ≡ u → taken_by top (set superblocks m s) tenant' g ≡ None
 
@@ -67,7 +67,7 @@ module _ (top : ℕ) (superblocks : List StoredSuperblock) (tenant : StoredTenan
           ∙ ap (λ (z : StoredSuperblock). get_or z.orders (g % 2 ^ top) None) (get_or-set_other superblocks m i s bare_of (λ same. step.apart (g / 2 ^ top) ne (e ∙ ap Some same)))
           ∙ sym (ap (λ o. order_under superblocks o (g % 2 ^ top)) e)
 
-  -- the taken blocks stay
+  -- the taken blocks stay the same
   pub taken_same : taken_by top (set superblocks m s) tenant' ≡ taken_by top superblocks tenant
   taken_same = λ i g. found g (cases_eq (g / 2 ^ top) u) i
 
@@ -82,7 +82,7 @@ module _ (top : ℕ) (superblocks : List StoredSuperblock) (tenant : StoredTenan
   pub taken_blocks_same : (k : ℕ) → taken_block_count k (holding_shown top (set superblocks m s) tenant') ≡ taken_block_count k (holding_shown top superblocks tenant)
   taken_blocks_same k = ap (taken_block_count k) holding_same
 
-  -- an untouched slot shows what it showed
+  -- the words of the superblock in any other slot still show which of its frames are available
   module _ (same_held : (v : ℕ) → (v ≡ u → ⊥) → held_by tenant' v ≡ held_by tenant v) where
     pub shows_other : (v i : ℕ) → (v ≡ u → ⊥) → superblock_at tenant v ≡ Some i → Shows top (available_in top superblocks tenant v) (superblock_of i superblocks).tree.words
         → Shows top (available_in top (set superblocks m s) tenant' v) (superblock_of i (set superblocks m s)).tree.words

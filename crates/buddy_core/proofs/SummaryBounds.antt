@@ -14,7 +14,7 @@ use Rattle.buddy_core.proofs.ContentShown.{blank_of, bare_of}
 use Rattle.buddy_core.proofs.NothingHeld.{any_slot}
 
 module _ {superblocks : List StoredSuperblock} {tenants : List StoredTenant} {summaries : List (List ℕ)} (bounded : AreBounded superblocks tenants summaries) where
-  -- the words may stay if each slot has only orders that it had before
+  -- the summaries still bound the free blocks if each slot has only orders that it had before
   pub bounded_still : (superblocks' : List StoredSuperblock) (tenants' : List StoredTenant) → length tenants' ≡ length tenants
       → ((v u i j : ℕ) → superblock_at (stored_tenant v tenants') u ≡ Some i → HasBit superblocks' i j → (was : ℕ) × (superblock_at (stored_tenant v tenants) u ≡ Some was) × HasBit superblocks was j)
       → AreBounded superblocks' tenants' summaries
@@ -23,7 +23,7 @@ module _ {superblocks : List StoredSuperblock} {tenants : List StoredTenant} {su
     each = λ v j u i at bit. let was = before v u i j at bit in bounded.each v j u was.0 was.1 was.2;
   }
 
-  -- one tenant's words change, and still bound its free blocks
+  -- if one tenant's words are replaced by words that bound its free blocks, the summaries still bound those of all tenants
   pub bounded_by : (t : ℕ) (words : List ℕ) → t < length tenants → IsBounded superblocks (stored_tenant t tenants).slots words → AreBounded superblocks tenants (set summaries t words)
   bounded_by t words lt told = record { size = length-set summaries t words ∙ bounded.size; each = λ v j u i at bit. each v j u i at bit (cases_eq v t) }
     where
@@ -100,7 +100,7 @@ module _ {superblocks : List StoredSuperblock} {tenants : List StoredTenant} {su
           ap (λ (z : StoredSuperblock). bit_at (get_or z.tree.words 0 0) j) (sym (get_or-set_other superblocks m i s bare_of off)) ∙ bit,
         )
 
--- nothing is held at first
+-- if no tenant holds a slot, any words bound the free blocks
 pub bounded_first : (top count tenants : ℕ) (superblocks : List StoredSuperblock) (words : List ℕ) → AreBounded superblocks (replicate tenants (bare_tenant top count)) (replicate tenants words)
 bounded_first top count tenants superblocks words = record {
   size = length-replicate tenants words ∙ sym (length-replicate tenants (bare_tenant top count));

@@ -1,4 +1,4 @@
--- One tenant and one superblock change: what always holds still holds.
+-- If one tenant and one superblock change, what is always true still is.
 use Rattle.std.proofs.Common.{◌≡◌, ◌⊎◌, inl, inr, refl, sym, ◌∙◌, ap, ap₂, subst, Bool, Option, ℕ, ◌+◌, ◌*◌, ◌^◌, ◌<◌, ◌≤◌, Some, List, length, set, map, length-set}
 use Rattle.std.proofs.lemmas.List.{get_or-set_same, get_or-set_other}
 use Rattle.std.proofs.lemmas.Bool.{cases_eq}
@@ -70,7 +70,7 @@ module _ (top : ℕ) (superblocks : List StoredSuperblock) (tenants : List Store
   superblock_other : (i : ℕ) → (i ≡ m → ⊥) → superblock_of i (set superblocks m s) ≡ superblock_of i superblocks
   superblock_other i ne = get_or-set_other superblocks m i s bare_of ne
 
-  -- what the other tenants hold stays
+  -- the taken blocks of the other tenants stay
   pub others_stay : (v : ℕ) → (v ≡ t → ⊥) → v < length tenants → taken_by top (set superblocks m s) (stored_tenant v tenants) ≡ taken_by top superblocks (stored_tenant v tenants)
   others_stay v ne lt = taken_stays top superblocks m s (stored_tenant v tenants) (λ w at. change.others v w ne at)
 

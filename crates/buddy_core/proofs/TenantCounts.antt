@@ -56,11 +56,11 @@ module _ (top : ℕ) (superblocks : List StoredSuperblock) (tenants : List Store
             let few = few_frames in
             omega arith
 
-    -- no count is near the limit of its type
+    -- each count can grow by 1 within its type
     pub room : CanCountMore (stored_tenant t tenants)
     room i = (free_room i, taken_room i)
 
--- one entry of the table of taken blocks is written
+-- if an entry of the table of taken blocks is set, the count of an order loses the old entry and gains the new one
 pub count_set : (xs : List (Option ℕ)) (f i : ℕ) (o : Option ℕ) → f < length xs → count_by (has_order i) (set xs f o) + bit (has_order i (get_or xs f None)) ≡ count_by (has_order i) xs + bit (has_order i o)
 count_set xs f i o lt = sum_by-set (λ x. cond (has_order i x) 1 0) xs f o None lt
 
@@ -70,7 +70,7 @@ order_here k i e = ap bit (eq-eqb k i (sym e))
 pub order_other : (k i : ℕ) → (i ≡ k → ⊥) → bit (has_order i (Some k)) ≡ 0
 order_other k i ne = ap bit (ne_eqb k i (λ e. ne (sym e)))
 
--- how a tenant's counts of taken blocks change when a block of order k is taken
+-- when a block of order k is taken, the tenant's count of taken blocks of order k grows by 1, and no other changes
 pub taken_bit : (k j : ℕ) (whole part : StoredTenant) → IsTakenOut k j whole part → (i : ℕ) → slice_index part.taken i ≡ slice_index whole.taken i + bit (has_order i (Some k))
 taken_bit k j whole part out i = go (cases_eq i k)
   where
@@ -78,7 +78,7 @@ taken_bit k j whole part out i = go (cases_eq i k)
     go (inl e) = subst (λ n. slice_index part.taken n ≡ slice_index whole.taken n + 1) (sym e) out.taken ∙ ap (λ n. slice_index whole.taken i + n) (sym (order_here k i e))
     go (inr ne) = let none = order_other k i ne in let same = out.rest i ne in omega arith
 
--- a slot that has a superblock has a small number
+-- a slot that has a superblock has a number below 256
 pub slot_small : (top : ℕ) (superblocks : List StoredSuperblock) (tenants : List StoredTenant) → IsKept top superblocks tenants → (t : ℕ) → t < length tenants → (u m : ℕ) → superblock_at (stored_tenant t tenants) u ≡ Some m → u < 256
 slot_small top superblocks tenants kept t listed u m at =
     let lt = slot_within (stored_tenant t tenants).slots u m at in

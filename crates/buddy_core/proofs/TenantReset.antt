@@ -1,4 +1,4 @@
--- One tenant loses all that it holds.
+-- If one tenant loses all that it holds, what is always true still is.
 use Rattle.std.proofs.Common.{◌≡◌, ◌⊎◌, inl, inr, refl, sym, ◌∙◌, ap, subst, ℕ, zero, suc, ◌+◌, ◌<◌, ◌≤◌, Option, Some, None, List, length, get_or, set, arith, length-set}
 use Rattle.std.specs.Int.{bit_at}
 use Rattle.std.proofs.lemmas.List.{get_or-set_same, get_or-set_other}
@@ -54,12 +54,12 @@ cleared_more top before after tenant n m s at lt blank apart c = record {
             let last : w ≡ n = omega arith in
             absurd (ne (same_Some i m (sym there ∙ ap (superblock_at tenant) last ∙ at)))
 
--- the superblock that is cleared next is as it was
+-- the superblock that is cleared next still has the order of a superblock
 pub next_order : (top : ℕ) (before after : List StoredSuperblock) (tenant : StoredTenant) (n m : ℕ) → superblock_at tenant n ≡ Some m → (superblock_of m before).tree.order ≡ top
     → ((w v i : ℕ) → superblock_at tenant w ≡ Some i → superblock_at tenant v ≡ Some i → w ≡ v) → Cleared top before after tenant n → (superblock_of m after).tree.order ≡ top
 next_order top before after tenant n m at order apart c = ap (λ (z : StoredSuperblock). z.tree.order) (c.stays m (λ w lt there. let e = apart w n m there at in omega arith)) ∙ order
 
--- some of the first n slots has the superblock, or none has
+-- either one of the first n slots has superblock i, or none of them has
 under : (tenant : StoredTenant) (i n : ℕ) → ((w : ℕ) × (w < n) × (superblock_at tenant w ≡ Some i)) ⊎ ((w : ℕ) → w < n → superblock_at tenant w ≡ Some i → ⊥)
 under tenant i zero = inr (λ w lt at. omega arith)
 under tenant i (suc n) = go (under tenant i n) (superblock_at tenant n) refl
@@ -147,7 +147,7 @@ module _ (top : ℕ) (superblocks : List StoredSuperblock) (tenants : List Store
   reset_shown = content_replaced top superblocks tenants t after (bare_tenant top (length superblocks)) (nothing_held top (length superblocks)) c.size
       (λ v ne lt. other_taken v ne) (blank_holding top after (length superblocks))
 
-  -- no slot has an order that it did not have
+  -- after the reset, no slot has an order that it did not have, so the summaries still bound the free blocks
   pub reset_bounded : (summaries : List (List ℕ)) → AreBounded superblocks tenants summaries → AreBounded after (set tenants t (bare_tenant top (length superblocks))) summaries
   reset_bounded summaries bounded = bounded_still bounded after (set tenants t (bare_tenant top (length superblocks))) (length-set tenants t (bare_tenant top (length superblocks))) (λ v u i j at bit. go v u i j at bit (cases_eq v t))
     where

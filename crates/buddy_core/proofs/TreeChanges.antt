@@ -30,7 +30,7 @@ word_free : (ok : ℕ → Bool) (top k f i e q : ℕ) → ((x : ℕ) → IsWith 
 word_free ok top k f i e q all small s a =
     word_inside ok top i q small ∙ cond-true _ 0 (orders ok i q) (clear_from ok (suc i) (q / 2) (λ x h. all x (around_with k f i e q x s a h)))
 
--- the first write
+-- the first write is the word of the changed block; then all words inside this block are those of a separate tree under `new`
 start_within : (top k d f v : ℕ) (old new : ℕ → Bool) (words : List ℕ) → d + k ≡ top → f < 2 ^ top → Shows top old words
     → v ≡ orders new k (number_at k f)
     → ((i e q : ℕ) → i + suc e ≡ k → number_at (suc e) q ≡ number_at k f → word old top i q ≡ word new k i q)
@@ -82,7 +82,7 @@ start_release top k d f small large words s b shows less =
 agree_above : (a b : ℕ → Bool) (k n m f : ℕ) → k + n ≡ m → ((x : ℕ) → (IsWith k f x → ⊥) → a x ≡ b x) → (x : ℕ) → (IsWith m f x → ⊥) → a x ≡ b x
 agree_above a b k n m f s same x off = same x (λ w. off (sym (number_above n k m x s) ∙ ap (λ i. number_at n i) w ∙ number_above n k m f s))
 
--- both halves have the words of separate trees, if the whole was not free
+-- if the larger block around the changed one was not free, both its halves have the words of separate trees
 halves_stand : (top k f d : ℕ) (old new : ℕ → Bool) (words : List ℕ) → d + suc k ≡ top → ((x : ℕ) → (IsWith k f x → ⊥) → old x ≡ new x)
     → Mended top k f old new words → is_clear old (suc k) (number_at (suc k) f) ≡ false
     → (q : ℕ) → q / 2 ≡ number_at (suc k) f → q < 2 ^ suc d → word_at words (suc d) q ≡ orders new k q
@@ -96,7 +96,7 @@ halves_stand top k f d old new words s agree m off q e b = elim (cases_eq q (num
     only : (i e q : ℕ) → (q ≡ number_at k f → ⊥) → (n : ℕ) → k + n ≡ k → number_at n q ≡ number_at k f → ⊥
     only i e q ne n t a = ne (subst (λ j. number_at j q ≡ number_at k f) (let z : n ≡ 0 = omega arith in z) a)
 
--- the word of the block that changed
+-- the word of the changed block has the orders of this block under `new`
 word_changed : (top k f d : ℕ) (old new : ℕ → Bool) (words : List ℕ) → f < 2 ^ top → d + k ≡ top → Mended top k f old new words
     → word_at words d (number_at k f) ≡ orders new k (number_at k f)
 word_changed top k f d old new words b s m =
@@ -109,7 +109,8 @@ confined_up top k f old new c = record {
   after = λ i le lt. c.after i (omega arith) lt;
 }
 
--- one step up, if the whole is not free: `v` is the word of the whole, s the other half
+-- If the larger block is not free before or after, a step up writes v, the bitwise or of the words of its halves. Here s is the
+-- number of the other half.
 pub climb_step : (top k f d : ℕ) (old new : ℕ → Bool) (words : List ℕ) → f < 2 ^ top → length words + 1 ≡ 2 ^ (top + 1) → d + suc k ≡ top
     → IsConfined top k f old new → Mended top k f old new words → (n s v : ℕ) → n ≡ 2 ^ d + number_at (suc k) f → s + number_at k f ≡ 4 * number_at (suc k) f + 1
     → v ≡ bit_or (word_at words (suc d) (number_at k f)) (word_at words (suc d) s) → Mended top (suc k) f old new (set words (n - 1) v)
@@ -123,7 +124,7 @@ climb_step top k f d old new words b size t c m n s v node pair e =
     (climbs_split d k p (number_at k f) s n v new words node small (omega arith) refl pair each (c.after k (omega arith) (omega arith))
     (e ∙ ap₂ (λ i j. bit_or i j) (each (number_at k f) refl) (each s (omega arith))))
 
--- one step up through a block that was free: its other half is now free on its own
+-- a step up through a block that was free: its other half is now a free block alone
 up_split : (top k f d : ℕ) (old new : ℕ → Bool) (words : List ℕ) → f < 2 ^ top → length words + 1 ≡ 2 ^ (top + 1) → d + suc k ≡ top
     → ((x : ℕ) → (IsWith k f x → ⊥) → old x ≡ new x) → Mended top k f old new words → is_clear old (suc k) (number_at (suc k) f) ≡ true
     → is_clear new (suc k) (number_at (suc k) f) ≡ false → (n r : ℕ) → n ≡ 2 ^ d + number_at (suc k) f → r + number_at k f ≡ 4 * number_at (suc k) f + 1
@@ -153,7 +154,7 @@ up_split top k f d old new words b size s agree m free off n r node pair i v pla
           ∙ word_at-set_other words i (2 ^ k) e2 q (λ x. far_half d p r (i + 1) e2 q place (omega arith) small h a1 x);
     })
 
--- the blocks around the frame up to the free block of order `from` are free, and no larger one
+-- each block around the frame up to the free block of order `from` is clear, and no larger one is
 free_up : (ok : ℕ → Bool) (top from k f : ℕ) → IsOpen ok top from (number_at from f) → k < from → is_clear ok (suc k) (number_at (suc k) f) ≡ true
 free_up ok top from k f (small, clear, around) h =
     let n = from - suc k in
@@ -215,7 +216,7 @@ module _ (top order k f d : ℕ) (small large : ℕ → Bool) (words : List ℕ)
   agree : (x : ℕ) → (IsWith k f x → ⊥) → small x ≡ large x
   agree = agree_above small large order (k - order) k f (omega arith) less.kept
 
-  -- the word of the other half
+  -- the stored word of the other half has the orders of that half
   other_word : get_or words i 0 ≡ orders large k r
   other_word =
       let lt = below in
@@ -226,7 +227,7 @@ module _ (top order k f d : ℕ) (small large : ℕ → Bool) (words : List ℕ)
   clear_here : is_clear large k (number_at k f) ≡ true
   clear_here = changed_clear top k f (suc d) small large words b size (omega arith) m there mended
 
-  -- together with a buddy that is one free block it is one free block, and the words inside are 0
+  -- if the buddy is one free block, the two together are one free block, and the words inside it are 0
   pub release_join : (n : ℕ) → get_or words i 0 ≡ 2 ^ k → n ≡ 2 ^ d + number_at (suc k) f
       → Mended top (suc k) f small large (set (set (set words i 0) (m - 1) 0) (n - 1) (2 ^ suc k))
   release_join n free node =
@@ -242,7 +243,7 @@ module _ (top order k f d : ℕ) (small large : ℕ → Bool) (words : List ℕ)
       both (inl low) a c = and_from _ _ (subst (λ j. is_clear large k j ≡ true) low a) (subst (λ j. is_clear large k j ≡ true) (let e : r ≡ 2 * number_at (suc k) f + 1 = omega arith in e) c)
       both (inr high) a c = and_from _ _ (subst (λ j. is_clear large k j ≡ true) (let e : r ≡ 2 * number_at (suc k) f = omega arith in e) c) (subst (λ j. is_clear large k j ≡ true) high a)
 
-  -- with any other buddy it is a free block by itself
+  -- if the buddy is not one free block, the block is a free block alone
   pub release_open : (get_or words i 0 ≡ 2 ^ k → ⊥) → IsOpen large top k (number_at k f)
   release_open ne =
       (omega arith, clear_here, inr (false_from_ne_true _ (λ t. ne (other_word ∙ orders_clear large k r (half_clear large k (number_at (suc k) f) r t (omega arith))))))
@@ -265,7 +266,7 @@ shows_none top = record {
     size : length (bare_tree top).words + 1 ≡ 2 ^ (top + 1)
     size = bare_size top
 
--- with the first word set they show a superblock in which every frame is available
+-- with 2 ^ top as the root word they show a superblock in which every frame is available
 pub shows_all : (top : ℕ) (words : List ℕ) (n : ℕ) → words ≡ (bare_tree top).words → n ≡ 2 ^ top → Shows top (λ _. true) (set words 0 n)
 shows_all top words n bare e =
     let some = pow_pos top in

@@ -12,7 +12,7 @@ use Rattle.buddy_core.proofs.TreeNumbers.{halves, number_above, number_whole}
 use Rattle.buddy_core.proofs.TreeOrders.{orders_clear, orders_halves, orders_same, word_whole, word_inside}
 use Rattle.buddy_core.proofs.TreeNodes.{word_at-set_same, word_at-set_other, far_whole, far_half}
 
--- frames of a block inside the changed one, and of a block outside it
+-- A frame of a block inside the changed block lies in the changed block. A frame of a block outside it does not.
 pub inside_with : (k f i e q x : ℕ) → i + e ≡ k → number_at e q ≡ number_at k f → number_at i x ≡ q → IsWith k f x
 inside_with k f i e q x s a h = sym (number_above e i k x s) ∙ ap (λ n. number_at e n) h ∙ a
 
@@ -38,17 +38,17 @@ word_same a b top k f i e q agree small s off =
     ∙ ap (λ n. cond (is_clear b (suc i) (q / 2)) 0 n) (orders_same a b i q (λ x h. agree x (away k f i (suc e) q x s off h)))
     ∙ sym (word_inside b (suc k) i q (omega arith))
 
--- in a smaller tree the word of a block strictly inside is the same
+-- the word of a block strictly inside another is the same in the smaller and in the larger tree
 word_part : (ok : ℕ → Bool) (k i q : ℕ) → i < k → word ok k i q ≡ word ok (suc k) i q
 word_part ok k i q h = word_inside ok k i q h ∙ sym (word_inside ok (suc k) i q (omega arith))
 
--- what one step up writes
+-- `after` has the words after one step up to block p of order k + 1
 pub record Climbs (d k p : ℕ) (new : ℕ → Bool) (before after : List ℕ) : Type 0 where
   pub half : (q : ℕ) → q / 2 ≡ p → word_at after (suc d) q ≡ cond (is_clear new (suc k) p) 0 (orders new k q)
   pub whole : word_at after d p ≡ orders new (suc k) p
   pub other : (e q : ℕ) → q < 2 ^ e → (e ≡ suc d → q / 2 ≡ p → ⊥) → (e ≡ d → q ≡ p → ⊥) → word_at after e q ≡ word_at before e q
 
--- the whole, its halves, and what lies inside them
+-- after a step up, the words inside the larger block are those of a separate tree under `new`
 climb_within : (top k f d0 : ℕ) (old new : ℕ → Bool) (before after : List ℕ) → d0 + suc k ≡ top → ((x : ℕ) → (IsWith k f x → ⊥) → old x ≡ new x)
     → Mended top k f old new before → Climbs d0 k (number_at (suc k) f) new before after
     → (d i e q : ℕ) → d + i ≡ top → q < 2 ^ d → i + e ≡ suc k → number_at e q ≡ number_at (suc k) f → word_at after d q ≡ word new (suc k) i q
@@ -86,18 +86,18 @@ climbs top k f d0 old new before after up agree m w = record {
   beyond = climb_beyond top k f d0 old new before after up m w;
 }
 
--- at the top all words are mended
+-- when the words are mended up to the whole superblock, they show the new availability
 pub shows_mended : (top f : ℕ) (old new : ℕ → Bool) (words : List ℕ) → f < 2 ^ top → length words + 1 ≡ 2 ^ (top + 1) → Mended top top f old new words → Shows top new words
 shows_mended top f old new words h size m = record {
   size = size;
   each = λ d k q s b. m.within d k d q s b (omega arith) (number_whole d q b ∙ sym (number_whole top f h));
 }
 
--- each half is r or s
+-- each half of block p is r or s
 either_half : (p r s q : ℕ) → r / 2 ≡ p → s + r ≡ 4 * p + 1 → q / 2 ≡ p → (q ≡ r) ⊎ (q ≡ s)
 either_half p r s q a b e = elim (cases_eq q r) [ inl h ↦ inl h | inr h ↦ inr (omega (arith, h)) ]
 
--- halves r and s with the words of their own trees, not both clear: the whole has the orders of both
+-- if the halves r and s have the words of separate trees and are not both clear, the step up writes the orders of both
 pub climbs_split : (d k p r s n v : ℕ) (new : ℕ → Bool) (words : List ℕ) → n ≡ 2 ^ d + p → p < 2 ^ d → n ≤ length words → r / 2 ≡ p → s + r ≡ 4 * p + 1
     → ((q : ℕ) → q / 2 ≡ p → word_at words (suc d) q ≡ orders new k q) → is_clear new (suc k) p ≡ false
     → v ≡ bit_or (orders new k r) (orders new k s) → Climbs d k p new words (set words (n - 1) v)
@@ -113,7 +113,7 @@ climbs_split d k p r s n v new words node small stored a b each off e =
     both (inl low) = ap₂ (λ i j. bit_or (orders new k i) (orders new k j)) low (let high : s ≡ 2 * p + 1 = omega arith in high)
     both (inr high) = or_comm (orders new k r) (orders new k s) ∙ ap₂ (λ i j. bit_or (orders new k i) (orders new k j)) (let low : s ≡ 2 * p = omega arith in low) high
 
--- both halves free: the whole is one free block
+-- if both halves are free, the step up makes the whole one free block
 pub climbs_join : (d k p r s n i j v : ℕ) (new : ℕ → Bool) (words : List ℕ) → n ≡ 2 ^ d + p → p < 2 ^ d → 2 * n < length words → r / 2 ≡ p → s + r ≡ 4 * p + 1
     → i + 1 ≡ 2 ^ suc d + s → j + 1 ≡ 2 ^ suc d + r → is_clear new (suc k) p ≡ true
     → Climbs d k p new (set words j v) (set (set (set words i 0) j 0) (n - 1) (2 ^ suc k))

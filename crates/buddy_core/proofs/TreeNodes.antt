@@ -37,14 +37,14 @@ word_at-set_same words i v d q e h =
 pub word_at-set_other : (words : List ℕ) (i v d q : ℕ) → (2 ^ d + q ≡ i + 1 → ⊥) → word_at (set words i v) d q ≡ word_at words d q
 word_at-set_other words i v d q ne = get_or-set_other words i (2 ^ d + q - 1) v 0 (λ e. ne (omega (arith, pow_pos d)))
 
--- the lower half of a node
+-- the lower half of node n is node 2 * n
 pub low_node : (d p n : ℕ) → n ≡ 2 ^ d + p → 2 ^ suc d + 2 * p ≡ 2 * n
 low_node d p n e = omega (arith, pow-suc 2 d)
 
 pub half_small : (d p q : ℕ) → q / 2 ≡ p → p < 2 ^ d → q < 2 ^ suc d
 half_small d p q e h = omega (arith, pow-suc 2 d)
 
--- other nodes have other numbers
+-- the node of any other block is not node n
 pub far_whole : (d p n e q : ℕ) → n ≡ 2 ^ d + p → p < 2 ^ d → q < 2 ^ e → (e ≡ d → q ≡ p → ⊥) → 2 ^ e + q ≡ n → ⊥
 far_whole d p n e q s b h off t = let both = node_apart e d q p h b (omega arith) in off both.0 both.1
 
@@ -52,7 +52,7 @@ pub far_half : (d p r n e q : ℕ) → n ≡ 2 ^ suc d + r → r / 2 ≡ p → p
 far_half d p r n e q s a b h off t =
     let both = node_apart e (suc d) q r h (half_small d p r a b) (omega arith) in off both.0 (ap (λ i. i / 2) both.1 ∙ a)
 
--- a value that equals a stored tree is a tree
+-- if an order and words are those of a tree and equal a stored tree, the stored tree is a tree
 pub tree_is : (order : ℕ) (words : List ℕ) (tree : StoredTree) → record { order = order; words = words } ≡ tree → IsTree order words → IsTree tree.order tree.words
 tree_is order words tree e is = subst (λ (t : StoredTree). IsTree t.order t.words) e is
 

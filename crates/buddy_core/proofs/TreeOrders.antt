@@ -19,7 +19,7 @@ orders_clear ok (suc k) q h = cond-true (is_clear ok (suc k) q) _ _ h
 pub orders_halves : (ok : ℕ → Bool) (k q : ℕ) → is_clear ok (suc k) q ≡ false → orders ok (suc k) q ≡ bit_or (orders ok k (2 * q)) (orders ok k (2 * q + 1))
 orders_halves ok k q h = cond-false (is_clear ok (suc k) q) _ _ h
 
--- no order is greater than the block's
+-- a block has no order greater than its own
 pub orders_small : (ok : ℕ → Bool) (k q : ℕ) → orders ok k q < 2 ^ suc k
 orders_small ok zero q = elim (cases_Bool (ok q)) [ inl t ↦ subst (λ n. n < 2 ^ 1) (sym (cond-true (ok q) 1 0 t)) (omega arith) | inr f ↦ subst (λ n. n < 2 ^ 1) (sym (cond-false (ok q) 1 0 f)) (omega arith) ]
 orders_small ok (suc k) q =
@@ -27,7 +27,7 @@ orders_small ok (suc k) q =
     let both = or_lt (suc k) (orders ok k (2 * q)) (orders ok k (2 * q + 1)) (orders_small ok k (2 * q)) (orders_small ok k (2 * q + 1)) in
     elim (cases_Bool (is_clear ok (suc k) q)) [ inl t ↦ omega (arith, orders_clear ok (suc k) q t) | inr f ↦ omega (arith, orders_halves ok k q f) ]
 
--- only a clear block has just its own order
+-- only a clear block has its own order and no other
 pub orders_whole : (ok : ℕ → Bool) (k q : ℕ) → orders ok k q ≡ 2 ^ k → is_clear ok k q ≡ true
 orders_whole ok zero q h = elim (cases_Bool (ok q)) [ inl t ↦ t | inr f ↦ let none = cond-false {A = ℕ} (ok q) 1 0 f in absurd (omega arith) ]
 orders_whole ok (suc k) q h =
@@ -55,14 +55,15 @@ orders_same a b (suc k) q h =
     orders_both : (ℕ → Bool) → ℕ → ℕ → ℕ
     orders_both a k q = bit_or (orders a k (2 * q)) (orders a k (2 * q + 1))
 
--- the stored word of the superblock, and of a smaller block
+-- The word of the whole superblock has its orders. The word of a smaller block does too, or is 0 if the larger block around is
+-- clear.
 pub word_whole : (ok : ℕ → Bool) (k q : ℕ) → word ok k k q ≡ orders ok k q
 word_whole ok k q = cond-false (nat_lt k k && is_clear ok (suc k) (q / 2)) 0 _ (and_left _ _ (le-ltb k k (omega arith)))
 
 pub word_inside : (ok : ℕ → Bool) (top k q : ℕ) → k < top → word ok top k q ≡ cond (is_clear ok (suc k) (q / 2)) 0 (orders ok k q)
 word_inside ok top k q h = ap (λ t. cond (t && is_clear ok (suc k) (q / 2)) 0 (orders ok k q)) (lt-ltb k top h)
 
--- bit j is 1 if and only if a free block of order j is inside
+-- a power of two has only one bit that is 1
 pub bit_apart : (k j : ℕ) → bit_at (2 ^ k) j ≡ 1 → j ≡ k
 bit_apart k j h = elim (cases_eq j k) [ inl e ↦ e | inr ne ↦ absurd (omega (arith, bit_at-pow_other k j ne)) ]
 

@@ -32,7 +32,7 @@ narrow : (ok : ℕ → Bool) (top k q j : ℕ) → k < top → HasOpen ok top k 
 narrow ok top k q j lt (n, p, s, a, (small, clear, around)) =
     (n, p, s, a, (omega arith, clear, elim around [ inl e ↦ absurd (omega arith) | inr f ↦ inr f ]))
 
--- nothing inside a clear block with a clear block around it is open
+-- if block q lies inside a larger clear block, no block inside q is open in the superblock
 closed : (ok : ℕ → Bool) (top k q j : ℕ) → k < top → is_clear ok (suc k) (q / 2) ≡ true → HasOpen ok top k q j → ⊥
 closed ok top k q j lt on (n, p, s, a, (small, clear, around)) = elim around [
   | inl e ↦ omega arith
@@ -126,7 +126,7 @@ around_slot ok u top d k q e =
     let wide : u * 2 ^ suc d ≡ u * 2 ^ d * 2 = ap (λ n. u * n) (pow-suc 2 d) ∙ regroup u (2 ^ d) in
     clear_slot ok u top d (suc k) (q / 2) (omega arith) ∙ ap (λ i. is_clear ok (suc k) i) (let s : u * 2 ^ d + q / 2 ≡ (u * 2 ^ suc d + q) / 2 = omega arith in s)
 
--- a block that is open in the superblock is open among the tenant's
+-- a block that is open in the superblock of slot u is open among the tenant's frames
 pub open_of_slot : (ok : ℕ → Bool) (u top d k q : ℕ) → d + k ≡ top → IsOpen (λ x. ok (u * 2 ^ top + x)) top k q → IsOpen ok top k (u * 2 ^ d + q)
 open_of_slot ok u top zero k q e (small, clear, around) = (small, sym (clear_slot ok u top 0 k q e) ∙ clear, inl (omega arith))
 open_of_slot ok u top (suc d) k q e (small, clear, around) =
@@ -148,7 +148,7 @@ first_in u top d j p e =
     spread t u a b p e = omega arith
 
 module _ (top : ℕ) (held : ℕ → Bool) (taken : Taken) (u : ℕ) where
-  -- which frames of the slot are available, counted from its first
+  -- whether frame x of the slot, counted from its first frame, is available
   abbrev pub in_slot : ℕ → Bool
   in_slot x = is_available top held taken (u * 2 ^ top + x)
 
@@ -161,7 +161,7 @@ module _ (top : ℕ) (held : ℕ → Bool) (taken : Taken) (u : ℕ) where
       open_is_free top held taken (block f j) (ap (λ n. n % 2 ^ j) at ∙ aligned_first (u * 2 ^ (top - j) + p) j)
       (subst (λ n. IsOpen (is_available top held taken) top j n) (sym number) (open_of_slot (is_available top held taken) u top (top - j) j p e o))
 
-  -- a frame of the slot
+  -- a frame f of slot u is frame f % 2 ^ top of that slot
   split : (f : ℕ) → f / 2 ^ top ≡ u → f ≡ u * 2 ^ top + f % 2 ^ top
   split f e = sym (shr_split f top) ∙ ap (λ n. n * 2 ^ top + f % 2 ^ top) e
 
@@ -213,7 +213,7 @@ module _ (top : ℕ) (held : ℕ → Bool) (taken : Taken) (u : ℕ) where
           let here : number_at k x ≡ q = number_of_frame (q * 2 ^ k) k x (aligned_first q k) (omega arith, omega arith) ∙ number_first q k in
           (k - j, number_at j x, omega arith, number_above (k - j) j k x (omega arith) ∙ here, open_of j f slot free)
 
-  -- bit j of the first word is 1 if and only if a free block of order j is in the slot
+  -- bit j of the root word is 1 if and only if a free block of order j is in the slot
   pub root_tells : (words : List ℕ) → Shows top in_slot words → (j : ℕ)
       → (bit_at (slice_index words 0) j ≡ 1) ↔ ((f : ℕ) × IsFree top held taken (block f j) × (f / 2 ^ top ≡ u))
   root_tells words shows j = (λ bit. forth (tells.0 bit), λ w. tells.1 (back w))
@@ -251,7 +251,7 @@ module _ (top : ℕ) (held : ℕ → Bool) (taken : Taken) (u : ℕ) where
           let size : p * 2 ^ j ≡ x / 2 ^ j * 2 ^ j = ap (λ i. i * 2 ^ j) (number_is j x) in
           omega arith
 
--- a block taken out of one slot: what its superblock loses, and that the other superblocks lose nothing
+-- if a block is taken out of one slot, its superblock loses these frames, and the other superblocks lose none
 module _ (large small : ℕ → Bool) (top u r k j : ℕ) (out : TakesOut large small top (u * 2 ^ top + r) k j) where
   order_within : k ≤ top
   order_within = let a = out.order in let b = out.open_block.0 in omega arith

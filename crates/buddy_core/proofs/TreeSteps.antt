@@ -9,7 +9,7 @@ use Rattle.buddy_core.proofs.TreeNumbers.{number_below, node_from_frame}
 use Rattle.buddy_core.proofs.TreeNodes.{node_below}
 use Rattle.buddy_core.proofs.TreeChanges.{confined_up, climb_step, reserve_split, release_join, release_open}
 
--- the node of a block of the superblock
+-- 2 ^ (top - k) + number_at k f is the node of the block of order k around frame f
 pub node_is : (top k f node : ℕ) → k ≤ top → f < 2 ^ top → node ≡ 2 ^ (top - k) + number_at k f → IsNode top k f node
 node_is top k f node le b e =
     let below = number_below (top - k) k f (subst (λ j. f < 2 ^ j) (let s : top ≡ top - k + k = omega arith in s) b) in
@@ -49,7 +49,7 @@ module _ (top k f node : ℕ) (b : f < 2 ^ top) (lt : k < top) (at : IsNode top 
   up : node / 2 ≡ 2 ^ depth + number_at (suc k) f
   up = let e = is in omega (arith, pow-suc 2 depth)
 
-  -- the node of the block around it
+  -- half the node is the node of the next larger block around the frame
   pub node_up : IsNode top (k + 1) f (node / 2)
   node_up = node_is top (k + 1) f (node / 2) (omega arith) b
       (subst (λ j. node / 2 ≡ 2 ^ (top - j) + number_at j f) (sym (add-one k)) (subst (λ j. node / 2 ≡ 2 ^ j + number_at (suc k) f) (let e : depth ≡ top - suc k = (let d = deep in omega arith) in e) up))
@@ -58,7 +58,7 @@ module _ (top k f node : ℕ) (b : f < 2 ^ top) (lt : k < top) (at : IsNode top 
   rise old new after m = subst (λ i. Mended top i f old new after) (sym (add-one k)) m
 
   module _ (words : List ℕ) (size : length words + 1 ≡ 2 ^ (top + 1)) (other : ℕ) (pair : other + node ≡ 4 * (node / 2) + 1) where
-    -- the number of the other half
+    -- the number of the other half of the block of order k + 1 around frame f
     half : ℕ
     half = 4 * number_at (suc k) f + 1 - number_at k f
 

@@ -5,7 +5,8 @@ use Rattle.model_core.specs.declared.limits.TheConstants.{MOST_ORDER, MOST_SUPER
 use Rattle.model_core.specs.Blocks.{Taken, block, IsSound}
 use Rattle.model_core.specs.Choice.{is_free, count_below}
 
--- what one tenant holds: the superblock in each slot, and for each frame the order of the taken block that begins there
+-- What one tenant holds: the superblock in each slot, and for each frame the order of the taken block that begins there. An entry
+-- is None if there is no superblock or block.
 pub record Holding : Type 0 where
   pub slots : List (Option ℕ)
   pub taken : List (Option ℕ)
@@ -42,7 +43,7 @@ superblock_at h u = slice_index_or h.slots u None
 abbrev pub is_held : Holding → ℕ → Bool
 is_held h u = is_some (superblock_at h u)
 
--- the order of the taken block that begins at a frame
+-- the order of the taken block that begins at a frame, or None if none begins there
 abbrev pub taken_of : Holding → Taken
 taken_of h f = slice_index_or h.taken f None
 

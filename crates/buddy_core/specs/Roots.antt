@@ -10,7 +10,8 @@ pub record IsEnd (slots : List (Option ℕ)) (end : ℕ) : Type 0 where
   pub within : end ≤ length slots
   pub rest : (u : ℕ) → end ≤ u → slice_index_or slots u None ≡ None
 
--- a tenant has at most MOST_SUPERBLOCKS slots, and a count of free blocks and one of taken blocks for each order
+-- A tenant has at most MOST_SUPERBLOCKS slots, and none from `end` on has a superblock. It has a count of free blocks and one of
+-- taken blocks for each order.
 pub record IsStoredTenant (slots : List (Option ℕ)) (end : ℕ) (free taken : List ℕ) : Type 0 where
   pub ends : IsEnd slots end
   pub few : length slots ≤ MOST_SUPERBLOCKS

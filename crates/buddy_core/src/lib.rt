@@ -1,11 +1,10 @@
 //! The binary buddy system of a machine that is divided between tenants (Knuth, The Art of Computer
 //! Programming, volume 1, section 2.5).
 //!
-//! A superblock has `2^order` frames and is in at most one slot of one tenant. The frames of slot `u`
-//! of a tenant are numbered from `u * 2^order` on. A block of order `k` has `2^k` frames and begins at
-//! a multiple of `2^k`. [`Buddy::reserve`] takes a block, and [`Buddy::release`] frees it. A free block
-//! lies in a held slot and has no taken frame, and no larger such block contains it. So free halves are
-//! joined at every release.
+//! A superblock has `2^order` frames and is in at most one slot of one tenant. The frames of slot `u` of a tenant are numbered
+//! from `u * 2^order` on. A block of order `k` has `2^k` frames and begins at a multiple of `2^k`. [`Buddy::reserve`] takes a
+//! block, and [`Buddy::release`] frees it. A free block lies in a held slot and has no taken frame, and no larger block around it
+//! has both properties. So free halves are joined at every release.
 //!
 //! Contracts see a [`Buddy`] as the slots and the taken blocks of each tenant. Internally each superblock has a tree of words, and
 //! each word has the orders of the free blocks inside one block.
@@ -44,7 +43,7 @@ use crate::tenant::Tenant;
 use std::alloc::{AllocError, Global};
 use std::marker::Model;
 
-/// A frame of the slot is taken.
+/// The error if a frame of the slot is taken.
 #[derive(Clone, Copy, Debug, PartialEq, Eq)]
 pub struct SlotBusy;
 
@@ -205,9 +204,9 @@ impl Buddy {
         self.tenants[t as usize].clear();
     }
 
-    /// Takes a block of order `k` for tenant `t` and returns its first frame. It is taken from the beginning of the free block
-    /// with the least order of at least `k` and, among those of equal order, the least first frame. Returns `None` and changes
-    /// nothing if no block of order `k` or more is free.
+    /// Takes a block of order `k` for tenant `t` and returns its first frame. The block is the beginning of a free block of order
+    /// `k` or more: of those with the least order, the one with the least first frame. Returns `None` and changes nothing if no
+    /// block of order `k` or more is free.
     ///
     /// A free block that is too large is split, and the upper half of each split stays free.
     pub fn reserve(&mut self, t: u8, k: u8) -> Option<u32>
@@ -225,8 +224,8 @@ impl Buddy {
         }
     }
 
-    /// Does the same as [`Buddy::reserve`]. It also returns the superblock in the block's slot, so a caller that needs it looks up
-    /// no slot.
+    /// Does the same as [`Buddy::reserve`]. It also returns the superblock in the block's slot, so the caller does not have to
+    /// look up the slot.
     // Always inlined: its result is then kept in registers, not written to memory and read again.
     #[inline(always)]
     pub fn reserve_block(&mut self, t: u8, k: u8) -> Option<ReservedBlock>
@@ -253,9 +252,8 @@ impl Buddy {
         })
     }
 
-    /// Frees the taken block of tenant `t` that begins at `frame` and returns its order, or `None` if no
-    /// taken block begins there. The block is joined at once with its buddy, as long as the buddy is one
-    /// free block.
+    /// Frees the taken block of tenant `t` that begins at `frame` and returns its order, or `None` if no taken block begins
+    /// there. While the buddy of the freed block is one free block, the two are joined.
     pub fn release(&mut self, t: u8, frame: u32) -> Option<u8>
         requires { t < length self.old.tenants }
         ensures answer { result ≡ taken_of (holding_of t self.old) frame }

@@ -15,8 +15,8 @@ pub const GROUPS: usize = 32;
 /// Orders are below this number.
 pub const ORDERS: usize = 16;
 
-/// For each order, one bit for each group of a tenant's slots: 1 if the group may have a free block of this order. After the last
-/// such block is taken, the bit stays 1 until a search of the group finds none.
+/// For each order, one bit for each group of a tenant's slots: 1 if the group may have a free block of this order. After the
+/// group's last free block of the order is taken, the bit stays 1 until a search of the group finds none.
 #[derive(Debug, Drop)]
 pub struct Summary {
     words: [u32; ORDERS],

@@ -78,8 +78,8 @@ impl Superblock {
         self.orders[first as usize] = Some(order);
     }
 
-    /// Frees the taken block of `order` that begins at `first` and joins it with its buddy, as long as the buddy is one free
-    /// block. Returns the order of the resulting free block.
+    /// Frees the taken block of `order` that begins at `first`. While the buddy of the freed block is one free block, the two are
+    /// joined. Returns the order of the resulting free block.
     #[inline(always)]
     pub fn release_at(&mut self, first: u32, order: u8) -> u8
         requires order { order ≤ self.old.tree.order }
@@ -106,7 +106,7 @@ impl Superblock {
         self.tree.fill();
     }
 
-    /// Makes no frame available, and removes all taken blocks.
+    /// Makes all frames unavailable and removes all taken blocks.
     pub fn clear(&mut self)
         ensures { self.new ≡ bare_superblock self.old.tree.order }
     {

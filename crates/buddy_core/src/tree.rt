@@ -39,7 +39,7 @@ pub fn has(word: u16, order: u8) -> bool
     (word >> order) & 1 == 1
 }
 
-/// Returns the node of the buddy of a node's block.
+/// Returns the node whose block is the buddy of this node's block.
 fn sibling(node: usize) -> usize
     requires { 0 < node }
     ensures { result + node ≡ 4 * (node / 2) + 1 }
@@ -81,7 +81,7 @@ impl Tree {
         self.words[0]
     }
 
-    /// Makes no frame available.
+    /// Makes all frames unavailable.
     pub fn clear(&mut self)
         ensures { self.new ≡ bare_tree self.old.order }
     {
@@ -106,8 +106,8 @@ impl Tree {
             → (number_at order result * 2 ^ order ≡ result) × IsLeast ok self.now.order order (number_at order result) }
     {
         let words = self.words.as_slice();
-        // Nodes 1 to `inner` have blocks of larger orders. The loop tests the node, so it needs no counter: `level` is for its
-        // invariant alone.
+        // Nodes 1 to `inner` have blocks of larger orders. The loop tests the node, so it needs no counter. Only its invariant
+        // uses `level`.
         let inner = words.len() >> (order + 1);
         let mut level = order;
         let mut node = 1;
@@ -133,8 +133,8 @@ impl Tree {
         self.climb(leaf, first, from);
     }
 
-    /// Makes the block of `order` around frame `first` available, and joins it at once with its buddy, as long as the buddy is one
-    /// free block. Returns the order of the resulting free block.
+    /// Makes the block of `order` around frame `first` available. While the buddy of the freed block is one free block, the two
+    /// are joined. Returns the order of the resulting free block.
     #[inline(always)]
     pub fn release_at(&mut self, first: u32, order: u8) -> u8
         requires order { order ≤ self.old.order }
@@ -151,7 +151,7 @@ impl Tree {
         joined
     }
 
-    /// Returns the node of frame `first`. It is worked out once for each change of the tree: after a write to the words the compiler
+    /// Returns the node of frame `first`. Each change of the tree computes it only once: after a write to the words the compiler
     /// would load the order again.
     fn leaf_of(&self, first: u32) -> u32
         requires { first < 2 ^ self.now.order }
@@ -207,8 +207,8 @@ impl Tree {
         }
     }
 
-    /// Makes the block of `order` around frame `first` available, and joins it with its buddy, as long as the buddy is one free
-    /// block. Writes the words inside the resulting free block and returns its order.
+    /// Makes the block of `order` around frame `first` available. While the buddy of the freed block is one free block, the two
+    /// are joined. Writes the words inside the resulting free block and returns its order.
     #[inline(always)]
     fn join(&mut self, leaf: u32, first: u32, order: u8) -> u8
         requires order { order ≤ self.old.order }

@@ -25,7 +25,7 @@ add_slot-requires-clause-room c =
     let tenant = get_or_read a.tenants.items c.args.t c.index_mut-3.result.now s.listed c.index_mut-3.ensures.value blank_of in
     subst (λ (r : StoredTenant). slice_index r.free a.order + 1 < 2 ^ 32) (sym tenant) (room a.order a.superblocks.items a.tenants.items c.self.invariant.0 c.args.t s.listed a.order).0
 
--- what is kept afterwards, and what is shown
+-- after the call the invariant holds, and contracts see superblock m in the slot
 added : (c : After-add_slot)
     → (IsKept c.self.inside.order (set c.self.inside.superblocks.items c.args.m c.fill.new.self) (set c.self.inside.tenants.items c.args.t c.add_slot.new.self)
     × AreBounded (set c.self.inside.superblocks.items c.args.m c.fill.new.self) (set c.self.inside.tenants.items c.args.t c.add_slot.new.self) (set c.self.inside.summaries.items c.args.t c.note.new.self))

@@ -12,7 +12,7 @@ use Rattle.buddy_core.proofs.BlocksAround.{begins_around, no_wrap, same_slot}
 use Rattle.buddy_core.proofs.Buddy.block_in.Goals as goal
 use Rattle.buddy_core.proofs.Buddy.block_in.Goals.{After-self, After-order_at}
 
--- the tenant, and the superblock in the slot
+-- what is stored is what contracts see of tenant t, and superblock m is in the slot of the frame
 shown : (c : After-self) → IsShown c.self.inside.order c.self.inside.superblocks.items c.self.inside.tenants.items c.args.t c.args.self.now
 shown c = shown_is c.self.inside.order c.self.inside.superblocks.items c.self.inside.tenants.items c.args.t c.args.self.now c.self.view_is c.requires.tenant
 
@@ -65,7 +65,7 @@ returns-then-eq c =
     let rest = mod_below c.args.frame (2 ^ c.loop-k.k) (pow_pos c.loop-k.k) in
     (ap (taken_of (holding_of c.args.t c.args.self.now)) whole ∙ found, (omega arith, omega arith))
 
--- no taken block of an order up to this one has the frame
+-- no taken block of an order up to k begins where the aligned block of that order around the frame begins
 pub loop-k-preserved : goal.loop-k-preserved
 loop-k-preserved c =
     let g = goal.at.loop-k-preserved c in

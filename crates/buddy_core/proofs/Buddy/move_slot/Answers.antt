@@ -9,7 +9,7 @@ use Rattle.buddy_core.proofs.SlotMoved.{move_kept, move_shown, move_bounded}
 use Rattle.buddy_core.proofs.Buddy.move_slot.Goals as goal
 use Rattle.buddy_core.proofs.Buddy.move_slot.Goals.{After-swap}
 
--- what is kept afterwards, and what is shown
+-- after the call the invariant holds, and contracts see superblock m in the slot
 moved : (c : After-swap) → (IsKept c.self.inside.order c.swap.new.self.items (set c.self.inside.tenants.items c.args.t c.move_slot.new.self) × AreBounded c.swap.new.self.items (set c.self.inside.tenants.items c.args.t c.move_slot.new.self) c.self.inside.summaries.items)
     × (content_shown c.self.inside.order c.swap.new.self.items (set c.self.inside.tenants.items c.args.t c.move_slot.new.self) ≡ with_holding c.args.t (with_slot c.args.slot c.args.m (holding_of c.args.t c.args.self.now)) c.args.self.now)
 moved c =

@@ -16,7 +16,8 @@ use Rattle.buddy_core.proofs.SummaryBounds.{bounded_noted}
 use Rattle.buddy_core.proofs.Buddy.release_in.Goals as goal
 use Rattle.buddy_core.proofs.Buddy.release_in.Goals.{After-self, In_ok-k, After-release_at-joined, After-index_mut-2, After-count_released}
 
--- the tenant, the superblock in the slot, and the order of the block that begins there
+-- What is stored is what contracts see of tenant t. Superblock m is in the slot of the frame, and has the order of the taken
+-- block that begins there.
 shown : (c : After-self) → IsShown c.self.inside.order c.self.inside.superblocks.items c.self.inside.tenants.items c.args.t c.args.self.now
 shown c = shown_is c.self.inside.order c.self.inside.superblocks.items c.self.inside.tenants.items c.args.t c.args.self.now c.self.view_is c.requires.tenant
 
@@ -63,7 +64,7 @@ returns-in_err-k-clause-answer c =
 pub returns-clause-answer : goal.returns-clause-answer
 returns-clause-answer c = c.in_ok-k.ensures ∙ begins (goal.at.returns-clause-answer c).After-self c.index.result.now c.index.ensures
 
--- the block that is released
+-- the block that is released is a taken block of order k at this frame
 block_at : (c : In_ok-k) → IsShown c.self.inside.order c.self.inside.superblocks.items c.self.inside.tenants.items c.args.t c.args.self.now
     → superblock_at (stored_tenant c.args.t c.self.inside.tenants.items) (c.args.frame / 2 ^ c.self.inside.order) ≡ Some c.args.m
     → Some c.in_ok-k.k ≡ taken_of (holding_of c.args.t c.args.self.now) c.args.frame
@@ -95,7 +96,7 @@ joined c at =
     (get_or_read c.self.inside.superblocks.items c.args.m c.index_mut.result.now (superblock_lt c.self.invariant.0 at) c.index_mut.ensures.value bare_of)
     c.release_at-joined.ensures.joined
 
--- the tenant as it was
+-- the tenant that is read is tenant t as it was before the call
 tenant_read : (c : After-index_mut-2) → c.args.t < length c.self.inside.tenants.items → c.index_mut-2.result.now ≡ stored_tenant c.args.t c.self.inside.tenants.items
 tenant_read c lt = get_or_read c.self.inside.tenants.items c.args.t c.index_mut-2.result.now lt c.index_mut-2.ensures.value blank_of
 

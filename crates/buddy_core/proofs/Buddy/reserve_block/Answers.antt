@@ -19,7 +19,7 @@ use Rattle.buddy_core.proofs.SummaryBounds.{bounded_by, bounded_noted}
 use Rattle.buddy_core.proofs.Buddy.reserve_block.Goals as goal
 use Rattle.buddy_core.proofs.Buddy.reserve_block.Goals.{After-find, After-index, After-index_mut-superblock, After-search-first, After-index_mut, After-count_reserved}
 
--- the tenant as it is
+-- what is stored is what contracts see of tenant t, and the tenant that is read is t
 shown : (c : After-index) → IsShown c.self.inside.order c.self.inside.superblocks.items c.self.inside.tenants.items c.args.t c.args.self.now
 shown c = shown_is c.self.inside.order c.self.inside.superblocks.items c.self.inside.tenants.items c.args.t c.args.self.now c.self.view_is c.requires.tenant
 
@@ -59,14 +59,14 @@ returns-in_err-source-clause-refused c =
     if_none None P p = p
     if_none (Some x) P p = tt
 
--- the source that was found
+-- what `find` returned is a source in the stored superblocks
 source : (c : After-index_mut-superblock) → c.index.result.now ≡ stored_tenant c.args.t c.self.inside.tenants.items
     → IsSource c.self.inside.superblocks.items (stored_tenant c.args.t c.self.inside.tenants.items).slots c.args.k c.in_ok-source.source
 source c tenant =
     source_at c.deref.result.now c.self.inside.superblocks.items c.index.result.now.slots (stored_tenant c.args.t c.self.inside.tenants.items).slots c.args.k c.in_ok-source.source
     c.deref.ensures.value (ap (λ (r : StoredTenant). r.slots) tenant) c.in_ok-source.ensures.found
 
--- the superblock there, and the order of its tree
+-- the superblock that is read is that of the source, and its tree has the order of a superblock
 superblock_read : (c : After-index_mut-superblock) → (source : IsSource c.self.inside.superblocks.items (stored_tenant c.args.t c.self.inside.tenants.items).slots c.args.k c.in_ok-source.source)
     → c.args.t < length c.self.inside.tenants.items → c.index_mut-superblock.result.now ≡ superblock_of c.in_ok-source.source.superblock c.self.inside.superblocks.items
 superblock_read c source listed =
@@ -102,7 +102,7 @@ reserve_at-requires-clause-from c =
 pub reserve_at-requires-clause-first : goal.reserve_at-requires-clause-first
 reserve_at-requires-clause-first c = subst (λ (t : StoredTree). c.search-first.result < 2 ^ t.order) c.tree.ensures c.search-first.ensures.within
 
--- the block that was found there
+-- what `search` returned is the first free block of the order
 found : (c : After-search-first) → c.args.t < length c.self.inside.tenants.items
     → IsSource c.self.inside.superblocks.items (stored_tenant c.args.t c.self.inside.tenants.items).slots c.args.k c.in_ok-source.source
     → IsFound c.self.inside.order c.self.inside.superblocks.items c.self.inside.tenants.items c.args.t c.args.k c.in_ok-source.source c.search-first.result
@@ -112,7 +112,7 @@ found c listed at =
     found_at a.order a.superblocks.items a.tenants.items c.self.invariant.0 c.args.t listed c.args.k p at c.tree.result.now
     (c.tree.ensures ∙ ap (λ (z : StoredSuperblock). z.tree) (get_or_read a.superblocks.items p.superblock c.index_mut-superblock.result.now ((c.self.invariant.0.each c.args.t listed).within p.slot p.superblock at.at) c.index_mut-superblock.ensures.value bare_of)) c.search-first.result (c.search-first.ensures.within, c.search-first.ensures.found)
 
--- the tenant before it is changed
+-- the tenant that is read for the counts is tenant t as it was before the call
 tenant_before : (c : After-index_mut) → c.args.t < length c.self.inside.tenants.items → c.index_mut.result.now ≡ stored_tenant c.args.t c.self.inside.tenants.items
 tenant_before c lt = get_or_read c.self.inside.tenants.items c.args.t c.index_mut.result.now lt c.index_mut.ensures.value blank_of
 
@@ -167,7 +167,7 @@ reserved : (c : After-count_reserved)
     c.search-first.result c.reserve_at.new.self c.count_reserved.new.self (Some c.args.k)
 reserved c found tenant = reserved_step c.self.invariant.0 found c.reserve_at.new.self c.count_reserved.new.self (reservation c found tenant)
 
--- the words of the tenant's summaries, before and after the search
+-- the tenant's summary bounds its free blocks, before and after the search
 pub find-requires-clause-bounded : goal.find-requires-clause-bounded
 find-requires-clause-bounded c =
     let a = c.self.inside in
@@ -183,7 +183,7 @@ told c tenant still =
     subst (λ (r : StoredTenant). IsBounded c.self.inside.superblocks.items r.slots c.find.new.summaries) tenant
     (subst (λ (xs : List StoredSuperblock). IsBounded xs c.index.result.now.slots c.find.new.summaries) c.deref.ensures.value still)
 
--- nothing was found
+-- if nothing was found, the invariant still holds
 pub invariant_of-self : goal.invariant_of-self
 invariant_of-self c =
     let g = goal.at.invariant_of-self c in
@@ -273,7 +273,7 @@ returns-clause-done c =
       ),
     )
 
--- the block's slot is the one that was found
+-- the superblock that is returned is in the slot of the block
 pub returns-clause-under : goal.returns-clause-under
 returns-clause-under c =
     let a = c.self.inside in

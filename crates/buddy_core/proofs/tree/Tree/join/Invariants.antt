@@ -2,7 +2,7 @@ use Rattle.std.proofs.Common.{◌≡◌, ℕ, ◌+◌, ◌-◌, ◌^◌, Bool, s
 use Rattle.buddy_core.specs.Tree.{Shows, IsLess, Mended, IsNode}
 use Rattle.buddy_core.proofs.tree.Tree.join.Given as goal
 
--- with its own word, which is yet to be written, the block of order `level` is one free block
+-- once its own word is written, the block of order `level` is one free block
 abbrev pub invariant-loop-level : goal.invariant-loop-level
 invariant-loop-level l = record {
   size : length l.words + 1 ≡ 2 ^ (l.fn.self.order + 1);

@@ -2,7 +2,7 @@ use Rattle.std.proofs.Common.{◌-◌, ◌≤◌}
 use Rattle.buddy_core.proofs.TreeSearch.{Reached}
 use Rattle.buddy_core.proofs.tree.Tree.search.Given as goal
 
--- after as many steps down as `level` is above `order`, the node is one of that depth, and the block that is searched for is inside
+-- after `level` - `order` steps down, the node is at that depth, and the block that is searched for lies inside the node's block
 abbrev pub invariant-loop-node : goal.invariant-loop-node
 invariant-loop-node l = record {
   from : l.order ≤ l.level;
