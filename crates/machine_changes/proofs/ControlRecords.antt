@@ -19,7 +19,7 @@ use Rattle.machine_changes.proofs.ObjectFlags.{length_flags, flag_at}
 use Rattle.machine_changes.proofs.SteadyParts.{placed_as}
 use Rattle.machine_changes.specs.Pages.{record_at, RecordMeets}
 
--- the slot of a place in a frame, and its offset in the slot
+-- byte `off` of frame f lies in the slot of the frame, at the byte's offset in that slot
 record IsPlacedIn (unit z f off : ℕ) : Type 0 where
   slot : (4096 * f + off) / unit ≡ f / z
   offset : (4096 * f + off) % unit ≡ 4096 * (f % z) + off
@@ -37,7 +37,7 @@ placed_in unit z f off size some less =
           ∙ (ap (λ p. p % (4096 * z)) (sym whole) ∙ mod-mul-add (f / z) (4096 * z) (4096 * (f % z) + off) inside);
     }
 
--- the control record of a frame lies in its machine frame
+-- the control record in frame f of tenant t is the control record in the machine frame of f
 record_stands : (r : spaces.Content) (s : Content) (t f n i : ℕ) → r.unit ≡ 4096 * 2 ^ s.top → machine_frame_of s.top r.slots t f ≡ Some n → i < 32
     → record_byte r t f i ≡ record_at r s n i
 record_stands r s t f n i unit under less =

@@ -19,7 +19,7 @@ use Rattle.machine_changes.proofs.FigureOrders.{size, sizes_by_order, frames_ris
 
 -- Counts below a number
 
--- the count over n more numbers, if the test holds of all of them or of none
+-- n more numbers add n to the count if all of them pass the test, and 0 if none of them does
 count_run : (p : ℕ → Bool) (v : Bool) (a n : ℕ) → ((x : ℕ) → a ≤ x → x < a + n → p x ≡ v) → count_below p (a + n) ≡ count_below p a + n * bit v
 count_run p v a zero all = let same : a + 0 ≡ a = omega arith in let e : count_below p (a + 0) ≡ count_below p a = ap (count_below p) same in omega (arith, zero-mul (bit v))
 count_run p v a (suc n) all =
@@ -45,7 +45,7 @@ count_table table (suc n) le =
     let next : count_by is_some (take (suc n) table) ≡ count_by is_some (take (n + 1) table) = ap (λ k. count_by is_some (take k table)) (sym (add-one n)) in
     omega arith
 
--- how many frames there are in the slots that pass the test
+-- each slot that passes the test has 2 ^ top frames
 count_slots : (top : ℕ) (held : ℕ → Bool) (n : ℕ) → count_below (λ x. held (x / 2 ^ top)) (n * 2 ^ top) ≡ count_below held n * 2 ^ top
 count_slots top held zero = ap (count_below (λ x. held (x / 2 ^ top))) (zero-mul (2 ^ top)) ∙ sym (zero-mul (2 ^ top))
 count_slots top held (suc n) =
@@ -70,11 +70,11 @@ module _ (top superblocks : ℕ) (h : buddies.Holding) (long : length h.slots �
   pub orders_below : (f k : ℕ) → get_or h.taken f None ≡ Some k → k < top + 1
   orders_below f k e = let le : k ≤ top = (sound.placed f k e).0.0 in omega arith
 
-  -- the frame lies in a held slot
+  -- whether frame x lies in a held slot
   abbrev inside : ℕ → Bool
   inside x = buddies.is_held h (x / 2 ^ top)
 
-  -- all frames of a taken block lie in held slots
+  -- all 2 ^ k frames of a taken block of order k lie in held slots, so the count includes them
   count_block : (f k : ℕ) → get_or h.taken f None ≡ Some k → count_below inside (f + 2 ^ k) ≡ count_below inside f + 2 ^ k
   count_block f k e =
       let placed = sound.placed f k e in

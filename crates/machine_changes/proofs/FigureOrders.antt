@@ -10,7 +10,7 @@ use Rattle.model_core.proofs.CountBelow.{bit}
 use Rattle.buddy_core.specs.Content.{has_order}
 use Rattle.machine_changes.specs.Figures.{frames_in}
 
--- the frames of one more order
+-- one more order, n, has count n * 2 ^ n frames more
 pub frames_more : (count : ℕ → ℕ) (n : ℕ) → frames_in count (n + 1) ≡ frames_in count n + count n * 2 ^ n
 frames_more count n = ap (frames_in count) (add-one n)
 
@@ -58,7 +58,7 @@ frames_one j (suc n) less = ⊎_elim here (elsewhere (frames_one j n)) (cases_eq
         let last : bit (eqb j n) * 2 ^ n ≡ 0 = ap (λ v. bit v * 2 ^ n) (ne_eqb j n differ) ∙ zero-mul (2 ^ n) in
         omega arith
 
--- the number of frames of the block of an entry
+-- the number of frames of an entry's block, or 0 if the entry is None
 abbrev pub size : Option ℕ → ℕ
 size None = 0
 size (Some k) = 2 ^ k

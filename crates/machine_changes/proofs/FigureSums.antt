@@ -41,7 +41,7 @@ module _ {Y : Type 0} (none : Y) (weight : Y → ℕ) (light : weight none ≡ 0
       let rest : sum_by weight table ≡ 0 = sum_none table (λ f. all (suc f)) in
       omega (arith, sum_by-cons weight y table)
 
-  -- the sum after an entry is removed
+  -- removing an entry reduces the sum by its weight
   sum_less : (table : List Y) (f : ℕ) → sum_by weight (set table f none) + weight (get_or table f none) ≡ sum_by weight table
   sum_less table f = ⊎_elim
       (λ less. let parts = sum_by-set weight table f none none less in omega arith)

@@ -1,4 +1,4 @@
--- Where a block would fit after all empty slabs are freed.
+-- A block would fit without the empty slabs if and only if the reaped machine has a free block for it.
 use Rattle.std.proofs.Common.{◌≡◌, ◌≢◌, ℕ, ◌/◌, ◌^◌, Bool, true, false, not, List, map, ◌++◌, Some, None, refl, sym, ap, ◌∙◌, subst, ◌⊎◌, inl, inr, ⊎_elim}
 use Rattle.std.specs.Prelude.{Option, option_map, is_some, filter, flat_map, ◌==◌}
 use Rattle.std.proofs.lemmas.Bool.{false≢true, not-true, eq-eqb, ne_eqb, cases_eq}
@@ -39,7 +39,7 @@ module _ (r : spaces.Content) (b : buddies.Content) (s : Content) (t : ℕ) (m :
   abbrev after : ℕ → Option ℕ
   after f = order_in (m.blocks ++ left_list) f
 
-  -- a slab of the machine is empty exactly if the stored number of its live objects is 0
+  -- a slab of the machine is empty if and only if the stored number of its live objects is 0
   empty_tells : (c f n : ℕ) (cache : own.Cache) (q : IsSlab r s t c f n cache) → is_empty (shown r s t c cache q.cached f n) ≡ ((kept_at s.kept n).live == 0)
   empty_tells c f n cache q =
       any_counts (shown r s t c cache q.cached f n).live ∙ ap (λ k. k == 0) (sym (counted c f n cache q))
@@ -92,7 +92,7 @@ module _ (r : spaces.Content) (b : buddies.Content) (s : Content) (t : ℕ) (m :
       let one = one_slab r s t c f n is.of.number z.first is.of.machine_frame cache is.of.cache q is.of.slab same in
       is.busy (ap (λ x. (kept_at s.kept x).live) one.machine_frame ∙ empty))
 
-  -- all other blocks are taken as before
+  -- an empty slab begins at the frame, or the same block begins there after reaping as before
   sorted : (f : ℕ) → IsEmptySlab f ⊎ (after f ≡ taken f)
   sorted f = go (has_slab s (machine_frame_of s.top r.slots t f)) refl
     where

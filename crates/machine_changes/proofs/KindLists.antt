@@ -10,7 +10,7 @@ use Rattle.slab_tables.specs.Content.{head_of}
 use Rattle.machine_changes.specs.Laws.{is_kind, KindsHold}
 use Rattle.machine_changes.proofs.SlabsByKind.{to_list, from_list}
 
--- membership in a list, as the model defines it
+-- the fact that x is in xs, unchanged
 pub in_among : {X : Type 0} (x : X) (xs : List X) → IsIn x xs → IsIn x xs
 in_among x xs i = i
 

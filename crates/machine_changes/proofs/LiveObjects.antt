@@ -1,4 +1,4 @@
--- Live objects and their places.
+-- The live objects of the machine are those of the tables, at the same places.
 use Rattle.std.proofs.Common.{◌≡◌, ◌≢◌, ℕ, zero, suc, ◌+◌, ◌*◌, ◌/◌, ◌^◌, ◌<◌, ◌≤◌, Bool, true, false, cond, List, [], ◌∷◌, Some, None, length, get_or, refl, sym, ap, ◌∙◌, subst, inl, inr, arith}
 use Rattle.std.specs.Prelude.{Option, find, Ok, ◌==◌}
 use Rattle.std.proofs.Math.Nat.{mul-div_cancel}
@@ -102,7 +102,7 @@ module _ (r : spaces.Content) (b : buddies.Content) (s : Content) (t c : ℕ) (s
       }
 
   module _ (m : Machine) (h : ShowsMachine r b s t m) where
-    -- each live object of the machine is one of the tables
+    -- live object w of the machine is also a live object of the tables, and its slab is one of cache x
     pub record IsObjectKept (place : ℕ) (x : Cache) (w : LiveObject) : Type 0 where
       pub kept : own.Cache
       pub machine_frame : ℕ
@@ -143,7 +143,7 @@ module _ (r : spaces.Content) (b : buddies.Content) (s : Content) (t c : ℕ) (s
         go None e = refl
         go (Some w) e = let is = found_kept place x w ex e in absurd (none (found is.kept w.slab.first is.machine_frame w.index) is.object)
 
-    -- each live object of the tables is one of the machine
+    -- live object o of the tables is also a live object of the machine, at the same place
     pub record IsObjectIn (o : Found) : Type 0 where
       pub cache : Cache
       pub slab : Slab

@@ -17,7 +17,7 @@ pub through : {A B : Type 0} (f : A → B) (v : Bool) (x y : A) → f (cond v x 
 through f true x y = refl
 through f false x y = refl
 
--- the value of an option before it was mapped
+-- if a mapped option has the value y, the option has a value that maps to y
 pub mapped_from : {A B : Type 0} (f : A → B) (o : Option A) (y : B) → option_map f o ≡ Some y → (x : A) × (o ≡ Some x) × (f x ≡ y)
 mapped_from f None y e = absurd (some_none (sym e))
 mapped_from f (Some x) y e = (x, refl, some_same e)
@@ -31,7 +31,7 @@ module _ {X : Type 0} (key : X → ℕ) where
   abbrev pub at : ℕ → List X → Option X
   at n xs = find (λ x. eqb (key x) n) xs
 
-  -- the list with the element under the new element's key replaced by it
+  -- the list in which the new element replaces the element with its key
   abbrev pub replaced : X → List X → List X
   replaced new xs = map (λ x. cond (eqb (key x) (key new)) new x) xs
 
@@ -50,7 +50,7 @@ module _ {X : Type 0} (key : X → ℕ) where
   same_key new x true is = sym (eqb-true (key x) (key new) is)
   same_key new x false is = refl
 
-  -- the keys are unchanged
+  -- a replacement keeps the keys
   pub keys_replaced : (new : X) (xs : List X) → map key (replaced new xs) ≡ map key xs
   keys_replaced new [] = refl
   keys_replaced new (x ∷ xs) =
@@ -79,7 +79,7 @@ module _ {X : Type 0} (key : X → ℕ) where
           ∙ sym (at_past n x xs (λ same. differ (sym same ∙ eqb-true (key x) (key new) is)))
       go false is more = ap (λ o. cond (eqb (key x) n) (Some x) o) more
 
-  -- lookups in a list after a change of its elements that keeps their keys
+  -- if a change of the elements keeps their keys, a lookup finds the changed element
   pub found_mapped : (g : X → X) (n : ℕ) (xs : List X) → ((x : X) → key (g x) ≡ key x) → at n (map g xs) ≡ option_map g (at n xs)
   found_mapped g n [] same = refl
   found_mapped g n (x ∷ xs) same =
@@ -98,7 +98,7 @@ module _ {X : Type 0} (key : X → ℕ) where
   none_either true = refl
   none_either false = refl
 
-  -- lookups in a list after the elements with some keys are removed
+  -- after the elements with some keys are removed, a lookup of these keys finds nothing, and other lookups are unchanged
   pub found_kept : (gone : ℕ → Bool) (n : ℕ) (xs : List X) → at n (filter (λ x. not (gone (key x))) xs) ≡ cond (gone n) None (at n xs)
   found_kept gone n [] = none_either (gone n)
   found_kept gone n (x ∷ xs) = ⊎_elim (here (found_kept gone n xs)) (elsewhere (found_kept gone n xs)) (cases_eq (key x) n)
@@ -126,7 +126,7 @@ module _ {X : Type 0} (key : X → ℕ) where
   differ_from : (new x : X) (xs : List X) → at (key new) (x ∷ xs) ≡ None → key x ≢ key new
   differ_from new x xs absent same = some_none (sym (at_here (key new) x xs same) ∙ absent)
 
-  -- lookups in a list after an element is inserted under a new key
+  -- after an element is inserted under a new key, a lookup of this key finds it, and other lookups are unchanged
   pub found_put : (new : X) (n : ℕ) (xs : List X) → at (key new) xs ≡ None → at n (put_rising key new xs) ≡ cond (eqb (key new) n) (Some new) (at n xs)
   found_put new n [] absent = refl
   found_put new n (x ∷ xs) absent =

@@ -1,4 +1,4 @@
--- Freeing some slabs, and then further slabs.
+-- Freeing some slabs and then further slabs is the same as freeing all of them at once.
 use Rattle.std.proofs.Common.{◌≡◌, ℕ, Bool, true, false, cond, ◌||◌, Some, None, refl, sym, ap, ◌∙◌}
 use Rattle.std.specs.Prelude.{Option}
 use Rattle.std.proofs.lemmas.Bool.{false≢true, or_left, or_right, false_from_ne_true}

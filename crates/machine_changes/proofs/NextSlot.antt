@@ -1,4 +1,4 @@
--- The least slot that is not held is the machine's next one.
+-- The least slot that a tenant does not hold is the machine's next slot.
 use Rattle.std.proofs.Common.{ap, ◌∙◌, arith}
 use Rattle.std.specs.Prelude.{is_some}
 use Rattle.model_core.specs.Operations.{next_slot}

@@ -1,4 +1,4 @@
--- No slab lies on a superblock without owner. If the parts hold together, the premise of the laws holds of each tenant.
+-- No slab lies on a superblock without an owner. If the parts hold together, the premise of the laws holds for each tenant.
 use Rattle.std.proofs.Common.{◌≡◌, ℕ, ◌+◌, ◌*◌, ◌/◌, ◌%◌, ◌^◌, ◌<◌, Some, None, length, refl, sym, ap, ◌∙◌, arith}
 use Rattle.std.specs.Prelude.{Option}
 use Rattle.std.proofs.lemmas.Nat.{div-mul-add}
@@ -22,12 +22,12 @@ module _ (r : spaces.Content) (b : buddies.Content) (s : Content) (h : HoldToget
   pub tenant_of : (t : ℕ) → t < length r.slots → t < length b.tenants
   tenant_of t tenant = let same : length r.slots ≡ length b.tenants = h.agree.rows in omega arith
 
-  -- the slab that begins at a machine frame
+  -- the entry of machine frame n in the lists is a slab of this cache, and the parts agree on it
   pub record IsThere (n head key : ℕ) : Type 0 where
     pub cache : own.Cache
     pub cached : cache_in s.caches (head / 3) ≡ Some cache
     pub agreed : IsAgreed r b s n head key cache
-    -- the superblock that has it
+    -- the superblock on which this slab begins
     pub superblock : ℕ
     pub under : spaces.superblock_at r.slots (head / 3 / MOST_CACHES) (key / 2 ^ s.top) ≡ Some superblock
     pub machine_frame : n ≡ superblock * 2 ^ s.top + key % 2 ^ s.top
@@ -52,7 +52,7 @@ module _ (r : spaces.Content) (b : buddies.Content) (s : Content) (h : HoldToget
   pub is_owned : (t u m : ℕ) → spaces.superblock_at r.slots t u ≡ Some m → spaces.owner_at r.owners m ≡ None → ⊥
   is_owned t u m under none = some_none (sym ((h.space.facts.agree t u m).0 under) ∙ none)
 
-  -- no slab begins on a superblock without owner
+  -- no slab begins on a superblock without an owner
   pub unowned_bare : (m i : ℕ) → spaces.owner_at r.owners m ≡ None → i < 2 ^ s.top → place_at s.lists.places (m * 2 ^ s.top + i) ≡ None
   unowned_bare m i none less = go (place_at s.lists.places (m * 2 ^ s.top + i)) refl
     where

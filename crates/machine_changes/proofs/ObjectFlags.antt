@@ -14,7 +14,7 @@ flags_at k zero i p d less = absurd (omega arith)
 flags_at k (suc n) zero p d less = ap p (omega arith)
 flags_at k (suc n) (suc i) p d less = flags_at (suc k) n i p d (omega arith) ∙ ap p (omega arith)
 
--- the flag at an index
+-- flag i is the result of the test for i
 pub flag_at : (n i : ℕ) (p : ℕ → Bool) (d : Bool) → i < n → get_or (flags n p) i d ≡ p i
 flag_at n i p d less = flags_at 0 n i p d less ∙ ap p (omega arith)
 
@@ -33,13 +33,13 @@ same_next n k =
     (λ differ. ne_eqb n k differ ∙ sym (ne_eqb (1 + n) (suc k) (λ e. differ (omega arith))))
     (cases_eq n k)
 
--- no flag is set exactly if the count is 0
+-- no flag is set if and only if the count is 0
 pub any_counts : (live : List Bool) → not (list_any (λ b. b) live) ≡ (count_true live == 0)
 any_counts [] = refl
 any_counts (true ∷ bs) = sym (ne_eqb (1 + count_true bs) 0 (λ e. absurd (omega arith)))
 any_counts (false ∷ bs) = any_counts bs ∙ ap (λ n. n == 0) (omega arith)
 
--- all flags are set exactly if the count is their number
+-- all flags are set if and only if the count is their number
 pub all_counts : (live : List Bool) → list_all (λ b. b) live ≡ (count_true live == length live)
 all_counts [] = refl
 all_counts (true ∷ bs) = all_counts bs ∙ same_next (count_true bs) (length bs)

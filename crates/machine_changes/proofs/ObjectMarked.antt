@@ -1,4 +1,4 @@
--- Marking one object live or free.
+-- If an object is marked live or free in the parts, it is live or free in the machine too.
 use Rattle.std.proofs.Common.{◌≡◌, ◌≢◌, ℕ, ◌+◌, ◌-◌, ◌*◌, ◌/◌, ◌%◌, ◌^◌, ◌<◌, ◌≤◌, Bool, true, false, cond, ltb, leb, List, map, Some, None, refl, sym, ap, ◌∙◌, subst, ◌⊎◌, inl, inr, ⊎_elim, arith}
 use Rattle.std.specs.Prelude.{Option, option_map, is_some, slice_set, ◌&&◌}
 use Rattle.std.proofs.lemmas.Bool.{false≢true, cases_eq, and_parts, ltb-true, false_from_ne_true}
@@ -67,7 +67,7 @@ module _ (r r' : spaces.Content) (b : buddies.Content) (s s' : Content) (t c : �
     listed = listed_same (index_of_cache t d) f n ∙ p.listed;
   }
 
-  -- a slab begins at a machine frame exactly if one did before
+  -- a slab begins at a machine frame if and only if one did before
   has_same_at : (machine_frame : ℕ) → is_some (place_at s'.lists.places machine_frame) ≡ is_some (place_at s.lists.places machine_frame)
   has_same_at machine_frame =
       ⊎_elim
@@ -118,7 +118,7 @@ module _ (r r' : spaces.Content) (b : buddies.Content) (s s' : Content) (t c : �
       ∙ sym (ap (slab_under r s t (index_of_cache t d) cache o.first) q.under
       ∙ ap (slab_placed (live_of r t cache (kept_at s.kept o.machine_frame) o.first) (kept_at s.kept o.machine_frame).colour o.first) unlisted)
 
-  -- what the parts show at the marked slab's frame before the change
+  -- before the change, the parts show the marked slab at its frame
   pub slab_before : slab_at r s t c o.cache o.first ≡ Some (shown r s t c o.cache q.cached o.first o.machine_frame)
   slab_before = slab_shown r s t c o.cache q.cached o.first o.machine_frame q
 

@@ -1,4 +1,4 @@
--- The holdings of all tenants, and that the parts agree, after the taken blocks of one tenant change.
+-- If the taken blocks of one tenant change, the holdings of other tenants stay, and the parts still agree.
 use Rattle.std.proofs.Common.{◌≡◌, ◌≢◌, ℕ, ◌*◌, ◌/◌, true, cond, List, None, Some, length, get_or, set, refl, sym, ap, ◌∙◌, subst, ⊎_elim, get_or-set_same, get_or-set_other, arith}
 use Rattle.std.specs.Prelude.{Option, is_some, ◌==◌, slice_index_or}
 use Rattle.std.proofs.lemmas.Bool.{cases_eq, cases_lt, eq-eqb, ne_eqb}
@@ -17,7 +17,7 @@ use Rattle.machine_changes.proofs.Lookups.{some_none}
 other_holding : (t u : ℕ) (h : buddies.Holding) (c : buddies.Content) → u ≢ t → buddies.holding_of u (buddies.with_holding t h c) ≡ buddies.holding_of u c
 other_holding t u h c other = get_or-set_other c.tenants t u h buddies.no_tenant other
 
--- the tenant's holding is changed as `change` says, if `change` leaves the holding of no tenant as it is
+-- after the holding of tenant t is replaced by the changed one, t has the changed one, if `change` leaves `no_tenant` as it is
 pub own_changed : (t : ℕ) (change : buddies.Holding → buddies.Holding) (c : buddies.Content) → change buddies.no_tenant ≡ buddies.no_tenant
     → buddies.holding_of t (buddies.with_holding t (change (buddies.holding_of t c)) c) ≡ change (buddies.holding_of t c)
 own_changed t change c nothing =
@@ -28,7 +28,7 @@ own_changed t change c nothing =
     ∙ sym (ap change (get_or_past c.tenants t buddies.no_tenant past) ∙ nothing))
     (cases_lt t (length c.tenants))
 
--- lookups in a table after one entry is cleared
+-- after an entry is cleared, a lookup of it returns None, and other lookups are unchanged
 pub set_none : (xs : List (Option ℕ)) (i j : ℕ) → get_or (set xs i None) j None ≡ cond (j == i) None (get_or xs j None)
 set_none xs i j =
     ⊎_elim

@@ -8,7 +8,7 @@ use Rattle.model_core.specs.Elements.{IsIn}
 use Rattle.machine_changes.proofs.Lookups.{at, found_kept, in_found, through}
 use Rattle.machine_changes.proofs.PageReserved.{order_found}
 
--- lookups in a list of blocks after the block at a frame is removed
+-- after the block at frame f is removed, a lookup of f returns None, and other lookups are unchanged
 pub order_less : (f : ℕ) (bs : List Block) (g : ℕ) → order_in (filter (λ x. not (x.first == f)) bs) g ≡ cond (g == f) None (order_in bs g)
 order_less f bs g =
     order_found (filter (λ x. not (x.first == f)) bs) g

@@ -1,4 +1,4 @@
--- Which ranges are in reach.
+-- A range is in reach of the machine if and only if it is in reach according to the parts.
 use Rattle.std.proofs.Common.{◌≡◌, ℕ, ◌+◌, ◌<◌, ◌≤◌, Bool, true, false, eqb, Some, refl, sym, ap, ◌∙◌, inl, inr, ⊎_elim, length, arith}
 use Rattle.std.specs.Prelude.{nat_lt, nat_le, ◌||◌}
 use Rattle.std.specs.List.{list_any}

@@ -1,4 +1,4 @@
--- Which ranges are in reach.
+-- A range lies inside a page block if and only if the taken block at its first frame is not a slab and contains the whole range.
 use Rattle.std.proofs.Common.{◌≡◌, ℕ, ◌+◌, ◌*◌, ◌/◌, ◌^◌, ◌<◌, ◌≤◌, Bool, true, false, cond, Some, None, refl, sym, ap, ◌∙◌, subst, arith}
 use Rattle.std.specs.Prelude.{nat_le}
 use Rattle.std.specs.List.{list_any}
@@ -18,7 +18,7 @@ use Rattle.machine_changes.specs.Pages.{IsInPage, BlockDecides, NoBlockDecides}
 use Rattle.machine_changes.proofs.PageLists.{order_told}
 
 module _ (r : spaces.Content) (b : buddies.Content) (s : Content) (t place len : ℕ) (m : Machine) (h : ShowsMachine r b s t m) where
-  -- the order of a page block is that of a taken block that is not a slab's
+  -- if a page block of order k begins at frame f, no slab begins there, and a taken block of order k does
   page_taken : (f k : ℕ) (v : Bool) → has_slab s (machine_frame_of s.top r.slots t f) ≡ v → cond v None (buddies.taken_of (buddies.holding_of t b) f) ≡ Some k
       → (has_slab s (machine_frame_of s.top r.slots t f) ≡ false) × (buddies.taken_of (buddies.holding_of t b) f ≡ Some k)
   page_taken f k true is e = absurd (some_none (sym e))

@@ -1,4 +1,4 @@
--- Releasing a page block.
+-- Releasing a page block removes it from the machine, and the parts still agree.
 use Rattle.std.proofs.Common.{◌≡◌, ◌≢◌, ℕ, Bool, true, false, cond, None, refl, sym, ap, ◌∙◌, get_or-set_other}
 use Rattle.std.specs.Prelude.{Option, not, ◌==◌}
 use Rattle.std.proofs.lemmas.Bool.{false≢true}

@@ -1,4 +1,4 @@
--- Adding a page block.
+-- A new taken block that is not a slab is a new page block in the machine.
 use Rattle.std.proofs.Common.{◌≡◌, ◌≢◌, ℕ, Bool, true, false, cond, eqb, List, [], ◌∷◌, Some, None, refl, sym, ap, ◌∙◌, arith}
 use Rattle.std.specs.Prelude.{Option, option_map}
 use Rattle.std.proofs.lemmas.Bool.{false≢true, ne_eqb, false_from_ne_true}
@@ -29,7 +29,7 @@ none_found : (o : Option Block) → option_map (λ b. b.order) o ≡ None → o 
 none_found None e = refl
 none_found (Some b) e = absurd (some_none e)
 
--- lookups in a list of blocks after a block is inserted at a new frame
+-- after a block is inserted at a new frame, a lookup of this frame returns its order, and other lookups are unchanged
 pub order_put : (z : Block) (bs : List Block) (g : ℕ) → order_in bs z.first ≡ None
     → order_in (put_rising (λ x. x.first) z bs) g ≡ cond (eqb z.first g) (Some z.order) (order_in bs g)
 order_put z bs g absent =

@@ -1,4 +1,4 @@
--- Writing bytes over a range in reach.
+-- Writing bytes over a range in reach writes them in the machine, and the parts still agree.
 use Rattle.std.proofs.Common.{◌≡◌, ◌≢◌, ℕ, ◌+◌, ◌-◌, ◌*◌, ◌/◌, ◌%◌, ◌<◌, ◌≤◌, Bool, true, false, cond, List, Some, length, refl, sym, ap, ◌∙◌, subst, ⊎_elim, arith}
 use Rattle.std.specs.Prelude.{IsSome, is_some, nat_lt, nat_le, ◌&&◌, slice_index, slice_get}
 use Rattle.std.proofs.lemmas.Bool.{false≢true, cases_eq, ltb-true, leb-true, and_parts, false_from_ne_true}
@@ -146,7 +146,7 @@ module _ (r : spaces.Content) (b : buddies.Content) (s : Content) (t place : ℕ
 
   -- The other parts
 
-  -- the live objects of an agreed slab of any tenant are unchanged
+  -- the control record of an agreed slab of any tenant is unchanged
   agreed_stays : (machine_frame head key : ℕ) (cache : own.Cache) → place_at s.lists.places machine_frame ≡ Some (head, key) → cache_in s.caches (head / 3) ≡ Some cache
       → IsAgreed r b s machine_frame head key cache → (u : ℕ) → head / 3 / MOST_CACHES ≡ u
       → is_small (layout_numbers cache).chunk ≡ true → (j : ℕ) → j < 32 → record_byte r' u key j ≡ record_byte r u key j

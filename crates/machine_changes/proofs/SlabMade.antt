@@ -1,4 +1,4 @@
--- Making a slab.
+-- If a slab is made in the parts, the cache grows by this slab in the machine.
 use Rattle.std.proofs.Common.{◌≡◌, ◌≢◌, ℕ, ◌+◌, ◌-◌, ◌*◌, ◌/◌, ◌%◌, ◌^◌, ◌<◌, ◌≤◌, Bool, true, false, cond, zero, suc, [], ◌∷◌, map, Some, None, refl, sym, ap, ◌∙◌, subst, ◌⊎◌, inl, inr, ⊎_elim, arith}
 use Rattle.std.specs.Prelude.{Option, option_map, is_some, replicate, ◌&&◌, ◌==◌}
 use Rattle.std.proofs.lemmas.Bool.{eq-eqb, ne_eqb, cases_eq, false_from_ne_true}
@@ -25,7 +25,7 @@ use Rattle.machine_changes.specs.Laws.{GrownShows}
 use Rattle.machine_changes.proofs.Lookups.{some_none, some_same, found_key, keys_replaced, found_new, found_other, in_found, found_put}
 use Rattle.machine_changes.proofs.SlabFacts.{one_listed, one_slab, one_machine_frame, same_slab, live_stays, record_inside, cache_kept}
 
--- flags that are all clear
+-- if no number passes the test, all flags are false
 pub all_down : (k n : ℕ) (p : ℕ → Bool) → ((i : ℕ) → k ≤ i → i < k + n → p i ≡ false) → flags_from k n p ≡ replicate n false
 all_down k zero p down = refl
 all_down k (suc n) p down =
@@ -83,7 +83,7 @@ module _ (r r' : spaces.Content) (b b' : buddies.Content) (s s' : Content) (t c 
       (λ (differ : d ≢ c). record { before = other; cached = sym (k.caches d differ) ∙ e; layout = refl })
       (cases_eq d c)
 
-  -- conversely, each cache of before still exists, with the same layout
+  -- conversely, each cache that existed before still exists, with the same layout
   pub record NowCached (d : ℕ) (other : own.Cache) : Type 0 where
     pub after : own.Cache
     pub cached : cache_at s' t d ≡ Some after

@@ -56,7 +56,7 @@ rest_is : (index kind : ℕ) → kind < 3 → (3 * index + kind) % 3 ≡ kind
 rest_is index kind less = omega arith
 
 module _ (r : spaces.Content) (b : buddies.Content) (s : Content) (w : IsSlabs s) (a : Agree r b s) (t c kind : ℕ) (less : kind < 3) where
-  -- a slab is of kind `kind` exactly if its list is one for that kind
+  -- a slab is of kind `kind` if and only if it is in a list for that kind
   pub kind_of_slab : (f n : ℕ) (cache : own.Cache) (q : IsSlab r s t c f n cache) (p : IsPlacedAs s t c f n cache)
       → is_kind kind (shown r s t c cache q.cached f n) ≡ (p.head % 3 == kind)
   kind_of_slab f n cache q p =

@@ -27,7 +27,7 @@ pub record IsSameSlab (s s' : Content) (n n' : ℕ) : Type 0 where
   pub place : place_at s'.lists.places n' ≡ place_at s.lists.places n
   pub kept : kept_at s'.kept n' ≡ kept_at s.kept n
 
--- the same if there are machine frames; otherwise both are `None`
+-- the second machine frame has the slab that the first one had, or there are no machine frames: both are `None`
 abbrev pub SameSlab : Content → Content → Option ℕ → Option ℕ → Type 0
 SameSlab s s' None None = ⊤
 SameSlab s s' None (Some n') = ⊥
@@ -89,7 +89,7 @@ module _ (r r' : spaces.Content) (b b' : buddies.Content) (s s' : Content) (t : 
       go (Some n) None under is same = absurd same
       go (Some n) (Some x') under is same = here n x' under (some_same is) same
 
-  -- conversely, each slab of before still exists
+  -- conversely, each slab that existed before still exists
   slab_is : (c f n : ℕ) (cache : own.Cache) → IsSlab r s t c f n cache → (n' : ℕ) × IsSlab r' s' t c f n' cache
   slab_is c f n cache q = go (machine_frame_of s.top r.slots t f) (machine_frame_of s'.top r'.slots t f) q.under refl (k.machine_frames f)
     where

@@ -1,4 +1,4 @@
--- A slot has a taken frame exactly if it is busy in the machine.
+-- A slot has a taken frame if and only if it is busy in the machine.
 use Rattle.std.proofs.Common.{◌≡◌, ◌↔◌, ℕ, ◌+◌, ◌^◌, ◌<◌, Bool, true, false, ◌||◌, cond, ltb, List, [], ◌∷◌, ◌++◌, Some, None, sym, ap, ◌∙◌, subst, ⊎_elim, arith}
 use Rattle.std.specs.Prelude.{flat_map, option_map}
 use Rattle.std.specs.List.{list_any}

@@ -1,4 +1,4 @@
--- Putting a superblock without owner into a free slot.
+-- If a superblock without an owner is put into the lowest free slot, the parts show the machine after a grant.
 use Rattle.std.proofs.Common.{◌≡◌, ◌≢◌, ℕ, ◌/◌, ◌%◌, ◌^◌, ◌<◌, false, cond, eqb, length, Some, None, refl, sym, ap, ◌∙◌, subst}
 use Rattle.std.specs.Prelude.{is_some}
 use Rattle.std.proofs.lemmas.Bool.{eq-eqb}

@@ -17,7 +17,7 @@ replaced xs u x v below = ⊎_elim
     (λ differ. get_or-set_other xs u v x None differ ∙ sym (ap (λ w. cond w x (slice_index_or xs v None)) (ne_eqb v u differ)))
     (cases_eq v u)
 
--- the tenant's slots in the buddy system after one entry changes, compared with the memory's slots
+-- after slot u of the tenant in the buddy system becomes x, every other slot there has the superblock that the memory has in it
 pub slots_with : (r : spaces.Content) (b : buddies.Content) (s : Content) → HoldTogether r b s → (t u v : ℕ) (x : Option ℕ) → t < length r.slots → u < length r.owners
     → slice_index_or (slice_set (buddies.holding_of t b).slots u x) v None ≡ cond (eqb v u) x (spaces.superblock_at r.slots t v)
 slots_with r b s h t u v x tenant slot =

@@ -9,7 +9,7 @@ use Rattle.model_core.proofs.Lists.{any_in, each_from, put_rises, filter_rises, 
 use Rattle.model_core.proofs.RisingLists.{has, none_below}
 use Rattle.machine_changes.proofs.Lookups.{eq_turned, found_put, found_kept, through}
 
--- u, if it is one of these slots
+-- u if it is one of these slots, or None
 abbrev slot_in : ℕ → List ℕ → Option ℕ
 slot_in u xs = find (λ v. eqb v u) xs
 

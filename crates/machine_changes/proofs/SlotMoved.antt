@@ -1,4 +1,4 @@
--- Moving a slot to another superblock.
+-- If a slot moves to another superblock, the parts show the same machine.
 use Rattle.std.proofs.Common.{◌≡◌, ◌≢◌, ◌⊎◌, inl, inr, ℕ, ◌+◌, ◌*◌, ◌/◌, ◌%◌, ◌^◌, ◌<◌, cond, eqb, length, Some, None, refl, sym, ap, ◌∙◌, subst, ⊎_elim}
 use Rattle.std.specs.Prelude.{Option, is_some}
 use Rattle.std.proofs.lemmas.Bool.{eq-eqb, ne_eqb, cases_eq}
@@ -60,7 +60,7 @@ module _ (r : spaces.Content) (b : buddies.Content) (s s' : Content) (t u from t
   pub not_to : (v w m : ℕ) → spaces.superblock_at r.slots v w ≡ Some m → m ≢ to
   not_to v w m under e = is_owned r b s h v w to (under ∙ ap (λ (x : ℕ). Some x) e) free
 
-  -- the machine frames of such a superblock keep their slabs
+  -- the machine frames of a superblock in any other slot keep their slabs
   machine_frame_stays : (v f m : ℕ) → spaces.superblock_at r.slots v (f / size) ≡ Some m → ((v ≡ t) × (f / size ≡ u) → ⊥)
       → IsSameSlab s s' (m * size + f % size) (m * size + f % size)
   machine_frame_stays v f m under differ =

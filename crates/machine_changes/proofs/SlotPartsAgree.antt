@@ -1,4 +1,4 @@
--- The parts still agree after the share of one tenant changed.
+-- If the share of one tenant changes, the parts still agree.
 use Rattle.std.proofs.Common.{◌≡◌, ◌≢◌, ℕ, ◌+◌, ◌*◌, ◌/◌, ◌%◌, ◌^◌, ◌<◌, ◌≤◌, cond, length, Some, refl, sym, ap, ◌∙◌, subst, ⊎_elim, arith}
 use Rattle.std.proofs.lemmas.Bool.{cases_eq}
 use Rattle.std.proofs.lemmas.List.{length-set}
@@ -44,7 +44,7 @@ agreed_still r r' b b' s s' machine_frame machine_frame' head key cache few g un
       rest = λ i low high. ap (λ k. is_live r' t cache k key i) kept ∙ one_same r r' t cache (kept_at s.kept machine_frame) key i same high ∙ g.rest i low high;
     }
 
--- Only the share of tenant t changed: t now holds h. All other tenants keep everything, and their slabs. The slabs of t agree.
+-- Only the share of tenant t changed, and t now holds h. All other tenants keep everything. The parts agree on the slabs of t.
 pub record IsLocal (r r' : spaces.Content) (b : buddies.Content) (h : buddies.Holding) (s s' : Content) (t : ℕ) : Type 0 where
   pub unit : r'.unit ≡ r.unit
   pub superblocks : length r'.owners ≡ length r.owners

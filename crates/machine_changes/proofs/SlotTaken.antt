@@ -1,4 +1,4 @@
--- Taking back a superblock from a slot without taken frames.
+-- If a superblock is taken back from a slot without taken frames, the parts show the machine after a take-back.
 use Rattle.std.proofs.Common.{◌≡◌, ◌≢◌, ℕ, ◌+◌, ◌*◌, ◌/◌, ◌%◌, ◌^◌, ◌<◌, false, cond, eqb, length, Some, None, refl, sym, ap, ◌∙◌, subst, arith}
 use Rattle.std.specs.Prelude.{filter, not}
 use Rattle.std.proofs.lemmas.Bool.{eq-eqb, false_from_ne_true}

@@ -1,4 +1,4 @@
--- The premise of the laws holds of each tenant if the parts agree.
+-- If the parts agree, the premise of the laws holds for each tenant.
 use Rattle.std.proofs.Common.{◌≡◌, ℕ, ◌+◌, ◌*◌, ◌/◌, ◌%◌, ◌^◌, ◌<◌, ◌≤◌, Bool, true, false, cond, ltb, List, Some, None, length, refl, sym, ap, ◌∙◌, subst, ⊎_elim, arith}
 use Rattle.std.specs.Prelude.{Option, is_some, ◌==◌, slice_index_or}
 use Rattle.std.proofs.lemmas.Bool.{false≢true, eqb-true, eq-eqb, ltb-true, lt-ltb, and_parts, and_from, cases_lt}
@@ -39,7 +39,7 @@ in_table s t c cache e = go (ltb c MOST_CACHES) refl e
 pub of_table : (s : Content) (t c : ℕ) (cache : own.Cache) → c < MOST_CACHES → cache_in s.caches (index_of_cache t c) ≡ Some cache → cache_at s t c ≡ Some cache
 of_table s t c cache less e = ap (λ v. cond v (cache_in s.caches (index_of_cache t c)) None) (lt-ltb c MOST_CACHES less) ∙ e
 
--- the entry of a slab in the lists
+-- the entry in the lists of the slab of cache c of tenant t that begins at frame f
 pub record IsPlacedAs (s : Content) (t c f n : ℕ) (cache : own.Cache) : Type 0 where
   pub head : ℕ
   pub place : place_at s.lists.places n ≡ Some (head, f)
@@ -48,7 +48,7 @@ pub record IsPlacedAs (s : Content) (t c f n : ℕ) (cache : own.Cache) : Type 0
   pub number : c < MOST_CACHES
   pub cached : cache_in s.caches (head / 3) ≡ Some cache
 
--- the tenant of a cache, from the cache's index
+-- if a cache has the index n and a number c below MOST_CACHES, n / MOST_CACHES is its tenant
 pub tenant_is : (n t c : ℕ) → n ≡ MOST_CACHES * t + c → c < MOST_CACHES → n / MOST_CACHES ≡ t
 tenant_is n t c e less = omega arith
 
@@ -72,7 +72,7 @@ placed_as r s t c f n cache q = go (place_at s.lists.places n) refl q.listed
           cached = ap (cache_in s.caches) index ∙ there.cached;
         }
 
--- conversely, such an entry is a slab
+-- conversely, an entry of the lists under a cache of the tenant is a slab of that cache
 pub slab_from : (r : spaces.Content) (s : Content) (t c f n head : ℕ) (cache : own.Cache) → c < MOST_CACHES → head / 3 ≡ index_of_cache t c
     → cache_in s.caches (head / 3) ≡ Some cache → machine_frame_of s.top r.slots t f ≡ Some n → place_at s.lists.places n ≡ Some (head, f)
     → IsSlab r s t c f n cache

@@ -73,13 +73,13 @@ module _ (r : spaces.Content) (b : buddies.Content) (s : Content) (t : ℕ) (m :
       let is = slab_kept x y i j in
       record { number = x.number; machine_frame = is.machine_frame; cache = is.kept; slab = is.slab; order = ap (λ l. l.order) is.layout }
 
-  -- The list `bs` contains blocks of slabs.
+  -- the list `bs` contains blocks of slabs
   module _ (bs : List Block) (tells : (z : Block) → IsIn z bs → IsOfSlab z) where
     -- no page block begins at the first frame of a slab
     no_page : (f : ℕ) → has_slab s (machine_frame_of s.top r.slots t f) ≡ true → order_in m.blocks f ≡ None
     no_page f has = h.blocks f ∙ ap (λ v. cond v None (buddies.taken_of (buddies.holding_of t b) f)) has
 
-    -- the lookup at a slab whose block is in `bs`
+    -- if the block of a slab is in `bs`, a lookup of its first frame returns the order of the taken block
     pub order_of_slab : (c f n : ℕ) (cache : own.Cache) → IsSlab r s t c f n cache → IsIn (block f (layout_numbers cache).order) bs
         → order_in (m.blocks ++ bs) f ≡ buddies.taken_of (buddies.holding_of t b) f
     order_of_slab c f n cache q i =
@@ -89,12 +89,12 @@ module _ (r : spaces.Content) (b : buddies.Content) (s : Content) (t : ℕ) (m :
         is.order ∙ ap (λ x. (layout_numbers x).order) (one_slab r s t c f n is.number z.first is.machine_frame cache is.cache q is.slab same).same)
         ∙ sym (st.stands c f n cache q).taken
 
-    -- the lookup at a slab whose block is not in `bs`
+    -- if a slab begins at frame f, but no block of `bs` does, a lookup of f returns None
     pub order_of_none : (f : ℕ) → has_slab s (machine_frame_of s.top r.slots t f) ≡ true → ((z : Block) → IsIn z bs → z.first ≡ f → ⊥)
         → order_in (m.blocks ++ bs) f ≡ None
     order_of_none f has none = order_past m.blocks bs f (no_page f has) ∙ order_none bs f none
 
-    -- the lookup at a frame at which no slab begins
+    -- if no slab begins at frame f, a lookup of f returns the order of the taken block
     pub order_of_page : (f : ℕ) → has_slab s (machine_frame_of s.top r.slots t f) ≡ false
         → order_in (m.blocks ++ bs) f ≡ buddies.taken_of (buddies.holding_of t b) f
     order_of_page f none =

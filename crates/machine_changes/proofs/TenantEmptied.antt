@@ -1,4 +1,4 @@
--- Removing all that a tenant has.
+-- If all that a tenant has is removed, the parts show the empty machine for it.
 use Rattle.std.proofs.Common.{◌≡◌, ◌≢◌, ℕ, ◌*◌, ◌/◌, ◌^◌, ◌<◌, ◌≤◌, Bool, true, false, cond, eqb, ltb, length, Some, None, refl, sym, ap, ◌∙◌, ⊎_elim, arith}
 use Rattle.std.specs.Prelude.{Option}
 use Rattle.std.proofs.lemmas.Bool.{false≢true, eq-eqb, ne_eqb, cases_lt, le-ltb, lt-ltb}
@@ -32,7 +32,7 @@ same_cache s' s t v c stays differ = ⊎_elim below above (cases_lt c MOST_CACHE
         ap (λ w. cond w (cache_in s'.caches (index_of_cache v c)) None) (le-ltb c MOST_CACHES more)
         ∙ sym (ap (λ w. cond w (cache_in s.caches (index_of_cache v c)) None) (le-ltb c MOST_CACHES more))
 
--- a place that is left was there before, and its cache is not one of the removed ones
+-- a place that is left was there before, and the index of its cache is not one of those removed
 pub unless_some : (gone : ℕ → Bool) (place : Option (ℕ × ℕ)) (p : ℕ × ℕ) → unless_gone gone place ≡ Some p → (place ≡ Some p) × (gone (p.0 / 3) ≡ false)
 unless_some gone None p e = absurd (some_none (sym e))
 unless_some gone (Some q) p e = go (gone (q.0 / 3)) refl e
@@ -49,7 +49,7 @@ module _ (r r' : spaces.Content) (b : buddies.Content) (s s' : Content) (t : ℕ
   abbrev b' : buddies.Content
   b' = buddies.with_holding t held b
 
-  -- the cache is one of the tenant's
+  -- whether the cache with index i is one of the tenant's
   abbrev gone : ℕ → Bool
   gone i = eqb (i / MOST_CACHES) t
 

@@ -59,7 +59,7 @@ pub record IsReturned (r r' : spaces.Content) (b b' : buddies.Content) (s s' : C
       → ((c f n : ℕ) (cache : own.Cache) → IsSlab r s t c f n cache → gone f ≡ true → is_inside place f cache ≡ false)
       → byte_at r' t place ≡ byte_at r t place
 
--- the same change to the private machine
+-- `returned` makes the same change to the private machine
 
 abbrev pub kept_slabs : (ℕ → Bool) → Cache → Cache
 kept_slabs gone c = record c { slabs = filter (λ s. not (gone s.first)) c.slabs }

@@ -67,7 +67,7 @@ TakeUses = (r : spaces.Content) (b : buddies.Content) (s : Content) (t c : ℕ) 
     → IsSlabs s → Agree r b s → IsSteady r b s t → ShowsMachine r b s t m → cache_of m c ≡ Some x → IsToUse r s t c cache o
     → (y : Slab) × (slab_to_use (find is_partial x.slabs) (find is_empty x.slabs) ≡ Some y) × (slab_of x o.first ≡ Some y)
 
--- if there is no such slab, the machine finds none
+-- if the cache has neither a partial nor an empty slab, the machine finds none
 abbrev pub TakeMakes : Type 0
 TakeMakes = (r : spaces.Content) (b : buddies.Content) (s : Content) (t c : ℕ) (m : Machine) (x : Cache)
     → IsSlabs s → Agree r b s → IsSteady r b s t → ShowsMachine r b s t m → cache_of m c ≡ Some x → IsAllFull s t c
@@ -97,7 +97,7 @@ abbrev pub TakenMeets : Type 0
 TakenMeets = (r : spaces.Content) (b : buddies.Content) (s : Content) (t : ℕ) (m : Machine)
     → IsSteady r b s t → ShowsMachine r b s t m → (f : ℕ) → taken_in m f ≡ buddies.taken_of (buddies.holding_of t b) f
 
--- for each slab, the stored number of live objects is the number that its record shows
+-- for each slab, the stored number of live objects is the number of objects that are live
 abbrev pub AreObjectsCounted : spaces.Content → Content → ℕ → Type 0
 AreObjectsCounted r s t = (c f n : ℕ) (cache : own.Cache) → IsSlab r s t c f n cache
     → (kept_at s.kept n).live ≡ count_true (live_of r t cache (kept_at s.kept n) f)
@@ -118,7 +118,7 @@ ListsHold s = (r : spaces.Content) (b : buddies.Content) (t c kind : ℕ) (m : M
     → Agree r b s → IsSteady r b s t → ShowsMachine r b s t m → cache_of m c ≡ Some x → kind < 3
     → keys_of s.lists.places (head_of t c kind) ≡ map (λ y. y.first) (filter (is_kind kind) x.slabs)
 
--- this holds for all tables that satisfy their invariants
+-- `ListsHold` is true of all tables that satisfy their invariants
 abbrev pub KindsHold : Type 0
 KindsHold = (s : Content) → IsSlabs s → ArePlaces s.lists → ListsHold s
 

@@ -51,12 +51,13 @@ pub record IsInReach (r : spaces.Content) (b : buddies.Content) (s : Content) (t
   pub some : 0 < len
   pub inside : IsInPage r b s t place len ⊎ ((o : Found) × HasRange r s t place len o)
 
--- a range is in reach of the machine if and only if the parts say so
+-- a range is in reach of the machine if and only if it is in reach according to the parts
 abbrev pub ReachMeets : Type 0
 ReachMeets = (r : spaces.Content) (b : buddies.Content) (s : Content) (t place len : ℕ) (m : Machine)
     → IsSteady r b s t → ShowsMachine r b s t m → (in_reach m place len ≡ true) ↔ IsInReach r b s t place len
 
--- if the first frame of a range is in a taken block, that block decides whether the range lies inside a page block
+-- if the first frame of a range is in a taken block, the range lies inside a page block if and only if that block is not a slab
+-- and the range ends inside it
 abbrev pub BlockDecides : Type 0
 BlockDecides = (r : spaces.Content) (b : buddies.Content) (s : Content) (t place len first order : ℕ)
     → IsSteady r b s t → 0 < len → buddies.taken_of (buddies.holding_of t b) first ≡ Some order → HasFrame (block first order) (place / FRAME_BYTES)
@@ -89,20 +90,20 @@ ReachReads = (r : spaces.Content) (b : buddies.Content) (s : Content) (t place l
 abbrev pub stored : ℕ → ℕ → List ℕ → spaces.Content → spaces.Content
 stored t place new r = with_window r t place (length new) new
 
--- writing bytes over a range in reach writes them in the machine
+-- writing bytes over a range in reach of tenant t writes them in the machine of t
 abbrev pub WrittenShows : Type 0
 WrittenShows = (r : spaces.Content) (b : buddies.Content) (s : Content) (t place : ℕ) (new : List ℕ) (m : Machine)
     → SpaceLaws r → Agree r b s → IsSteady r b s t → IsInReach r b s t place (length new)
     → ShowsMachine r b s t m → ShowsMachine (stored t place new r) b s t (record m { bytes = written place new m.bytes })
 
--- a tenant's control records show the same live objects as before, the parts agree, and other tenants keep everything
+-- each slab of the tenant has the same live objects as before, the parts agree, and other tenants keep everything
 pub record IsWritten (r r' : spaces.Content) (b : buddies.Content) (s : Content) (t : ℕ) : Type 0 where
   pub live : (c f n : ℕ) (cache : own.Cache) → IsSlab r s t c f n cache
       → live_of r' t cache (kept_at s.kept n) f ≡ live_of r t cache (kept_at s.kept n) f
   pub agree : Agree r' b s
   pub spares : Spares t r r' b b s s
 
--- a write over a range in reach changes no control record
+-- after a write over a range in reach, the live objects are the same, the parts agree, and other tenants keep everything
 abbrev pub WrittenAgrees : Type 0
 WrittenAgrees = (r : spaces.Content) (b : buddies.Content) (s : Content) (t place : ℕ) (new : List ℕ)
     → IsSlabs s → SpaceLaws r → Agree r b s → IsSteady r b s t → IsInReach r b s t place (length new)

@@ -15,12 +15,12 @@ use Rattle.slab_tables.specs.declared.cache.Kept.{Kept}
 use Rattle.slab_tables.specs.Content.{Content, kept_at, cache_in, cache_at, index_of_cache, layout_numbers}
 use Rattle.machine_changes.specs.Records.{is_set, flags, count_true}
 
--- the machine frame at frame f, given the superblock in the slot of f
+-- the machine frame of frame f, if this superblock or none is in the slot of f
 abbrev pub frame_under : ℕ → ℕ → Option ℕ → Option ℕ
 frame_under top f None = None
 frame_under top f (Some m) = Some (m * 2 ^ top + f % 2 ^ top)
 
--- the machine frame at frame f of tenant t, if t holds the slot of f
+-- the machine frame of frame f of tenant t, or None if t does not hold the slot of f
 abbrev pub machine_frame_of : ℕ → List (List (Option ℕ)) → ℕ → ℕ → Option ℕ
 machine_frame_of top slots t f = frame_under top f (spaces.superblock_at slots t (f / 2 ^ top))
 
@@ -101,16 +101,16 @@ pub record ShowsMachine (r : spaces.Content) (b : buddies.Content) (s : Content)
       → is_some (m.bytes place) ≡ in_object (layout_numbers cache) cache.layout.size (kept_at s.kept n).colour (place - FRAME_BYTES * f)
   pub bytes : (place byte : ℕ) → m.bytes place ≡ Some byte → byte_at r t place ≡ Some byte
 
--- the slab at machine frame n is a taken block of its tenant, and its record shows as many live objects as its stored state says
+-- the slab at machine frame n is a taken block of its tenant, and has as many live objects as its stored state counts
 pub record IsAgreed (r : spaces.Content) (b : buddies.Content) (s : Content) (n head key : ℕ) (cache : own.Cache) : Type 0 where
   pub under : machine_frame_of s.top r.slots (head / 3 / MOST_CACHES) key ≡ Some n
   pub taken : buddies.taken_of (buddies.holding_of (head / 3 / MOST_CACHES) b) key ≡ Some (layout_numbers cache).order
   pub counted : (kept_at s.kept n).live ≡ count_true (live_of r (head / 3 / MOST_CACHES) cache (kept_at s.kept n) key)
-  -- all bits of the record past the last object are 0
+  -- no object past the last one is live, so all bits of the record past the last object are 0
   pub rest : (i : ℕ) → (layout_numbers cache).count ≤ i → i < 256 → is_live r (head / 3 / MOST_CACHES) cache (kept_at s.kept n) key i ≡ false
 
--- The memory, the buddy systems and the tables agree on their sizes, on the superblock in each slot of each tenant, and on each
--- slab.
+-- the memory, the buddy systems and the tables agree on their sizes, on the superblock in each slot of each tenant, and on each
+-- slab
 pub record Agree (r : spaces.Content) (b : buddies.Content) (s : Content) : Type 0 where
   pub order : b.top ≡ s.top
   pub unit : r.unit ≡ FRAME_BYTES * 2 ^ s.top

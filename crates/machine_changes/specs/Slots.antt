@@ -28,7 +28,8 @@ pub record ChangesFor (t : ℕ) (r r' : spaces.Content) (b b' : buddies.Content)
   pub others : (u : ℕ) → u ≢ t → Keeps r r' b b' s s' u
   pub shows : (m : Machine) → ShowsMachine r b s t m → ShowsMachine r' b' s' t (change m)
 
--- granting superblock m, which has no owner, to tenant t in slot u, the lowest that t does not hold
+-- if superblock m, which has no owner, is granted to tenant t as slot u, the lowest that t does not hold, the parts change only
+-- for t, whose machine becomes `after_grant` of the old one
 abbrev pub GrantedShows : Type 0
 GrantedShows = (r : spaces.Content) (b : buddies.Content) (s : Content) (t u m : ℕ)
     → HoldTogether r b s → t < length r.slots → IsLeastSlot r.slots t u → u < length r.owners
@@ -40,7 +41,8 @@ abbrev pub NextMeets : Type 0
 NextMeets = (r : spaces.Content) (b : buddies.Content) (s : Content) (t u : ℕ) (m : Machine)
     → ShowsMachine r b s t m → IsLeastSlot r.slots t u → next_slot m ≡ u
 
--- taking back superblock m from slot u of tenant t, in which no frame is taken
+-- if superblock m is taken back from slot u of tenant t, in which no frame is taken, the parts change only for t, whose machine
+-- becomes `after_take_back` of the old one
 abbrev pub TakenBackShows : Type 0
 TakenBackShows = (r : spaces.Content) (b : buddies.Content) (s : Content) (t u m : ℕ)
     → HoldTogether r b s → t < length r.slots → spaces.superblock_at r.slots t u ≡ Some m
@@ -63,7 +65,8 @@ abbrev pub UnownedIsSpare : Type 0
 UnownedIsSpare = (r : spaces.Content) (b : buddies.Content) (s : Content) (m : ℕ)
     → HoldTogether r b s → spaces.owner_at r.owners m ≡ None → IsSpare b s m
 
--- moving slot u of tenant t from superblock `from` to superblock `to`, which has no owner
+-- If slot u of tenant t moves from superblock `from` to superblock `to`, which has no owner, t reads what it read before. The
+-- parts change only for t, and show the same machine for it.
 abbrev pub MovedShows : Type 0
 MovedShows = (r : spaces.Content) (b : buddies.Content) (s s' : Content) (t u from to : ℕ)
     → HoldTogether r b s → t < length r.slots → spaces.superblock_at r.slots t u ≡ Some from
@@ -79,13 +82,13 @@ pub record HasGivenUp (t : ℕ) (r r' : spaces.Content) : Type 0 where
   pub slots : (u : ℕ) → spaces.superblock_at r'.slots t u ≡ None
   pub others : (u : ℕ) → u ≢ t → IsSameFor u r r'
 
--- removing all that tenant t has
+-- if all that tenant t has is removed, the parts change only for t, whose machine becomes the empty machine
 abbrev pub EmptiedShows : Type 0
 EmptiedShows = (r r' : spaces.Content) (b : buddies.Content) (s s' : Content) (t : ℕ)
     → HoldTogether r b s → t < length r.slots → HasGivenUp t r r' → IsReset s s' t
     → ChangesFor t r r' b (buddies.with_holding t (buddies.nothing_held b.top b.superblocks) b) s s' (λ m. empty_machine)
 
--- the parts before the first event
+-- before the first event the parts agree, and show the empty machine for every tenant
 pub record IsOpening (r : spaces.Content) (b : buddies.Content) (s : Content) : Type 0 where
   pub agree : Agree r b s
   pub shows : (t : ℕ) → ShowsMachine r b s t empty_machine
