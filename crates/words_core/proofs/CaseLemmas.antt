@@ -1,4 +1,4 @@
--- Each line is in exactly one case: the number and the reading are found by computing, and each case has those.
+-- Each line is in exactly one case. A number and a meaning are computed for the line, and any case of the line has both of them.
 use Rattle.std.proofs.Common.{◌≡◌, ◌^◌, ◌⊎◌, inl, inr, ℕ, suc, Bool, true, false, ◌&&◌, nat_lt, nat_le, zero, ◌==◌, if◌then◌else◌, List, [], ◌∷◌, codes, length, slice_index, Option, Some, None, Result, Ok, Err, refl, sym, ◌∙◌, ap, subst, arith}
 use Rattle.std.specs.Bool.{Decides}
 use Rattle.std.specs.List.{All, Contains}
@@ -50,7 +50,7 @@ words_case (first ∷ rest) = if slice_index first 0 == 35 then 2 else actor_cas
 
 -- ---- the first word
 
--- a test is false if what it decides does not hold
+-- if a test decides P, and P does not hold, the test is false
 refused : {P : Type 0} (b : Bool) → Decides b P → (P → ⊥) → b ≡ false
 refused true decides never = absurd (never (decides.0 refl))
 refused false decides never = refl
@@ -77,7 +77,7 @@ number_is_not_admin : (word : List ℕ) (t : ℕ) → number_of word ≡ Some t 
 number_is_not_admin word t number admin =
     let both : None ≡ Some t = sym (ap number_of admin) ∙ number in cc
 
--- the actor of a first word other than `admin`
+-- if the first word is not `admin`, its actor is the tenant with its number, or the fault if it is not a number
 actor_of-other : (word : List ℕ) (number : Option ℕ) → (word ≡ codes "admin" → ⊥) → number_of word ≡ number
     → actor_of word ≡ (or_fault number (nobody_fault word) >>= (λ t. Ok (tenant t)))
 actor_of-other word number other is =
@@ -129,7 +129,7 @@ module _ {D : Type 0} (none : D) where
   at_row-tenant found = All-from_recursion (λ (row : CommandRow Command). at_row tenant_rows row.word found none ≡ found row) tenant_rows
       (refl, (refl, (refl, (refl, (refl, (refl, (refl, (refl, (refl, (refl, tt))))))))))
 
-  -- no two rows of a table have the same word
+  -- if a row of the actor's table has this word, `at_row` finds this row
   at_row-found : (actor : Actor) (word : List ℕ) (row : CommandRow (CommandOf actor)) (found : CommandRow (CommandOf actor) → D)
       → AsksFor actor word row → at_row (command_rows actor) word found none ≡ found row
   at_row-found administrator word row found (has, is) =
@@ -216,7 +216,7 @@ fault_or_command {C} (form ∷ forms) makes (word ∷ words) same =
       by (Ok value) is rest = after value is (rest value)
       by (Err fault) is rest = inl (fault, inl is)
 
--- ---- each case has the number and the reading
+-- ---- each case has the computed number and meaning
 
 abbrev said_by : (actor : Actor) → Result (CommandOf actor) LineFault → Result (Option Event) LineFault
 said_by actor asked = (asked >>= (λ command. Ok (event_by actor command))) >>= (λ event. Ok (Some event))

@@ -11,7 +11,7 @@ use Rattle.std.proofs.lemmas.List.FromFn.{get_or-map-range_with_len}
 use Rattle.words_core.specs.Digits.{two_digits, five_digits}
 use Rattle.words_core.specs.declared.window.TheConstants.{PAIRS}
 
--- the two digits in the table for a number
+-- the two digits for this number in the table `PAIRS`
 abbrev pub pair : ℕ → List ℕ
 pair n = get_or PAIRS (2 * n) 0 ∷ get_or PAIRS (2 * n + 1) 0 ∷ []
 
@@ -27,7 +27,7 @@ pair_at n below =
 decimal_two : (n : ℕ) → 10 ≤ n → n < 100 → decimal n ≡ two_digits n
 decimal_two n low high = rw (decimal_step n low (omega arith), decimal_digit (n / 10) (omega arith))
 
--- the last two digits come after the others
+-- the digits of a number n of 100 or more are the digits of n / 100 and then the two digits of n % 100
 decimal_last_two : (n : ℕ) → 100 ≤ n → n < 2 ^ 32 → decimal n ≡ decimal (n / 100) ++ two_digits (n % 100)
 decimal_last_two n low high =
     let a : n / 10 / 10 ≡ n / 100 = omega arith in
@@ -70,7 +70,7 @@ put_more front n low high =
 
 pub ruleset digit_rules = (put_one, put_two, put_three, put_four, put_five, put_more)
 
--- the number has `k + 1` digits, the first of them not 0
+-- if n is at least 10^k and below 10^(k + 1), it has k + 1 digits
 length_more : (k n : ℕ) → 10 ^ k ≤ n → n < 10 * 10 ^ k → n < 2 ^ 64 → k + 1 ≡ length (decimal n)
 length_more zero n low high fits = sym (ap length (decimal_digit n (omega arith)))
 length_more (suc k) n low high fits =
@@ -79,13 +79,13 @@ length_more (suc k) n low high fits =
     ap length (decimal_step n (omega (arith, one-le-pow k 10 (omega arith))) fits) ∙ length-append _ _ in
     omega (arith, step, length_more k (n / 10) (omega arith) (omega arith) (omega arith))
 
--- the logarithm counts all digits but one; 0 has none
+-- the number of digits of n is its decimal logarithm plus 1; 0, which has no logarithm, has one digit
 pub digits_counted : (n : ℕ) (log : Option ℕ) → n < 2 ^ 64 → IfNone log (n ≡ 0) → IfSome log (λ k. 10 ^ k ≤ n) → IfSome log (λ k. n < 10 * 10 ^ k)
     → unwrap_or log 0 + 1 ≡ length (decimal n)
 digits_counted n None fits none low high = sym (ap length (decimal_digit n (omega arith)))
 digits_counted n (Some k) fits none low high = length_more k n low high fits
 
--- digits that were written before an end follow what was there before them
+-- if digits were written up to `end` and the bytes before the digits did not change, the digits follow the first `at` old bytes
 pub written_before : (start at end : ℕ) (digits old new : List ℕ) → start + length digits ≡ end → at + length digits ≡ end → end ≤ length old
     → take start new ≡ take start old → drop start new ≡ digits ++ drop end old → take end new ≡ take at old ++ digits
 written_before start at end digits old new starts ends within before written =

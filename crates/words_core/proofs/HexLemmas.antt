@@ -1,4 +1,4 @@
--- Bytes in hex, one after another.
+-- Bytes that are written in hex, one after another.
 use Rattle.std.proofs.Common.{◌≡◌, ℕ, ◌+◌, ◌/◌, ◌%◌, ◌<◌, List, [], ◌∷◌, ◌++◌, length, get_or, take, map, refl, sym, ◌∙◌, ap, arith, append_assoc, append-nil}
 use Rattle.std.specs.List.{range_with_len}
 use Rattle.std.proofs.lemmas.List.{take_more}
@@ -23,7 +23,7 @@ pub hex_none : (front : List ℕ) → front ≡ front ++ encode_lower []
 unfolding encode_with
 hex_none front = sym (append-nil front)
 
--- one byte more
+-- if the digits of the first i bytes are written, and then those of byte i, the digits of the first i + 1 bytes are written
 pub hex_more : (new old front bytes pair : List ℕ) (i : ℕ) → i < length bytes → new ≡ old ++ pair
     → old ≡ front ++ encode_lower (take i bytes) → pair ≡ encode_lower (get_or bytes i 0 ∷ [])
     → new ≡ front ++ encode_lower (take (i + 1) bytes)
@@ -34,7 +34,7 @@ hex_more new old front bytes pair i within new_is old_is pair_is =
     ∙ ap (λ text. front ++ text)
     (sym (encode_append (take i bytes) (get_or bytes i 0 ∷ [])) ∙ ap encode_lower (sym (take_more bytes i 0 within)))
 
--- one more part of the rest
+-- if a part moves from the rest to what is written, the written digits and the digits of the rest together stay the same
 pub hex_part : (new old all rest part behind : List ℕ) → new ≡ old ++ encode_lower part → rest ≡ part ++ behind
     → old ++ encode_lower rest ≡ all → new ++ encode_lower behind ≡ all
 hex_part new old all rest part behind new_is rest_is is =
@@ -43,7 +43,7 @@ hex_part new old all rest part behind new_is rest_is is =
     ∙ ap (λ text. old ++ text) (sym (encode_append part behind) ∙ ap encode_lower (sym rest_is))
     ∙ is
 
--- the digits of four bytes
+-- the two digits of each of four bytes, one after another, are the digits of the four bytes
 pub hex_four : (xs p q r s : List ℕ) → length xs ≡ 4
     → p ≡ encode_lower (get_or xs 0 0 ∷ []) → q ≡ encode_lower (get_or xs 1 0 ∷ [])
     → r ≡ encode_lower (get_or xs 2 0 ∷ []) → s ≡ encode_lower (get_or xs 3 0 ∷ [])

@@ -30,7 +30,7 @@ unfolding event_of
 event_of-take first rest = same_after (actor_of first) _ _ (λ actor.
     ap (λ asked. asked >>= (λ command. Ok (event_by actor command))) (asked-take actor rest))
 
--- no command has as many as six words
+-- words after the sixth do not change the meaning of a line
 pub judged-take : (words : List (List ℕ)) → reading_of_words (take 6 words) ≡ reading_of_words words
 unfolding reading_of_words
 judged-take [] = refl

@@ -1,4 +1,4 @@
--- The lines of a report, by their rows.
+-- The line in each row of a report.
 use Rattle.std.proofs.Common.{◌≡◌, ◌<◌, ◌+◌, ℕ, zero, suc, List, [], ◌∷◌, ◌++◌, length, map, get_or, Some, slice_get, refl, sym, ◌∙◌, ap, arith, add-zero, length-append}
 use Rattle.std.specs.Prelude.{option_map}
 use Rattle.std.proofs.lemmas.List.{length-map}
@@ -16,7 +16,7 @@ pub length-order_texts : (front : List ℕ) (first : ℕ) (rows : List OrderRow)
 length-order_texts front first [] = refl
 length-order_texts front first (row ∷ rows) = ap suc (length-order_texts front (first + 1) rows)
 
--- row `k` of the orders' rows, whatever follows them
+-- line k of the orders' lines is the line of order `first` + k, whatever follows them
 row-order_texts : (front : List ℕ) (first k : ℕ) (rows : List OrderRow) (rest : List (List ℕ)) (d : OrderRow) → k < length rows
     → slice_get (order_texts front first rows ++ rest) k ≡ Some (order_text front (first + k) (get_or rows k d))
 row-order_texts front first k [] rest d within = absurd (omega arith)
@@ -31,7 +31,7 @@ after_orders front first j k [] rest is = ap (slice_get rest) (omega (arith, is)
 after_orders front first zero k (row ∷ rows) rest is = absurd (omega (arith, is))
 after_orders front first (suc j) k (row ∷ rows) rest is = after_orders front (first + 1) j k rows rest (omega (arith, is))
 
--- the row of an order comes after the frames
+-- row k + 1 of a report is the line of order k
 pub order_row_of : (front : List ℕ) (report : Report) (row k : ℕ) (orders : List OrderRow) (d : OrderRow) → orders ≡ report.orders.items
     → row ≡ suc k → k < length orders → slice_get (report_texts front report) row ≡ Some (order_text front k (get_or orders k d))
 order_row_of front report row k orders d orders_are row_is within =
@@ -40,7 +40,7 @@ order_row_of front report row k orders d orders_are row_is within =
     ∙ ap (λ n. Some (order_text front n (get_or report.orders.items k d))) (omega arith)
     ∙ ap (λ rows. Some (order_text front k (get_or rows k d))) (sym orders_are)
 
--- the row of a cache comes after the orders
+-- after the line of the frames and the lines of the orders, line k is the line of cache row k
 pub cache_row_of : (front : List ℕ) (report : Report) (row k : ℕ) (caches : List CacheRow) (d : CacheRow) → caches ≡ report.caches.items
     → row ≡ suc (length report.orders.items + k) → k < length caches
     → slice_get (report_texts front report) row ≡ Some (cache_text front (get_or caches k d))
@@ -63,7 +63,7 @@ length-report_texts front report =
       length-map report.caches.items (λ (row : CacheRow). cache_text front row),
     )
 
--- a line for the frames, one for each order, and one for each cache
+-- a report has one line for the frames, one for each order, and one for each cache
 pub length-report_lines : (reply : Reply) (report : Report) → reply.body ≡ Say.Report report
     → 1 + length report.orders.items + length report.caches.items ≡ length (lines_of reply)
 length-report_lines reply report is =

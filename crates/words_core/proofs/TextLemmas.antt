@@ -1,4 +1,4 @@
--- The lines of the table of owners, by their rows.
+-- The line in each row of the table of owners.
 use Rattle.std.proofs.Common.{◌≡◌, ◌<◌, ◌+◌, ℕ, zero, suc, List, [], ◌∷◌, ◌++◌, length, map, get_or, Option, Some, slice_get, refl, sym, ◌∙◌, ap, arith, add-zero}
 use Rattle.std.proofs.lemmas.List.{length-map}
 use Rattle.arrayvec.specs.ArrayVec.{ArrayVec}
@@ -20,7 +20,7 @@ row-owner_texts front first (suc k) (owner ∷ owners) d within =
     row-owner_texts front (first + 1) k owners d (omega arith)
     ∙ ap (λ n. Some (owner_text front n (get_or owners k d))) (omega arith)
 
--- the row of a superblock comes after the counts
+-- row k + 1 of the table of owners is the line of superblock k
 pub row-pool_texts : (front : List ℕ) (owners : List (Option Owner)) (row k : ℕ) (d : Option Owner) → row ≡ suc k → k < length owners
     → slice_get (pool_texts front owners) row ≡ Some (owner_text front k (get_or owners k d))
 row-pool_texts front owners row k d row_is within =
@@ -28,7 +28,7 @@ row-pool_texts front owners row k d row_is within =
     ∙ row-owner_texts front 0 k owners d within
     ∙ ap (λ n. Some (owner_text front n (get_or owners k d))) (omega arith)
 
--- a line for the counts, and one for each superblock
+-- the table of owners has one line for the counts, and one for each superblock
 pub length-lines_of : (reply : Reply) (owners : ArrayVec (Option Owner)) → reply.body ≡ Owners owners → 1 + length owners.items ≡ length (lines_of reply)
 length-lines_of reply owners is =
     let front = addressee_text reply.addressee in

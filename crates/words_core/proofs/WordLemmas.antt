@@ -1,4 +1,4 @@
--- The words of a line from its front, and a proof that the two definitions of them agree.
+-- Lemmas about the words at the front of a line, and a proof that the two definitions of a line's words agree.
 use Rattle.std.proofs.Common.{◌≡◌, ◌<◌, ◌≤◌, ℕ, zero, suc, true, false, List, [], ◌∷◌, ◌++◌, length, map, take, drop, filter, slice_index, refl, sym, ◌∙◌, ap, subst, arith, add-zero, length-drop, append-nil, append_assoc, take-append-drop}
 use Rattle.std.specs.List.{slice_split, All}
 use Rattle.std.proofs.lemmas.List.Splits.{slice_split-cons_yes, slice_split_none, slice_split_at}
@@ -10,7 +10,7 @@ words_of-blank : (b : ℕ) (bytes : List ℕ) → is_blank b ≡ true → words_
 unfolding words_of
 words_of-blank b bytes blank = ap (filter is_not_empty) (slice_split-cons_yes is_blank b bytes blank)
 
--- blanks before the first word
+-- blanks at the front of a line do not change its words
 pub words_of-blanks : (gap bytes : List ℕ) → IsBlanks gap → words_of (gap ++ bytes) ≡ words_of bytes
 words_of-blanks [] bytes blanks = refl
 words_of-blanks (b ∷ gap) bytes blanks =
@@ -20,7 +20,7 @@ filtered : (word : List ℕ) (parts : List (List ℕ)) → 0 < length word → f
 filtered [] parts some = absurd (omega arith)
 filtered (b ∷ word) parts some = refl
 
--- the first word
+-- if a line is a word and then nothing, or bytes that begin with a blank, that word is its first
 pub words_of-word : (word bytes : List ℕ) → IsWord word → StartsBlank bytes → words_of (word ++ bytes) ≡ word ∷ words_of bytes
 unfolding words_of
 words_of-word word [] (some, word_bytes) ends =
@@ -32,7 +32,7 @@ words_of-word word (b ∷ bytes) (some, word_bytes) ends =
     ∙ filtered word (slice_split is_blank bytes) some
     ∙ ap (λ words. word ∷ words) (sym (words_of-blank b bytes ends))
 
--- the words that the relation gives a line are those of the function
+-- if the relation holds between a line and some words, the function returns these words
 pub words_of-has : (line : List ℕ) (words : List (List ℕ)) → HasWords line words → words_of line ≡ words
 unfolding words_of
 words_of-has line [] blanks = ap words_of (sym (append-nil line)) ∙ words_of-blanks line [] blanks
@@ -46,7 +46,7 @@ starts : (line : List ℕ) → IsBlanks line → StartsBlank line
 starts [] blanks = tt
 starts (b ∷ line) blanks = All-head IsBlank b line blanks
 
--- one more blank before the words
+-- a blank in front of a line does not change its words
 with_blank : (b : ℕ) (line : List ℕ) (words : List (List ℕ)) → is_blank b ≡ true → HasWords line words → HasWords (b ∷ line) words
 with_blank b line [] blank has = All-cons IsBlank b line blank has
 with_blank b line (word ∷ words) blank (rest, begins, has) = (
@@ -61,7 +61,7 @@ with_blank b line (word ∷ words) blank (rest, begins, has) = (
   has,
 )
 
--- a word of one byte before a line that begins with a blank, or is empty
+-- in front of a line that is empty or begins with a blank, a byte other than a blank is a word
 word_before : (b : ℕ) (line : List ℕ) → is_blank b ≡ false → StartsBlank line → BeginsWithWord (b ∷ line) (b ∷ []) line
 word_before b line letter ends = record {
   gap = [];
@@ -71,7 +71,7 @@ word_before b line letter ends = record {
   ends = ends;
 }
 
--- one more byte that is not a blank: it begins a new word, or extends the first
+-- a line with words still has words if a byte other than a blank is put in front: a new word, or a longer first word
 with_letter : (b : ℕ) (line : List ℕ) (words : List (List ℕ)) → is_blank b ≡ false → HasWords line words → (more : List (List ℕ)) × HasWords (b ∷ line) more
 with_letter b line [] letter has = ((b ∷ []) ∷ [], (line, word_before b line letter (starts line has), has))
 with_letter b line (word ∷ words) letter (rest, begins, has) = from_gap begins.gap begins.split begins.blanks where
@@ -93,7 +93,7 @@ with_letter b line (word ∷ words) letter (rest, begins, has) = from_gap begins
   from_gap (g ∷ gap) split blanks =
       ((b ∷ []) ∷ word ∷ words, (line, word_before b line letter (subst StartsBlank (sym split) (All-head IsBlank g gap blanks)), (rest, begins, has)))
 
--- every line has words
+-- for every line there are words for which the relation holds
 has_some : (line : List ℕ) → (words : List (List ℕ)) × HasWords line words
 has_some [] = ([], All-nil IsBlank)
 has_some (b ∷ line) = let (words, has) = has_some line in
@@ -106,7 +106,7 @@ has_some (b ∷ line) = let (words, has) = has_some line in
 pub has-words_of : (line : List ℕ) → HasWords line (words_of line)
 has-words_of line = let (words, has) = has_some line in subst (HasWords line) (sym (words_of-has line words has)) has
 
--- a part of a list, by its elements
+-- if P holds for each of the first n elements of a list, `All P` holds for the list of these elements
 all_below : (P : ℕ → Type 0) (xs : List ℕ) (n : ℕ) → n ≤ length xs → ((k : ℕ) → k < n → P (slice_index xs k)) → All P (take n xs)
 all_below P xs n fits each = All-from_get_or P (take n xs) 0 (λ k below.
     let within : k < n = omega (arith, length-take-le n xs fits) in
@@ -116,14 +116,14 @@ starts_by : (bytes : List ℕ) → (0 < length bytes → IsBlank (slice_index by
 starts_by [] first = tt
 starts_by (b ∷ bytes) first = first (omega arith)
 
--- the words after a number of blanks
+-- if the first `blanks` bytes of a line are blanks, the words of the line are those of the rest
 pub words_of-after_blanks : (line : List ℕ) (blanks : ℕ) → blanks ≤ length line
     → ((k : ℕ) → k < blanks → IsBlank (slice_index line k)) → words_of line ≡ words_of (drop blanks line)
 words_of-after_blanks line blanks fits each =
     ap words_of (sym (take-append-drop blanks line))
     ∙ words_of-blanks (take blanks line) (drop blanks line) (all_below IsBlank line blanks fits each)
 
--- the first word, which has `size` bytes, and the words after it
+-- if the first `size` bytes are not blanks, and the bytes end there or a blank follows, they are the first word
 pub words_of-first : (bytes : List ℕ) (size : ℕ) → 0 < size → size ≤ length bytes
     → ((k : ℕ) → k < size → IsLetter (slice_index bytes k)) → (size < length bytes → IsBlank (slice_index bytes size))
     → words_of bytes ≡ take size bytes ∷ words_of (drop size bytes)
@@ -146,7 +146,7 @@ positive (suc n) not_zero = omega arith
 letter_or_blank : (b : ℕ) → IsLetter b → IsBlank b → ⊥
 letter_or_blank b letter blank = cc
 
--- the first word of a line, found by counting blanks and then letters
+-- the first word of a line is found by counting the blanks at its front, and then the bytes before the next blank
 pub first_word : (line bytes word after : List ℕ) (blanks size : ℕ) → blanks ≤ length line
     → ((k : ℕ) → k < blanks → IsBlank (slice_index line k))
     → (blanks < length line → IsLetter (slice_index line blanks))
@@ -168,7 +168,7 @@ first_word line bytes word after blanks size fits each letter is some size_fits 
     ∙ words_of-first bytes size size_some size_fits letters stops
     ∙ (λ i. sym word_is i ∷ words_of (sym after_is i))
 
--- one more word was found, so one less remains to be found
+-- if one more word was found and one less remains to be found, the found words and those to be found are together the same
 pub one_more : {X Y : Type 0} (f : X → Y) (old new : List X) (x : X) (rest more : List Y) (n k : ℕ)
     → new ≡ old ++ x ∷ [] → rest ≡ f x ∷ more → n ≡ suc k → map f new ++ take k more ≡ map f old ++ take n rest
 one_more f old new x rest more n k new_is rest_is n_is =

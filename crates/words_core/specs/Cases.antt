@@ -38,45 +38,45 @@ AllMake (form ∷ forms) makes (word ∷ words) command =
 AllMake [] made (_ ∷ _) command = ⊥
 AllMake (_ ∷ _) makes [] command = ⊥
 
--- The cases of words: the number of the case, the words, and what they say.
+-- the words are in the case with this number and have this meaning
 pub data CaseOfWords : ℕ → List (List ℕ) → Result (Option Event) LineFault → Type 0 where
-  -- 2. no word, or the first begins with `#`: nothing
+  -- 2. there is no word, or the first begins with `#`: the line requests nothing
   blank : CaseOfWords 2 [] (Ok None)
   comment : {first : List ℕ} {rest : List (List ℕ)} → IsComment first → CaseOfWords 2 (first ∷ rest) (Ok None)
-  -- 3. the first word names nobody: a faulty number if it begins with a digit, else unknown
+  -- 3. the first word names nobody: the fault is `Number` if the word begins with a digit, else `Unknown`
   nobody : {first : List ℕ} {rest : List (List ℕ)} → ¬ IsComment first → ((actor : Actor) → ¬ Names first actor)
       → CaseOfWords 3 (first ∷ rest) (Err (nobody_fault first))
-  -- 4. no second word
+  -- 4. there is no second word: the fault is `Words`
   alone : {first : List ℕ} (actor : Actor) → Names first actor → CaseOfWords 4 (first ∷ []) (Err LineFault.Words)
-  -- 5. the second word is not a command of that actor
+  -- 5. the second word is not a command of that actor: the fault is `Unknown`
   no_command : {first word : List ℕ} {arguments : List (List ℕ)} (actor : Actor) → Names first actor
       → ((row : CommandRow (CommandOf actor)) → ¬ AsksFor actor word row) → CaseOfWords 5 (first ∷ word ∷ arguments) (Err LineFault.Unknown)
-  -- 6. a wrong number of arguments for the command
+  -- 6. the command takes a different number of arguments: the fault is `Words`
   wrong_count : {first word : List ℕ} {arguments : List (List ℕ)} (actor : Actor) → Names first actor
       → (row : CommandRow (CommandOf actor)) → AsksFor actor word row → ¬ (length arguments ≡ length row.forms)
       → CaseOfWords 6 (first ∷ word ∷ arguments) (Err LineFault.Words)
-  -- 7. from left to right, the first argument that does not have its form
+  -- 7. some argument does not have its form: the first one from the left determines the fault
   faulty : {first word : List ℕ} {arguments : List (List ℕ)} {fault : LineFault} (actor : Actor) → Names first actor
       → (row : CommandRow (CommandOf actor)) → AsksFor actor word row → length arguments ≡ length row.forms
       → FirstFault row.forms arguments fault → CaseOfWords 7 (first ∷ word ∷ arguments) (Err fault)
-  -- 8. otherwise the event
+  -- 8. each argument has its form: the line requests this event
   event : {first word : List ℕ} {arguments : List (List ℕ)} (actor : Actor) → Names first actor
       → (row : CommandRow (CommandOf actor)) → AsksFor actor word row → (command : CommandOf actor)
       → AllMake row.forms row.makes arguments command
       → CaseOfWords 8 (first ∷ word ∷ arguments) (Ok (Some (event_by actor command)))
 
--- The cases of a line: the number of the case, the line without a carriage return at its end, and what the line says.
+-- the line, without a carriage return at its end, is in the case with this number and has this meaning
 pub data CaseOfBytes : ℕ → List ℕ → Result (Option Event) LineFault → Type 0 where
-  -- 1. too long, even if it is a comment
+  -- 1. the line is too long, even if it is a comment: the fault is `Long`
   too_long : {bytes : List ℕ} → MOST_LINE_BYTES < length bytes → CaseOfBytes 1 bytes (Err LineFault.Long)
   -- 2 to 8: the case of the line's words
   of_words : {number : ℕ} {bytes : List ℕ} {reading : Result (Option Event) LineFault} → length bytes ≤ MOST_LINE_BYTES
       → (words : List (List ℕ)) → HasWords bytes words → CaseOfWords number words reading → CaseOfBytes number bytes reading
 
--- the line is in the case with this number, and says this
+-- the line is in the case with this number and has this meaning
 abbrev pub Case : ℕ → List ℕ → Result (Option Event) LineFault → Type 0
 Case number line reading = CaseOfBytes number (strip_carriage_return line) reading
 
--- what the line says
+-- the line has this meaning
 abbrev pub Says : List ℕ → Result (Option Event) LineFault → Type 0
 Says line reading = (number : ℕ) × Case number line reading

@@ -1,4 +1,4 @@
--- The commands, in tables: their actors, their words and the forms of their arguments.
+-- The tables of commands: each actor's commands with their words and the forms of their arguments.
 use Rattle.std.specs.Prelude.{◌*◌, ℕ, ◌&&◌, nat_le, List, [], ◌∷◌, length, slice_index, codes, if◌then◌else◌, Option, Some, None, Result, Ok, Err}
 use Rattle.std.specs.Char.{is_ascii_digit}
 use Rattle.arrayvec.specs.ArrayVec.{ArrayVec}
@@ -16,16 +16,16 @@ abbrev pub or_fault : Option ℕ → LineFault → Result ℕ LineFault
 or_fault (Some number) fault = Ok number
 or_fault None fault = Err fault
 
--- an argument that has to be a number
+-- an argument read as a number, or the fault `Number`
 abbrev pub argument : List ℕ → Result ℕ LineFault
 argument word = or_fault (number_of word) LineFault.Number
 
--- the bytes decoded from hex, or the fault
+-- the bytes decoded from hex, or the fault `Hex` if the decoding failed
 abbrev pub bytes_or_fault : Result (List ℕ) FromHexError → Result (ArrayVec ℕ) LineFault
 bytes_or_fault (Ok bytes) = Ok (record { items = bytes })
 bytes_or_fault (Err _) = Err LineFault.Hex
 
--- an argument that has to be bytes in hex, at least one and at most `most`, each written as two digits of either case
+-- an argument read as 1 to `most` bytes in hex, each written as two digits of either case, or the fault `Hex`
 abbrev pub bytes_argument : ℕ → List ℕ → Result (ArrayVec ℕ) LineFault
 bytes_argument most word =
     if nat_le 2 (length word) && nat_le (length word) (2 * most) then bytes_or_fault (decode_of word) else Err LineFault.Hex
@@ -40,7 +40,7 @@ abbrev pub Given : Form → Type 0
 Given number = ℕ
 Given (hex most) = ArrayVec ℕ
 
--- an argument, read in this form
+-- an argument read in this form, or its fault
 abbrev pub read_as : (form : Form) → List ℕ → Result (Given form) LineFault
 read_as number word = argument word
 read_as (hex most) word = bytes_argument most word
@@ -110,7 +110,7 @@ abbrev pub tenant_rows : List (CommandRow Command)
 tenant_rows =
     alloc_row ∷ free_row ∷ read_row ∷ write_row ∷ cache_row ∷ destroy_row ∷ take_row ∷ give_row ∷ reap_row ∷ report_row ∷ []
 
--- who gives the command of a line
+-- who gives a command: the administrator, or the tenant with this number
 pub data Actor : Type 0 where
   administrator : Actor
   tenant : ℕ → Actor
@@ -125,7 +125,7 @@ abbrev pub command_rows : (actor : Actor) → List (CommandRow (CommandOf actor)
 command_rows administrator = admin_rows
 command_rows (tenant t) = tenant_rows
 
--- a command, given by this actor
+-- the event of this command, given by this actor
 abbrev pub event_by : (actor : Actor) → CommandOf actor → Event
 event_by administrator command = Event.Admin command
 event_by (tenant t) command = Event.Tenant t command

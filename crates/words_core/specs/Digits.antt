@@ -1,4 +1,4 @@
--- Digits as they are written, including leading zeros.
+-- The decimal digits of a number, with leading zeros.
 use Rattle.std.specs.Prelude.{ℕ, ◌+◌, ◌/◌, ◌%◌, List, [], ◌∷◌, ◌++◌}
 
 -- the two digits of a number below 100

@@ -1,4 +1,4 @@
--- Lines and their meanings, replies and their texts: each example holds by computation.
+-- Examples of lines with their meanings, and of replies with their texts. Each holds by computation.
 use Rattle.std.specs.Prelude.{◌≡◌, ℕ, List, [], ◌∷◌, ◌++◌, codes, map, replicate, Option, Some, None, Result, Ok, Err, refl}
 use Rattle.std.specs.Fmt.{digits}
 use Rattle.hex.proofs.OnLiterals.{hex_on_literals}
@@ -77,7 +77,7 @@ too_wide : reading_of (codes "0 alloc 0" ++ replicate 247 32) ≡ Err LineFault.
 unfolding reading_of
 too_wide = refl
 
--- a tenant that holds no frame and has no cache
+-- the figures of a tenant that holds no frame and has no cache
 abbrev none_free : Figures
 none_free = record {
   frames = 0;
@@ -89,7 +89,7 @@ none_free = record {
   caches = record { items = [] };
 }
 
--- two frames, one of them a slab of one object
+-- the figures of a tenant with two frames: one is a slab with one live object, the other is free
 abbrev one_slab : Figures
 one_slab = record {
   frames = 2;

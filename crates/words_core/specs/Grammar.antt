@@ -41,16 +41,16 @@ command_of [] word arguments = Err LineFault.Unknown
 command_of (row ∷ rows) word arguments =
     if bytes_eq word row.word then command_by row arguments else command_of rows word arguments
 
--- the command in the words that follow the first word
+-- the command that the words after the first word make, or the fault
 abbrev pub command_in_words : {C : Type 0} → List (CommandRow C) → List (List ℕ) → Result C LineFault
 command_in_words rows [] = Err LineFault.Words
 command_in_words rows (word ∷ arguments) = command_of rows word arguments
 
--- the number of the tenant that the first word names
+-- the number of the tenant that the first word names, or the fault
 abbrev pub tenant_of : List ℕ → Result ℕ LineFault
 tenant_of word = or_fault (number_of word) (nobody_fault word)
 
--- the actor that the first word names
+-- the actor that the first word names, or the fault
 abbrev pub actor_of : List ℕ → Result Actor LineFault
 actor_of word =
     if bytes_eq word (codes "admin") then Ok administrator

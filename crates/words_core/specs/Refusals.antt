@@ -1,4 +1,4 @@
--- The refusal of a reply, for each refusal of the private machine.
+-- Each refusal of the private machine as the refusal that a reply names.
 use Rattle.model_core.specs.declared.refusals.AllocRefusal.{AllocRefusal}
 use Rattle.model_core.specs.declared.refusals.ReadRefusal.{ReadRefusal}
 use Rattle.model_core.specs.declared.refusals.CacheRefusal.{CacheRefusal}

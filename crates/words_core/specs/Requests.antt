@@ -1,4 +1,4 @@
--- The commands and replies that the borrowed forms `Request`, `Answer` and `Table` mean, and tests of these forms.
+-- The command or reply that each of the borrowed forms `Request`, `Answer` and `Table` stands for, and tests of these forms.
 use Rattle.std.specs.Prelude.{◌≡◌, ℕ, ◌≤◌, Bool, true, false, if◌then◌else◌, length}
 use Rattle.model_core.specs.declared.limits.TheConstants.{MOST_BYTES, MOST_SUPERBLOCKS}
 use Rattle.model_core.specs.Layouts.{is_pattern}
@@ -77,7 +77,7 @@ abbrev pub HasFewRows : Table → Type 0
 HasFewRows (Table.Owners owners) = length owners.now ≤ MOST_SUPERBLOCKS
 HasFewRows (Table.Report tenant report) = Unit {0}
 
--- if the answer has bytes that were read, they are at most as many as one read may return
+-- if the answer has bytes that were read, there are at most 64
 abbrev pub HasFewBytes : Answer → Type 0
 HasFewBytes (Answer.Bytes bytes) = length bytes.now ≤ MOST_BYTES
 HasFewBytes (Answer.Frame frame) = Unit {0}
@@ -95,7 +95,7 @@ HasFewBytes (Answer.WasReset tenant superblocks) = Unit {0}
 HasFewBytes (Answer.Moved tenant slot superblock) = Unit {0}
 HasFewBytes (Answer.Fault fault) = Unit {0}
 
--- if the command is for a new cache, its pattern has 1 to 16 bytes
+-- if the command makes a cache, the pattern has 1 to 16 bytes
 abbrev pub AsksPattern : Command → Type 0
 AsksPattern (Command.Cache size align pattern) = is_pattern pattern.items ≡ true
 AsksPattern (Command.Alloc order) = Unit {0}
@@ -108,7 +108,7 @@ AsksPattern (Command.Give cache place) = Unit {0}
 AsksPattern Command.Reap = Unit {0}
 AsksPattern Command.Report = Unit {0}
 
--- a write has at most 64 bytes, and the pattern of a cache has 1 to 16 bytes
+-- if the request is a write, it has at most 64 bytes; if it makes a cache, the pattern has 1 to 16 bytes
 abbrev pub IsAskable : Request → Type 0
 IsAskable (Request.Write place bytes) = length bytes.now ≤ MOST_BYTES
 IsAskable (Request.Cache size align pattern) = is_pattern pattern.now ≡ true

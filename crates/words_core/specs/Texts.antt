@@ -57,7 +57,7 @@ addressee_text Addressee.Admin = codes "admin> "
 addressee_text Addressee.Nobody = codes "!> "
 addressee_text (Addressee.Tenant tenant) = decimal tenant ++ codes "> "
 
--- the owner of a superblock and its slot, or `free`
+-- the line of a superblock: its owner and the owner's slot, or `free`
 abbrev pub owner_text : List ℕ → ℕ → Option Owner → List ℕ
 owner_text front superblock None = front ++ codes "superblock " ++ decimal superblock ++ codes " free"
 owner_text front superblock (Some owner) =
@@ -69,7 +69,7 @@ abbrev pub owner_texts : List ℕ → ℕ → List (Option Owner) → List (List
 owner_texts front superblock [] = []
 owner_texts front superblock (owner ∷ owners) = owner_text front superblock owner ∷ owner_texts front (superblock + 1) owners
 
--- the number of superblocks without an owner and the number of all, and then a line for each
+-- a line with the numbers of free superblocks and of all superblocks, and then a line for each superblock
 abbrev pub pool_texts : List ℕ → List (Option Owner) → List (List ℕ)
 pool_texts front owners =
     (front ++ codes "pool free " ++ decimal (count_by is_none owners) ++ codes " of " ++ decimal (length owners))

@@ -10,11 +10,11 @@ abbrev pub is_not_empty : List ℕ → Bool
 is_not_empty [] = false
 is_not_empty (_ ∷ _) = true
 
--- As a function: the parts between blanks that are not empty.
+-- The words as a function: the parts of the line between blanks, without the empty ones.
 unfoldable pub words_of : List ℕ → List (List ℕ)
 words_of line = filter is_not_empty (slice_split is_blank line)
 
--- As a relation: there are runs of blanks before, between and after the words.
+-- The words as a relation: the line consists of the words, with runs of blanks before, between and after them.
 
 abbrev pub IsBlank : ℕ → Type 0
 IsBlank b = is_blank b ≡ true
@@ -35,7 +35,7 @@ abbrev pub StartsBlank : List ℕ → Type 0
 StartsBlank [] = Unit {0}
 StartsBlank (b ∷ _) = IsBlank b
 
--- the line is blanks, then this whole word, then the rest
+-- the line consists of blanks, then this whole word, then the rest
 pub record BeginsWithWord (line word rest : List ℕ) : Type 0 where
   pub gap : List ℕ
   pub split : line ≡ gap ++ (word ++ rest)
@@ -43,7 +43,7 @@ pub record BeginsWithWord (line word rest : List ℕ) : Type 0 where
   pub is_word : IsWord word
   pub ends : StartsBlank rest
 
--- the line is these words, with runs of blanks before, between and after them
+-- the line consists of these words, with runs of blanks before, between and after them
 abbrev pub HasWords : List ℕ → List (List ℕ) → Type 0
 HasWords line [] = IsBlanks line
 HasWords line (word ∷ words) = (rest : List ℕ) × BeginsWithWord line word rest × HasWords rest words

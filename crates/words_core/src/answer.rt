@@ -54,7 +54,7 @@ pub enum Answer<'a> {
 /// Size in bytes of a buffer for the text of any answer, including its line feed. The longest text has 64 bytes that were read.
 pub const MOST_ANSWER_BYTES: usize = 160;
 
-/// Size in bytes of a buffer for the text of an answer that is not long, see [`Answer::is_long`].
+/// Size in bytes of a buffer for the text of an answer that is not long (see [`Answer::is_long`]).
 pub const SHORT_ANSWER_BYTES: usize = 32;
 
 /// The largest number of bytes before the body in a line of a reply.
@@ -119,8 +119,8 @@ impl Answer<'_> {
         }
     }
 
-    /// Returns true if the text needs a buffer of `MOST_ANSWER_BYTES` bytes: if the answer has bytes that were read, or is about a
-    /// new cache or about superblocks.
+    /// Returns true if the text may need a buffer of `MOST_ANSWER_BYTES` bytes: if the answer has bytes that were read, or is
+    /// about a new cache or about superblocks.
     #[inline(always)]
     pub fn is_long(&self) -> bool
         ensures { result ≡ is_long self.now }
@@ -232,7 +232,7 @@ pub fn write_answer(tenant: u8, answer: Answer<'_>, out: &mut [u8]) -> usize
     put_text(b"\n", end, out)
 }
 
-/// The rest of [`write_answer`]: answers that are rare, or that are not one word and one number.
+/// Writes the other answers for [`write_answer`]: those that are rare, or are not one word and one number.
 #[inline(always)]
 fn write_other(tenant: u8, answer: Answer<'_>, out: &mut [u8]) -> usize
     requires few { HasFewBytes answer }
@@ -252,7 +252,7 @@ fn write_other(tenant: u8, answer: Answer<'_>, out: &mut [u8]) -> usize
     put_text(b"\n", at, out)
 }
 
-/// The same as [`write_answer`] for any addressee.
+/// Writes the text of an answer to any addressee, as [`write_answer`] does for a tenant.
 pub fn write_answer_to(addressee: Addressee, answer: Answer<'_>, out: &mut [u8]) -> usize
     requires few { HasFewBytes answer }
     requires space { buffer_of answer ≤ length out.old }
@@ -295,7 +295,8 @@ pub(crate) fn put_addressee(addressee: Addressee, out: &mut [u8]) -> usize
     }
 }
 
-/// Writes the answer after the first `at` bytes and returns the index of its end. The functions below do the same.
+/// Writes the answer after the first `at` bytes and returns the index of its end. The functions below also write after the first
+/// `at` bytes and return the end.
 #[inline(always)]
 pub(crate) fn put_answer(answer: Answer<'_>, at: usize, out: &mut [u8]) -> usize
     requires few { HasFewBytes answer }
@@ -375,7 +376,7 @@ fn put_bytes(bytes: &[u8], at: usize, out: &mut [u8]) -> usize
     put_digits(bytes, at, out)
 }
 
-/// [`put_hex`], not inlined.
+/// Calls [`put_hex`], but is not inlined.
 #[inline(never)]
 fn put_digits(bytes: &[u8], at: usize, out: &mut [u8]) -> usize
     requires { at + 2 * length bytes.now ≤ length out.old }

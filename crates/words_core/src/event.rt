@@ -14,7 +14,7 @@ pub enum Event {
     Tenant(u32, Command),
 }
 
-/// A command of the administrator. The tenants that it names need not exist.
+/// A command of the administrator. The tenant that it names need not exist.
 #[derive(Debug, Drop, PartialEq, Eq)]
 pub enum AdminCommand {
     /// `admin grant T`: gives the tenant a superblock.
@@ -164,7 +164,7 @@ pub enum LineFault {
     Words,
     /// An argument is not a number, or the first word begins with a digit and is not a number.
     Number,
-    /// An argument is not bytes in hex, or has too many of them.
+    /// An argument is not bytes in hex, or has more bytes than the command takes.
     Hex,
 }
 

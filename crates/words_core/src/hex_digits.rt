@@ -1,4 +1,4 @@
-//! Bytes in hex, two lower case digits each.
+//! Writes bytes in hex, two lower-case digits each.
 
 ghost use Rattle.std.specs.Prelude.{◌≡◌, ◌+◌, ◌*◌, ◌≤◌, [], ◌∷◌, ◌++◌, length, take};
 ghost use Rattle.hex.specs.Hex.{encode_lower};
@@ -6,7 +6,7 @@ ghost use Rattle.hex.specs.Hex.{encode_lower};
 use crate::window::put_text;
 
 /// Writes the bytes in hex after the first `at` bytes of `out` and returns the index of the end. Four bytes are converted at a
-/// time, so that their eight digits are one store.
+/// time, so that their eight digits need only one store.
 #[inline(always)]
 pub fn put_hex(bytes: &[u8], at: usize, out: &mut [u8]) -> usize
     requires { at + 2 * length bytes.now ≤ length out.old }
@@ -22,7 +22,7 @@ pub fn put_hex(bytes: &[u8], at: usize, out: &mut [u8]) -> usize
     put_hex_singly(rest, end, out)
 }
 
-/// The same as [`put_hex`], a byte at a time.
+/// Does what [`put_hex`] does, one byte at a time.
 #[inline(always)]
 fn put_hex_singly(bytes: &[u8], at: usize, out: &mut [u8]) -> usize
     requires { at + 2 * length bytes.now ≤ length out.old }

@@ -26,7 +26,7 @@ pub fn read_line(line: &[u8]) -> Result<Option<Event>, LineFault>
     // The line has the returned meaning and no other.
     ensures says { Says line.now result }
     ensures only { (other : Result (Option EventValue) Fault) → Says line.now other → other ≡ result }
-    // The same, as a function of the line.
+    // This meaning is `reading_of` of the line.
     ensures exact { result ≡ reading_of line.now }
 {
     let line = without_carriage_return(line);
@@ -96,7 +96,7 @@ fn asked_of_tenant(words: &[&[u8]]) -> Result<Command, LineFault>
 fn admin_command_of(name: &[u8], arguments: &[&[u8]]) -> Result<AdminCommand, LineFault>
     ensures { result ≡ command_of admin_rows name.now (map (λ word. word.now) arguments.now) }
 {
-    // A chain of tests, for the reason given in `tenant_command_of`.
+    // This is a chain of tests, for the reason given in `tenant_command_of`.
     if name == b"grant".as_slice() {
         grant_of(arguments)
     } else if name == b"takeback".as_slice() {
@@ -115,7 +115,7 @@ fn admin_command_of(name: &[u8], arguments: &[&[u8]]) -> Result<AdminCommand, Li
 fn tenant_command_of(name: &[u8], arguments: &[&[u8]]) -> Result<Command, LineFault>
     ensures { result ≡ command_of tenant_rows name.now (map (λ word. word.now) arguments.now) }
 {
-    // A chain of tests, because to the prover a match on ten byte strings is a tree with more than thirty leaves.
+    // This is a chain of tests, because to the prover a match on ten byte strings is a tree with more than thirty leaves.
     if name == b"alloc".as_slice() {
         alloc_of(arguments)
     } else if name == b"free".as_slice() {

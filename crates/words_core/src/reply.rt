@@ -1,4 +1,4 @@
-//! Replies: addressee and body.
+//! A reply: its addressee and its body.
 
 ghost use Rattle.std.specs.Prelude.{◌≡◌, ◌≤◌, length};
 
@@ -92,13 +92,13 @@ pub enum Refusal {
     /// No free block of the tenant is large enough for the page block, or for the new slab that an object needs, even after empty
     /// slabs are freed.
     NoFrames = 1,
-    /// The order is above that of a superblock.
+    /// The order is above the order of a superblock.
     BadOrder,
     /// No page block of the tenant begins at the frame.
     NotABlock,
     /// The range is not inside one live page block or one live object.
     OutOfReach,
-    /// A read of 0 bytes, or of more than 64.
+    /// The read is of 0 bytes, or of more than 64.
     BadLength,
     /// The size is 0, or above 4096.
     BadSize,

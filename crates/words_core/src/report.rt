@@ -28,7 +28,8 @@ pub struct Report {
     pub free: u32,
     /// The greatest order of a free block, if there is one.
     pub top: Option<u8>,
-    /// The share of the free frames that lie outside one of the largest free blocks, in thousandths.
+    /// The share of the free frames that are outside the largest free block, in thousandths, rounded up. If several blocks are
+    /// the largest, one of them counts. The share is 0 if there is no free block.
     pub split: u32,
     /// The numbers of free and taken blocks of each order, from order 0 on.
     pub orders: ArrayVec<OrderRow, ORDERS>,
@@ -36,8 +37,8 @@ pub struct Report {
     pub caches: ArrayVec<CacheRow, CACHES>,
 }
 
-/// Writes one row of a report after the first `at` bytes, as a line without its line feed, and returns the index of its end. The
-/// functions below do the same. Rows are counted from 0.
+/// Writes one row of a report after the first `at` bytes, as a line without its line feed, and returns the index of its end. Rows
+/// are counted from 0. The functions below also write after the first `at` bytes and return the end.
 pub(crate) fn put_report(report: &Report, row: usize, at: usize, out: &mut [u8]) -> usize
     requires row { row < length (report_texts (take at out.old) report.now) }
     requires front { at ≤ MOST_FRONT_BYTES }

@@ -43,7 +43,7 @@ pub fn write_line(reply: &Reply, row: usize, out: &mut ArrayVec<u8, MOST_REPLY_B
     prove!(taken.is_ok());
 }
 
-/// The same as [`write_line`], but writes to the front of a slice. Returns the length of the line in bytes.
+/// Writes one line of a reply to the front of a slice, as [`write_line`] does. Returns the length of the line in bytes.
 pub fn write_row(reply: &Reply, row: usize, out: &mut [u8]) -> usize
     requires row { row < length (lines_of reply.now) }
     requires space { MOST_REPLY_BYTES ≤ length out.old }
@@ -78,7 +78,7 @@ impl Table<'_> {
         }
     }
 
-    /// The same as [`write_row`] for this reply.
+    /// Writes one line of this reply, as [`write_row`] does.
     pub fn write_row(self, row: usize, out: &mut [u8]) -> usize
         requires rows { HasFewRows self }
         requires row { row < length (lines_of (reply_of_table self)) }
@@ -116,7 +116,8 @@ impl Table<'_> {
     }
 }
 
-/// Writes one line of the body after the first `at` bytes and returns the index of its end. The functions below do the same.
+/// Writes one line of the body after the first `at` bytes and returns the index of its end. The functions below also write after
+/// the first `at` bytes and return the end.
 #[tactic(auto, using(crate::proofs::TextLemmas::table_rows))]
 fn put_body(body: &Body, row: usize, at: usize, out: &mut [u8]) -> usize
     requires row { row < length (body_texts (take at out.old) body.now) }

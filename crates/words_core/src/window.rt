@@ -6,7 +6,7 @@ ghost use Rattle.words_core.specs.Digits.{two_digits, five_digits};
 use crate::numbers::{MOST_DIGITS, digits_of};
 
 /// Writes the text after the first `at` bytes of the buffer and returns the index of its end. The other functions here that take
-/// `at` do the same.
+/// `at` also write after the first `at` bytes and return the end.
 #[inline(always)]
 pub fn put_text(text: &[u8], at: usize, out: &mut [u8]) -> usize
     requires { at + length text.now ≤ length out.old }
@@ -39,7 +39,7 @@ pub fn put_front(tenant: u8, front: &[u8; FRONT_BYTES], len: usize, out: &mut [u
     len
 }
 
-/// [`put_front`] for a number with several digits.
+/// Does what [`put_front`] does, for a tenant number of 10 or more.
 #[inline(never)]
 fn put_long_front(tenant: u8, front: &[u8; FRONT_BYTES], len: usize, out: &mut [u8]) -> usize
     requires some { 0 < len }
@@ -52,7 +52,7 @@ fn put_long_front(tenant: u8, front: &[u8; FRONT_BYTES], len: usize, out: &mut [
     put_text(&front[1..len], at, out)
 }
 
-/// Writes the whole front over the first bytes.
+/// Writes the whole front over the first bytes of `out`.
 #[inline(always)]
 fn put_whole(front: &[u8; FRONT_BYTES], out: &mut [u8])
     requires { FRONT_BYTES ≤ length out.old }
@@ -155,8 +155,8 @@ fn put_five(number: u32, at: usize, out: &mut [u8]) -> usize
     put_two(rest % 100, at, out)
 }
 
-/// Writes a number in fewer instructions than [`put_number`], for the frequent lines. It is always inlined, and has only one call:
-/// with several calls, the function around them grows too large to be inlined.
+/// Writes a number in fewer instructions than [`put_number`], for the frequent lines. It is always inlined, and is called only
+/// once: with several calls, the function around them grows too large to be inlined.
 #[tactic(auto, using(crate::proofs::DigitLemmas::digit_rules))]
 #[inline(always)]
 pub fn put_number_quickly(number: u32, at: usize, out: &mut [u8]) -> usize

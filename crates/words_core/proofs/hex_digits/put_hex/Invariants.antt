@@ -2,7 +2,7 @@ use Rattle.std.proofs.Common.{◌≡◌, ◌+◌, ◌*◌, ◌++◌, take, lengt
 use Rattle.hex.specs.Hex.{encode_lower}
 use Rattle.words_core.proofs.hex_digits.put_hex.Given as goal
 
--- the digits so far, and then those of the rest, are those of all the bytes
+-- the digits written so far and the digits of the rest are together the digits of all bytes
 abbrev pub invariant-fours : goal.invariant-fours
 invariant-fours l = record {
   text : take l.end l.out ++ encode_lower l.rest ≡ take l.at l.initial.out ++ encode_lower l.bytes;

@@ -4,7 +4,7 @@ use Rattle.std.specs.Char.{is_ascii_digit}
 use Rattle.words_core.specs.Numbers.{value_of}
 use Rattle.words_core.proofs.numbers.number.Given as goal
 
--- the value so far is that of the digits read so far
+-- the value so far is the value of the digits that were read so far
 abbrev pub invariant-loop-digit : goal.invariant-loop-digit
 invariant-loop-digit l = record {
   value : l.value ≡ value_of (take l.digit-index l.word);
