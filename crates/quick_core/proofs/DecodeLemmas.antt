@@ -1,4 +1,4 @@
--- Pairs of hex digits, one after another, and the line that they end.
+-- Pairs of hex digits that are decoded one after another, and the meaning of a line that ends with them.
 use Rattle.std.proofs.Common.{◌≡◌, ℕ, ◌+◌, ◌-◌, ◌*◌, ◌<◌, ◌≤◌, true, nat_le, ◌&&◌, if◌then◌else◌, List, [], ◌∷◌, ◌++◌, codes, length, get_or, take, drop, map, Option, Some, None, Result, Ok, Err, refl, sym, ◌∙◌, ap, arith}
 use Rattle.std.specs.List.{range_with_len, slice_range}
 use Rattle.std.specs.Result.{result_unwrap_or}
@@ -48,7 +48,7 @@ digit_small c value is = grind (arith, nat_tests)
 pair_is : (a b i high low : ℕ) → hex_digit_value a ≡ Some high → hex_digit_value b ≡ Some low → pair_value a b i ≡ Ok (high * 16 + low)
 pair_is a b i high low a_is b_is = rw (a_is, b_is) refl
 
--- a sum below 1024 is the byte of two digits
+-- if the sum of a high and a low entry is below 1024, it is the byte that the two digits encode
 pair_of_sum : (a b pair : ℕ) (high low : Option ℕ) → hex_digit_value a ≡ high → hex_digit_value b ≡ low
     → pair ≡ tabled (λ value. 16 * value) high + tabled (λ value. value) low → pair < 1024
     → (pair < 256) × ((i : ℕ) → pair_value a b i ≡ Ok pair)
@@ -79,7 +79,7 @@ high_few c byte = omega (arith, high_at c byte, high_small (hex_digit_value c) c
 pub low_few : (c : ℕ) → c < 256 → get_or LOW_VALUES c 0 ≤ 1024
 low_few c byte = omega (arith, low_at c byte, low_small (hex_digit_value c) c refl)
 
--- ---- pairs, one part of a text after another
+-- ---- pairs that are decoded in one part of a text after another
 
 pub decodes_none : (text : List ℕ) (from end : ℕ) → end ≤ from → Decodes text from end []
 unfolding decode_pairs
@@ -118,7 +118,7 @@ decode_append i (x ∷ y ∷ text) more bytes others is are =
       step (Ok byte) (Err e) new longer is = absurd cc
       step (Err e) old new longer is = absurd cc
 
--- one more part after the decoded ones
+-- if two adjacent parts of a text are decoded, both together decode to the bytes of the first and then those of the second
 pub decodes_more : (text : List ℕ) (from mid stop end : ℕ) (bytes others all : List ℕ) → from ≤ mid → mid ≤ stop → end ≡ stop
     → Decodes text from mid bytes → Decodes text mid stop others → all ≡ bytes ++ others → Decodes text from end all
 decodes_more text from mid stop end bytes others all low high end_is first second all_is i =

@@ -1,4 +1,4 @@
--- A line of words separated by single blanks: its meaning, and its end.
+-- The meaning and the end of a line whose words are separated by single blanks.
 use Rattle.std.proofs.Common.{◌≡◌, inl, inr, not, position, length-append, ℕ, ◌+◌, ◌-◌, ◌^◌, ◌<◌, ◌≤◌, Bool, true, false, ◌&&◌, nat_lt, nat_le, ◌==◌, if◌then◌else◌, List, [], ◌∷◌, ◌++◌, codes, length, get_or, take, Option, Some, None, Result, Ok, refl, sym, ◌∙◌, ap, subst, arith, append-nil}
 use Rattle.std.specs.List.{All, Contains, list_all, slice_range}
 use Rattle.std.specs.Char.{is_ascii_digit}
@@ -25,7 +25,7 @@ use Rattle.quick_core.proofs.WindowLemmas.{cut, front, one_more, first_line_feed
 
 -- ---- bytes
 
--- neither a blank nor part of a line's end
+-- the byte is above 32, so it is neither a blank nor part of a line's end
 abbrev pub IsPlain : ℕ → Type 0
 IsPlain b = 32 < b
 
@@ -111,7 +111,7 @@ line_has first words plain all = (
   spaced_has words all,
 )
 
--- neither a line feed nor a carriage return
+-- the byte is above 31, so it is neither a line feed nor a carriage return
 abbrev pub IsInLine : ℕ → Type 0
 IsInLine b = 31 < b
 
@@ -134,7 +134,7 @@ no_carriage_return (b ∷ bytes) all =
     let test : (get_or (b ∷ bytes) (length (b ∷ bytes) - 1) 0 == 13) ≡ false = grind (arith, nat_tests) in
     ap (λ t. if t then take (length (b ∷ bytes) - 1) (b ∷ bytes) else (b ∷ bytes)) test
 
--- a carriage return after a line is not part of it
+-- if a carriage return is put after a line, `strip_carriage_return` gives the line back
 carriage_return : (line : List ℕ) → strip_carriage_return (line ++ 13 ∷ []) ≡ line
 carriage_return line =
     let size : length (line ++ 13 ∷ []) - 1 ≡ length line = omega (arith, length-append line (13 ∷ [])) in
@@ -147,7 +147,8 @@ carriage_return line =
 not_line_feed : (b : ℕ) → 31 < b → not (b == 10) ≡ true
 not_line_feed b above = grind (arith, nat_tests)
 
--- the index of the line feed, and the text of the line
+-- If a line's end begins at e and no byte before e is below 32, the first line feed is the line's last byte. The text of the line
+-- is the first e bytes.
 ended_line : (window : List ℕ) (e len : ℕ) → EndsLine window e len → All IsInLine (take e window)
     → (0 < len) × (position (λ b. b == 10) window ≡ Some (len - 1)) × (strip_carriage_return (take (len - 1) window) ≡ take e window)
 ended_line window e len ends all = elim ends.ended [
@@ -186,9 +187,9 @@ ended_line window e len ends all = elim ends.ended [
     | inr last ↦ ap (λ n. not (get_or window n 0 == 10)) (omega arith) ∙ ap (λ b. not (b == 10)) at
   ]
 
--- ---- the meaning of such a line
+-- ---- the meaning of a line with single blanks
 
--- each line is in exactly one case
+-- each line is in a case, and its meaning there is `reading_of` of the line
 abbrev pub SomeCase : Type 0
 SomeCase = (line : List ℕ) → (number : ℕ) × Case number line (reading_of line)
 
@@ -196,7 +197,7 @@ abbrev pub OneCase : Type 0
 OneCase = (line : List ℕ) (number other : ℕ) (reading second : Result (Option Event) LineFault)
     → Case number line reading → Case other line second → (other ≡ number) × (second ≡ reading)
 
--- the event of a tenant's number, a command's word and its arguments
+-- a line with a tenant's number, a command's word and this command's arguments reads as this command of this tenant
 pub event_said : SomeCase → OneCase → (line first : List ℕ) (arguments : List (List ℕ)) (t : ℕ) (row : CommandRow Command) (command : Command)
     → strip_carriage_return line ≡ first ++ spaced (row.word ∷ arguments)
     → number_of first ≡ Some t → Contains tenant_rows row → IsPlainWord row.word → All IsPlainWord arguments
@@ -212,9 +213,9 @@ event_said some only line first arguments t row command text first_is has plain_
     (event (tenant t) first_is row (has, refl) command make)) in
     (only line 8 (some line).0 (Ok (Some (Tenant t command))) (reading_of line) case (some line).1).1
 
--- ---- such a line in a window
+-- ---- a line with single blanks in a window
 
--- the first line of the window, cut into its words
+-- if the window begins with a line that has these words and a line end, that line is read as this command of this tenant
 pub is_read : SomeCase → OneCase → (window first : List ℕ) (arguments : List (List ℕ)) (e len t : ℕ) (row : CommandRow Command) (command : Command)
     → e ≤ length window → e ≤ 255 → EndsLine window e len → take e window ≡ first ++ spaced (row.word ∷ arguments)
     → number_of first ≡ Some t → Contains tenant_rows row → IsPlainWord row.word → All IsPlainWord arguments
@@ -238,7 +239,7 @@ blank_first : (window : List ℕ) (i next e : ℕ) → next ≡ i + 1 → i < e 
 blank_first window i next e next_is some fits is =
     front window i e 32 some fits is ∙ ap (λ k. 32 ∷ slice_range window k e) (sym next_is)
 
--- a line cut at two blanks; the parts after them begin at i and j
+-- if there are blanks at a and b, the text up to e is three words: the bytes up to a, from i to b, and from j to e
 two_words : (window : List ℕ) (a i b j e : ℕ) → i ≡ a + 1 → i < b → j ≡ b + 1 → j < e → e ≤ length window
     → get_or window a 0 ≡ 32 → get_or window b 0 ≡ 32
     → take e window ≡ slice_range window 0 a ++ spaced (slice_range window i b ∷ slice_range window j e ∷ [])
@@ -251,7 +252,7 @@ two_words window a i b j e i_is ib j_is je fits blank_a blank_b =
     ∙ ap (λ rest. slice_range window i b ++ rest) (blank_first window b j e j_is (omega arith) fits blank_b
     ∙ ap (λ rest. 32 ∷ rest) (sym (append-nil (slice_range window j e))))))
 
--- a line cut at three blanks
+-- if there are blanks at a, b and d, the text up to e is four words: the bytes up to a, from i to b, from j to d, and from k to e
 pub three_words : (window : List ℕ) (a i b j d k e : ℕ) → i ≡ a + 1 → i < b → j ≡ b + 1 → j < d → k ≡ d + 1 → k < e → e ≤ length window
     → get_or window a 0 ≡ 32 → get_or window b 0 ≡ 32 → get_or window d 0 ≡ 32
     → take e window ≡ slice_range window 0 a ++ spaced (slice_range window i b ∷ slice_range window j d ∷ slice_range window k e ∷ [])
@@ -266,7 +267,7 @@ three_words window a i b j d k e i_is ib j_is jd k_is ke fits blank_a blank_b bl
     ∙ ap (λ rest. slice_range window j d ++ rest) (blank_first window d k e k_is (omega arith) fits blank_d
     ∙ ap (λ rest. 32 ∷ rest) (sym (append-nil (slice_range window k e))))))))
 
--- a command with one number: its word ends at b, and its number begins at j
+-- a line is read as a command with one number if the command's word ends at b and its number begins at j
 pub is_read_one : SomeCase → OneCase → (window : List ℕ) (named : ReadNumber) (b j n len : ℕ) (row : CommandRow Command) (command : Command)
     → 32 ≤ length window → NamesTenant window named → named.end + 1 < b → b ≤ named.end + 6 → j ≡ b + 1
     → slice_range window (named.end + 1) b ≡ row.word → get_or window b 0 ≡ 32 → (last : IsLastNumber window j n len)
@@ -282,7 +283,7 @@ is_read_one some only window named b j n len row command size names ib near j_is
     (All-cons IsPlainWord (slice_range window j e) [] (plain_number (slice_range window j e) n last.number) (All-nil IsPlainWord))
     make
 
--- a command with two numbers: the first ends at d, and the second begins at k
+-- a line is read as a command with two numbers if the first number is from j to d and the second begins at k
 pub is_read_two : SomeCase → OneCase → (window : List ℕ) (named : ReadNumber) (b j d k m n len : ℕ) (row : CommandRow Command) (command : Command)
     → 32 ≤ length window → NamesTenant window named → named.end + 1 < b → b ≤ named.end + 6 → j ≡ b + 1 → j < d → d ≤ j + 9 → k ≡ d + 1
     → slice_range window (named.end + 1) b ≡ row.word → get_or window b 0 ≡ 32

@@ -18,14 +18,14 @@ cut xs i j e low high =
           ∙ drop-take (j - i) (e - j) (drop i xs)
           ∙ ap (take (e - j)) (drop-drop (j - i) i xs ∙ ap (λ n. drop n xs) start)
 
--- the byte at the front of a part
+-- a part that is not empty is its first byte and then the part after that byte
 pub front : (xs : List ℕ) (i e b : ℕ) → i < e → e ≤ length xs → get_or xs i 0 ≡ b → slice_range xs i e ≡ b ∷ slice_range xs (i + 1) e
 front xs i e b some fits is =
     cut xs i (i + 1) e (omega arith) (omega arith)
     ∙ ap (λ one. one ++ slice_range xs (i + 1) e)
     (between_more xs i i 0 (omega arith) (omega arith) ∙ (λ t. between_none xs i t ++ is t ∷ []))
 
--- one byte more
+-- if the byte at e is b, the part from i up to e + 1 is the part up to e and then b
 pub one_more : (xs : List ℕ) (i e b : ℕ) (part : List ℕ) → i ≤ e → e < length xs → slice_range xs i e ≡ part → get_or xs e 0 ≡ b
     → slice_range xs i (e + 1) ≡ part ++ b ∷ []
 one_more xs i e b part low within part_is is = between_more xs i e 0 low within ∙ (λ t. part_is t ++ is t ∷ [])

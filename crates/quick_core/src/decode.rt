@@ -73,7 +73,7 @@ fn decode_singly(
     most
 }
 
-/// Returns the bytes of four pairs of hex digits, or `None` if one of the eight is not a hex digit.
+/// Returns the bytes that four pairs of hex digits encode, or `None` if one of the eight bytes there is not a hex digit.
 #[inline(always)]
 fn four_pairs_at(bytes: &[u8], at: usize) -> Option<[u8; 4]>
     requires { at + 8 ≤ length bytes.now }

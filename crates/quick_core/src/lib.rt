@@ -1,6 +1,6 @@
 //! The quick reader: reads the frequent lines in few instructions.
 //!
-//! It returns a request only if that is exactly how the grammar in `words_core` reads the line. All other lines are left to
+//! It returns a request only if the grammar in `words_core` reads the line as exactly this request. All other lines are left to
 //! `words_core`, so you can ignore this crate if you only want to know the rules.
 #![tactic(auto)]
 

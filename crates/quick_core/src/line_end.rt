@@ -9,8 +9,8 @@ pub const LF: bool = false;
 /// Lines that end in CR LF.
 pub const CR_LF: bool = true;
 
-/// Returns the length of a line, including its end, if the end begins at index `end`: LF, or CR LF if `RETURNS`. Returns `None`
-/// otherwise.
+/// Returns the length in bytes of a line whose end begins at index `end`: LF, or CR LF if `RETURNS`. The length includes the end.
+/// Returns `None` if other bytes are there.
 #[inline(always)]
 pub fn line_len<const RETURNS: bool>(bytes: &[u8], end: usize) -> Option<usize>
     requires { end + (if RETURNS then 1 else 0) < length bytes.now }

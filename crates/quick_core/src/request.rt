@@ -23,8 +23,8 @@ pub struct RequestLine<'a> {
     pub len: usize,
 }
 
-/// The number of bytes, counted from the beginning of a line, that have to be there for the line to be read here. Every line that
-/// is read here fits into them with its line end, except a `write`, whose hex digits and line end may lie beyond them.
+/// The number of bytes that must be available, from the beginning of a line on, for the line to be read here. Every line that is
+/// read here fits into them with its line end, except a `write`, whose hex digits and line end may lie beyond them.
 pub const WINDOW: usize = 32;
 
 /// The largest number of digits in a tenant's number that is read here.
@@ -54,7 +54,7 @@ pub fn read_request<'a>(bytes: &[u8], buffer: &'a mut [u8; MOST_BYTES]) -> Optio
     read_ended_request::<LF>(bytes, buffer)
 }
 
-/// [`read_request`] for a line that ends in LF, or in CR LF if `RETURNS`.
+/// Reads a line as [`read_request`] does, but the line ends in CR LF if `RETURNS`, and otherwise in LF.
 #[inline(always)]
 pub fn read_ended_request<'a, const RETURNS: bool>(
     bytes: &[u8],
@@ -87,7 +87,7 @@ pub fn read_tenant(bytes: &[u8]) -> Option<Number>
     (bytes[tenant.end] == b' ').then_some(tenant)
 }
 
-/// [`read_ended_request`] for a line whose tenant was already read: reads the rest of the line.
+/// Reads the rest of a line whose tenant was already read, as [`read_ended_request`] does.
 #[inline(always)]
 pub fn read_known_request<'a, const RETURNS: bool>(
     bytes: &[u8],
