@@ -41,7 +41,7 @@ wrapped a = Ok a
 ok_same : {A : Type 0} (a b : A) → wrapped a ≡ Ok b → a ≡ b
 ok_same a b e = cc
 
--- if two steps give a value, the first one does
+-- the first step gives a value, and the second step gives b for this value
 pub record Both {A B : Type 0} (r : Result A LineFault) (f : A → Result B LineFault) (b : B) : Type 0 where
   pub value : A
   pub is : r ≡ Ok value
@@ -60,7 +60,7 @@ decoded word bytes e = go (length word % 2 == 1) e
     go true e = absurd (cc)
     go false e = (decode_pairs-ok 0 word bytes e).1
 
--- 2 to 32 digits are a pattern
+-- if a word reads as at most 16 bytes in hex, the bytes are a pattern
 read_pattern : (word : List ℕ) (pattern : ArrayVec ℕ) → bytes_argument 16 word ≡ Ok pattern → is_pattern pattern.items ≡ true
 read_pattern word pattern e = go (nat_le 2 (length word) && nat_le (length word) 32) refl e
   where
@@ -175,7 +175,7 @@ judged_possible (first ∷ rest) event e = go (slice_index first 0 == 35) e
         let parts = both (event_of first rest) (λ event. Ok (Some event)) (Some event) e in
         subst IsPossibleEvent (same_Some parts.value event (ok_same (Some parts.value) (Some event) parts.rest)) (event_possible first rest parts.value parts.is)
 
--- an event read from a line is possible
+-- every event that is read from a line is possible
 pub reading_possible : (line : List ℕ) (event : Event) → reading_of line ≡ Ok (Some event) → IsPossibleEvent event
 unfolding reading_of
 reading_possible line event e = go (nat_lt 255 (length (strip_carriage_return line))) e

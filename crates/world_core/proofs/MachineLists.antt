@@ -1,4 +1,4 @@
--- The element at an index of a list after one element was replaced, and of a list of copies of one element.
+-- The element at an index of a list: after one element was replaced, and in a list of copies of one element.
 use Rattle.std.proofs.Common.{◌≡◌, ℕ, zero, suc, ◌<◌, ◌≢◌, List, [], ◌∷◌, Some, length, slice_get, slice_set, replicate, refl, ap, sym, arith}
 
 pub slice_get-set_same : {A : Type 0} (xs : List A) (i : ℕ) (x y : A) → slice_get xs i ≡ Some x → slice_get (slice_set xs i y) i ≡ Some y
@@ -23,7 +23,7 @@ slice_get-replicate zero i x h = absurd (omega arith)
 slice_get-replicate (suc n) zero x h = refl
 slice_get-replicate (suc n) (suc i) x h = slice_get-replicate n i x (omega arith)
 
--- an index within the list has an element
+-- if an index is below the length of a list, the list has an element there
 pub get_within : {A : Type 0} (xs : List A) (i : ℕ) → i < length xs → (x : A) × (slice_get xs i ≡ Some x)
 get_within [] i within = absurd (omega arith)
 get_within (x ∷ xs) zero within = (x, refl)

@@ -49,12 +49,12 @@ module _ (limit more size align : ℕ) (pattern : List ℕ) (m : Machine) (le : 
   same_sized true given = refl
   same_sized false given = same_aligned (not (is_alignment align)) given
 
-  -- a command for a new cache that is not refused for lack of a number does the same under a greater limit
+  -- if a new cache is not refused for lack of a number, the step is the same under a greater limit
   same_cache : IsGiven (cache_step limit size align pattern m) → cache_step more size align pattern m ≡ cache_step limit size align pattern m
   unfolding cache_step create_step
   same_cache given = same_sized (not (is_size size)) given
 
--- the reply to one command of a tenant, as a run
+-- the step of one command of a tenant as a run
 abbrev told_once : Step Body → Told
 told_once step = record { replies = step.answer ∷ []; machine = step.machine }
 
@@ -77,7 +77,7 @@ same_step limit more order Grant m le none = refl
 same_step limit more order (TakeBack slot) m le none = refl
 same_step limit more order Reset m le none = refl
 
--- the replies of a run, and then those of a later one
+-- the result of a run and then a later one: the replies of both, and the later machine
 abbrev then_told : Told → Told → Told
 then_told first later = record { replies = first.replies ++ later.replies; machine = later.machine }
 

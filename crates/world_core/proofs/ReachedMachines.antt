@@ -30,7 +30,7 @@ pub reached_free_once : ReachedFreeOnce
 reached_free_once limit order x entries =
     each_frame_in_one order (holds (reached_machine limit order entries)) (taken_in (reached_machine limit order entries)) x
 
--- the free block that is chosen
+-- if `choice` returns a frame, a block of some order that begins there is the choice among the free blocks
 chosen_from : (order k first : ℕ) (m : Machine) → choice order m k ≡ Some first → (j : ℕ) × IsChoice order (holds m) (taken_in m) k (block first j)
 unfolding choice
 chosen_from order k first m e = go (choose order (holds m) (taken_in m) (beyond m.slots) k) e
@@ -71,7 +71,7 @@ order_in_front (x ∷ xs) ys f k e = go (x.first == f) e (order_in_front xs ys f
     go true e more = e
     go false e more = more e
 
--- a block that is freed was taken
+-- if a `free` returns an order, a taken block of that order began at the frame
 free_taken : (first k : ℕ) (m : Machine) → (free_step first m).answer ≡ Some k → taken_in m first ≡ Some k
 unfolding free_step taken_blocks
 free_taken first k m e = order_in_front m.blocks (flat_map slab_blocks m.caches) first k (go (order_in m.blocks first) e)
@@ -80,7 +80,7 @@ free_taken first k m e = order_in_front m.blocks (flat_map slab_blocks m.caches)
     go None e = e
     go (Some j) e = e
 
--- a statement about the free blocks holds for equal slots and taken blocks too
+-- if P says exactly that a block is free, it also does so for equal slots and equal taken blocks
 by_account : {P : Type 0} (order : ℕ) (held held' : ℕ → Bool) (taken taken' : Taken) (b : Block) → held' ≡ held → taken' ≡ taken
     → (IsFree order held taken b ↔ P) → IsFree order held' taken' b ↔ P
 by_account {P} order held held' taken taken' b slots blocks is =

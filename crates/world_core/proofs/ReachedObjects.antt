@@ -26,7 +26,7 @@ reached_constructed limit order entries object j asked is less none =
     ap (λ m. m.bytes (place_of object + j)) here
     ∙ constructed_first limit order (flat_map operations_in entries) object j asked (subst (λ m. IsObject m object) here is) less none
 
--- a reply with an object's place comes from a take that returned that place
+-- if the reply to a take has an object's place, the take returned that place
 taken_is : (place : ℕ) (answer : Result ℕ TakeRefusal) → take_body answer ≡ Say.Object place → answer ≡ Ok place
 taken_is place (Ok p) e = let same : p ≡ place = cc in ap Ok same
 taken_is place (Err refusal) e = absurd (cc)

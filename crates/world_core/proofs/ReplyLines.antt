@@ -1,4 +1,4 @@
--- The lines of a reply: none has an LF, so cutting at LFs returns them, and each begins with its addressee.
+-- The lines of a reply. None has an LF inside, so cutting the text at its LFs returns them. Each begins with its addressee.
 use Rattle.model_core.specs.declared.owner.Owner.{Owner}
 use Rattle.std.proofs.Common.{◌≡◌, ℕ, zero, suc, ◌+◌, Option, Some, None, is_none, count_by, length, slice_index, ◌<◌, ◌≤◌, ◌≢◌, ◌==◌, ◌/◌, ◌%◌, ◌&&◌, not, nat_eq, nat_le, Bool, true, false, if◌then◌else◌, List, [], ◌∷◌, ◌++◌, map, codes, decimal, refl, ap, sym, subst, ◌∙◌, arith, append_assoc}
 use Rattle.std.specs.List.{list_all, concat, starts_with, onto_first}
@@ -85,7 +85,7 @@ unfolding encode_with
 hex_text [] = refl
 hex_text (b ∷ bytes) = and_from _ _ (nibble_text (b / 16)) (and_from _ _ (nibble_text (b % 16)) (hex_text bytes))
 
--- a text with its LF, in front of the rest, is cut off as one line
+-- if a text without LF, an LF and a rest are cut into lines, the text is the first line
 cut_one : (text rest : List ℕ) → list_all is_text text ≡ true → lines_of_trace ((text ++ 10 ∷ []) ++ rest) ≡ text ∷ lines_of_trace rest
 cut_one [] rest h = refl
 cut_one (b ∷ text) rest h =
@@ -124,7 +124,7 @@ fault_text Words = refl
 fault_text Number = refl
 fault_text Hex = refl
 
--- a text goes on with one more piece
+-- if neither a text nor one more piece has an LF, both together have none
 with_piece : {front : List ℕ} → IsText front → (more : List ℕ) → list_all is_text more ≡ true → IsText (front ++ more)
 with_piece {front} text more h = record { all = list_all-append is_text front more ∙ and_from _ _ text.all h }
 
@@ -240,7 +240,7 @@ pub starts_same : (front rest : List ℕ) → starts_with nat_eq (front ++ rest)
 starts_same [] rest = refl
 starts_same (b ∷ front) rest = and_from _ _ (eq-eqb b b refl) (starts_same front rest)
 
--- a row whose first byte is neither a digit nor `>` does not begin with a number and `>`
+-- a row whose first byte is neither a digit nor `>` does not begin with digits and `>`
 pub starts_apart : (b : ℕ) (rest ds tail : List ℕ) → is_digit b ≡ false → (62 == b) ≡ false → list_all is_digit ds ≡ true
     → starts_with nat_eq (b ∷ rest) (ds ++ 62 ∷ tail) ≡ false
 starts_apart b rest [] tail unlike apart h = rw apart refl
@@ -252,7 +252,7 @@ starts_apart b rest (d ∷ ds) tail unlike apart h =
 no_mark : (d : ℕ) → is_digit d ≡ true → d ≡ 62 → ⊥
 no_mark d h e = let wrong : false ≡ true = subst (λ x. is_digit x ≡ true) e h in cc
 
--- a row that begins with a number and `>` begins with no other number and `>`
+-- if a row begins with digits and `>`, it begins with no other digits and `>`
 pub starts_number : (ds es tail rest : List ℕ) → list_all is_digit ds ≡ true → list_all is_digit es ≡ true
     → starts_with nat_eq (ds ++ 62 ∷ rest) (es ++ 62 ∷ tail) ≡ true → es ≡ ds
 starts_number [] [] tail rest h g found = refl

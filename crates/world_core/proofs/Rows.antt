@@ -1,4 +1,4 @@
--- Worked traces and their outputs, computed from the definitions: two superblocks of order 3, and two tenants.
+-- Worked traces and their outputs, computed from the definitions. The world has two superblocks of order 3 and two tenants.
 use Rattle.std.proofs.Common.{◌≡◌, ℕ, List, [], ◌∷◌, map, codes, refl}
 use Rattle.words_core.specs.Cutting.{lines_of_trace}
 use Rattle.world_core.specs.Limits.{cache_limit}
@@ -92,7 +92,7 @@ rows =
     }
     ∷ []
 
--- the output of a trace on a new machine
+-- the output of the trace in an opening world
 abbrev pub written : Row → List ℕ
 written r = output_of cache_limit 3 r.trace (opening_world 2 2)
 
@@ -103,7 +103,7 @@ rows_are_written : map written rows ≡ map expected rows
 unfolding computed_texts
 rows_are_written = refl
 
--- two traces in which tenant 0 has the same commands and grants, and the others do much or nothing
+-- Two traces in which tenant 0 has the same own list. In one the others do nothing, in the other they do much.
 
 abbrev pub alone : List ℕ
 alone = codes "admin grant 0\n0 alloc 1\n0 read 8191 1\n0 alloc 3\n0 cache 24 8 c3\n0 take 0\n"

@@ -1,4 +1,4 @@
--- The output shown with `only` a tenant, and the output of a prefix of a trace.
+-- The output that is shown with `only` one tenant, and the output of a prefix of a trace.
 use Rattle.std.proofs.Common.{◌≡◌, ℕ, zero, suc, ◌<◌, ◌≤◌, ◌^◌, ◌==◌, Bool, true, false, List, [], ◌∷◌, ◌++◌, length, Option, Some, None, Result, Ok, Err, refl, ap, sym, ◌∙◌, arith, append_assoc}
 use Rattle.std.specs.Prelude.{if◌then◌else◌, Contains}
 use Rattle.std.specs.List.{onto_first}
@@ -28,7 +28,7 @@ with_line_feeds-append [] ys = refl
 with_line_feeds-append (x ∷ xs) ys =
     ap (λ more. (x ++ 10 ∷ []) ++ more) (with_line_feeds-append xs ys) ∙ sym (append_assoc (x ++ 10 ∷ []) (with_line_feeds xs) (with_line_feeds ys))
 
--- the replies to tenant t as text
+-- the text of these replies to tenant t
 abbrev own_text : ℕ → List Body → List ℕ
 own_text t bodies = with_line_feeds (texts_for t bodies)
 
@@ -55,7 +55,7 @@ own_reading t limit order (Ok (Some event)) events w =
     (replies_to t (history limit order (world_step limit order event w).world events))
 own_reading t limit order (Err fault) events w = refl
 
--- with `only` the replies to that tenant are shown
+-- with `only` t, the text of the replies to tenant t is shown
 pub own_replies : (t limit order : ℕ) (lines : List (List ℕ)) (w : World)
     → shown_lines (Some t) limit order lines w ≡ own_text t (replies_to t (history limit order w (events_of lines)))
 own_replies t limit order [] w = refl
@@ -63,7 +63,7 @@ own_replies t limit order (line ∷ lines) w =
     ap (λ more. shown_line (Some t) limit order line w ++ more) (own_replies t limit order lines (world_after limit order w (event_in (reading_of line))))
     ∙ own_reading t limit order (reading_of line) (events_of lines) w
 
--- these are the lines of the tenant
+-- the lines of tenant t in the output are the texts of the replies to it
 own_lines : (limit order t : ℕ) (trace : List ℕ) (w : World) → length w.machines ≤ 2 ^ 64 → t < length w.machines
     → lines_for t (output_of limit order trace w) ≡ texts_for t (replies_to t (history limit order w (events_of (lines_of_trace trace))))
 unfolding output_of
@@ -77,7 +77,7 @@ are_texts : (t : ℕ) (bodies : List Body) → AreTexts (texts_for t bodies)
 are_texts t [] = tt
 are_texts t (body ∷ bodies) = texts-append _ _ (body_text _ body (addressee_is_text (Tenant t))) (are_texts t bodies)
 
--- rows without an LF, joined by LFs, are cut apart again
+-- if rows without an LF are joined, each with an LF at its end, cutting the text into lines returns the rows
 cut_texts : (rows : List (List ℕ)) → AreTexts rows → lines_of_trace (with_line_feeds rows) ≡ rows
 cut_texts rows h = ap lines_of_trace (sym (append-nil (with_line_feeds rows))) ∙ cut_rows rows [] h ∙ append-nil rows
 
@@ -91,7 +91,7 @@ no_more : (b : ℕ) (tail : List ℕ) → b == 10 ≡ false → (Contains tail 1
 no_more b tail other none (zero, below, here) = eqb-false b 10 other here
 no_more b tail other none (suc i, below, here) = none (i, omega arith, here)
 
--- one more byte in front
+-- if bytes consist of lines with LFs and a tail without LF, they still do so with one more byte in front
 ended_tail : (b : ℕ) (test : Bool) → b == 10 ≡ test → (ended : List (List ℕ)) (given tail : List ℕ) → given ≡ with_line_feeds ended ++ tail → (Contains tail 10 → ⊥)
     → (tail' : List ℕ) × (b ∷ given ≡ with_line_feeds (if test then [] ∷ ended else onto_ended b ended) ++ tail') × (Contains tail' 10 → ⊥)
 ended_tail b true is ended given tail split none = (tail, ap (λ c. c ∷ given) (eqb-true b 10 is) ∙ ap (λ bytes. 10 ∷ bytes) split, none)

@@ -101,7 +101,7 @@ report_fronted front report =
 alone : List ℕ → List (List ℕ)
 alone row = row ∷ []
 
--- the rows of a reply are those of its body, each after the same front
+-- the lines of a body after a front are the lines after the empty front, each with the front put before it
 fronted : (front : List ℕ) (body : Body) → body_texts front body ≡ map (λ row. front ++ row) (body_texts [] body)
 unfolding alone
 fronted front (Granted tenant slot superblock) =
@@ -130,7 +130,7 @@ fronted front (Refused refusal) =
     ap alone (behind_4 front (codes "refused ") (decimal (number_of_refusal refusal)) (codes " ") (name_of_refusal refusal))
 fronted front (Fault fault) = ap alone (behind_2 front (codes "fault ") (name_of_fault fault))
 
--- the rows that are kept after one front, if the front decides
+-- If a test gives the same result for every row with this front, a filter keeps all rows with this front or none.
 
 kept_all : (p : List ℕ → Bool) (front : List ℕ) (rows : List (List ℕ)) → ((row : List ℕ) → p (front ++ row) ≡ true)
     → filter p (map (λ row. front ++ row) rows) ≡ map (λ row. front ++ row) rows
@@ -146,7 +146,7 @@ kept_none p front (row ∷ rows) h = rw (h row) (kept_none p front rows h)
 abbrev pub tells : ℕ → List ℕ → Bool
 tells t row = starts_with nat_eq row (decimal t ++ codes "> ")
 
--- if the addressee is a tenant, `decimal` writes its number in full
+-- if the addressee is a tenant, its number is below 2 ^ 64, so `decimal` writes it in full
 abbrev pub IsSmall : Addressee → Type 0
 IsSmall Admin = Unit {0}
 IsSmall Nobody = Unit {0}
@@ -167,7 +167,7 @@ rows_same t body =
     ∙ sym (fronted (addressee_text (Tenant t)) body)
     ∙ sym (append-nil (body_texts (addressee_text (Tenant t)) body)))
 
--- exactly the rows of a reply to tenant t are kept
+-- of the rows of a reply, exactly those of a reply to tenant t are kept
 rows_for : (t : ℕ) (addressee : Addressee) (body : Body) → t < 2 ^ 64 → IsSmall addressee
     → filter (tells t) (body_texts (addressee_text addressee) body) ≡ texts_for t (if_for t addressee body)
 rows_for t Admin body small small' =
@@ -186,11 +186,11 @@ rows_for t (Tenant named) body small small' =
           ∙ kept_none (tells t) (addressee_text (Tenant named)) _ (λ row. row_of_other t named row small small' other))
     ]
 
--- the rows of a reply have no LF
+-- no row of a reply has an LF
 texts_of_reply : (reply : Reply) → AreTexts (body_texts (addressee_text reply.addressee) reply.body)
 texts_of_reply reply = body_text _ reply.body (addressee_is_text reply.addressee)
 
--- the lines of tenant t in the text of a reply and in the text after it
+-- the lines of tenant t in the text of a reply and a rest are those of the reply, and then those of the rest
 reply_lines : (t : ℕ) (reply : Reply) (rest : List ℕ) → t < 2 ^ 64 → IsSmall reply.addressee
     → lines_for t (text_of reply ++ rest) ≡ texts_for t (if_for t reply.addressee reply.body) ++ lines_for t rest
 reply_lines t reply rest small small' =
@@ -198,7 +198,7 @@ reply_lines t reply rest small small' =
     ∙ filter-append (tells t) (body_texts (addressee_text reply.addressee) reply.body) (lines_of_trace rest)
     ∙ ap (λ rows. rows ++ lines_for t rest) (rows_for t reply.addressee reply.body small small')
 
--- a step of the world keeps the number of tenants, and replies only to tenants of the world
+-- A step of the world keeps the number of tenants. With at most 2 ^ 64 tenants, it replies only to tenants with small numbers.
 
 pub record StaysNumbered (w : World) (s : WorldStep) : Type 0 where
   pub tenants : length s.world.machines ≡ length w.machines
@@ -257,12 +257,12 @@ step_stays limit order (On.Admin (Do.Reset named)) w = reset_stays named w (slic
 step_stays limit order (On.Admin (Do.Move named slot)) w = move_stays named slot w (slice_get w.machines named) (position is_none w.owners)
 step_stays limit order (On.Admin Do.Pool) w = record { tenants = refl; addressee = λ many. tt }
 
--- from each world of at most 2 ^ 64 tenants, the lines of tenant t in the output are the replies addressed to it
+-- from each world of at most 2 ^ 64 tenants, the lines of tenant t in the output are the texts of the replies addressed to it
 abbrev pub Tell : ℕ → ℕ → ℕ → List (List ℕ) → Type 0
 Tell limit order t lines = (w : World) → length w.machines ≤ 2 ^ 64
     → lines_for t (shown_lines None limit order lines w) ≡ texts_for t (replies_to t (history limit order w (events_of lines)))
 
--- the same with one more line in front
+-- if `Tell` holds for some lines, the lines of tenant t are also the texts of its replies with one more line in front
 reading_tells : (limit order t : ℕ) (reading : Result (Option Event) LineFault) (lines : List (List ℕ)) (w : World) → t < 2 ^ 64
     → length w.machines ≤ 2 ^ 64 → Tell limit order t lines
     → lines_for t (shown_reading None limit order reading w ++ shown_lines None limit order lines (world_after limit order w (event_in reading)))

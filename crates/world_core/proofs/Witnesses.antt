@@ -1,4 +1,4 @@
--- For each law an instance of its premises, met by computation. Slots have 8 frames.
+-- For each law, an example that meets its premises by computation. Slots have 8 frames.
 use Rattle.std.proofs.Common.{◌≡◌, ℕ, false, sym, List, [], ◌∷◌, ◌++◌, Some, None, refl, arith}
 use Rattle.std.specs.Prelude.{codes, Contains}
 use Rattle.std.specs.List.{AllByRecursion}
@@ -18,19 +18,19 @@ use Rattle.world_core.specs.Output.{shown_lines, output_of, events_of, lines_for
 use Rattle.world_core.specs.Laws.{OwnRun, HaveSameOwnList, SameReplies, SameTexts, MoreCaches, OwnLines, SameLines, AllShown, OwnShown, OwnLinesShown, EndedAllButTail, EndedLinesStay, ShownStays, opening_history, private_lines}
 use Rattle.world_core.proofs.ComputedTraces.{computed_lines, computed_machine, computed_texts}
 
--- tenant 0 alone, and beside others
+-- a trace of tenant 0 alone, and one with tenant 0 among others
 abbrev alone : List ℕ
 alone = codes "admin grant 0\n0 alloc 0\n"
 
 abbrev among_others : List ℕ
 among_others = codes "admin grant 1\n1 alloc 0\nadmin grant 0\n1 alloc 3\n0 alloc 0\n"
 
--- its own lists are equal, in worlds of 2 and of 3 superblocks
+-- the own lists of tenant 0 are equal, in a world of 2 superblocks and 3 tenants and in one of 3 superblocks and 4 tenants
 equal_lists : HaveSameOwnList 32 3 2 3 3 4 0 (events_of (lines_of_trace alone)) (events_of (lines_of_trace among_others))
 unfolding computed_lines
 equal_lists = record { tenant = omega arith; tenant' = omega arith; own = refl }
 
--- its replies are those of its private run
+-- the replies to tenant 0 are those of its private run
 OwnRun-met : OwnRun → replies_to 0 (opening_history 32 3 3 4 (events_of (lines_of_trace among_others))) ≡ Say.Frame 0 ∷ []
 unfolding computed_lines
 OwnRun-met law = (law 32 3 3 4 0 (events_of (lines_of_trace among_others)) (omega arith)).replies
@@ -47,7 +47,7 @@ SameTexts-met law = law 32 3 2 3 3 4 0 (events_of (lines_of_trace alone)) (event
 SameLines-met : SameLines → lines_for 0 (output_of 32 3 alone (opening_world 2 3)) ≡ lines_for 0 (output_of 32 3 among_others (opening_world 3 4))
 SameLines-met law = law 32 3 2 3 3 4 0 alone among_others (omega arith) (omega arith) equal_lists
 
--- the private machine's lines, computed
+-- the lines of tenant 0 are those of its private machine, which are computed
 OwnLines-met : OwnLines → lines_for 0 (output_of 32 3 among_others (opening_world 3 4)) ≡ codes "0> frame 0" ∷ []
 unfolding computed_texts private_lines
 OwnLines-met law = law 32 3 3 4 0 among_others (omega arith) (omega arith)
@@ -79,7 +79,7 @@ OwnLinesShown-met : OwnLinesShown →
 unfolding opening_world
 OwnLinesShown-met law = law 32 3 0 among_others (opening_world 3 4) (omega arith) (omega arith)
 
--- a line that ends in LF, and one that does not
+-- a trace with one line that ends in LF, and one that does not
 EndedAllButTail-met : EndedAllButTail →
     (tail : List ℕ) × (codes "0 alloc 0\n0 fr" ≡ with_line_feeds (codes "0 alloc 0" ∷ []) ++ tail) × (Contains tail line_feed → ⊥)
 EndedAllButTail-met law = law (codes "0 alloc 0\n0 fr")

@@ -1,4 +1,4 @@
--- For each law of reached machines an instance of its premises, met by computation. Slots have 8 frames.
+-- For each law of reached machines, an example that meets its premises by computation. Slots have 8 frames.
 use Rattle.std.proofs.Common.{◌≡◌, ℕ, ◌<◌, ◌≤◌, false, List, [], ◌∷◌, Some, Ok, replicate, refl, ap, arith}
 use Rattle.std.specs.Prelude.{codes, slice_get}
 use Rattle.model_core.specs.Blocks.{Block, block, HasFrame, IsTaken, IsChoice, IsSound}
@@ -23,7 +23,7 @@ use Rattle.world_core.specs.Output.{events_of}
 use Rattle.world_core.specs.Reached.{reached_machine, AreRequests, EntriesAreOperations, OwnListsAreRequests, IsFreeIn, ReachedWellFormed, ReachedSound, ReachedFreeOnce, ReachedSplits, ReachedJoins, ReachedApart, ReachedRecordsFree, ReachedBlock, ReachedObject, NobodyStarves}
 use Rattle.world_core.proofs.ComputedTraces.{computed_lines, computed_machine}
 
--- A slot granted, a cache, an object of it taken and given back: one slab, which is empty
+-- A slot is granted, a cache is made, and an object of it is taken and given back. That leaves one slab, which is empty.
 
 abbrev trace : List ℕ
 trace = codes "admin grant 0\n1 alloc 0\n0 cache 64 8 00\n0 take 0\n0 give 0 0\n"
@@ -51,7 +51,7 @@ ReachedWellFormed-met law = law 32 3 entries are_requests
 ReachedSound-met : ReachedSound → IsSound 3 (holds machine) (taken_in machine)
 ReachedSound-met law = law 32 3 entries are_requests
 
--- Frame 0 is taken: frame 1 lies in one free block, of order 0
+-- Frame 0 is taken. Frame 1 lies in one free block.
 
 abbrev one_block : List Entry
 one_block = Grant ∷ Ask (Command.Alloc 0) ∷ []
@@ -68,16 +68,16 @@ answered : (alloc_step 3 0 (reached_machine 32 3 one_block)).answer ≡ Ok 1
 unfolding command_step alloc_step free_step by_need reaped choice taken_blocks empty_machine next_slot after_grant private_step
 answered = refl
 
--- one more block of one frame splits the chosen block, of some order j
+-- one more `alloc` of one frame splits the chosen block, which has some order j
 ReachedSplits-met : ReachedSplits → let m = by_need 3 0 (reached_machine 32 3 one_block) in (j : ℕ) × IsChoice 3 (holds m) (taken_in m) 0 (block 1 j)
 ReachedSplits-met law = let splits = law 32 3 0 1 one_block (tt, (tt, tt)) answered in (splits.0, splits.1)
 
--- the freed block is joined up to some order j
+-- the freed block is joined with its buddies up to some order j
 ReachedJoins-met : ReachedJoins → (j : ℕ) × JoinsTo 3 (holds (reached_machine 32 3 one_block)) (taken_in (reached_machine 32 3 one_block)) 0 0 j
 unfolding command_step alloc_step free_step by_need reaped choice taken_blocks empty_machine next_slot after_grant private_step
 ReachedJoins-met law = let joins = law 32 3 0 0 one_block (tt, (tt, tt)) refl in (joins.0, joins.1)
 
--- The first two objects of the slab
+-- The first two objects of the slab have numbers 0 and 1.
 
 abbrev the_slab : Slab
 the_slab = record { first = 0; colour = 0; live = replicate 63 false }
@@ -103,7 +103,7 @@ first_is_there : IsObject machine first_object
 unfolding computed_machine
 first_is_there = record { cache_in = (0, omega arith, refl); slab_in = (0, omega arith, refl); index_in = omega arith }
 
--- an object that has this byte is the second one, so the first does not have it
+-- only the second object has byte 100, so the first object does not have it
 ReachedApart-met : ReachedApart → ((a : Object) → IsObject machine a → HasByte a 100 → a ≡ object) × (HasByte first_object 100 → ⊥)
 ReachedApart-met law =
     let only : (a : Object) → IsObject machine a → HasByte a 100 → a ≡ object = λ a there has.
@@ -114,7 +114,7 @@ ReachedRecordsFree-met : ReachedRecordsFree → (0 ≤ 100) × (100 < 4064)
 unfolding layout_of
 ReachedRecordsFree-met law = law 32 3 entries are_requests object it_is_there refl 100 its_byte
 
--- Its slab is empty, so the whole slot is free for a block ..
+-- The only slab is empty, so the whole slot is free for a block ..
 
 is_ample : IsAmple 3 3 machine
 unfolding computed_machine
@@ -123,7 +123,7 @@ is_ample = record { of_slot = omega arith; fewer = omega arith }
 ReachedBlock-met : ReachedBlock → (first : ℕ) × ((command_step 32 3 (Command.Alloc 3) machine).answer ≡ Say.Frame first)
 ReachedBlock-met law = law 32 3 3 entries are_requests is_ample
 
--- .. and all its frames for slabs of the cache
+-- .. and all frames of the slot are free for slabs of the cache
 is_ample_for_slabs : IsAmple 3 (layout the_cache).order machine
 unfolding computed_machine
 is_ample_for_slabs = record { of_slot = omega arith; fewer = omega arith }

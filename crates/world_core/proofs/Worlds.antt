@@ -1,4 +1,4 @@
--- The world after two lists of events, and the tenants of an opening world.
+-- The world after two lists of events one after the other, and the number of tenants of an opening world.
 use Rattle.std.proofs.Common.{◌≡◌, ℕ, List, [], ◌∷◌, ◌++◌, length, refl}
 use Rattle.std.proofs.lemmas.List.{length-replicate}
 use Rattle.model_core.specs.Machine.{empty_machine}

@@ -28,7 +28,7 @@ OwnRun = (limit order superblocks tenants t : ℕ) (events : List Event) → t <
     (replies_to t (opening_history limit order superblocks tenants events))
     (slice_get (world_after limit order (opening_world superblocks tenants) events).machines t)
 
--- two runs, of worlds of any size, in which the tenant's own lists are equal
+-- the tenant's own lists are equal in two runs, whose worlds may differ in size
 pub record HaveSameOwnList (limit order superblocks tenants superblocks' tenants' t : ℕ)
     (events events' : List Event) : Type 0 where
   pub tenant : t < tenants
@@ -36,7 +36,7 @@ pub record HaveSameOwnList (limit order superblocks tenants superblocks' tenants
   pub own : own_list t (opening_history limit order superblocks tenants events)
       ≡ own_list t (opening_history limit order superblocks' tenants' events')
 
--- then the tenant gets the same replies, whatever all others did
+-- then the tenant gets the same replies in both runs, whatever all others did
 abbrev pub SameReplies : Type 0
 SameReplies = (limit order superblocks tenants superblocks' tenants' t : ℕ) (events events' : List Event) →
     HaveSameOwnList limit order superblocks tenants superblocks' tenants' t events events' →
@@ -63,8 +63,8 @@ private_lines limit order superblocks tenants t trace =
     let own = own_list t (opening_history limit order superblocks tenants (events_of (lines_of_trace trace))) in
     texts_for t (private_run limit order own empty_machine).replies
 
--- In the output of any trace the lines of a tenant are those of its private machine.
--- (Below 2 ^ 64 different numbers have different decimals, so no tenant's line passes for another's.)
+-- In the output of any trace, the lines of a tenant are those of its private machine. With at most 2 ^ 64 tenants, different
+-- numbers have different decimals, so a line of one tenant never counts as a line of another.
 abbrev pub OwnLines : Type 0
 OwnLines = (limit order superblocks tenants t : ℕ) (trace : List ℕ) → tenants ≤ 2 ^ 64 → t < tenants →
     lines_for t (output_of limit order trace (opening_world superblocks tenants))
@@ -84,7 +84,7 @@ abbrev pub AllShown : Type 0
 AllShown = (limit order : ℕ) (trace : List ℕ) (w : World) →
     shown_lines None limit order (lines_of_trace trace) w ≡ output_of limit order trace w
 
--- With `only` t, exactly the lines of t in the output are shown, byte for byte, whatever the world in which the trace begins.
+-- With `only` t, exactly the lines of tenant t in the output are shown, byte for byte, from whatever world the trace starts.
 abbrev pub OwnShown : Type 0
 OwnShown = (limit order t : ℕ) (trace : List ℕ) (w : World) → length w.machines ≤ 2 ^ 64 → t < length w.machines →
     shown_lines (Some t) limit order (lines_of_trace trace) w ≡ with_line_feeds (lines_for t (output_of limit order trace w))

@@ -1,4 +1,4 @@
--- The limit on caches that this kernel is built with; the definitions take it as a parameter.
+-- The limit on caches that this kernel is built with. The definitions take a limit as a parameter.
 use Rattle.std.specs.Prelude.{ℕ}
 use Rattle.model_core.specs.declared.limits.TheConstants.{MOST_CACHES}
 

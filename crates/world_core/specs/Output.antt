@@ -1,4 +1,4 @@
--- From the bytes of a trace to the bytes of its replies.
+-- The output for the bytes of a trace, as bytes and as lines.
 use Rattle.std.specs.Prelude.{ℕ, nat_eq, ◌==◌, Bool, true, false, List, [], ◌∷◌, ◌++◌, Option, Some, None, Result, Ok, Err, if◌then◌else◌, map, filter, codes}
 use Rattle.std.specs.List.{concat, flat_map, starts_with}
 use Rattle.std.specs.Fmt.{decimal}
@@ -12,7 +12,7 @@ use Rattle.words_core.specs.Grammar.{reading_of}
 use Rattle.words_core.specs.Texts.{addressee_text, body_texts, text_of}
 use Rattle.world_core.specs.World.{World, world_step, world_after}
 
--- the event in this reading of a line, if there is one
+-- a list of the event in this reading of a line, or the empty list if it has no event
 abbrev pub event_in : Result (Option Event) LineFault → List Event
 event_in (Ok None) = []
 event_in (Ok (Some event)) = event ∷ []
@@ -43,7 +43,7 @@ shown_reading only limit order (Err fault) w = shown_text only (record { address
 abbrev pub shown_line : Option ℕ → ℕ → ℕ → List ℕ → World → List ℕ
 shown_line only limit order line w = shown_reading only limit order (reading_of line) w
 
--- the text shown for the lines, each run in the world that the events before it left
+-- the text shown for the lines; each runs in the world that the lines before it left
 abbrev pub shown_lines : Option ℕ → ℕ → ℕ → List (List ℕ) → World → List ℕ
 shown_lines only limit order [] w = []
 shown_lines only limit order (line ∷ lines) w =
@@ -70,7 +70,8 @@ line_feed = 10
 abbrev pub with_line_feeds : List (List ℕ) → List ℕ
 with_line_feeds lines = concat (map (λ line. line ++ line_feed ∷ []) lines)
 
--- the lines with one more byte in front of the first; the lines end in LF, so if there are none, the byte is in no ended line
+-- The lines that end in LF, after this byte was put in front of the first. If there is none, no LF follows the byte, so it is
+-- dropped.
 abbrev pub onto_ended : ℕ → List (List ℕ) → List (List ℕ)
 onto_ended b [] = []
 onto_ended b (line ∷ lines) = (b ∷ line) ∷ lines

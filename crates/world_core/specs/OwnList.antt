@@ -34,8 +34,8 @@ if_named t named entry = if named == t then entry ∷ [] else []
 abbrev pub if_granted : ℕ → ℕ → Body → Entry → List Entry
 if_granted t named body entry = if is_refused body then [] else if_named t named entry
 
--- The entries of an event and its reply for the machine of tenant t. An entry has no superblock number, so a move, which
--- changes nothing else, is not an entry for any machine.
+-- The entries that an event and its reply are for the machine of tenant t. A move changes only which superblock a slot has, and
+-- machines do not know superblocks, so it is no entry.
 abbrev pub own_entries : ℕ → Event → Body → List Entry
 own_entries t (Event.Tenant named command) body = if_named t named (Ask command)
 own_entries t (Event.Admin (AdminCommand.Grant named)) body = if_granted t named body Grant

@@ -1,9 +1,9 @@
--- The private machine of one tenant, over a list of entries.
+-- The run of one tenant's private machine over a list of entries.
 use Rattle.std.specs.Prelude.{ℕ, List, [], ◌∷◌, ◌++◌}
 use Rattle.model_core.specs.Machine.{Machine}
 use Rattle.world_core.specs.PrivateStep.{Entry, Told, private_step}
 
--- the replies to the tenant's commands, in order, and the last machine
+-- the replies to the tenant's commands, in order, and the machine at the end
 abbrev pub private_run : ℕ → ℕ → List Entry → Machine → Told
 private_run limit order [] m = record { replies = []; machine = m }
 private_run limit order (entry ∷ entries) m = record {

@@ -17,7 +17,7 @@ use Rattle.model_core.specs.Reports.{frames_held, frames_taken, frames_free, gre
 use Rattle.words_core.specs.declared.report.Report as figures
 use Rattle.words_core.specs.Refusals.{alloc_refusal, read_refusal, cache_refusal, destroy_refusal, take_refusal, give_refusal}
 
--- the reply to an operation on the tenant's machine
+-- The body of the reply for the answer to each operation on the tenant's machine.
 
 abbrev pub alloc_body : Result ℕ AllocRefusal → Body
 alloc_body (Ok frame) = Body.Frame frame
@@ -35,7 +35,7 @@ abbrev pub write_body : Option ℕ → Body
 write_body (Some count) = Body.Written count
 write_body None = Body.Refused Refusal.OutOfReach
 
--- the number of a new cache, and its layout
+-- the body with the number of a new cache and its layout
 abbrev pub layout_body : ℕ → Layout → Body
 layout_body number l = Body.Cache number l.chunk l.order l.count l.colours
 
@@ -67,11 +67,11 @@ figures_of order m = record {
   caches = record { items = rows_of_caches m };
 }
 
--- a report, which changes nothing
+-- the step of a report, which changes nothing
 unfoldable pub report_step : ℕ → Machine → Step Body
 report_step order m = record { answer = Body.Report (figures_of order m); machine = m }
 
--- the operation, with its answer as the body of a reply
+-- the step, with its answer turned into the body of a reply
 abbrev pub with_body : {A : Type 0} → (A → Body) → Step A → Step Body
 with_body body step = record { answer = body step.answer; machine = step.machine }
 
@@ -90,14 +90,14 @@ command_step limit order (Command.Give number place) m = with_body give_body (gi
 command_step limit order Command.Reap m = with_body Body.Reaped (reap_step m)
 command_step limit order Command.Report m = report_step order m
 
--- everything that affects the machine of a tenant: its own command, a grant, a take-back, a reset
+-- an entry is what affects the machine of a tenant: one of its own commands, a grant, a take-back or a reset
 pub data Entry : Type 0 where
   Ask : Command → Entry
   Grant : Entry
   TakeBack : ℕ → Entry
   Reset : Entry
 
--- the replies to the tenant, and the machine after them; replies to grants, take-backs and resets go to the administrator
+-- the replies to the tenant, and its machine after them; the replies to grants, take-backs and resets go to the administrator
 pub record Told : Type 0 where
   pub replies : List Body
   pub machine : Machine

@@ -24,7 +24,7 @@ use Rattle.world_core.specs.Output.{events_of}
 use Rattle.world_core.specs.Laws.{opening_history}
 use Rattle.world_core.specs.PrivateRun.{private_run}
 
--- the model's operation for an entry, or nothing if the entry is a read or a report
+-- a list of the model's operation for an entry, or the empty list if the entry is a read or a report
 abbrev pub operations_in : Entry → List Operation
 operations_in (Entry.Ask (Command.Alloc k)) = Operation.Alloc k ∷ []
 operations_in (Entry.Ask (Command.Free first)) = Operation.Free first ∷ []
@@ -40,7 +40,7 @@ operations_in Entry.Grant = Operation.Grant ∷ []
 operations_in (Entry.TakeBack slot) = Operation.TakeBack slot ∷ []
 operations_in Entry.Reset = Operation.Reset ∷ []
 
--- the operations for a list of entries leave the same machine as the private run of the entries
+-- running the operations of a list of entries leaves the same machine as the private run of the entries
 abbrev pub EntriesAreOperations : Type 0
 EntriesAreOperations = (limit order : ℕ) (entries : List Entry) (m : Machine) →
     (private_run limit order entries m).machine ≡ run limit order (flat_map operations_in entries) m
@@ -53,7 +53,7 @@ reached_machine limit order entries = (private_run limit order entries empty_mac
 abbrev pub AreRequests : List Entry → Type 0
 AreRequests entries = ArePossible (flat_map operations_in entries)
 
--- This holds of every tenant's own list of every trace.
+-- In every trace, the entries of every tenant's own list are possible requests.
 abbrev pub OwnListsAreRequests : Type 0
 OwnListsAreRequests = (limit order superblocks tenants t : ℕ) (trace : List ℕ) →
     AreRequests (own_list t (opening_history limit order superblocks tenants (events_of (lines_of_trace trace))))
@@ -78,8 +78,8 @@ ReachedFreeOnce = (limit order x : ℕ) (entries : List Entry) → let m = reach
     holds m (x / 2 ^ order) ≡ true → (IsTaken (taken_in m) x → ⊥) →
     (b : Block) × IsFreeIn order m b × HasFrame b x × ((c : Block) → IsFreeIn order m c → HasFrame c x → c ≡ b)
 
--- If an `alloc` returns a frame, it splits the chosen free block, of some order j. The choice is among the free blocks after
--- empty slabs are freed on demand.
+-- If an `alloc` returns a frame, it splits the chosen free block, which has some order j. The block is chosen among those that
+-- are free after empty slabs are freed on demand.
 abbrev pub ReachedSplits : Type 0
 ReachedSplits = (limit order k first : ℕ) (entries : List Entry) → AreRequests entries →
     let m = reached_machine limit order entries in

@@ -16,7 +16,7 @@ use Rattle.model_core.specs.Operations.{next_slot, after_grant, take_back_step}
 use Rattle.words_core.specs.Refusals.{take_back_refusal}
 use Rattle.world_core.specs.PrivateStep.{command_step}
 
--- for each superblock the tenant and the slot that own it, and for each tenant its machine
+-- the owner of each superblock (a tenant and its slot), and the machine of each tenant
 pub record World : Type 0 where
   pub owners : List (Option Owner)
   pub machines : List Machine
@@ -32,7 +32,7 @@ pub record WorldStep : Type 0 where
   pub reply : Reply
   pub world : World
 
--- a reply that changes nothing
+-- the step that gives this reply and changes nothing
 unfoldable pub answer : Addressee → Body → World → WorldStep
 answer addressee body w = record { reply = record { addressee = addressee; body = body }; world = w }
 
@@ -48,11 +48,11 @@ grant_step order t w (Some m) (Some superblock) = record {
   };
 }
 
--- the owner, or none if it passes the test
+-- the owner, or None if the owner passes the test
 abbrev pub given_up : (Option Owner → Bool) → Option Owner → Option Owner
 given_up test owner = if test owner then None else owner
 
--- the superblock of the slot loses its owner, unless the tenant's machine refused; `after` is the machine after that
+-- the superblock of the slot loses its owner, unless the tenant's machine refused; `after` is the machine after the take-back
 abbrev pub take_back_answered : ℕ → ℕ → World → Machine → Result (Unit {0}) TakeBackRefusal → WorldStep
 take_back_answered t slot w after (Ok done) = record {
   reply = record { addressee = Addressee.Admin; body = Body.TakenBack (position_or_len (is_owner t slot) w.owners) };
@@ -93,7 +93,7 @@ move_step t slot w None free = answer Addressee.Admin (Body.Refused Refusal.NoTe
 move_step t slot w (Some m) free =
     if not (holds m slot) then answer Addressee.Admin (Body.Refused Refusal.NoSlot) w else moved_to t slot w free
 
--- the command is a step of that tenant's machine alone
+-- a tenant's command changes only its own machine; the reply to a tenant that does not exist goes to nobody
 unfoldable pub tenant_step : ℕ → ℕ → ℕ → Command → World → Option Machine → WorldStep
 tenant_step limit order t command w None = answer Addressee.Nobody (Body.Refused Refusal.NoTenant) w
 tenant_step limit order t command w (Some m) = record {
@@ -110,7 +110,7 @@ world_step limit order (Event.Admin (AdminCommand.Reset t)) w = reset_step t w (
 world_step limit order (Event.Admin (AdminCommand.Move t slot)) w = move_step t slot w (slice_get w.machines t) (position is_none w.owners)
 world_step limit order (Event.Admin AdminCommand.Pool) w = answer Addressee.Admin (Body.Owners (record { items = w.owners })) w
 
--- an event with its reply
+-- an event and its reply
 pub record Exchange : Type 0 where
   pub event : Event
   pub reply : Reply

@@ -1,16 +1,16 @@
-//! The laws of whole runs. Each is the contract of an empty function, to be called where a proof needs the law.
+//! The laws of whole runs. Each is the contract of an empty function, which a function calls if its proof needs the law.
 
 ghost use Rattle.world_core.specs.Laws.{OwnRun, MoreCaches, OwnLines, SameReplies, SameTexts, SameLines, AllShown, OwnShown, OwnLinesShown, EndedAllButTail, EndedLinesStay, ShownStays};
 ghost use Rattle.world_core.specs.Reached.{EntriesAreOperations, OwnListsAreRequests, ReachedWellFormed, ReachedSound, ReachedFreeOnce, ReachedSplits, ReachedJoins, ReachedApart, ReachedRecordsFree, ReachedConstructed, ReachedConstructedWhenTaken, ReachedBlock, ReachedObject, NobodyStarves};
 
 /// In every run from the opening world, the replies to a tenant are exactly those of its private machine
-/// to its own commands, grants, take-backs and resets. At the end the tenant has that machine.
+/// to its own commands, grants, take-backs and resets. At the end of the run its machine is this private machine.
 pub fn own_run()
     ensures { OwnRun }
 {}
 
-/// In the output of any trace the lines of a tenant are, as text, the replies of its private machine to
-/// its own list of that trace.
+/// In the output of any trace, the lines of a tenant are the texts of its private machine's replies to the
+/// tenant's own list of that trace.
 pub fn own_lines()
     ensures { OwnLines }
 {}
