@@ -1,4 +1,4 @@
--- An allowed reply keeps each promise; and what is known after it.
+-- What follows if a reply is allowed: it keeps each promise, and what is known afterwards is `known_after`.
 use Rattle.std.proofs.Common.{◌≡◌, Bool, true, false, List, [], ◌∷◌, Option, Some, None, Result, Ok, unwrap_or, slice_get, refl, ap, ◌∙◌, ◌⊎◌, inl, inr}
 use Rattle.std.proofs.lemmas.Bool.{and_parts}
 use Rattle.std.specs.Option.{option_map_or}
@@ -10,7 +10,7 @@ use Rattle.promise_core.specs.State.{State, Known, opening_state, state_after}
 use Rattle.promise_core.specs.Promises.{form, refusals, room, busy, blocks, objects, new_layout, gives, owners, bytes, report, still, is_for, is_no_tenant, named, known_after, verdict, kept, judged, allowed}
 use Rattle.model_core.proofs.Lists.{some_of}
 
--- the state of the tenant that an event names, if there is such a tenant
+-- the state of the tenant that an event names, or None if it does not exist; the opening state if the event names no tenant
 abbrev pub state_for : Event → Known → Option State
 state_for event w = option_map_or (slice_get w.states) (named event) (Some opening_state)
 
@@ -41,7 +41,7 @@ all_kept [] w v e = (tt, ok_same e)
 all_kept ((p, true) ∷ ks) w v e = let rest = all_kept ks w v e in ((refl, rest.0), rest.1)
 all_kept ((p, false) ∷ ks) w v e = absurd (cc)
 
--- there is no such tenant, and the reply says so
+-- the event names a tenant that does not exist, the reply is `NoTenant`, and what is known stays as it was
 pub record IsNoTenant (event : Event) (reply : Reply) (w v : Known) : Type 0 where
   pub missing : state_for event w ≡ None
   pub said : is_no_tenant reply.body ≡ true

@@ -39,7 +39,7 @@ get_index (x ∷ xs) (suc i) h = get_index xs i (omega arith)
 
 -- Patterns and bytes carried over from the state before
 
--- each pattern and the byte at the place are those of the state before
+-- each pattern, and the byte that is left at the place, was already there in the state before
 pub record IsCarried (place : ℕ) (s s' : State) : Type 0 where
   pub patterns : (c : KnownCache) → IsIn c s'.has.caches → (d : KnownCache) × IsIn d s.has.caches × (d.pattern ≡ c.pattern)
   pub cells : (cell : Cell) → s'.cells place ≡ Some cell → (old : Cell) × (s.cells place ≡ Some old) × (old.byte ≡ cell.byte)
@@ -65,23 +65,23 @@ live_patterns s number change c i =
     let from : (d : KnownCache) × IsIn d s.has.caches × ((if d.number == number then record d { live = change d.live } else d) ≡ c) = map_in _ c s.has.caches i in
     (from.0, from.1, sym (live_pattern (from.0.number == number) from.0 (change from.0.live)) ∙ ap (λ x. x.pattern) from.2)
 
--- Which exchanges give, write and grant
+-- Which exchanges give a pattern, write a byte, or grant a slot
 
 grants_refused : (order t place : ℕ) (event : Event) (r : Refusal) → grants_slot order t place event (Say.Refused r) ≡ false
 grants_refused order t place (On.Admin (Do.Grant n)) r = refl
 grants_refused order t place event r = refl
 
--- an event that names another tenant grants this one nothing
+-- an event that names another tenant does not grant this tenant the slot of the place
 grants_other : (order t place : ℕ) (event : Event) (body : Body) → (named event ≡ Some t → ⊥) → grants_slot order t place event body ≡ false
 grants_other order t place (On.Admin (Do.Grant n)) (Say.Granted told u superblock) other = and_left _ _ (ne_eqb n t (λ e. other (ap Some e)))
 grants_other order t place event body other = refl
 
--- the refusal `NoTenant` grants nothing
+-- if the reply is the refusal `NoTenant`, the slot of the place is not granted
 grants_none : (order t place : ℕ) (event : Event) (body : Body) → is_no_tenant body ≡ true → grants_slot order t place event body ≡ false
 grants_none order t place event (Say.Refused r) e = grants_refused order t place event r
 grants_none order t place event body e = absurd (cc)
 
--- the flags after an exchange
+-- after an exchange, the byte is in a pattern that the tenant gave
 abbrev given_after : ℕ → (ℕ → Bool) → Event → ℕ → Bool
 given_after t given event b = given b || gives_pattern t b event
 
@@ -115,7 +115,7 @@ module _ (order t place : ℕ) (given written : ℕ → Bool) where
       (carried given written (given_after t given event) (written_after order t place written event body) place s mid
       (still_given t given event) (λ b. still_written order t place written event body b none) c x)
 
-  -- after a read
+  -- after a read, the byte that is left at the place is the tenant's own
   read_step : (begin len : ℕ) (told : List ℕ) (s : State) (holder : Option Holder) (cell : Cell) → IsExplained given written place s
       → option_map_or (λ x. may_all_be s.has s.cells x begin told) holder false ≡ true
       → option_map_or (λ x. with_bytes x begin told s.cells) holder s.cells place ≡ Some cell → own given written cell.byte ≡ true
@@ -144,7 +144,7 @@ module _ (order t place : ℕ) (given written : ℕ → Bool) where
   unfolding opening_state
   opened event body = record { patterns = λ c m. elim m [ ]; cells = λ cell e. absurd (cc) }
 
-  -- no byte was left in a slot that is granted only now
+  -- if a byte was left at the place, a grant of a slot that is not held does not grant the slot of the place
   grants_no_held : (n u superblock told : ℕ) (s : State) (cell : Cell) → not (has_slot s.has u) ≡ true → AreOfHeld order s.has s.cells
       → s.cells place ≡ Some cell → grants_slot order t place (On.Admin (Do.Grant n)) (Say.Granted told u superblock) ≡ false
   grants_no_held n u superblock told s cell new held is = and_right (n == t) _

@@ -1,4 +1,4 @@
--- One place of one tenant: a byte that is left there is explained, if all were before.
+-- What a step leaves at a place of a tenant is explained, if everything was explained before the step.
 use Rattle.std.proofs.Common.{◌≡◌, ℕ, zero, suc, ◌+◌, ◌-◌, ◌%◌, Bool, true, false, not, ◌&&◌, ◌||◌, List, [], ◌∷◌, length, Option, Some, None, slice_get, refl, sym, subst, ◌⊎◌, inl, inr, arith}
 use Rattle.std.specs.Prelude.{slice_index, if◌then◌else◌, ◌==◌}
 use Rattle.std.specs.List.{list_any}
@@ -38,13 +38,13 @@ own_more given written given' written' more_given more_written byte e = elim (or
   ]
 ]
 
--- the i-th of these numbers is one of them, or zero
+-- the number at index i of a list is in the list, or `slice_index` gives 0
 index_is : (xs : List ℕ) (i : ℕ) → (slice_index xs i ≡ 0) ⊎ (list_any (λ x. x == slice_index xs i) xs ≡ true)
 index_is [] i = inl refl
 index_is (x ∷ xs) zero = inr (or_left _ _ (eq-eqb x x refl))
 index_is (x ∷ xs) (suc i) = elim (index_is xs i) [ inl e ↦ inl e | inr e ↦ inr (or_right (x == slice_index xs i) _ e) ]
 
--- a fresh byte is explained
+-- in an explained state, a fresh byte of any holder is the tenant's own
 fresh_own : (given written : ℕ → Bool) (place p : ℕ) (s : State) (holder : Holder) → IsExplained given written place s
     → own given written (known_fresh_byte s.has holder p) ≡ true
 fresh_own given written place p s Holder.Page x = refl
@@ -58,7 +58,7 @@ fresh_own given written place p s (Holder.Object number first) x = go (known_cac
       | inr i ↦ own_given given written _ (x.patterns c (find_in (λ y. y.number == number) c s.has.caches e).0 _ i)
     ]
 
--- so is a byte that may be there
+-- in an explained state, a byte that may be at the place is the tenant's own
 pub may_own : (given written : ℕ → Bool) (place : ℕ) (s : State) (holder : Holder) (byte : ℕ) → IsExplained given written place s
     → may_be holder (known_fresh_byte s.has holder place) (s.cells place) byte ≡ true → own given written byte ≡ true
 may_own given written place s holder byte x = go (s.cells place) refl
@@ -82,7 +82,7 @@ may_own given written place s holder byte x = go (s.cells place) refl
         by_holder true e = same cell cell.sure is e
         by_holder false e = fresh_one e
 
--- if these bytes may be there, each of them may
+-- if these bytes may be at the places from `begin` on, each of them may be at its place
 pub each_may : (h : Holdings) (cells : Cells) (holder : Holder) (begin : ℕ) (bytes : List ℕ) (j b : ℕ) → may_all_be h cells holder begin bytes ≡ true
     → slice_get bytes j ≡ Some b → may_be holder (known_fresh_byte h holder (begin + j)) (cells (begin + j)) b ≡ true
 each_may h cells holder begin [] j b e at = absurd (cc)

@@ -33,7 +33,7 @@ in_slot order p h b aligned held low high =
     let frame : HasFrame b (p / 4096) = (omega (arith, low), omega (arith, high)) in
     subst (λ u. has_slot h u ≡ true) (sym (frame_slot order (p / 4096) b aligned frame)) held
 
--- the range is among the bytes of this live object
+-- the holder is a live object of one of these caches, and has the whole range
 pub record HasRange (place len : ℕ) (holder : Holder) (cs : List KnownCache) : Type 0 where
   pub cache : KnownCache
   pub first : ℕ
@@ -93,14 +93,14 @@ range_held order h laid gridded place len holder is j lt = go (not (nat_lt 0 len
 
 -- A step
 
--- a step that leaves only bytes that were left before, and drops no slot
+-- if a step leaves only bytes that were left before, and drops no slot, all bytes that are left are still in held slots
 stays_held : (order : ℕ) (s mid s' : State) → Some mid ≡ Some s' → ((u : ℕ) → has_slot s.has u ≡ true → has_slot mid.has u ≡ true)
     → ((place : ℕ) (cell : Cell) → mid.cells place ≡ Some cell → (old : Cell) × (s.cells place ≡ Some old) × (old.byte ≡ cell.byte))
     → AreOfHeld order s.has s.cells → AreOfHeld order s'.has s'.cells
 stays_held order s mid s' e slots cells held = subst (λ y. AreOfHeld order y.has y.cells) (some_state e)
     (λ place cell is. let old = cells place cell is in slots (slot_of order place) (held place old.0 old.1))
 
--- bytes are put only where one holder has all of them
+-- after the bytes of a range are read or written, all bytes that are left are still in held slots
 put_held : (order begin len : ℕ) (new : List ℕ) (s : State) → IsLaid order s.has → AllGridded order s.has → length new ≡ len → AreOfHeld order s.has s.cells
     → AreOfHeld order s.has (with_range begin new s (holder_of s.has begin len)).cells
 put_held order begin len new s laid gridded all held place cell is = elim (range_cells begin place new s (holder_of s.has begin len) cell is) [

@@ -1,4 +1,4 @@
--- Page blocks and slabs of live objects lie apart and in held slots, and each step keeps this.
+-- Page blocks and the slabs of live objects share no frame and lie in held slots. Each step keeps this.
 use Rattle.std.proofs.Common.{◌≡◌, ℕ, ◌+◌, ◌-◌, ◌*◌, ◌/◌, ◌%◌, ◌^◌, ◌≤◌, Bool, true, false, not, List, [], ◌∷◌, map, length, Option, Some, None, is_none, refl, ap, sym, subst, ◌∙◌, ◌⊎◌, inl, inr, arith}
 use Rattle.std.specs.Prelude.{if◌then◌else◌, filter, nat_lt, ◌==◌}
 use Rattle.std.specs.Option.{option_map_or}
@@ -28,7 +28,7 @@ use Rattle.promise_core.proofs.ObjectGrids.{new_gridded, given_gridded, taken_gr
 
 -- Used blocks lie apart
 
--- no more blocks are used than before, and those that are used are in slots that are still held
+-- used blocks still lie apart if no others are used than before, and the slots of those that are used are still held
 fewer : (order : ℕ) (h h' : Holdings) → IsLaid order h → ((by : Option ℕ) (b : Block) → Used h' by b → Used h by b)
     → ((by : Option ℕ) (b : Block) → Used h' by b → has_slot h (b.first / 2 ^ order) ≡ true → has_slot h' (b.first / 2 ^ order) ≡ true) → HaveOwnNumbers h' → IsLaid order h'
 fewer order h h' l used held numbers = record {
@@ -37,7 +37,7 @@ fewer order h h' l used held numbers = record {
   numbers = numbers;
 }
 
--- one more block is used, which shares no frame with another
+-- used blocks still lie apart if one more block is used, which is aligned, in a held slot, and shares no frame with another
 more : (order : ℕ) (h h' : Holdings) (new : Option ℕ) (n : Block) → IsLaid order h
     → ((by : Option ℕ) (b : Block) → Used h' by b → Used h by b ⊎ ((by ≡ new) × (b ≡ n)))
     → ((u : ℕ) → has_slot h u ≡ true → has_slot h' u ≡ true) → IsAligned order n → has_slot h (n.first / 2 ^ order) ≡ true
@@ -66,7 +66,7 @@ used_taken h None b i = in_left b h.pages _ i
 used_taken h (Some n) b (c, p, i, j, e, is) = in_right b h.pages _
     (in_flat_map (λ d. map (slab_around d) d.live) b c h.caches i (subst (λ y. IsIn y (map (slab_around c) c.live)) (sym is) (in_map (slab_around c) p c.live j)))
 
--- a block that shares a frame with a vacant block is not used
+-- a used block shares no frame with a vacant block
 vacant_apart : (h : Holdings) (n : Block) → is_vacant h n ≡ true → (by : Option ℕ) (b : Block) (x : ℕ) → Used h by b → HasFrame b x → HasFrame n x → ⊥
 vacant_apart h n e by b x u hb hn =
     false≢true (sym (not-true _ e) ∙ any_in (overlaps n) b (known_blocks h) (used_taken h by b u) (overlap_from n b x hn hb))
@@ -81,7 +81,7 @@ unfolding can_stand
 can_stand_is order h b e = let p = and_parts _ _ e in let q = and_parts _ _ p.0 in let r = and_parts _ _ p.1 in
     record { aligned = (leb-true b.order order q.0, eqb-true _ 0 q.1); held = r.0; vacant = r.1 }
 
--- a vacant block has no live object of a cache of its order
+-- a cache has no live object in a vacant block of the order of its slabs
 pub empty_slab : (order : ℕ) (h : Holdings) (c : KnownCache) → IsIn c h.caches → (f : ℕ) → is_vacant h (block f c.order) ≡ true → length (live_of_slab c f) ≡ 0
 empty_slab order h c i f vacant = go (live_of_slab c f) refl
   where
@@ -107,7 +107,7 @@ live_numbers h number change own c d i j e =
     ∙ e ∙ ap (λ y. y.number) (sym z.2) ∙ live_number (z.0.number == number) z.0 (change z.0.live)) in
     sym x.2 ∙ ap (λ (y : KnownCache). if y.number == number then record y { live = change y.live } else y) same ∙ z.2
 
--- the block is the slab of an object of that cache after the change
+-- the block is the slab of an object that is live after the change, in the cache with this number
 abbrev Changed : Holdings → ℕ → (List ℕ → List ℕ) → Option ℕ → Block → Type 0
 Changed h number change by b = (c : KnownCache) × (p : ℕ) × IsIn c h.caches × (c.number ≡ number) × IsIn p (change c.live) × (by ≡ Some number) × (b ≡ slab_around c p)
 
@@ -311,7 +311,7 @@ three_none true b c r q p e = absurd (false≢true e)
 three_none false true c r q p e = absurd (false≢true e)
 three_none false false c r q p e = (refl, refl)
 
--- the caches after the live objects of one of them changed
+-- if the live objects of one cache change and it still has grids, all caches still have grids
 live_gridded : (order number : ℕ) (change : List ℕ → List ℕ) (h : Holdings) → AllGridded order h
     → ((c : KnownCache) → IsIn c h.caches → c.number ≡ number → IsGridded order (record c { live = change c.live })) → AllGridded order (with_live_places number change h)
 live_gridded order number change h g changed c i =

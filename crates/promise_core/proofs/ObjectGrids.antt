@@ -34,7 +34,7 @@ pub all_from : {X : Type 0} (p : X → Bool) (xs : List X) → ((x : X) → IsIn
 all_from p [] f = refl
 all_from p (x ∷ xs) f = and_from (p x) (list_all p xs) (f x (inl refl)) (all_from p xs (λ y i. f y (inr i)))
 
--- one more filter leaves no more elements
+-- filtering a list by q first does not let more elements pass p
 fewer_left : {X : Type 0} (p q : X → Bool) (xs : List X) → length (filter p (filter q xs)) ≤ length (filter p xs)
 fewer_left p q [] = omega arith
 fewer_left {X} p q (x ∷ xs) = go (p x) refl (q x) (fewer_left p q xs)
@@ -59,7 +59,7 @@ put_passes p x (y ∷ ys) = go (nat_lt x y) (p x) (p y) refl refl (put_passes p 
     go false false true is_a is_b e = rw (is_a, is_b) (ap suc (rw (is_a) at e))
     go false false false is_a is_b e = rw (is_a, is_b) (rw (is_a) at e)
 
--- if there are more places than used ones, one is free
+-- if n places differ from each other and fewer than n places are used, one of the n places is not used
 pub free_one : (at : ℕ → ℕ) → ((i j : ℕ) → i < j → at i ≡ at j → ⊥) → (n : ℕ) (used : List ℕ) → length used < n
     → (j : ℕ) × (j < n) × (list_any (λ p. p == at j) used ≡ false)
 free_one at differ zero used few = absurd (omega (arith, few))
@@ -121,7 +121,7 @@ fitted_with : (order : ℕ) (c : KnownCache) (live : List ℕ) → IsFitted orde
 fitted_with order c live f =
     record { of_slot = f.of_slot; sized = f.sized; chunked = f.chunked; some = f.some; room = f.room; steps = f.steps; aligned = f.aligned }
 
--- with fewer live objects
+-- a cache still has grids if some of its objects are given back
 pub given_gridded : (order : ℕ) (c : KnownCache) (test : ℕ → Bool) → IsGridded order c → IsGridded order (record c { live = filter test c.live })
 given_gridded order c test g = record {
   fitted = fitted_with order c (filter test c.live) g.fitted;
@@ -135,7 +135,7 @@ given_gridded order c test g = record {
   };
 }
 
--- with one more live object
+-- a cache still has grids after an object is taken at a place at which it can be taken
 module _ (order : ℕ) (h : Holdings) (c : KnownCache) (place : ℕ) (g : IsGridded order c) (can : can_be_taken order h c place ≡ true) where
   abbrev slab : Block
   slab = slab_around c place
@@ -229,7 +229,7 @@ module _ (order : ℕ) (h : Holdings) (c : KnownCache) (place : ℕ) (g : IsGrid
     grids = λ f. elim (cases_eq slab.first f) [ inl same ↦ subst (HasGrid after) same same_slab | inr other ↦ other_slab f other ];
   }
 
--- A place for one more
+-- A place for one more object
 
 -- the block around a frame of an aligned block is that block
 pub around_is : (b : Block) (x : ℕ) → b.first % 2 ^ b.order ≡ 0 → HasFrame b x → around x b.order ≡ b

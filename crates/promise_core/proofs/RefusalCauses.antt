@@ -1,4 +1,4 @@
--- `NoFrames` is allowed for a block exactly if none can stand, and for an object exactly if no place is left for it.
+-- `NoFrames` is an allowed reply to an `alloc` exactly if no frame is, and to a `take` exactly if no object is.
 use Rattle.std.proofs.Common.{◌≡◌, ℕ, ◌+◌, ◌-◌, ◌*◌, ◌/◌, ◌%◌, ◌^◌, ◌<◌, ◌≤◌, Bool, true, false, not, ◌&&◌, eqb, ltb, leb, List, [], ◌∷◌, length, Some, Err, slice_get, refl, sym, ap, ◌∙◌, subst, inl, inr, arith}
 use Rattle.std.specs.Prelude.{if◌then◌else◌, flat_map, is_ok, is_none}
 use Rattle.std.specs.List.{list_all, range_with_len}
@@ -44,7 +44,7 @@ module _ (order k : ℕ) (of_slot : k ≤ order) (h : Holdings) where
   abbrev share : ℕ
   share = 2 ^ (order - k)
 
-  -- the slot of an aligned block, by its number
+  -- the aligned block with number q lies in slot q / share
   slot_of_number : (q : ℕ) → q * 2 ^ k / 2 ^ order ≡ q / share
   slot_of_number q =
       let size : 2 ^ order ≡ 2 ^ k * share = ap (λ n. 2 ^ n) (omega (arith, of_slot)) ∙ pow-add 2 k (order - k) in

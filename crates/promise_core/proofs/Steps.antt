@@ -33,7 +33,7 @@ some_number e = cc
 pub none_named : {t : ℕ} → ◌≡◌ {A = Option ℕ} None (Some t) → ⊥
 none_named e = absurd (cc)
 
--- the state of tenant t after an event that names this one
+-- after an event, the state of tenant t is the new one if the event names t, and otherwise its old one
 pub states_at : (t : ℕ) (name : Option ℕ) (states : List State) (after x : State) → slice_get (option_map_or (λ i. slice_set states i after) name states) t ≡ Some x
     → ((name ≡ Some t) × (x ≡ after)) ⊎ ((name ≡ Some t → ⊥) × (slice_get states t ≡ Some x))
 states_at t None states after x e = inr ((λ n. none_named n), e)
@@ -44,7 +44,7 @@ states_at t (Some i) states after x e = elim (cases_eq i t) [
 
 -- The cells that stay
 
--- the cell at the place was there before, and does not pass the test
+-- a cell with the same byte was at the place before, and its holder does not pass the test
 pub record IsLeft (test : ℕ → Holder → Bool) (cells : Cells) (place : ℕ) (cell : Cell) : Type 0 where
   pub old : Cell
   pub was : cells place ≡ Some old
@@ -83,7 +83,7 @@ object_cells first place s None cell e = (cell, e, refl)
 object_cells first place s (Some c) cell e =
     without_cells (λ p holder. in_block p (slab_around c first) && not (is_object (λ n q. n == c.number && (q == first || are_apart c first q)) holder)) place s cell e
 
--- after bytes were put from `begin` on, the byte at the place is one of them, or the one that was there
+-- after bytes were put from `begin` on, the byte at the place is one of them, or the cell there is the old one
 pub range_cells : (begin place : ℕ) (new : List ℕ) (s : State) (holder : Option Holder) (cell : Cell)
     → option_map_or (λ x. with_bytes x begin new s.cells) holder s.cells place ≡ Some cell
     → ((x : Holder) × (holder ≡ Some x) × (begin ≤ place) × (place < begin + length new) × (cell.byte ≡ slice_index new (place - begin))) ⊎ (s.cells place ≡ Some cell)

@@ -1,4 +1,4 @@
--- For each law a run in which its premises hold and it says something.
+-- For each law, a run in which its premises hold and its conclusion is not trivial.
 use Rattle.std.specs.Prelude.{is_ok}
 use Rattle.std.proofs.Common.{◌≡◌, ℕ, true, false, [], ◌∷◌, Option, Some, None, Result, Ok, Err, slice_get, unwrap_or, refl, arith}
 use Rattle.model_core.specs.Blocks.{block, HasFrame}
@@ -23,7 +23,7 @@ known_of (Err promise) = opening 32 3 3 2
 abbrev known : Known
 known = known_of (all_allowed begun (Ok (opening 32 3 3 2)))
 
--- A page block beside the slab of an object
+-- The run leaves a page block beside the slab of an object.
 
 abbrev the_state : State
 the_state = unwrap_or (slice_get known.states 0) opening_state
@@ -39,32 +39,32 @@ unfolding opening opening_state known_blocks can_stand vacant_blocks can_be_take
 LiveApart-met law x page slab = none_is_some ((law 32 3 3 2 0 begun known the_state refl refl).apart None (Some 0) (block 2 1) (block 0 0) x
     (0, omega arith, refl) (the_cache, 0, (0, omega arith, refl), (0, omega arith, refl), refl, refl) page slab).0
 
--- at the first of the two bytes that were written
+-- the first of the two bytes that were written is in a held slot
 LeftInHeld-met : LeftInHeld → has_slot the_state.has (slot_of 3 8192) ≡ true
 unfolding opening opening_state known_blocks can_stand vacant_blocks can_be_taken holder_of state_after owners_after due allowed
 LeftInHeld-met law = law 32 3 3 2 0 begun known the_state refl refl 8192 (record { holder = Holder.Page; byte = 1; sure = true }) refl
 
--- the second of the bytes that were written, in a page block
+-- the second of the bytes that were written, in a page block, is the tenant's own
 Confined-met : Confined → is_own 3 0 8193 2 begun ≡ true
 unfolding opening opening_state known_blocks can_stand vacant_blocks can_be_taken holder_of state_after owners_after due allowed
 Confined-met law = law 32 3 3 2 0 8192 3 1 2 begun (To.Tenant 0) (record { items = 1 ∷ 2 ∷ 0 ∷ [] }) known
     (known_of (allowed (On.Tenant 0 (Command.Read 8192 3)) (record { addressee = To.Tenant 0; body = Say.Bytes (record { items = 1 ∷ 2 ∷ 0 ∷ [] }) }) known)) refl refl refl
 
--- no other byte is its own there
+-- byte 3 is not the tenant's own there, because it was not written
 not_own : is_own 3 0 8193 3 begun ≡ false
 not_own = refl
 
--- in the run's state some frame may be returned, and `NoFrames` may not
+-- after the run some frame may be returned, because `NoFrames` may not
 RefusedForCause-met : RefusedForCause → (f : ℕ) × (may_tell known 0 (Command.Alloc 0) (Say.Frame f) ≡ true)
 unfolding opening opening_state known_blocks can_stand vacant_blocks can_be_taken holder_of state_after owners_after due allowed
 RefusedForCause-met law = (law known the_state 0 0 refl (omega arith)).answered refl
 
--- and some object may be returned: the second of the slab, or one elsewhere
+-- after the run some object may be returned
 TakeRefusedForCause-met : TakeRefusedForCause → (place : ℕ) × (may_tell known 0 (Command.Take 0) (Say.Object place) ≡ true)
 unfolding opening opening_state known_blocks can_stand vacant_blocks can_be_taken holder_of state_after owners_after due allowed
 TakeRefusedForCause-met law = (law 32 3 3 2 0 0 begun known the_state the_cache refl refl refl).answered refl
 
--- the object can be given back
+-- after the run, giving the object back has an allowed reply
 UseAnswerable-met : UseAnswerable → (reply : Reply) × (is_ok (allowed (On.Tenant 0 (Command.Give 0 0)) reply known) ≡ true)
 unfolding opening opening_state known_blocks can_stand vacant_blocks can_be_taken holder_of state_after owners_after due allowed
 UseAnswerable-met law = law 32 3 3 2 0 (Command.Give 0 0) begun known refl refl

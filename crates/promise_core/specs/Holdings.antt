@@ -30,7 +30,7 @@ has_slot h u = list_any (λ v. v == u) h.slots
 abbrev pub known_cache : Holdings → ℕ → Option KnownCache
 known_cache h number = find (λ c. c.number == number) h.caches
 
--- the holdings with the live objects of this cache changed
+-- the holdings after `change` is applied to the live objects of the cache with this number
 abbrev pub with_live_places : ℕ → (List ℕ → List ℕ) → Holdings → Holdings
 with_live_places number change h = record h {
   caches = map {B = KnownCache} (λ (c : KnownCache). if c.number == number then record c { live = change c.live } else c) h.caches;
@@ -71,7 +71,7 @@ is_slot_busy order h u = not (is_vacant h (slot_block order u))
 abbrev pub live_beside : KnownCache → ℕ → List ℕ
 live_beside c place = filter (λ p. (slab_around c p).first == (slab_around c place).first) c.live
 
--- all objects of that slab are live
+-- all objects in the slab around this place are live
 abbrev pub is_slab_full : KnownCache → ℕ → Bool
 is_slab_full c place = length (live_beside c place) == c.count
 
@@ -79,7 +79,8 @@ is_slab_full c place = length (live_beside c place) == c.count
 abbrev pub are_apart : KnownCache → ℕ → ℕ → Bool
 are_apart c p q = nat_le (p + c.size) q || nat_le (q + c.size) p
 
--- if the first object of slab b is at `origin`, all its objects fit into it, and each of these places is that of an object
+-- if the first object of slab b were at `origin`, all its objects would fit into it, and an object would begin at each of these
+-- places
 abbrev pub is_grid : KnownCache → Block → ℕ → List ℕ → Bool
 is_grid c b origin places =
     (nat_le (FRAME_BYTES * b.first) origin && nat_le (origin + (c.count - 1) * c.chunk + c.size) (FRAME_BYTES * (b.first + 2 ^ b.order)))

@@ -17,7 +17,7 @@ use Rattle.promise_core.specs.Lying.{AreOfHeld}
 use Rattle.promise_core.specs.State.{State, Known, opening}
 use Rattle.promise_core.specs.Promises.{allowed, all_allowed}
 
--- the event is the tenant's command for a cache whose pattern has the byte
+-- the tenant's command makes a cache whose pattern has the byte
 abbrev pub gives_pattern : ℕ → ℕ → Event → Bool
 gives_pattern t byte (Event.Tenant named (Command.Cache size align pattern)) = named == t && list_any (λ b. b == byte) pattern.items
 gives_pattern t byte (Event.Tenant named (Command.Alloc k)) = false
@@ -31,7 +31,7 @@ gives_pattern t byte (Event.Tenant named Command.Reap) = false
 gives_pattern t byte (Event.Tenant named Command.Report) = false
 gives_pattern t byte (Event.Admin command) = false
 
--- the tenant writes the byte at the place
+-- the tenant writes the byte at the place, and the write is not refused
 abbrev pub writes_byte : ℕ → ℕ → ℕ → Event → Body → Bool
 writes_byte t place byte (Event.Tenant named (Command.Write begin new)) (Body.Written n) =
     named == t && ((nat_le begin place && nat_lt place (begin + length new.items))
@@ -92,7 +92,7 @@ pub record LiesApart (order : ℕ) (h : Holdings) : Type 0 where
   pub apart : (by other : Option ℕ) (a b : Block) (x : ℕ) → Uses h by a → Uses h other b → HasFrame a x → HasFrame b x
       → (by ≡ other) × (a ≡ b)
 
--- after allowed replies, this holds of every tenant's used blocks
+-- after allowed replies, the used blocks of every tenant lie apart
 abbrev pub LiveApart : Type 0
 LiveApart = (limit order superblocks tenants t : ℕ) (es : List Exchange) (w : Known) (s : State)
     → all_allowed es (Ok (opening limit order superblocks tenants)) ≡ Ok w → slice_get w.states t ≡ Some s → LiesApart order s.has
@@ -103,21 +103,21 @@ LeftInHeld = (limit order superblocks tenants t : ℕ) (es : List Exchange) (w :
     → all_allowed es (Ok (opening limit order superblocks tenants)) ≡ Ok w → slice_get w.states t ≡ Some s
     → AreOfHeld order s.has s.cells
 
--- this reply to the tenant is allowed
+-- a reply to the tenant with this body is allowed
 abbrev pub may_tell : Known → ℕ → Command → Body → Bool
 may_tell w t command body = is_ok (allowed (Event.Tenant t command) (record { addressee = Addressee.Tenant t; body = body }) w)
 
--- for the tenant's command either an answer with some number is allowed, or the refusal `NoFrames` is, but never both
+-- in reply to the tenant's command, either an answer with some number or the refusal `NoFrames` is allowed, but never both
 pub record IsRefusedForCause (w : Known) (t : ℕ) (command : Command) (answer : ℕ → Body) : Type 0 where
   pub answered : may_tell w t command (Body.Refused Refusal.NoFrames) ≡ false → (n : ℕ) × (may_tell w t command (answer n) ≡ true)
   pub refused : (n : ℕ) → may_tell w t command (Body.Refused Refusal.NoFrames) ≡ true → may_tell w t command (answer n) ≡ false
 
--- this holds for a page block of every order up to that of a slot, in every state
+-- in every state, an `alloc` of any order up to a slot's is refused only for cause
 abbrev pub RefusedForCause : Type 0
 RefusedForCause = (w : Known) (s : State) (t k : ℕ) → slice_get w.states t ≡ Some s → k ≤ w.order
     → IsRefusedForCause w t (Command.Alloc k) Body.Frame
 
--- this holds for an object of an existing cache, after any allowed replies
+-- after any allowed replies, a `take` from an existing cache is refused only for cause
 abbrev pub TakeRefusedForCause : Type 0
 TakeRefusedForCause = (limit order superblocks tenants t number : ℕ) (es : List Exchange) (w : Known) (s : State) (c : KnownCache)
     → all_allowed es (Ok (opening limit order superblocks tenants)) ≡ Ok w → slice_get w.states t ≡ Some s
@@ -136,7 +136,7 @@ uses_memory (Command.Destroy number) = false
 uses_memory Command.Reap = false
 uses_memory Command.Report = false
 
--- each of these commands has an allowed reply, after any allowed replies
+-- each command by which a tenant uses its memory has an allowed reply, after any allowed replies
 abbrev pub UseAnswerable : Type 0
 UseAnswerable = (limit order superblocks tenants t : ℕ) (command : Command) (es : List Exchange) (w : Known)
     → all_allowed es (Ok (opening limit order superblocks tenants)) ≡ Ok w → uses_memory command ≡ true

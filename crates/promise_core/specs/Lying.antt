@@ -16,7 +16,8 @@ Used h (Some n) b = (c : KnownCache) × (p : ℕ) × IsIn c h.caches × IsIn p c
 abbrev pub HaveOwnNumbers : Holdings → Type 0
 HaveOwnNumbers h = (c d : KnownCache) → IsIn c h.caches → IsIn d h.caches → c.number ≡ d.number → c ≡ d
 
--- used blocks are aligned and in held slots, and two that share a frame are the same block of the same user
+-- used blocks are aligned and in held slots, two that share a frame are the same block of the same user, and no two caches have
+-- the same number
 pub record IsLaid (order : ℕ) (h : Holdings) : Type 0 where
   pub placed : (by : Option ℕ) (b : Block) → Used h by b → IsAligned order b × (has_slot h (b.first / 2 ^ order) ≡ true)
   pub apart : (by other : Option ℕ) (a b : Block) (x : ℕ) → Used h by a → Used h other b → HasFrame a x → HasFrame b x → (by ≡ other) × (a ≡ b)

@@ -25,7 +25,7 @@ use Rattle.promise_core.specs.Holdings.{KnownCache, Holdings, has_slot, known_ca
 use Rattle.promise_core.specs.Bytes.{may_all_be, holder_of}
 use Rattle.promise_core.specs.State.{State, Known, opening_state, is_in_use, state_after, owners_after}
 
--- a reply to the event has this addressee; the `Bool` is true if the tenant that the event names exists
+-- this is the right addressee of a reply to the event; the `Bool` is true if the tenant that the event names exists
 abbrev pub is_for : Event → Bool → Addressee → Bool
 is_for (Event.Tenant t command) true (Addressee.Tenant named) = named == t
 is_for (Event.Tenant t command) false Addressee.Nobody = true
@@ -239,7 +239,7 @@ objects (Event.Admin (AdminCommand.Reset t)) body w s = true
 objects (Event.Admin (AdminCommand.Move t u)) body w s = true
 objects (Event.Admin AdminCommand.Pool) body w s = true
 
--- a new cache has a number that no other has, and its objects fit into a slab at each of its colours
+-- a new cache has a number below the limit that no other cache has, and its objects fit into a slab at each of its colours
 abbrev pub new_layout : Event → Body → Known → State → Bool
 new_layout (Event.Tenant t (Command.Cache size align pattern)) (Body.Cache number chunk q n colours) w s =
     (nat_lt number w.limit && is_none (known_cache s.has number)) && ((nat_le size chunk && (chunk % align == 0 && nat_le q w.order))
@@ -260,8 +260,8 @@ new_layout (Event.Admin (AdminCommand.Reset t)) body w s = true
 new_layout (Event.Admin (AdminCommand.Move t u)) body w s = true
 new_layout (Event.Admin AdminCommand.Pool) body w s = true
 
--- this number of frames can be freed: either 0, or at most the number of frames that are not taken and a multiple of the frames of
--- a slab of one of these caches that may have an empty slab
+-- The empty slabs of these caches may have this number of frames: 0, or a multiple of the slab size of one of these caches that
+-- may have an empty slab. The number is at most the number of frames that are not taken.
 abbrev pub can_come_back : ℕ → List KnownCache → ℕ → State → Bool
 can_come_back order caches frames s = frames == 0 || (nat_le frames (length (vacant_blocks order s.has 0))
     && list_any (λ c. s.may_have_empty c.number && frames % 2 ^ c.order == 0) caches)
@@ -290,7 +290,8 @@ gives (Event.Admin AdminCommand.Pool) body w s = true
 abbrev pub has_owner : (Option Owner → Bool) → ℕ → Known → Bool
 has_owner test superblock w = option_map_or test (slice_get w.owners superblock) false
 
--- a superblock that the tenant gets had no owner, one that it loses was its own, and the table of owners is right
+-- a superblock that the tenant gets had no owner, one that it loses was its own, a reset reports how many it had, and the table
+-- of owners is right
 abbrev pub owners : Event → Body → Known → State → Bool
 owners (Event.Admin (AdminCommand.Grant t)) (Body.Granted named u superblock) w s = (named == t && has_owner is_none superblock w)
     && (not (has_slot s.has u) && nat_le ((u + 1) * 2 ^ w.order * FRAME_BYTES) (2 ^ 32))
@@ -316,7 +317,7 @@ owners (Event.Admin (AdminCommand.Reset t)) body w s = true
 owners (Event.Admin (AdminCommand.Move t u)) body w s = true
 owners (Event.Admin AdminCommand.Pool) body w s = true
 
--- each byte that is read may be the one there, and the number of bytes read, or reported as written, is that of the command
+-- each byte that is read may be the byte at its place, and as many bytes are read, or reported as written, as the command says
 abbrev pub bytes : Event → Body → Known → State → Bool
 bytes (Event.Tenant t (Command.Read place len)) (Body.Bytes told) w s = length told.items == len
     && option_map_or (λ holder. may_all_be s.has s.cells holder place told.items) (holder_of s.has place len) false
@@ -355,8 +356,8 @@ abbrev pub known_count : Holdings → List CacheRow → ℕ → ℕ
 known_count h rows k = length (filter (λ b. b.order == k) h.pages)
     + sum_by (λ p. if p.0.order == k then p.1.full + p.1.partial + p.1.empty else 0) (zip h.caches rows)
 
--- there is a row for each order and each cache; the figures are those of the state, and for each order, the free blocks of that
--- order and above fit into its vacant blocks
+-- there is a row for each order and each cache; the figures are those of the state; and for each order, the free blocks of that
+-- order and above fit into the vacant blocks of that order
 abbrev pub report : Event → Body → Known → State → Bool
 report (Event.Tenant t Command.Report) (Body.Report r) w s =
     let orders = range_with_len 0 (w.order + 1) in
@@ -389,8 +390,9 @@ report (Event.Admin AdminCommand.Pool) body w s = true
 abbrev pub empty_frames : (ℕ → Bool) → Holdings → Report → ℕ
 empty_frames test h r = sum_by (λ p. if test p.0.number then p.1.empty * 2 ^ p.0.order else 0) (zip h.caches r.caches.items)
 
--- while the last report is valid, a destroy or a reap frees the frames of its empty slabs, and a new report has the same free
--- blocks and empty slabs (its other figures follow from the state)
+-- While the last report is valid, a reap frees as many frames as the report counts in empty slabs, and a destroy as many as it
+-- counts in empty slabs of the cache. A new report has the same free blocks and empty slabs. (Its other figures follow from the
+-- state.)
 abbrev pub still : Event → Body → Known → State → Bool
 still (Event.Tenant t (Command.Destroy number)) (Body.Destroyed frames) w s =
     option_map_or (λ r. frames == empty_frames (λ n. n == number) s.has r) s.told true
@@ -426,14 +428,14 @@ named (Event.Admin (AdminCommand.Reset t)) = Some t
 named (Event.Admin (AdminCommand.Move t u)) = Some t
 named (Event.Admin AdminCommand.Pool) = None
 
--- what is known after an event that names this tenant, now in state s
+-- what is known after an event and its reply, if s is the new state of the tenant that the event names
 abbrev pub known_after : Event → Body → Known → State → Known
 known_after event body w s = record w {
   owners = owners_after event body w.owners;
   states = option_map_or (λ t. slice_set w.states t s) (named event) w.states;
 }
 
--- the first promise that is not kept, or what is known after
+-- the first promise that is not kept, as an error, or what is known after the reply
 abbrev pub verdict : List (Promise × Bool) → Known → Result Known Promise
 verdict [] after = Ok after
 verdict ((promise, kept) ∷ rest) after = if kept then verdict rest after else Err promise

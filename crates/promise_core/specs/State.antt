@@ -27,8 +27,8 @@ unfoldable pub opening_state : State
 opening_state =
     record { has = record { slots = []; pages = []; caches = [] }; cells = λ place. None; may_have_empty = λ n. false; told = None }
 
--- for each superblock the tenant and the slot that own it, and for each tenant its state; a tenant may have `limit` caches, and
--- slots have 2 ^ order frames
+-- the owner of each superblock (a tenant and its slot), and the state of each tenant; a tenant may have `limit` caches, and slots
+-- have 2 ^ order frames
 pub record Known : Type 0 where
   pub limit : ℕ
   pub order : ℕ

@@ -1,5 +1,5 @@
 //! Laws that follow from the promises alone, for every program whose replies keep them. Each is the contract of an empty
-//! function, to be called where a proof needs the law.
+//! function, which a function calls if its proof needs the law.
 
 ghost use Rattle.promise_core.specs.Laws.{LiveApart, LeftInHeld, Confined, RefusedForCause, TakeRefusedForCause, UseAnswerable};
 
@@ -21,14 +21,14 @@ pub fn confined()
     ensures { Confined }
 {}
 
-/// In every state, it is allowed either to grant an existing tenant's request for a block of at most a slot's order, or to refuse
-/// it with `NoFrames`, but never both. So the request has an allowed reply after any allowed replies.
+/// In every state, if an existing tenant allocates a block of at most a slot's order, either some frame or the refusal `NoFrames`
+/// is an allowed reply, but never both. So its `alloc` has an allowed reply after any allowed replies.
 pub fn refused_for_cause()
     ensures { RefusedForCause }
 {}
 
-/// After allowed replies, it is allowed either to grant a request for an object of an existing cache, or to refuse it with
-/// `NoFrames`, but never both. So the request has an allowed reply after any allowed replies.
+/// After allowed replies, if a tenant takes an object of an existing cache, either some object or the refusal `NoFrames` is an
+/// allowed reply, but never both. So its `take` has an allowed reply after any allowed replies.
 pub fn take_refused_for_cause()
     ensures { TakeRefusedForCause }
 {}

@@ -5,13 +5,13 @@ ghost use Rattle.promise_core.specs.Names.{name_of_promise};
 
 use std::fmt;
 
-/// A promise that every reply has to keep. If a reply breaks several, the first of them is reported.
+/// A promise that every reply has to keep. If a reply breaks several, the first of them in this order is reported.
 #[derive(Clone, Copy, Debug, PartialEq, Eq)]
 pub enum Promise {
     /// The reply has the right addressee and is a refusal or an answer to that event.
     Form,
-    /// If the condition of a refusal holds, the first such refusal is the reply. Otherwise the only possible refusals are
-    /// `NoFrames` and `SlotBusy`.
+    /// If the condition of a refusal holds, the reply is the first refusal whose condition holds. Otherwise `NoFrames` and
+    /// `SlotBusy` are the only refusals that the reply may be.
     Refusals,
     /// No page block or object is refused for lack of frames while one can be allocated.
     Room,
