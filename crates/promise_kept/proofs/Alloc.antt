@@ -34,7 +34,7 @@ use Rattle.promise_kept.proofs.SeenBlocks.{by_need_stands, room_served}
 use Rattle.promise_kept.proofs.PlaceCells.{all_kept, formed, without_some, without_may, refused}
 use Rattle.promise_kept.proofs.KnownAfterReaping.{untold, by_need_meets, object_in_slab}
 
--- the cells of objects in this block
+-- the place is in this block, and the holder is an object
 abbrev left_there : Block → ℕ → Holder → Bool
 left_there b place holder = in_block place b && not (is_same Holder.Page holder)
 
@@ -52,7 +52,7 @@ lives_on b h Holder.Page place e = any_with (in_block place) (λ x. x.first) b h
 lives_on b h (Holder.Object n first) place e = e
 
 module _ {limit : ℕ} (order k first : ℕ) (s : State) (n : Machine) (w : IsWellFormed limit order n) (h : Meets order (untold s) n) (is : choice order n k ≡ Some first) where
-  -- an object's byte is not in the block
+  -- no object has a byte in the allocated block
   outside : (o : Object) (j : ℕ) → IsObject n o → j < o.cache.size → in_block (place_of o + j) (block first k) ≡ false
   unfolding model.taken_blocks
   outside o j i byte_in =

@@ -41,12 +41,12 @@ missing_most n (x ∷ xs) = go (eqb x n) (missing_most (n + 1) xs)
     go true le = omega arith
     go false le = omega arith
 
--- ascending numbers from `n` up to below a limit are at most `limit - n`
+-- a list of ascending numbers from n on, all below a limit, has at most limit - n elements
 few_below : (n limit : ℕ) (xs : List ℕ) → n ≤ limit → RisesFrom n xs → Each (λ x. x < limit) xs → n + length xs ≤ limit
 few_below n limit [] le r each = omega arith
 few_below n limit (x ∷ xs) le (l, r) (b, each) = let rest = few_below (x + 1) limit xs (omega arith) r each in omega (arith, rest, l)
 
--- the caches with the new one, as seen
+-- if a new cache is put among the caches, it is put at the same position among the caches as they are seen
 new_told : (c : Cache) (cs : List Cache) → map cache_as_known (put_rising (λ x. x.number) c cs) ≡ put_rising (λ (x : KnownCache). x.number) (cache_as_known c) (map cache_as_known cs)
 new_told c [] = refl
 new_told c (d ∷ cs) = go (ltb c.number d.number) (new_told c cs)
@@ -65,7 +65,7 @@ missing_all n limit (x ∷ xs) (l, r) (b, each) le =
     ap (λ t. if t then least_missing (n + 1) xs else n) (eq-eqb x n same)
     ∙ (missing_all (n + 1) limit xs (subst (λ k. RisesFrom (k + 1) xs) same r) each (omega (arith, le)) ∙ omega arith)
 
--- all numbers below the limit are used exactly if there are that many caches
+-- there are as many caches as the limit allows exactly if no number below the limit is unused
 full_seen : (limit order : ℕ) (m : Machine) (s : State) → IsWellFormed limit order m → Meets order s m → leb limit (length s.has.caches) ≡ leb limit (next_number m)
 unfolding next_number holdings_of
 full_seen limit order m s w h = ap (λ (x : Holdings). leb limit (length x.caches)) h.has ∙ (ap (leb limit) (length-map m.caches cache_as_known) ∙ go (leb limit (least_missing 0 numbers)) refl)

@@ -63,7 +63,7 @@ first_only p a (suc j) none =
     let all : count_below p (a + 1 + suc j) ≡ count_below p (a + 1 + j) + bit (p (a + 1 + j)) = ap (count_below p) e in
     omega (arith, last, rest, all)
 
--- if only multiples of `s` pass
+-- if only multiples of s pass, as many numbers below n * s pass as there are q below n for which q * s passes
 pub strided : (p : ℕ → Bool) (s n : ℕ) → 0 < s → ((f : ℕ) → p f ≡ true → f % s ≡ 0) → count_below p (n * s) ≡ count_below (λ q. p (q * s)) n
 strided p s zero pos only = let e : zero * s ≡ 0 = omega arith in ap (count_below p) e
 strided p s (suc n) pos only =
@@ -90,7 +90,7 @@ count_or p q (suc n) apart = let rest : count_below (λ x. p x || q x) n ≡ cou
     go true b off = let none : bit b ≡ 0 = ap bit (off refl) in omega (arith, none)
     go false b off = omega arith
 
--- the numbers that pass a test are those that pass a stricter one, and the rest
+-- as many numbers pass a test as pass a stricter test, plus those that pass only the first
 pub count_less : (p q : ℕ → Bool) (n : ℕ) → ((x : ℕ) → q x ≡ true → p x ≡ true) → count_below p n ≡ count_below q n + count_below (λ x. p x && not (q x)) n
 count_less p q zero fewer = refl
 count_less p q (suc n) fewer = let rest : count_below p n ≡ count_below q n + count_below (λ x. p x && not (q x)) n = count_less p q n fewer in
@@ -129,7 +129,7 @@ count_one b (suc n) = let rest : count_below (in_frames b) n ≡ (n - b.first) -
     (cases_lt n (b.first + 2 ^ b.order)))
     (cases_lt n b.first)
 
--- blocks below the bound that share no frame have as many frames as are counted
+-- if blocks share no frame and end at or below the bound, as many numbers are in one of them as they have frames
 pub count_blocks : (bs : List Block) (n : ℕ) → AreApart bs → Each (λ b. b.first + 2 ^ b.order ≤ n) bs → count_below (in_any bs) n ≡ frames_of bs
 count_blocks [] n apart below = none n
   where

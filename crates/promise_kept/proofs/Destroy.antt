@@ -41,7 +41,7 @@ use Rattle.promise_kept.proofs.KnownCaches.{seen, seen_is, cache_seen, IsLiveIn,
 use Rattle.promise_kept.proofs.EmptySlabFrames.{empty_vacant}
 use Rattle.promise_kept.proofs.FramesReturned.{frames_divide, empty_of, told_frames}
 
--- a cache without live objects
+-- A cache without live objects
 
 none_in_use : (c : Cache) (ss : List Slab) → list_any (λ s. not (is_empty s)) ss ≡ false → flat_map (live_in c) ss ≡ []
 none_in_use c [] e = refl
@@ -55,7 +55,7 @@ all_empty (s ∷ ss) e =
     let p : (not (is_empty s) ≡ false) × (list_any (λ s. not (is_empty s)) ss ≡ false) = or_parts (not (is_empty s)) (list_any (λ s. not (is_empty s)) ss) e in
     ap (λ b. cond b (s ∷ filter is_empty ss) (filter is_empty ss)) (not-false (is_empty s) p.0) ∙ ap (λ xs. s ∷ xs) (all_empty ss p.1)
 
--- the empty slabs of one cache
+-- if no cache has number k, no empty slab belongs to cache k
 none_pass : (k : ℕ) (cs : List Cache) → Each (λ c. eqb c.number k ≡ false) cs → flat_map (empty_of (λ n. eqb n k)) cs ≡ []
 none_pass k [] h = refl
 none_pass k (c ∷ cs) (e, h) = ap (λ b. (if b then empty_blocks c else []) ++ flat_map (empty_of (λ n. eqb n k)) cs) e ∙ none_pass k cs h

@@ -1,4 +1,4 @@
--- The number of frames that are freed, the slabs that they come from, and what a report said of them.
+-- The number of frames in empty slabs. It is a multiple of the size of the smallest of these slabs, and a report counts it.
 use Rattle.std.proofs.Common.{◌≡◌, ℕ, ◌+◌, ◌-◌, ◌*◌, ◌%◌, ◌^◌, ◌≤◌, Bool, true, false, List, [], ◌∷◌, ◌++◌, map, length, refl, sym, ap, ◌∙◌, subst, ◌⊎◌, inl, inr, ⊎_elim, arith}
 use Rattle.std.specs.Prelude.{if◌then◌else◌, filter, flat_map, sum_by}
 use Rattle.std.specs.List.{zip, AllByRecursion as Each}
@@ -19,7 +19,7 @@ use Rattle.promise_kept.specs.Meets.{cache_as_known}
 
 -- The lowest order
 
--- a cache with an empty slab, whose order is the lowest of those caches
+-- a cache with a slab; its order is at most the order of every empty slab of these caches
 pub record IsLeast (cs : List Cache) : Type 0 where
   pub cache : Cache
   pub slab : Slab

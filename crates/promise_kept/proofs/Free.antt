@@ -27,7 +27,7 @@ use Rattle.promise_core.specs.Promises.{due}
 use Rattle.promise_kept.specs.Meets.{holdings_of, is_object_live, Meets, IsKeptBy, IsPromiseKept}
 use Rattle.promise_kept.proofs.PlaceCells.{all_kept, formed, doubt_may, doubt_lives, refused}
 
--- the page cells of this block
+-- the place is in this block, and the holder is a page block
 abbrev freed_there : Block → ℕ → Holder → Bool
 freed_there b place holder = in_block place b && is_same Holder.Page holder
 

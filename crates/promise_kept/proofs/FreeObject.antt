@@ -1,4 +1,4 @@
--- A take may return an object of a slab that is not live.
+-- A take may return any object of a slab if the object is not live.
 use Rattle.std.proofs.Common.{◌≡◌, ℕ, zero, suc, ◌+◌, ◌-◌, ◌*◌, ◌/◌, ◌%◌, ◌^◌, ◌<◌, ◌≤◌, Bool, true, false, ◌||◌, ◌&&◌, eqb, ltb, leb, List, [], ◌∷◌, map, length, get_or, refl, sym, ap, ◌∙◌, subst, ◌⊎◌, inl, inr, arith}
 use Rattle.std.specs.Prelude.{flat_map}
 use Rattle.std.specs.List.{list_any, list_all, AllByRecursion as Each}
@@ -32,7 +32,7 @@ flag_any [] i e = absurd (false≢true e)
 flag_any (flag ∷ flags) zero e = or_left flag (list_any (λ live. live) flags) e
 flag_any (flag ∷ flags) (suc i) e = or_right flag (list_any (λ live. live) flags) (flag_any flags i e)
 
--- a frame begins at a multiple of every alignment
+-- if an offset from the beginning of a frame is a multiple of an alignment, so is the place at that offset
 frame_aligned : (align : ℕ) → is_alignment align ≡ true → (f n : ℕ) → n % align ≡ 0 → (4096 * f + n) % align ≡ 0
 frame_aligned = for_alignment (λ a. (f n : ℕ) → n % a ≡ 0 → (4096 * f + n) % a ≡ 0)
     (λ f n e. omega (arith, e)) (λ f n e. omega (arith, e)) (λ f n e. omega (arith, e)) (λ f n e. omega (arith, e)) (λ f n e. omega (arith, e)) (λ f n e. omega (arith, e))
@@ -50,7 +50,7 @@ module _ {limit : ℕ} (order : ℕ) (c : Cache) (s : Slab) (m : Machine) (w : I
   fit : IsFit (layout c) s.colour
   fit = (is_slab order c m w in_c s in_s).fit
 
-  -- two objects of the slab share no byte
+  -- two different objects of the slab share no byte
   pub two_apart : (i j : ℕ) → (j ≡ i → ⊥) → are_apart (cache_as_known c) (object_place (layout c) s.first s.colour i) (object_place (layout c) s.first s.colour j) ≡ true
   two_apart i j differ = go (cases_lt i j)
     where

@@ -1,4 +1,4 @@
--- What is known of a machine, by its caches.
+-- What is known of a machine's caches and their live objects.
 use Rattle.std.proofs.Common.{◌≡◌, ℕ, Bool, true, false, ◌&&◌, cond, eqb, List, [], ◌∷◌, map, Some, refl, sym, ap, ◌∙◌, subst, ◌⊎◌, inl, inr}
 use Rattle.std.specs.Prelude.{option_map, find}
 use Rattle.std.specs.List.{list_any}
@@ -23,7 +23,7 @@ seen m s = record s { has = holdings_of m }
 pub seen_is : (m : Machine) (s : State) → s.has ≡ holdings_of m → seen m s ≡ s
 seen_is m s e = sym (ap (λ (h : Holdings). record s { has = h }) e)
 
--- a cache is found by its number among the caches that are seen
+-- a number finds the same cache among the caches as they are seen as among the machine's caches
 pub cache_seen : (number : ℕ) (cs : List Cache) → find (λ c. eqb c.number number) (map cache_as_known cs) ≡ option_map cache_as_known (find (λ c. eqb c.number number) cs)
 cache_seen number [] = refl
 cache_seen number (c ∷ cs) = go (eqb c.number number) (cache_seen number cs)
@@ -70,7 +70,7 @@ unfolding holdings_of
 told_live m number first place l = any_in (is_told number first) (cache_as_known l.cache) (map cache_as_known m.caches) (in_map cache_as_known l.cache m.caches l.cache_in)
     (and_from (eqb l.cache.number number) (list_any (λ p. eqb p first) (map (λ o. o.place) (live_objects l.cache))) (eq-eqb l.cache.number number l.number_is) (any_place first l.cache l.place))
 
--- an object that is live stays live if its cache is replaced by another with its number, in which the object is live
+-- a live object is still live after a cache is replaced by one with the same number, if the object is live in that one
 pub live_replaced : (c d : Cache) (m : Machine) → RisesFrom 0 (map (λ x. x.number) m.caches) → IsIn c m.caches → c.number ≡ d.number → (number first : ℕ) → IsLiveIn number first m.caches
     → (number ≡ c.number → IsLivePlace c first → IsLivePlace d first) → IsLiveIn number first (with_cache d m).caches
 live_replaced c d m rises in_c same number first k still = go (cases_eq k.cache.number c.number)

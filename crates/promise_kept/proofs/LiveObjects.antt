@@ -1,4 +1,4 @@
--- Live objects by their first places, which ascend; each is the place of an object whose live flag is set.
+-- The first places of live objects. They ascend, and each is the place of an object whose live flag is set.
 use Rattle.std.proofs.Common.{◌≡◌, ℕ, zero, suc, ◌+◌, ◌*◌, ◌^◌, ◌<◌, ◌≤◌, Bool, true, false, List, [], ◌∷◌, ◌++◌, map, length, get_or, sym, ap, ◌∙◌, subst, ◌⊎◌, inl, inr, arith}
 use Rattle.std.specs.Prelude.{flat_map}
 use Rattle.std.specs.List.{AllByRecursion as Each}
@@ -39,7 +39,7 @@ slab_rises c s n (flag ∷ flags) low chunk le = go flag (λ k h. slab_rises c s
     go true rest = (le, rest (object_place (layout c) s.first s.colour n + 1) (omega (arith, next, chunk)))
     go false rest = rest low (omega (arith, next, le))
 
--- an object is in its slab
+-- the chunk of an object lies inside its slab
 pub place_below : (c : Cache) (s : Slab) (i : ℕ) → IsFit (layout c) s.colour → i < (layout c).count
     → (4096 * s.first ≤ object_place (layout c) s.first s.colour i) × (object_place (layout c) s.first s.colour i + (layout c).chunk ≤ 4096 * (s.first + 2 ^ (layout c).order))
 place_below c s i fit lt =
@@ -69,7 +69,7 @@ pub apart_in : {limit : ℕ} (order : ℕ) (c : Cache) (m : Machine) → IsWellF
 unfolding taken_blocks
 apart_in order c m w i = slabs_apart c m.caches i (apart_parts m.blocks (flat_map slab_blocks m.caches) w.apart).1
 
--- the next slab begins where this one ends, or later
+-- if slab t begins after the first frame of slab s, and they share no frame, t begins where s ends, or later
 apart_after : (c : Cache) (s t : Slab) → IsApart (slab_block c s) (slab_block c t) → s.first + 1 ≤ t.first → s.first + 2 ^ (layout c).order ≤ t.first
 apart_after c s t h le = go (cases_lt t.first (s.first + 2 ^ (layout c).order))
   where

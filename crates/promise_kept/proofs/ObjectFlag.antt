@@ -1,4 +1,4 @@
--- One object becomes live or stops being live: what is seen of that.
+-- What the promises see when one object becomes live or stops being live.
 use Rattle.std.proofs.Common.{◌≡◌, ℕ, ◌<◌, Bool, true, false, eqb, List, [], ◌∷◌, map, length, get_or, refl, sym, ap, ◌∙◌, subst, ◌⊎◌, inl, inr, arith}
 use Rattle.std.specs.Prelude.{if◌then◌else◌, slice_set, Contains}
 use Rattle.std.proofs.Math.ListN.{length-set}
@@ -63,7 +63,7 @@ one_place {limit} order c m w in_c s t i j in_s in_t lt lt' e =
     (place_of a) (omega arith, omega (arith, some)) (omega (arith, e), omega (arith, e, some)) in
     record { slab = ap (λ o. o.slab) same; index = ap (λ o. o.index) same }
 
--- an object of another machine is in this one too, at the same place
+-- machine m has an object with the place of o, whose cache has the same number, size and pattern as the cache of o
 pub record WasObject (m : Machine) (o : Object) : Type 0 where
   pub was : Object
   pub object : IsObject m was
@@ -81,7 +81,7 @@ module _ (limit order : ℕ) (c : Cache) (s : Slab) (i : ℕ) (b : Bool) (m : Ma
   within : (t : Slab) (j : ℕ) → IsIn t c.slabs → j < length t.live → j < (layout c).count
   within t j k l = let h : IsSlab c t = slabs t k in omega (arith, h.count, l)
 
-  -- a live object's place after the change is that of this object, made live, or of another that was live before
+  -- a place that is live after the change is that of this object, which was made live, or another that was live before
   pub live_after : (u : ℕ) → IsLivePlace (with_slab (with_live i b s) c) u
       → ((b ≡ true) × (u ≡ object_place (layout c) s.first s.colour i)) ⊎ (IsLivePlace c u × (u ≡ object_place (layout c) s.first s.colour i → ⊥))
   live_after u l = go (replaced_is (λ x. x.first) (with_live i b s) l.slab c.slabs l.slab_in)
@@ -187,7 +187,7 @@ module _ (limit order : ℕ) (c : Cache) (s : Slab) (i : ℕ) (b : Bool) (m : Ma
         place = refl;
       }
 
--- the holdings with other live objects of one cache
+-- a known cache after `change` is applied to its live objects
 abbrev pub with_places : (List ℕ → List ℕ) → KnownCache → KnownCache
 with_places change c = record c { live = change c.live }
 

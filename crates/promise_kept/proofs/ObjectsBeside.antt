@@ -1,4 +1,4 @@
--- The live objects beside an object are those of its slab.
+-- The live objects beside an object are the live objects of its slab.
 use Rattle.std.proofs.Common.{◌≡◌, ℕ, ◌+◌, ◌/◌, ◌<◌, ◌≤◌, Bool, true, false, eqb, List, [], ◌∷◌, ◌++◌, map, length, get_or, refl, sym, ap, ◌∙◌, subst, inl, inr, arith}
 use Rattle.std.specs.Prelude.{filter}
 use Rattle.std.specs.List.{list_any, list_all}
@@ -29,7 +29,7 @@ alone c s = record c { slabs = s ∷ [] }
 abbrev pub places_in : Cache → Slab → List ℕ
 places_in c s = map (λ o. o.place) (live_objects (alone c s))
 
--- Their number
+-- The number of live objects of a slab
 
 abbrev places_from : Cache → Slab → ℕ → List Bool → List ℕ
 places_from c s n flags = map (λ o. o.place) (live_from c s n flags ++ [])
@@ -106,7 +106,7 @@ module _ {limit : ℕ} (order : ℕ) (c : Cache) (m : Machine) (w : IsWellFormed
   slab_of_live u l = ap (λ p. slab_around (cache_as_known c) p) l.at
       ∙ slab_here l.slab l.index l.slab_in (subst (λ n. l.index < n) (is_slab l.slab l.slab_in).count l.index_in)
 
-  -- the live objects beside an object, live or not, are those of its slab
+  -- the live objects beside an object, which may be live or not, are the live objects of its slab
   pub beside_is : (s : Slab) (i : ℕ) → IsIn s c.slabs → i < (layout c).count → live_beside (cache_as_known c) (object_place (layout c) s.first s.colour i) ≡ places_in c s
   beside_is s i in_s lt = same_members 0 (live_beside (cache_as_known c) place) (places_in c s)
       (subst (RisesFrom 0) (map-id (filter (is_here c place) live)) (filter_rises (λ p. p) (is_here c place) 0 live (subst (RisesFrom 0) (sym (map-id live)) (live_rises order c m w in_c))))

@@ -18,7 +18,7 @@ use Rattle.promise_core.specs.State.{State, Known, state_after}
 use Rattle.promise_core.specs.Promises.{form, refusals, room, busy, blocks, objects, new_layout, gives, owners, bytes, report, still, kept}
 use Rattle.promise_kept.specs.Meets.{is_object_live, Meets, IsKeptBy}
 
--- the list of all promises is kept, if each of them is
+-- if a reply keeps each promise, it keeps all promises of the list `kept`
 pub all_kept : (event : Event) (reply : Reply) (w : Known) (s : State) → form event reply w s ≡ true → refusals event reply.body w s ≡ true → room event reply.body w s ≡ true
     → busy event reply.body w s ≡ true → blocks event reply.body w s ≡ true → objects event reply.body w s ≡ true → new_layout event reply.body w s ≡ true
     → gives event reply.body w s ≡ true → owners event reply.body w s ≡ true → bytes event reply.body w s ≡ true → report event reply.body w s ≡ true
@@ -29,7 +29,7 @@ all_kept event reply w s a b c d e f g h i j k l =
 pub formed : (t : ℕ) (o : Option State) → is_some o ≡ true → (eqb t t && is_some o) ≡ true
 formed t o e = and_from (eqb t t) (is_some o) (eq-eqb t t refl) e
 
--- a refusal that is due, and that no other promise is about, changes nothing
+-- a refusal keeps all promises if it keeps `Refusals` and the promises after the first two; what is known stays true
 pub refused : (limit order : ℕ) (command : Command) (refusal : Refusal) (s : State) (m : Machine) → Meets order s m
     → ((t : ℕ) (owners : List (Option Owner)) (states : List State) → let w : Known = record { limit = limit; order = order; owners = owners; states = states } in
     (refusals (On.Tenant t command) (Say.Refused refusal) w s ≡ true)
@@ -81,7 +81,7 @@ fresh_may h cells lives holder place fresh dead = go (cells place) refl
     go None e = eq-eqb fresh fresh refl
     go (Some cell) e = cell_may cell e (is_same cell.holder holder) refl
 
--- a byte that may be there may still be there when it is in doubt
+-- if a byte may be at a place, it may still be there after cells are put in doubt
 pub doubt_may : (test : ℕ → Holder → Bool) (cells : Cells) (holder : Holder) (place fresh byte : ℕ) → may_be holder fresh (cells place) byte ≡ true
     → may_be holder fresh (doubted test cells place) byte ≡ true
 doubt_may test cells holder place fresh byte = go (cells place)
@@ -111,7 +111,7 @@ doubt_lives test cells place cell e sure = go (cells place) refl e
         let both = and_parts was.sure (not (test place was.holder)) (ap (λ x. x.sure) same ∙ sure) in
         (was, is, both.0, ap (λ x. x.holder) same, ap (λ x. test place x) (sym (ap (λ x. x.holder) same)) ∙ not-true _ both.1)
 
--- cells that are dropped
+-- a cell that is not dropped was there before, and its holder does not pass the test
 pub without_some : (test : ℕ → Holder → Bool) (cells : Cells) (place : ℕ) (cell : Cell) → without test cells place ≡ Some cell
     → (cells place ≡ Some cell) × (test place cell.holder ≡ false)
 without_some test cells place cell e = go (cells place) refl e
@@ -126,7 +126,7 @@ without_some test cells place cell e = go (cells place) refl e
     go None is none = absurd (cc)
     go (Some was) is some = one was (test place was.holder) refl is some
 
--- a byte that may be there may still be there after the cells of other holders are dropped
+-- if a byte may be at a place, it may still be there after the cells of other holders are dropped
 pub without_may : (test : ℕ → Holder → Bool) (cells : Cells) (holder : Holder) (place fresh byte : ℕ) → test place holder ≡ false
     → may_be holder fresh (cells place) byte ≡ true → may_be holder fresh (without test cells place) byte ≡ true
 without_may test cells holder place fresh byte spared = go (cells place)

@@ -33,7 +33,7 @@ use Rattle.promise_kept.proofs.RangeHolders.{IsHolder, holder_is, range_meets}
 use Rattle.promise_kept.proofs.Write.{reach_seen}
 use Rattle.promise_kept.proofs.KnownCaches.{cache_known}
 
--- the bytes of a range, if each of its places has one
+-- if each place of a range has a byte, the list of its bytes has the length of the range, and each byte is the one at its place
 read_all : (bytes : ℕ → Option ℕ) (place len : ℕ) → ((p : ℕ) → place ≤ p → p < place + len → is_some (bytes p) ≡ true)
     → (length (filter_map bytes (range_with_len place len)) ≡ len) × ((p : ℕ) → place ≤ p → p < place + len → bytes p ≡ Some (get_or (filter_map bytes (range_with_len place len)) (p - place) 0))
 read_all bytes place zero all = (refl, λ p low high. absurd (omega arith))

@@ -1,4 +1,5 @@
--- A report: its figures are true, and while it is valid a new one has the same.
+-- A report keeps the promises. Its figures are true, and it has the free blocks and empty slabs of the last report, if that is
+-- still valid.
 use Rattle.std.proofs.Common.{◌≡◌, ℕ, zero, suc, ◌+◌, ◌-◌, ◌*◌, ◌^◌, ◌<◌, ◌≤◌, Bool, true, false, ◌&&◌, eqb, List, [], ◌∷◌, ◌++◌, map, length, Option, Some, None, refl, sym, ap, ◌∙◌, subst, inl, inr, ⊎_elim, arith}
 use Rattle.std.specs.Prelude.{if◌then◌else◌, filter, drop, slice_index}
 use Rattle.std.specs.List.{list_all, zip, range_with_len}

@@ -45,7 +45,7 @@ module _ (top : ℕ) (held : ℕ → Bool) (taken : Taken) (slots : ℕ) where
   abbrev free : ℕ → ℕ
   free k = count_below (free_at k) (slots * 2 ^ top)
 
-  -- by the numbers of the aligned blocks
+  -- the free blocks of order k are counted by the numbers of the aligned blocks
   numbered : (k d : ℕ) → k + d ≡ top → free k ≡ count_below (λ q. free_at k (q * 2 ^ k)) (slots * 2 ^ d)
   numbered k d e =
       let size : 2 ^ top ≡ 2 ^ k * 2 ^ d = ap (λ n. 2 ^ n) (sym e) ∙ pow-add 2 k d in
@@ -53,7 +53,7 @@ module _ (top : ℕ) (held : ℕ → Bool) (taken : Taken) (slots : ℕ) where
       ap (count_below (free_at k)) all ∙ strided (free_at k) (2 ^ k) (slots * 2 ^ d) (pow_pos k)
       (λ f on. eqb-true (f % 2 ^ k) 0 (and_parts (leb k top) (eqb (f % 2 ^ k) 0) (and_parts (leb k top && eqb (f % 2 ^ k) 0) _ on).0).1)
 
-  -- block q of order k is free
+  -- block q of order k is free exactly if it is clear, and order k is the highest or the block around it is not clear
   free_is : (k q : ℕ) → k ≤ top → free_at k (q * 2 ^ k) ≡ (is_clear ok k q && (eqb k top || not (is_clear ok (suc k) (q / 2))))
   free_is k q le =
       let double : 2 ^ suc k ≡ 2 ^ k * 2 = omega arith in
@@ -64,7 +64,7 @@ module _ (top : ℕ) (held : ℕ → Bool) (taken : Taken) (slots : ℕ) where
       ∙ (ap (λ n. is_clear ok k n && (eqb k top || not (is_clear ok (suc k) (q * 2 ^ k / 2 ^ suc k)))) here
       ∙ ap (λ n. is_clear ok k q && (eqb k top || not (is_clear ok (suc k) n))) around)
 
-  -- the free blocks from order k on, in blocks of order k, are the clear blocks of that order
+  -- the free blocks of order k and above, counted in blocks of order k, are as many as the clear blocks of order k
   pub free_clear : (d k : ℕ) → k + d ≡ top → frames_of_counts (map free (range_with_len k (suc d))) ≡ count_below (is_clear ok k) (slots * 2 ^ d)
   free_clear zero k e =
       let is : k ≡ top = omega (arith, e) in
@@ -88,7 +88,7 @@ module _ (top : ℕ) (held : ℕ → Bool) (taken : Taken) (slots : ℕ) where
 
 -- Frames held, taken and available
 
--- the blocks of slots in ascending order lie apart
+-- the blocks of ascending slots share no frame
 slots_apart : (order n : ℕ) (us : List ℕ) → RisesFrom n us → AreApart (map (slot_block order) us)
 slots_apart order n [] r = tt
 slots_apart order n (u ∷ us) (l, r) = (
@@ -172,7 +172,7 @@ module _ {limit : ℕ} (order : ℕ) (m : Machine) (w : IsWellFormed limit order
       let next : u + 1 ≤ beyond m.slots = omega (arith, lt) in
       let le : (u + 1) * 2 ^ order ≤ bound = mul-le-mul_right (2 ^ order) next in omega (arith, le)
 
-  -- the frames that are available are those held less those taken
+  -- the available frames and the taken frames are together as many as the held frames
   pub available_count : count_below available bound + frames_taken m ≡ frames_held order m
   available_count =
       let h : count_below is_held bound ≡ frames_of (map (slot_block order) m.slots) = count_blocks (map (slot_block order) m.slots) bound (slots_apart order 0 m.slots w.slots_rise)

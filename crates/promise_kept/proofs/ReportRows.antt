@@ -27,7 +27,7 @@ use Rattle.promise_kept.proofs.EmptySlabsUnseen.{none_live}
 
 -- Lists
 
--- only one element of an ascending list is its first
+-- if p passes only the first element of an ascending list, and that only if b is true, then 1 element passes if b, else 0
 one_first : (n : ℕ) (xs : List ℕ) (b : Bool) (p : ℕ → Bool) → RisesFrom n xs → ((x : ℕ) → IsIn x xs → p x ≡ (eqb (slice_index xs 0) x && b)) → 0 < length xs → length (filter p xs) ≡ bit b
 one_first n [] b p r all some = absurd (omega (arith, some))
 one_first n (x ∷ xs) b p (l, r) all some =
@@ -63,7 +63,7 @@ module _ {limit : ℕ} (order : ℕ) (c : Cache) (m : Machine) (w : IsWellFormed
       go (true ∷ flags) some all = refl
       go (false ∷ flags) some all = absurd (false≢true all)
 
-  -- each slab is of one kind
+  -- each slab is exactly one of full, partial and empty
   one_kind : (s : Slab) → IsIn s c.slabs → bit (is_full s) + bit (is_partial s) + bit (is_empty s) ≡ 1
   one_kind s i = go (is_full s) (list_any (λ live. live) s.live) (full_some s i)
     where
@@ -98,7 +98,7 @@ module _ {limit : ℕ} (order : ℕ) (c : Cache) (m : Machine) (w : IsWellFormed
   places_rise : (s : Slab) → IsIn s c.slabs → RisesFrom 0 (places_in c s)
   places_rise s i = slabs_rise (alone c s) (s ∷ []) 0 0 (record { fit = (is_slab order c m w in_c s i).fit; count = (is_slab order c m w in_c s i).count }, tt) (omega arith, tt) (tt, tt) (omega arith, tt)
 
-  -- a test of slabs at the place of a live object, and the same test of the slab itself
+  -- The lemmas below are about a test of a slab at the place of a live object, and the same test of the slab itself.
   module _ (test : ℕ → Bool) (kind : Slab → Bool)
       (same : (s : Slab) (p : ℕ) → IsIn s c.slabs → IsIn p (places_in c s) → test p ≡ kind s)
       (off : (s : Slab) → IsIn s c.slabs → list_any (λ live. live) s.live ≡ false → kind s ≡ false) where
@@ -202,14 +202,14 @@ module _ {limit : ℕ} (order : ℕ) (m : Machine) (w : IsWellFormed limit order
       ap length (filter-append (is_order k) (slab_blocks c) (flat_map slab_blocks cs)) ∙ length-append (filter (is_order k) (slab_blocks c)) (filter (is_order k) (flat_map slab_blocks cs)) in
       omega (arith, sum_by-cons (slabs_told k) (cache_as_known c, row_of_cache c) (zip (map cache_as_known cs) (map row_of_cache cs)), rest, here, parts)
 
-  -- the number of taken blocks of an order, from what is seen and the rows
+  -- the number of taken blocks of an order is the one that `known_count` computes from what is seen and the rows
   pub taken_seen_by_order : (k : ℕ) → reports.taken_count m k ≡ known_count (holdings_of m) (rows_of_caches m) k
   unfolding model.taken_blocks holdings_of
   taken_seen_by_order k = ap length (filter-append (is_order k) m.blocks (flat_map slab_blocks m.caches))
       ∙ (length-append (filter (is_order k) m.blocks) (filter (is_order k) (flat_map slab_blocks m.caches))
       ∙ ap (λ n. length (filter (is_order k) m.blocks) + n) (sym (slabs_seen k m.caches (λ c i. i))))
 
-  -- each row agrees with what is seen
+  -- each row agrees with what is seen of its cache
   pub rows_seen : (may_have_empty : ℕ → Bool) → ((c : Cache) (s : Slab) → IsIn c m.caches → IsIn s c.slabs → may_have_empty c.number ≡ true) → list_all (is_row may_have_empty) (zip (map cache_as_known m.caches) (rows_of_caches m)) ≡ true
   rows_seen may_have_empty may = go m.caches (λ c i. i)
     where

@@ -172,7 +172,7 @@ unserved order k m w of_slot none = ap (λ bs. ltb 0 (length bs)) (none_in _ (λ
     some_first (choose order (holds m) (taken_in (reaped m)) (beyond m.slots) k)
     (some_choice order (holds m) (taken_in (reaped m)) (beyond m.slots) (held_below m.slots) (q.0 * 2 ^ k) k v) none))
 
--- if a request gets no block, no block is vacant
+-- if no block of an order is chosen, even after empty slabs are freed, no block of that order is seen as vacant
 pub room_served : {limit : ℕ} (order k : ℕ) (m : Machine) → IsWellFormed limit order m → k ≤ order → choice_by_need order k m ≡ None → has_vacant_block order (holdings_of m) k ≡ false
 room_served order k m w of_slot none = unserved order k m w of_slot (go (choice order (reaped m) k) refl)
   where

@@ -1,4 +1,4 @@
--- What is known of a machine is true after a slot is granted, and after one is taken back.
+-- What is known of a machine stays true after a slot is granted, and after one is taken back.
 use Rattle.std.proofs.Common.{◌≡◌, ◌≢◌, ℕ, ◌+◌, ◌<◌, Bool, true, false, not, ◌||◌, cond, eqb, List, [], ◌∷◌, map, Option, Some, None, refl, sym, ap, ◌∙◌, subst, ⊎_elim, arith}
 use Rattle.std.specs.Prelude.{if◌then◌else◌, filter, flat_map}
 use Rattle.std.specs.List.{list_any}
@@ -31,11 +31,11 @@ lives_still : (us : List ℕ) (h : Holdings) (holder : Holder) (place : ℕ) →
 lives_still us h Holder.Page place e = e
 lives_still us h (Holder.Object n first) place e = e
 
--- the cells of the slot
+-- the place is in slot u
 abbrev pub of_slot : ℕ → ℕ → ℕ → Holder → Bool
 of_slot order u place holder = eqb (slot_of order place) u
 
--- what is known after a slot is granted, and after one is taken back
+-- What is known after a slot is granted, and what is known after one is taken back
 
 abbrev pub granted : ℕ → State → State
 granted u s = record s { has = record s.has { slots = put_rising (λ v. v) u s.has.slots }; told = None }

@@ -33,7 +33,7 @@ one_free i j [] e = absurd (cc)
 one_free i j (None ∷ xs) e = let same : i ≡ j = cc in (0, omega (arith, same), refl)
 one_free i j (Some x ∷ xs) e = let r : (n : ℕ) × (j ≡ i + 1 + n) × (slice_get xs n ≡ Some None) = one_free (i + 1) j xs e in (suc r.0, omega (arith, r.1), r.2)
 
--- the superblock that is found has no owner
+-- if `position` finds a superblock without an owner, the superblock at that index has none
 pub pool_first : (xs : Owners) (j : ℕ) → position is_none xs ≡ Some j → slice_get xs j ≡ Some None
 pool_first xs j e = let r : (n : ℕ) × (j ≡ 0 + n) × (slice_get xs n ≡ Some None) = one_free 0 j xs (sym (position_from-zero is_none xs) ∙ e) in
     let same : r.0 ≡ j = omega (arith, r.1) in subst (λ n. slice_get xs n ≡ Some None) same r.2
@@ -75,7 +75,7 @@ granted_any mine [] j x e none = absurd (cc)
 granted_any mine (y ∷ xs) zero x e none = let same : y ≡ None = cc in ap (λ b. mine x || b) (sym (ap (λ b. b || list_any mine xs) (ap mine same ∙ none)))
 granted_any mine (y ∷ xs) (suc j) x e none = ap (λ b. mine y || b) (granted_any mine xs j x e none) ∙ or_turned (mine y) (mine x) (list_any mine xs)
 
--- a superblock without an owner has none after others gave theirs up
+-- a superblock without an owner still has none after superblocks are given up
 pub given_free : (test : Option Owner → Bool) (xs : Owners) (j : ℕ) → slice_get xs j ≡ Some None → slice_get (map (given_up test) xs) j ≡ Some None
 given_free test [] j e = absurd (cc)
 given_free test (x ∷ xs) zero e = let same : x ≡ None = cc in ap (λ y. Some y) (go (test x) same)
@@ -85,7 +85,7 @@ given_free test (x ∷ xs) zero e = let same : x ≡ None = cc in ap (λ y. Some
     go false same = same
 given_free test (x ∷ xs) (suc j) e = given_free test xs j e
 
--- the first superblock found by a test passes it
+-- if some superblock passes a test, the first that is found passes it
 pub first_passes : (test : Option Owner → Bool) (xs : Owners) → list_any test xs ≡ true → option_map_or test (slice_get xs (position_or_len test xs)) false ≡ true
 first_passes test xs e = ap (λ o. option_map_or test o false) (sym (find_at test xs)) ∙ found xs e
   where
@@ -108,7 +108,7 @@ pub owner_of : (t u v : ℕ) (o : Option Owner) → is_owner t u o ≡ true → 
 owner_of t u v None e = absurd (false≢true e)
 owner_of t u v (Some o) e = let a : (eqb o.tenant t ≡ true) × (eqb o.slot u ≡ true) = and_parts (eqb o.tenant t) (eqb o.slot u) e in ap (λ n. eqb n v) (eqb-true o.tenant t a.0)
 
--- Their number
+-- The number of superblocks
 
 -- the number of superblocks without an owner
 abbrev pub nobodys : Owners → ℕ
@@ -138,7 +138,7 @@ count_either p q (suc n) = let rest : count_below (λ v. p v || q v) n ≤ count
     go false true = omega arith
     go false false = omega arith
 
--- an owner has one slot
+-- at most one number is the slot of an owner
 count_slot : (b : Bool) (s n : ℕ) → count_below (λ v. b && eqb s v) n ≤ 1
 count_slot b s zero = omega arith
 count_slot b s (suc n) = ⊎_elim

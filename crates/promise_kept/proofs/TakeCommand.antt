@@ -45,7 +45,7 @@ record IsNext (flags : List Bool) : Type 0 where
   index_in : position_or_len not flags < length flags
   dead : get_or flags (position_or_len not flags) false ≡ false
 
--- the first flag that is not set
+-- if not all flags are set, there is a first flag that is not set
 next_is : (flags : List Bool) → list_all (λ live. live) flags ≡ false → IsNext flags
 next_is [] e = absurd (false≢true (sym e))
 next_is (false ∷ flags) e = record { index_in = omega arith; dead = refl }

@@ -39,7 +39,8 @@ use Rattle.promise_kept.proofs.FreeObject.{two_apart, can_take}
 abbrev pub hidden : ℕ → State → State
 hidden number s = record s { may_have_empty = λ n. eqb n number || s.may_have_empty n; told = None }
 
--- the cells in the slab around `first` that are of neither the taken object nor an object of the cache apart from it
+-- the place is in the slab around `first`, and the holder is neither the taken object nor an object of its cache that shares no
+-- byte with it
 abbrev left_beside : KnownCache → ℕ → ℕ → Holder → Bool
 left_beside c first place holder = in_block place (slab_around c first) && not (is_object (λ n p. eqb n c.number && (eqb p first || are_apart c first p)) holder)
 
@@ -68,7 +69,7 @@ module _ {limit : ℕ} (order : ℕ) (c : Cache) (s : Slab) (i : ℕ) (m : Machi
   still_live p (Holder.Object number first) e = told_live n number first p (live_replaced c d m w.caches_rise in_c refl number first (live_told m number first p e)
       (λ _ was. live_other limit order c s i true m w in_c in_s lt first was (λ f. not_live (subst (IsLivePlace c) f was))))
 
-  -- the cells in other slabs, and of objects of this one, are left
+  -- neither the cell of a page block outside slabs nor the cell of an object of the machine is dropped
   page_left : (p : ℕ) → in_slab m p ≡ false → left_beside (cache_as_known c) place p Holder.Page ≡ false
   page_left p out = ap (λ b. b && true) (ap (in_block p) (slab_here order c m w in_c s i in_s lt)
       ∙ each_in (λ k. in_laid p k ≡ false) (laid c s) (all_laid m.caches) (none_of (in_laid p) (all_laid m.caches) (sym (in_slab_laid m p) ∙ out)) (in_all_laid c s m.caches in_c in_s))
@@ -141,7 +142,7 @@ module _ {limit : ℕ} (order : ℕ) (c : Cache) (s : Slab) (i : ℕ) (m : Machi
   told_here : known_cache (holdings_of m) c.number ≡ Some (cache_as_known c)
   told_here = cache_known order m c w in_c
 
-  -- what the promises say of the state after
+  -- the state after the take, as `state_after` defines it
   abbrev said : State
   said = record {
     has = with_live_told c.number (put_rising (λ p. p) place) (holdings_of m);

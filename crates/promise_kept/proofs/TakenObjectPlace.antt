@@ -1,4 +1,4 @@
--- An object that is taken: its first place is put among those of its cache.
+-- If an object is taken, its first place is put among the places of its cache's live objects.
 use Rattle.std.proofs.Common.{◌≡◌, ◌≢◌, ℕ, ◌<◌, true, List, map, refl, sym, subst, ◌⊎◌, inl, inr, arith}
 use Rattle.std.proofs.lemmas.List.{map-id}
 use Rattle.model_core.specs.Layouts.{object_place}
@@ -12,7 +12,7 @@ use Rattle.model_core.proofs.RisingLists.{same_members}
 use Rattle.promise_kept.proofs.LiveObjects.{live_rises, IsLivePlace, live_place, place_listed}
 use Rattle.promise_kept.proofs.ObjectFlag.{replaced_one, live_after, live_other, live_this}
 
--- the object, which is not live, is taken
+-- if an object that is not live is taken, the places of the live objects are the old ones, and its own put among them
 pub place_put : {limit : ℕ} (order : ℕ) (c : Cache) (s : Slab) (i : ℕ) (m : Machine) → IsWellFormed limit order m → IsIn c m.caches → IsIn s c.slabs → i < (layout c).count
     → (IsLivePlace c (object_place (layout c) s.first s.colour i) → ⊥)
     → put_rising (λ p. p) (object_place (layout c) s.first s.colour i) (map (λ o. o.place) (live_objects c)) ≡ map (λ o. o.place) (live_objects (with_slab (with_live i true s) c))

@@ -47,7 +47,7 @@ none_beside (x ∷ xs) [] t e is = absurd (omega (arith, e))
 none_beside (x ∷ xs) (z ∷ ys) zero e is = absurd (cc)
 none_beside (x ∷ xs) (z ∷ ys) (suc t) e is = none_beside xs ys t (omega (arith, e)) is
 
--- The relation
+-- Allowed replies
 
 pub verdict_kept : (ps : List (Promise × Bool)) (after : Known) → list_all (λ p. p.1) ps ≡ true → verdict ps after ≡ Ok after
 verdict_kept [] after e = refl
@@ -107,7 +107,7 @@ module _ (limit order : ℕ) (w : World) (states : List State) where
     pub state_of : (t : ℕ) (m : Machine) → slice_get w.machines t ≡ Some m → (s : State) × (slice_get states t ≡ Some s)
     state_of t m is = beside states w.machines t m h.tenants is
 
-    -- one tenant's machine changes, and so do the owners of its slots
+    -- if one tenant's machine and the owners of its slots change, what is known is still true
     step_meets : (t : ℕ) (next : State) (m after : Machine) (owners : List (Option Owner)) → slice_get w.machines t ≡ Some m → Meets order next after
         → IsWellFormed limit order after → length owners ≡ length w.owners → ((u : ℕ) → holds after u ≡ list_any (is_owner t u) owners)
         → ((v u : ℕ) → v ≢ t → list_any (is_owner v u) owners ≡ list_any (is_owner v u) w.owners)
@@ -144,7 +144,7 @@ module _ (limit order : ℕ) (w : World) (states : List State) where
     others_stay : (event : Event) (t : ℕ) (next : State) → named event ≡ Some t → (v : ℕ) → named event ≢ Some v → slice_get (slice_set states t next) v ≡ slice_get states v
     others_stay event t next name v other = slice_get-set_other states t v next (λ same. other (name ∙ ap (λ n. Some n) same))
 
-    -- a reply that changes nothing
+    -- a step is kept if its reply keeps each promise and changes nothing
     pub unchanged : (event : Event) (reply : Reply) (t : ℕ) (m : Machine) (s : State) → named event ≡ Some t → slice_get w.machines t ≡ Some m → slice_get states t ≡ Some s
         → list_all (λ p. p.1) (kept event reply now s) ≡ true → state_after order event reply.body s ≡ Some s → owners_after event reply.body w.owners ≡ w.owners
         → IsKeptIn limit order event now (record { reply = reply; world = w })
@@ -157,7 +157,7 @@ module _ (limit order : ℕ) (w : World) (states : List State) where
       others = λ v other. refl;
     }
 
-    -- a tenant that does not exist
+    -- if the event names a tenant that does not exist, the refusal `NoTenant` is kept
     pub stranger : (event : Event) (reply : Reply) (t : ℕ) → named event ≡ Some t → slice_get w.machines t ≡ None
         → is_for event false reply.addressee ≡ true → is_no_tenant reply.body ≡ true → IsKeptIn limit order event now (record { reply = reply; world = w })
     stranger event reply t name is for says = record {
@@ -250,7 +250,7 @@ module _ (limit order : ℕ) (w : World) (states : List State) where
           either true = refl
           either false = refl
 
-      -- the slots that the tenant and the others still own
+      -- the tenant then holds exactly the slots in which it still owns a superblock, and others own what they owned before
       fewer_mine : (u v : ℕ) → holds (after_take_back order u m) v ≡ list_any (is_owner t v) (map (given_up (is_owner t u)) w.owners)
       fewer_mine u v = ⊎_elim
           (λ (same : v ≡ u). taken_unheld order u m v same ∙ sym (given_own (is_owner t u) (is_owner t v) w.owners (λ o e. ap (λ x. is_owner t x o) (sym same) ∙ e) refl))

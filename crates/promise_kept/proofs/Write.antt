@@ -23,7 +23,7 @@ use Rattle.promise_kept.proofs.EmptySlabsUnseen.{reach_same}
 use Rattle.promise_kept.proofs.PlaceCells.{all_kept, formed, refused}
 use Rattle.promise_kept.proofs.RangeHolders.{range_meets}
 
--- a range has a holder that is seen exactly if it is in reach
+-- a holder of a range is seen exactly if the range is in reach
 pub reach_seen : (order : ℕ) (m : Machine) (s : State) (place len : ℕ) → Meets order s m → is_some (holder_of s.has place len) ≡ in_reach m place len
 reach_seen order m s place len h = ap (λ x. is_some (holder_of x place len)) h.has ∙ reach_same m place len
 

@@ -18,7 +18,7 @@ history_events : (limit order : ℕ) (events : List Event) (w : World) → map (
 history_events limit order [] w = refl
 history_events limit order (event ∷ events) w = ap (λ es. event ∷ es) (history_events limit order events (world_step limit order event w).world)
 
--- the text of one line, and then of the others
+-- the text for one line, and then the text for the other lines, is the text for all of them
 one_told : (only : Option ℕ) (limit order : ℕ) (reading : Result (Option Event) LineFault) (readings : List (Result (Option Event) LineFault)) (events : List Event) (w : World)
     → shown_reading only limit order reading w ++ text_of_replies only readings (history limit order (world_after limit order w (event_in reading)) events)
     ≡ text_of_replies only (reading ∷ readings) (history limit order w (event_in reading ++ events))

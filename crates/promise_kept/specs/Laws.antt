@@ -7,47 +7,47 @@ use Rattle.words_core.specs.declared.event.Command.TheVariants as Command
 use Rattle.promise_core.specs.State.{State}
 use Rattle.promise_kept.specs.Meets.{Meets, IsPromiseKept}
 
--- a page block is allocated
+-- an `alloc` keeps the promises
 abbrev pub AllocIsKept : Type 0
 AllocIsKept = (limit order k : ℕ) (m : Machine) (s : State) → IsWellFormed limit order m → Meets order s m → IsPromiseKept limit order (Command.Alloc k) m s
 
--- a page block is freed
+-- a `free` keeps the promises
 abbrev pub FreeIsKept : Type 0
 FreeIsKept = (limit order first : ℕ) (m : Machine) (s : State) → IsWellFormed limit order m → Meets order s m → IsPromiseKept limit order (Command.Free first) m s
 
--- bytes are written
+-- a `write` keeps the promises
 abbrev pub WriteIsKept : Type 0
 WriteIsKept = (limit order place : ℕ) (new : ArrayVec ℕ) (m : Machine) (s : State) → IsWellFormed limit order m → Meets order s m → IsPromiseKept limit order (Command.Write place new) m s
 
--- bytes are read
+-- a `read` keeps the promises
 abbrev pub ReadIsKept : Type 0
 ReadIsKept = (limit order place len : ℕ) (m : Machine) (s : State) → IsWellFormed limit order m → Meets order s m → IsPromiseKept limit order (Command.Read place len) m s
 
--- a cache is made; a slot is at least as large as the largest slab
+-- a command for a new cache keeps the promises, if a slot is at least as large as the largest slab
 abbrev pub CacheIsKept : Type 0
 CacheIsKept = (limit order size align : ℕ) (pattern : ArrayVec ℕ) (m : Machine) (s : State) → IsWellFormed limit order m → Meets order s m → 3 ≤ order
     → IsPromiseKept limit order (Command.Cache size align pattern) m s
 
--- a report, which changes nothing
+-- a report keeps the promises
 abbrev pub ReportIsKept : Type 0
 ReportIsKept = (limit order : ℕ) (m : Machine) (s : State) → IsWellFormed limit order m → Meets order s m → IsPromiseKept limit order Command.Report m s
 
--- an object is taken; a slot is at least as large as the largest slab
+-- a `take` keeps the promises, if a slot is at least as large as the largest slab
 abbrev pub TakeIsKept : Type 0
 TakeIsKept = (limit order number : ℕ) (m : Machine) (s : State) → IsWellFormed limit order m → Meets order s m → 3 ≤ order
     → IsPromiseKept limit order (Command.Take number) m s
 
--- an object is given back
+-- a `give` keeps the promises
 abbrev pub GiveIsKept : Type 0
 GiveIsKept = (limit order number place : ℕ) (m : Machine) (s : State) → IsWellFormed limit order m → Meets order s m
     → IsPromiseKept limit order (Command.Give number place) m s
 
--- a cache is destroyed, and its slabs are freed
+-- a `destroy` keeps the promises
 abbrev pub DestroyIsKept : Type 0
 DestroyIsKept = (limit order number : ℕ) (m : Machine) (s : State) → IsWellFormed limit order m → Meets order s m
     → IsPromiseKept limit order (Command.Destroy number) m s
 
--- all empty slabs are freed
+-- a `reap` keeps the promises
 abbrev pub ReapIsKept : Type 0
 ReapIsKept = (limit order : ℕ) (m : Machine) (s : State) → IsWellFormed limit order m → Meets order s m
     → IsPromiseKept limit order Command.Reap m s

@@ -35,12 +35,12 @@ cache_as_known c = record {
 unfoldable pub holdings_of : Machine → Holdings
 holdings_of m = record { slots = m.slots; pages = m.blocks; caches = map cache_as_known m.caches }
 
--- the holder of a byte at this place is live: a page block, or an object
+-- the holder is live: a page block in which this place lies, or an object with this cache number and first place
 abbrev pub is_object_live : Holdings → Holder → ℕ → Bool
 is_object_live h Holder.Page place = list_any (in_block place) h.pages
 is_object_live h (Holder.Object number first) place = list_any (λ c. c.number == number && list_any (λ p. p == first) c.live) h.caches
 
--- What is known of a machine is true; slots have 2 ^ order frames.
+-- What is known, state s, is true of machine m. Slots have 2 ^ order frames.
 pub record Meets (order : ℕ) (s : State) (m : Machine) : Type 0 where
   pub has : s.has ≡ holdings_of m
   -- a cache that has a slab is known as one that may have an empty slab
@@ -62,6 +62,6 @@ pub record IsKeptBy (limit order : ℕ) (command : Command) (s : State) (body : 
       → list_all (λ p. p.1) (kept (Event.Tenant t command) (record { addressee = Addressee.Tenant t; body = body }) (record { limit = limit; order = order; owners = owners; states = states }) s) ≡ true
   pub meets : (t : ℕ) → (next : State) × (state_after order (Event.Tenant t command) body s ≡ Some next) × Meets order next after
 
--- This holds of the private machine's reply, and of the machine after it.
+-- The private machine's reply to the command keeps each promise, and what is known after it is true of the machine after it.
 abbrev pub IsPromiseKept : ℕ → ℕ → Command → Machine → State → Type 0
 IsPromiseKept limit order command m s = IsKeptBy limit order command s (command_step limit order command m).answer (command_step limit order command m).machine

@@ -10,9 +10,9 @@ use Rattle.promise_core.specs.State.{State, Known}
 use Rattle.promise_core.specs.Promises.{named, allowed}
 use Rattle.promise_kept.specs.Meets.{Meets}
 
--- What is known of a world is true; a tenant may have `limit` caches, and slots have 2 ^ order frames.
+-- What is known, k, is true of world w. A tenant may have `limit` caches, and slots have 2 ^ order frames.
 pub record MeetsWorld (limit order : ℕ) (k : Known) (w : World) : Type 0 where
-  -- all that is known, except for the tenants' states, is the world's own
+  -- the limit, the order and the owners that are known are those of the world
   pub known : k ≡ record { limit = limit; order = order; owners = w.owners; states = k.states }
   pub tenants : length k.states ≡ length w.machines
   -- what is known of a tenant is true of its machine
@@ -32,7 +32,7 @@ pub record IsKeptIn (limit order : ℕ) (event : Event) (k : Known) (step : Worl
   pub meets : MeetsWorld limit order after step.world
   pub others : (t : ℕ) → named event ≢ Some t → slice_get after.states t ≡ slice_get k.states t
 
--- this holds in every world, if what is known of it is true
+-- in every world, if what is known is true of it, the world's step for this event is kept
 abbrev pub IsEventKept : ℕ → ℕ → Event → Type 0
 IsEventKept limit order event = (k : Known) (w : World) → MeetsWorld limit order k w
     → IsKeptIn limit order event k (world_step limit order event w)

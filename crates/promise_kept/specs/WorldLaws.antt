@@ -15,23 +15,23 @@ use Rattle.promise_core.specs.State.{Known, opening}
 use Rattle.promise_core.specs.Promises.{named, allowed, all_allowed}
 use Rattle.promise_kept.specs.MeetsWorld.{MeetsWorld, IsEventKept}
 
--- a superblock is granted, or the grant is refused if none is free
+-- the reply to a grant keeps the promises
 abbrev pub GrantIsKept : Type 0
 GrantIsKept = (limit order t : ℕ) → IsEventKept limit order (Event.Admin (AdminCommand.Grant t))
 
--- a slot is taken back, or the take-back is refused if the slot is busy or not held
+-- the reply to a take-back keeps the promises
 abbrev pub TakeBackIsKept : Type 0
 TakeBackIsKept = (limit order t slot : ℕ) → IsEventKept limit order (Event.Admin (AdminCommand.TakeBack t slot))
 
--- all slots of a tenant are given up
+-- the reply to a reset keeps the promises
 abbrev pub ResetIsKept : Type 0
 ResetIsKept = (limit order t : ℕ) → IsEventKept limit order (Event.Admin (AdminCommand.Reset t))
 
--- a slot is moved to another superblock
+-- the reply to a move keeps the promises
 abbrev pub MoveIsKept : Type 0
 MoveIsKept = (limit order t slot : ℕ) → IsEventKept limit order (Event.Admin (AdminCommand.Move t slot))
 
--- the table of owners is listed
+-- the reply with the table of owners keeps the promises
 abbrev pub PoolIsKept : Type 0
 PoolIsKept = (limit order : ℕ) → IsEventKept limit order (Event.Admin AdminCommand.Pool)
 
@@ -40,7 +40,7 @@ abbrev pub CanBeRequested : Event → Type 0
 CanBeRequested (Event.Tenant t command) = ArePossible (operations_in (Entry.Ask command))
 CanBeRequested (Event.Admin command) = ⊤
 
--- Any event, including a tenant's command; slots have at least 8 frames, as many as the largest slab.
+-- The reply to any possible event keeps the promises, if slots have at least 8 frames, as many as the largest slab.
 abbrev pub EventIsKept : Type 0
 EventIsKept = (limit order : ℕ) (event : Event) → 3 ≤ order → CanBeRequested event → IsEventKept limit order event
 

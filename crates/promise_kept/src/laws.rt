@@ -1,5 +1,5 @@
 //! The private machine's reply to each command keeps every promise, and what is known afterwards is true of the machine
-//! afterwards. Each law is the contract of an empty function, to be called where a proof needs the law.
+//! afterwards. Each law is the contract of an empty function, which a function calls if its proof needs the law.
 
 ghost use Rattle.promise_kept.specs.Laws.{AllocIsKept, FreeIsKept, WriteIsKept, ReadIsKept, CacheIsKept, ReportIsKept};
 

@@ -1,5 +1,5 @@
 //! The world of the definitions keeps the promises at each event, and over all events from the opening world on. Each law is the
-//! contract of an empty function, to be called where a proof needs the law.
+//! contract of an empty function, which a function calls if its proof needs the law.
 
 ghost use Rattle.promise_kept.specs.WorldLaws.{
   GrantIsKept,
