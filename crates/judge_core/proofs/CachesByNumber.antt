@@ -1,4 +1,4 @@
--- Caches by number: if the numbers rise, changing the cache of a number changes one item of the list.
+-- If the numbers of caches rise, changing the cache with a number changes at most one item of the list.
 use Rattle.std.proofs.Common.{◌≡◌, ◌≢◌, ℕ, suc, ◌+◌, ◌<◌, ◌≤◌, Bool, true, false, not, eqb, ltb, cond, refl, ap, ◌∙◌, arith}
 use Rattle.std.proofs.Common.{List, [], ◌∷◌, length, map, get_or, Option, Some, None}
 use Rattle.std.proofs.Math.ListN.{set}
@@ -8,15 +8,15 @@ use Rattle.std.proofs.lemmas.Bool.{eqb-true, eqb-false, ne_eqb, ltb-true, ltb-fa
 use Rattle.model_core.specs.WellFormed.{RisesFrom}
 use Rattle.promise_core.specs.Holdings.{KnownCache}
 
--- the index of the first item with the key
+-- the index of the first item with the key, or the length of the list if there is none
 abbrev index : {X : Type 0} → (X → ℕ) → ℕ → List X → ℕ
 index key n xs = prefix_len (λ x. not (eqb (key x) n)) xs
 
--- every item with the key is changed
+-- the list after every item with the key is changed
 abbrev changed : {X : Type 0} → (X → ℕ) → ℕ → (X → X) → List X → List X
 changed {X} key n change xs = map {B = X} (λ (x : X). if eqb (key x) n then change x else x) xs
 
--- no item behind a greater key has the key
+-- if all keys are greater than n, changing the items with key n changes nothing
 others_stay : {X : Type 0} (key : X → ℕ) (n m : ℕ) (change : X → X) (xs : List X) → n < m → RisesFrom m (map key xs)
     → changed key n change xs ≡ xs
 others_stay key n m change [] lt rises = refl

@@ -1,4 +1,4 @@
--- The tests of the definitions in the order in which they are computed.
+-- The tests of the definitions, in the order in which the code computes them.
 use Rattle.std.proofs.Common.{◌≡◌, ℕ, zero, suc, replicate, ◌+◌, ◌*◌, ◌^◌, ◌-◌, ◌<◌, get_or, drop, sym, Bool, true, false, not, ◌||◌, ◌==◌, if◌then◌else◌, List, [], ◌∷◌, ◌++◌, map, find, filter, length, reverse, Some, option_map, refl, ap, ◌∙◌, cond, arith, length-append}
 use Rattle.std.specs.List.{list_any, flat_map, sum_by}
 use Rattle.std.specs.Prelude.{MatchOption, nat_le}
@@ -77,7 +77,7 @@ match_found u (v ∷ vs) = go (v == u) refl (match_found u vs)
     go true e rest = (eqb-true v u e, refl)
     go false e rest = rest
 
--- the objects of a slab lie inside it
+-- two ways to compute whether the objects of a slab end inside it have the same result
 pub inside_slab : (origin count chunk size first order : ℕ)
     → nat_le (origin + ((count - 1) * chunk + size)) (FRAME_BYTES * first + FRAME_BYTES * 2 ^ order)
     ≡ nat_le (origin + (count - 1) * chunk + size) (FRAME_BYTES * (first + 2 ^ order))
@@ -86,7 +86,7 @@ inside_slab origin count chunk size first order =
     let frames : FRAME_BYTES * first + FRAME_BYTES * 2 ^ order ≡ FRAME_BYTES * (first + 2 ^ order) = omega arith in
     (λ i. nat_le (objects i) (frames i))
 
--- each item of a list of copies of `x`, and the default behind the end, is `x`
+-- in a list of copies of x, with default x, the item at every index is x
 pub same_at : {X : Type 0} (n k : ℕ) (x : X) → get_or (replicate n x) k x ≡ x
 same_at zero k x = refl
 same_at (suc n) zero x = refl

@@ -1,4 +1,4 @@
--- The live page blocks, by rising first frame.
+-- The live page blocks, in ascending order of their first frames.
 use Rattle.std.proofs.Common.{◌≡◌, ℕ, ◌+◌, ◌-◌, ◌*◌, ◌/◌, ◌^◌, ◌<◌, ◌≤◌, Bool, true, leb, ltb, List, get_or, take, drop, max, sym, subst, arith}
 use Rattle.std.specs.Prelude.{◌&&◌, nat_le, nat_lt, filter}
 use Rattle.std.specs.List.{All, list_any, prefix_len}
@@ -14,7 +14,8 @@ use Rattle.model_core.specs.Reach.{within_block}
 use Rattle.judge_core.specs.Inside.{ArePages}
 use Rattle.judge_core.proofs.RisingKeys.{any_kept, each_from, put_rises, put_behind}
 
--- the blocks with frames between `begin` and `end` are found among the blocks that begin between `low` and `end`
+-- if a test passes only blocks with frames between `begin` and `end`, only blocks that begin between `low` and `end` have to be
+-- tested
 pub near_part : (longest : ℕ) (pages : List Block) (begin end low : ℕ) → ArePages longest pages → low ≡ begin + 1 - 2 ^ longest → (test : Block → Bool)
     → ((b : Block) → test b ≡ true → (begin < b.first + 2 ^ b.order) × (b.first < end))
     → list_any test pages ≡ list_any test (filter (λ b. nat_le low b.first && nat_lt b.first end) pages)
@@ -25,7 +26,7 @@ near_part longest pages begin end low are is_low test tells =
     let few : 2 ^ (get_or pages k d).order ≤ 2 ^ longest = pow-le-pow_right (omega arith) short in
     and_from _ _ (le-leb low (get_or pages k d).first (omega (arith, at.0, few, is_low))) (lt-ltb (get_or pages k d).first end at.1)))
 
--- blocks still rise and are still short after one is put in
+-- after a block is put in, the blocks still rise, and none has an order above the new maximum
 pub pages_put : (longest : ℕ) (b : Block) (pages : List Block) → ArePages longest pages → b.order ≤ MOST_ORDER
     → ArePages (max longest b.order) (put_rising (λ x. x.first) b pages)
 pages_put longest b pages are small = record {
@@ -51,7 +52,7 @@ pages_less longest test pages are = record {
   short = All-filter test (λ (x : Block). x.order ≤ longest) pages are.short;
 }
 
--- a block that overlaps another, or contains a range, has frames between `begin` and `end`
+-- if block a has the frames from `begin` up to `end`, every block that overlaps it has a frame among them
 pub overlap_near : (a b : Block) (begin end : ℕ) → begin ≡ a.first → end ≡ a.first + 2 ^ a.order → overlaps a b ≡ true
     → (begin < b.first + 2 ^ b.order) × (b.first < end)
 overlap_near a b begin end is_begin is_end e = let p = and_parts (ltb a.first (b.first + 2 ^ b.order)) (ltb b.first (a.first + 2 ^ a.order)) e in

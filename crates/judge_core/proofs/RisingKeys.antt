@@ -25,7 +25,7 @@ prefix_point p (suc i) (x ∷ xs) le before behind =
     (λ k d from lt. behind (suc k) d (omega arith) (omega arith)) in
     ap (λ (t : Bool). cond t (1 + prefix_len p xs) 0) (before 0 x (omega arith)) ∙ omega (arith, rest)
 
--- a prefix ends at or before an index where the test fails
+-- if the test fails at index `near`, the length of the prefix depends only on the first `near` items
 pub prefix_near : {X : Type 0} (p : X → Bool) (near : ℕ) (xs : List X) (d : X) → near < length xs → p (get_or xs near d) ≡ false
     → prefix_len p (take near xs) ≡ prefix_len p xs
 prefix_near p near [] d lt stops = absurd (omega arith)
@@ -39,7 +39,7 @@ behind_cons p x xs = go (p x) (omega arith)
     go true one_more = sym (ap (λ n. drop n (x ∷ xs)) one_more)
     go false one_more = refl
 
--- removing the item at `b` drops one item more behind the first `b`
+-- if the items from b up to i are removed, removing the item at b also removes item i
 pub remove_next : {X : Type 0} (xs : List X) (b i : ℕ) → b ≤ i → i < length xs
     → remove (take b xs ++ drop i xs) b ≡ take b xs ++ drop (i + 1) xs
 remove_next {X} xs b i le lt =
@@ -55,7 +55,7 @@ any_found test (x ∷ xs) = go (test x) (any_found test xs)
     go true rest = refl
     go false rest = rest
 
--- a test has the same result on the items that pass `p`, if every item that passes the test passes `p`
+-- if every item that passes a test passes p, the test passes some item exactly if it passes some item that passes p
 pub any_kept : {X : Type 0} (test p : X → Bool) (xs : List X) → Each (λ x. test x ≡ true → p x ≡ true) xs → list_any test xs ≡ list_any test (filter p xs)
 any_kept test p [] all = refl
 any_kept test p (x ∷ xs) (passes, all) = go (p x) (test x) refl passes (any_kept test p xs all)
@@ -93,7 +93,7 @@ module _ {X : Type 0} (key : X → ℕ) where
   all_from : (n : ℕ) (x : X) (xs : List X) → IsNonDecreasingBy key (x ∷ xs) → n ≤ key x → Each (λ y. n ≤ key y) xs
   all_from n x xs rise le = each_from (λ y. n ≤ key y) xs (λ k d lt. let up = rise 0 (suc k) d (omega arith) (omega arith) in omega arith)
 
-  -- the first item with a key of at least `low` is right behind the items with lesser keys
+  -- the first item with a key of at least `low` comes right after the items with keys below `low`
   pub found_from : (low : ℕ) (xs : List X) → find (is_from low) xs ≡ find (λ x. true) (take 1 (drop (prefix_len (is_below low) xs) xs))
   found_from low [] = refl
   found_from low (x ∷ xs) = go (is_below low x) refl (found_from low xs) ∙ ap (λ ys. find (λ x. true) (take 1 ys)) (sym (behind_cons (is_below low) x xs))
@@ -103,8 +103,8 @@ module _ {X : Type 0} (key : X → ℕ) where
       go true e rest = ap (λ t. cond t (Some x) (find (is_from low) xs)) (lt-leb low (key x) (ltb-true _ _ e)) ∙ rest
       go false e rest = ap (λ t. cond t (Some x) (find (is_from low) xs)) (le-leb low (key x) (ltb-false _ _ e))
 
-  -- the first item from `low` on decides a search, if the test fails below `low`, and fails at every item behind one where it
-  -- fails
+  -- A search finds the first item with a key of at least `low`, or nothing. This needs a test that fails below `low` and that,
+  -- once it fails for a key from `low` on, fails for all greater keys too.
   pub first_decides : (low : ℕ) (test there : X → Bool) (xs : List X) → IsNonDecreasingBy key xs → ((x : X) → key x < low → test x ≡ false)
       → ((x : X) → low ≤ key x → test x ≡ there x) → ((x y : X) → low ≤ key x → key x ≤ key y → there x ≡ false → there y ≡ false)
       → find test xs ≡ option_map_or (λ x. cond (there x) (Some x) None) (find (is_from low) xs) None
@@ -197,7 +197,7 @@ module _ {X : Type 0} (key : X → ℕ) where
           ap (λ t. cond (not t) (x ∷ others n xs) (others n xs)) (ne_eqb (key x) n (λ same. absurd (omega arith))) ∙ ap (λ ys. x ∷ ys) rest
       go false e rest = others_behind n (x ∷ xs) rise (ltb-false _ _ e, all_from n x xs rise (ltb-false _ _ e))
 
-  -- an item is put behind those whose keys are not greater
+  -- an item is put after the items whose keys are not greater
   pub put_behind : (x : X) (ys : List X) → put_rising key x ys ≡ insert ys (prefix_len (is_below (key x + 1)) ys) x
   put_behind x [] = refl
   put_behind x (y ∷ ys) = go (ltb (key x) (key y)) refl (put_behind x ys) (omega arith)

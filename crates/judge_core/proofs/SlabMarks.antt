@@ -22,7 +22,7 @@ has_over_block x b = overlaps (block x 0) b
 abbrev pub has_over : KnownCache → ℕ → ℕ → Bool
 has_over c x p = overlaps (block x 0) (slab_around c p)
 
--- objects before the aligned block around the slot's first frame have no slab over the slot
+-- the slab of an object before the aligned block around the slot's first frame contains no frame of the slot
 pub any_from : (c : KnownCache) (first x a : ℕ) (live : List ℕ) → a ≡ 4096 * (first / 2 ^ c.order * 2 ^ c.order) → first ≤ x
     → list_any (has_over c x) (drop (prefix_len (λ p. nat_lt p a) live) live) ≡ list_any (has_over c x) live
 any_from c first x a [] is_a from = refl
@@ -40,7 +40,7 @@ any_from c first x a (p ∷ live) is_a from = ap (list_any (has_over c x)) (behi
         rest ∙ sym (ap (λ t. t || list_any (has_over c x) live) (ends_before c (block x 0) (4096 * (x / 2 ^ c.order * 2 ^ c.order)) p refl (omega (arith, before, low))))
     go false e rest = refl
 
--- a prefix whose items all have the result `v` adds nothing to a search that begins with `v`
+-- if the test has result v for all items of a prefix, a search that begins with v may skip the prefix
 same_passed : (test p : ℕ → Bool) (v : Bool) (xs : List ℕ) → Each (λ x. p x ≡ true → test x ≡ v) xs
     → (v || list_any test (drop (prefix_len p xs) xs)) ≡ (v || list_any test xs)
 same_passed test p v [] all = refl
@@ -55,7 +55,7 @@ same_passed test p v (x ∷ xs) (same, all) = ap (λ ys. v || list_any test ys) 
     go true e rest = rest ∙ absorb v (test x) (list_any test xs) (same e)
     go false e rest = refl
 
--- the objects from the first one on that begin before the end of its slab are in the same slab
+-- Of ascending places, those before the end of the slab around the first one are in that slab.
 module _ (c : KnownCache) (first b : ℕ) (rest : List ℕ) (rise : IsNonDecreasing rest) (some : 0 < length rest) (here : first ≡ get_or rest 0 first)
     (is_b : b ≡ 4096 * ((slab_around c first).first + 2 ^ c.order)) where
   later : (k d : ℕ) → k < length rest → first ≤ get_or rest k d
@@ -97,7 +97,7 @@ module _ (c : KnownCache) (first b : ℕ) (rest : List ℕ) (rise : IsNonDecreas
           next true e = omega arith
           next false e = absurd (false≢true e)
 
-  -- no slab behind a frame contains it
+  -- if the slab around the first place begins after a frame, no slab of these places contains the frame
   pub none_behind : (x : ℕ) → x < (slab_around c first).first → list_any (has_over c x) rest ≡ false
   none_behind x behind = list_any_none (has_over c x) rest (λ k d lt.
       let rises = first_rises c.order first (get_or rest k d) (later k d lt) in

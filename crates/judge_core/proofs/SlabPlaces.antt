@@ -1,4 +1,4 @@
--- The places of the slabs of a cache, and of its objects.
+-- The places of a cache's slabs and objects.
 use Rattle.std.proofs.Common.{◌≡◌, ℕ, zero, suc, ◌+◌, ◌-◌, ◌*◌, ◌/◌, ◌^◌, ◌<◌, ◌≤◌, Bool, true, false, ltb, List, min, cond, Option, Some, None, inl, inr, refl, sym, ap, ◌∙◌, subst, arith}
 use Rattle.std.specs.Prelude.{◌==◌, ◌&&◌, ◌||◌, nat_le, nat_lt, find}
 use Rattle.std.specs.Option.{is_some, option_map_or}
@@ -25,7 +25,7 @@ place_inside k p =
     let high : p / 4096 < first_of k p + 2 ^ k = lt-div-mul-add (pow_pos k) in
     (omega (arith, low), omega (arith, high))
 
--- a multiple of n below the successor of another multiple is at most that multiple
+-- if a multiple of n is below the next multiple after m * n, it is at most m * n
 not_past : (a m n : ℕ) → a * n < m * n + n → a ≤ m
 not_past a m n lt =
     let more : m * n + n ≡ (m + 1) * n = omega arith in
@@ -48,7 +48,7 @@ first_same k p q from below =
     let same : p / 4096 / 2 ^ k ≡ q / 4096 / 2 ^ k = omega (arith, up, down) in
     ap (λ (n : ℕ). n * 2 ^ k) same
 
--- a place lies in a slab if the slab around it has the same first frame
+-- a place lies in a slab exactly if the slab around it has the same first frame
 pub in_slab : (c : KnownCache) (place a b p : ℕ) → a ≡ 4096 * (slab_around c place).first → b ≡ 4096 * ((slab_around c place).first + 2 ^ c.order)
     → (nat_le a p && nat_lt p b) ≡ ((slab_around c p).first == (slab_around c place).first)
 in_slab c place a b p is_a is_b = elim (cases_lt p a) [
@@ -63,7 +63,7 @@ in_slab c place a b p is_a is_b = elim (cases_lt p a) [
     own : (4096 * first_of c.order p ≤ p) × (p < 4096 * (first_of c.order p + 2 ^ c.order))
     own = place_inside c.order p
 
--- the slab of a place before `a` does not overlap the block
+-- if a is the first place of the aligned block around the first frame of b, the slab around a place before a does not overlap b
 pub ends_before : (c : KnownCache) (b : Block) (a p : ℕ) → a ≡ 4096 * (b.first / 2 ^ c.order * 2 ^ c.order) → p < a
     → overlaps b (slab_around c p) ≡ false
 ends_before c b a p is_a lt =
@@ -105,7 +105,7 @@ over_first c b a rise is_a = sym (any_found over c.live)
         go true = refl
         go false = refl
 
--- the first places of the objects that contain a range
+-- an object contains a range exactly if it begins at or after `a`, and at or before the first place of the range
 pub has_range : (place len size a p : ℕ) → a ≡ place + len - size → (nat_le a p && nat_lt p (place + 1)) ≡ is_within place len p size
 has_range place len size a p is_a = elim (cases_lt place p) [
   | inl over ↦ and_right _ _ (le-ltb p (place + 1) (omega arith)) ∙ sym (and_left _ _ (lt-leb p place over))

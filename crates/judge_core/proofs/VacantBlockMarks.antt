@@ -1,4 +1,4 @@
--- Counts vacant blocks by their marks, and joins pairs of marks to the marks of the next order.
+-- Counts vacant blocks by their marks, and joins pairs of marks into the marks of the next order.
 use Rattle.std.proofs.Common.{◌≡◌, ℕ, zero, suc, ◌+◌, ◌-◌, ◌*◌, ◌^◌, ◌<◌, ◌≤◌, Bool, true, false, not, cond, List, [], ◌∷◌, length, get_or, take, inl, inr, refl, sym, ap, ◌∙◌, arith}
 use Rattle.std.specs.Prelude.{◌||◌, filter}
 use Rattle.std.specs.List.{list_any}
@@ -18,7 +18,7 @@ bool_same true false there back = sym (there refl)
 bool_same false true there back = back refl
 bool_same false false there back = refl
 
--- a block overlaps another if one of its halves does
+-- The next lemmas show that a block overlaps another exactly if one of its halves does.
 double : (k : ℕ) → 2 ^ (k + 1) ≡ 2 * 2 ^ k
 double k = pow-add 2 k 1 ∙ omega arith
 
@@ -68,11 +68,11 @@ taken_halves h f k = not-not (list_any (overlaps (block f (k + 1))) (known_block
     ∙ (λ i. sym (not-not (list_any (overlaps (block f k)) (known_blocks h))) i
     || sym (not-not (list_any (overlaps (block (f + 2 ^ k) k)) (known_blocks h))) i)
 
--- a mark for each block of order k in slot u; it is set if a frame of the block is taken
+-- each block of order k in slot u has a mark, which is set if a frame of the block is taken
 abbrev pub AreMarks : Holdings → ℕ → ℕ → ℕ → List Bool → Type 0
 AreMarks h order k u taken = (i : ℕ) → i < 2 ^ (order - k) → get_or taken i false ≡ not (is_vacant h (block ((u * 2 ^ (order - k) + i) * 2 ^ k) k))
 
--- the marks of order k are pairs, one for each mark of the next order
+-- there are two marks of order k for each mark of the next order
 pub pairs_of : (order k : ℕ) → k < order → 2 ^ (order - k) ≡ 2 * 2 ^ (order - (k + 1))
 pairs_of order k less = ap (λ n. 2 ^ n) (omega (arith, less)) ∙ double (order - (k + 1))
 
@@ -97,7 +97,7 @@ joined h order k u taken next less marks pair i in_slot =
     odd : (n : ℕ) → (u * n + (2 * i + 1)) * 2 ^ k ≡ (u * n + 2 * i) * 2 ^ k + 2 ^ k
     odd n = omega arith
 
--- the number of vacant blocks is the number of clear marks
+-- if the first n blocks have as many vacant blocks as the first n marks have clear ones, so have the first n + 1
 one_more : (h : Holdings) (k begin n : ℕ) (taken : List Bool) → n < length taken
     → get_or taken n false ≡ not (is_vacant h (block ((begin + n) * 2 ^ k) k))
     → length (filter not (take n taken)) ≡ vacant_from h k begin n

@@ -1,4 +1,4 @@
--- Holders and left bytes of the code, as values of the definitions.
+-- The code's holders and left bytes as values of the definitions.
 use Rattle.promise_core.specs.Bytes.{Holder, Cell}
 use Rattle.judge_core.specs.declared.holder.RangeHolder.{RangeHolder}
 use Rattle.judge_core.specs.declared.holder.LeftByte.{LeftByte}

@@ -138,7 +138,7 @@ impl HeldCache {
         with_key(&self.live, place).is_some()
     }
 
-    /// Returns the slab that an object at this place is in.
+    /// Returns the slab of an object that begins at this place.
     pub fn slab_around(&self, place: u32) -> FrameBlock
         ensures { result ≡ slab_around self.now place }
     {

@@ -71,7 +71,7 @@ impl Held {
         self.slots.iter().any(|held| u32::from(*held) == slot)
     }
 
-    /// Returns `slot` as a `u16` if the tenant holds this slot.
+    /// Returns `slot` as a `u16` if the tenant holds this slot, or `None` otherwise.
     pub fn held_slot(&self, slot: u32) -> Option<u16>
         ensures { MatchOption result (has_slot self.now slot ≡ false) (λ u. (u ≡ slot) × (has_slot self.now slot ≡ true)) }
     {
@@ -124,7 +124,7 @@ impl Held {
             .find(|cache| u32::from(cache.number()) == number)
     }
 
-    /// Returns whether the tenant has the largest number of caches.
+    /// Returns whether the tenant has `MOST_CACHES` caches, the most that it may have.
     pub fn has_most_caches(&self) -> bool
         ensures { result ≡ nat_le MOST_CACHES (length self.now.caches) }
     {
@@ -266,8 +266,8 @@ impl Held {
             && cache.has_gap_among(place, beside)
     }
 
-    /// Returns the live page block or live object that contains the `len` bytes from `place` on, if there is one. `len` is at
-    /// least 1.
+    /// Returns the live page block or live object that contains the `len` bytes from `place` on, if there is one. Returns `None`
+    /// if `len` is 0.
     #[tactic(auto, unfolding(promise_core::specs::Bytes::holder_of))]
     pub fn holder_of(&self, place: u32, len: u32) -> Option<RangeHolder>
         ensures { option_map shown_holder result ≡ holder_of self.now place len }

@@ -101,7 +101,7 @@ impl Held {
         remove(&mut self.slots, slot);
     }
 
-    /// Removes everything.
+    /// Removes all slots, page blocks and caches.
     pub fn reset(&mut self)
         ensures { self.new ≡ record { slots = []; pages = []; caches = [] } }
     {

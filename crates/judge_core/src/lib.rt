@@ -1,5 +1,5 @@
-//! What a tenant of any page and object allocator has, as replies reported it, and the promises' tests of it, as defined in
-//! [`promise_core`].
+//! What a tenant of any page and object allocator has, according to the replies, and the tests of it that [`promise_core`]
+//! defines for the promises.
 #![tactic(auto)]
 
 mod block;

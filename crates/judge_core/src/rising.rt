@@ -62,8 +62,8 @@ pub(crate) fn count_below<T: Keyed>(items: &[T], bound: u64) -> usize
     items.partition_point(|item| u64::from(item.key()) < bound)
 }
 
-/// Returns the same as [`count_below`]. The search is shorter if the item at index `near` exists and its key is not below
-/// `bound`.
+/// Returns how many items have keys below `bound`, as [`count_below`] does. The search is shorter if the item at index `near`
+/// exists and its key is not below `bound`.
 pub(crate) fn count_below_near<T: Keyed>(items: &[T], near: usize, bound: u64) -> usize
     requires { IsNonDecreasingBy T.key items.now }
     ensures value { result ≡ prefix_len (λ x. nat_lt (T.key x) bound) items.now }
@@ -124,7 +124,7 @@ pub(crate) fn put<T: Keyed + Drop>(items: &mut Vec<T>, item: T) -> Result<(), Al
     Ok(())
 }
 
-/// Returns the index of the first item with this key, and the index after the last one.
+/// Returns the index of the first item with this key, and the index after the last one. Both are equal if there is no such item.
 fn range_of<T: Keyed>(items: &[T], key: u32) -> (usize, usize)
     requires { IsNonDecreasingBy T.key items.now }
     ensures order { result.0 ≤ result.1 }

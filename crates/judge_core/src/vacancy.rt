@@ -31,7 +31,7 @@ impl Held {
         taken
     }
 
-    /// Returns [`Held::count_vacant`] for each order from 0 to the order of a slot, in one pass over the slots.
+    /// Returns what [`Held::count_vacant`] returns for each order from 0 to the order of a slot, but passes over the slots once.
     pub fn vacant_by_order(&self, order: u8) -> [u128; ORDERS]
         requires { order ≤ MOST_ORDER }
         ensures long { length result ≡ 9 }
@@ -124,7 +124,7 @@ impl HeldCache {
         }
     }
 
-    /// Returns those of the places that are at or after the end of the slab.
+    /// Returns the places that are at or after the end of the slab.
     fn behind<'a>(&self, slab: &FrameBlock, places: &'a [u32]) -> &'a [u32]
         requires { IsNonDecreasing places.now }
         ensures { result.now ≡ drop (prefix_len (λ p. nat_lt p (FRAME_BYTES * (slab.now.first + 2 ^ slab.now.order))) places.now) places.now }

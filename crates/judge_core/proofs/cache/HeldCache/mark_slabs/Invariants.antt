@@ -5,7 +5,7 @@ use Rattle.std.specs.List.Sorted.{IsNonDecreasing}
 use Rattle.judge_core.proofs.SlabMarks.{has_over}
 use Rattle.judge_core.proofs.cache.HeldCache.mark_slabs.Given as goal
 
--- the frames marked so far and those of the remaining slabs are all frames to mark
+-- the frames that are marked and the frames of the remaining slabs are together all frames to mark
 abbrev pub invariant-slabs : goal.invariant-slabs
 invariant-slabs l = record {
   rise : IsNonDecreasing l.rest;

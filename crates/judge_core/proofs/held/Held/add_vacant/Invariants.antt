@@ -3,7 +3,7 @@ use Rattle.promise_core.specs.Holdings.{is_vacant, blocks_of_slot}
 use Rattle.judge_core.proofs.VacantBlockMarks.{AreMarks}
 use Rattle.judge_core.proofs.held.Held.add_vacant.Given as goal
 
--- the counts of the orders so far are done, and the marks are those of the next order
+-- the counts of the orders below k are done, and the marks are those of order k
 abbrev pub invariant-loop-k : goal.invariant-loop-k
 invariant-loop-k l = record {
   long : length l.counts ≡ 9;
