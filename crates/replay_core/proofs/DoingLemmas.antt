@@ -20,14 +20,14 @@ lines_both : (xs ys : List (List ℕ)) → AreLines xs → AreLines ys → AreLi
 lines_both [] ys h k = k
 lines_both (x ∷ xs) ys h k = (h.0, lines_both xs ys h.1 k)
 
--- lines are cut off the front, and then more of them
+-- if the bytes are the lines `xs` and `rest`, and `rest` is the lines `ys` and `left`, the bytes are all these lines and `left`
 cut_twice : (bytes rest left : List ℕ) (xs ys : List (List ℕ)) → bytes ≡ with_line_feeds xs ++ rest → rest ≡ with_line_feeds ys ++ left
     → bytes ≡ with_line_feeds (xs ++ ys) ++ left
 cut_twice bytes rest left xs ys cut more =
     cut ∙ ap (λ zs. with_line_feeds xs ++ zs) more ∙ sym (append_assoc (with_line_feeds xs) (with_line_feeds ys) left)
     ∙ ap (λ zs. zs ++ left) (sym (with_line_feeds-append xs ys))
 
--- a line that begins with the bytes held ends in the rest
+-- if `rest` is `part`, an LF and `after`, then `held ++ rest` is the line `held ++ part`, an LF and `after`
 cut_held : (held rest part after : List ℕ) → rest ≡ (part ++ 10 ∷ []) ++ after → held ++ rest ≡ ((held ++ part) ++ 10 ∷ []) ++ after
 cut_held held rest part after cut =
     ap (λ xs. held ++ xs) cut ∙ sym (append_assoc held (part ++ 10 ∷ []) after)
@@ -46,7 +46,7 @@ module _ {S : Type 0} (does : S → List ℕ → List ℕ → List ℕ → S →
   run_one s s' line old new done =
       (s', done.taken, [], sym (append-nil done.taken), subst (λ (rest : List ℕ). does s line done.taken rest s') done.whole done.did, (refl, refl))
 
-  -- a property that each line keeps holds after all of them
+  -- if a property holds, and each line that is processed keeps it, it holds after all the lines
   pub run_keeps : (P : List (List ℕ) → List ℕ → S → Type 0)
       → ((xs : List (List ℕ)) (line taken here : List ℕ) (s s' : S) → P xs taken s → does s line here [] s' → P (xs ++ line ∷ []) (taken ++ here) s')
       → (xs lines : List (List ℕ)) (taken more : List ℕ) (s s' : S) → P xs taken s → HaveRun does s lines more s' → P (xs ++ lines) (taken ++ more) s'
@@ -58,12 +58,12 @@ module _ {S : Type 0} (does : S → List ℕ → List ℕ → List ℕ → S →
       (subst (λ (ts : List ℕ). P ((xs ++ line ∷ []) ++ lines) ts s') (append_assoc taken h.1 h.2 ∙ ap (λ ts. taken ++ ts) (sym h.3))
       (run_keeps P step (xs ++ line ∷ []) lines (taken ++ h.1) h.2 h.0 s' (step xs line taken h.1 s h.0 here h.4) h.5))
 
-  -- no line was processed
+  -- without any line, all bytes are left, and the state and the drain's contents stay the same
   pub gone_nothing : (s : S) (bytes : List ℕ) (known : Option (List ℕ)) → HasGone does s bytes bytes known known s
   gone_nothing s bytes known =
       record { done = []; taken = []; split = refl; ended = tt; ran = (refl, refl); appended = appends_nothing known }
 
-  -- lines were processed, and then more of them
+  -- if the lines before `rest` were processed, and then the lines of `rest` before `left`, all lines before `left` were processed
   pub gone_on : (s mid s' : S) (bytes rest left : List ℕ) (old now new : Option (List ℕ)) → HasGone does s bytes rest old now mid
       → HasGone does mid rest left now new s' → HasGone does s bytes left old new s'
   gone_on s mid s' bytes rest left old now new first then = record {
@@ -75,7 +75,7 @@ module _ {S : Type 0} (does : S → List ℕ → List ℕ → List ℕ → S →
     appended = appends_more old now new first.taken then.taken first.appended then.appended;
   }
 
-  -- .. until the drain failed in a line
+  -- if the lines before `rest` were processed, and the drain failed in a line of `rest`, it failed in a line of all the bytes
   pub stopped_on : (s mid s' : S) (bytes rest : List ℕ) (old now new : Option (List ℕ)) → HasGone does s bytes rest old now mid
       → HasStopped does mid rest now new s' → HasStopped does s bytes old new s'
   stopped_on s mid s' bytes rest old now new first last = record {
@@ -89,7 +89,8 @@ module _ {S : Type 0} (does : S → List ℕ → List ℕ → List ℕ → S →
     done = last.done;
   }
 
-  -- .. or both, by a result
+  -- if the lines before `rest` were processed, the outcome for `rest` (the lines left, or the drain's failure) is the outcome for
+  -- all the bytes
   pub result_on : {A : Type 0} (r : Result A Stopped) (now_of : A → List ℕ) (s mid s' : S) (bytes rest : List ℕ) (old now new : Option (List ℕ))
       → HasGone does s bytes rest old now mid
       → MatchResult r (λ x. HasGone does mid rest (now_of x) now new s') (λ _. HasStopped does mid rest now new s')
@@ -97,7 +98,8 @@ module _ {S : Type 0} (does : S → List ℕ → List ℕ → List ℕ → S →
   result_on (Ok x) now_of s mid s' bytes rest old now new gone h = gone_on s mid s' bytes rest (now_of x) old now new gone h
   result_on (Err e) now_of s mid s' bytes rest old now new gone h = stopped_on s mid s' bytes rest old now new gone h
 
-  -- the line that ends with `part` was processed ..
+  -- if `rest` is `part`, an LF and `after`, and the line `held ++ part` was processed in full, all lines before `after` were
+  -- processed
   pub gone_end : (s mid s' : S) (bytes held rest part after : List ℕ) (old now new : Option (List ℕ)) → HasGone does s bytes (held ++ rest) old now mid
       → IsOneLine held → IsOneLine part → rest ≡ (part ++ 10 ∷ []) ++ after → HasDone does mid (held ++ part) now new (Ok tt) s'
       → HasGone does s bytes after old new s'
@@ -111,7 +113,7 @@ module _ {S : Type 0} (does : S → List ℕ → List ℕ → List ℕ → S →
         appended = done.appended;
       })
 
-  -- .. or the drain failed in it
+  -- if `rest` is `part`, an LF and `after`, and the drain failed in the line `held ++ part`, it failed in a line of the bytes
   pub stopped_end : (s mid s' : S) (bytes held rest part after : List ℕ) (old now new : Option (List ℕ)) (stopped : Stopped)
       → HasGone does s bytes (held ++ rest) old now mid → IsOneLine held → IsOneLine part → rest ≡ (part ++ 10 ∷ []) ++ after
       → HasDone does mid (held ++ part) now new (Err stopped) s' → HasStopped does s bytes old new s'
@@ -126,7 +128,7 @@ module _ {S : Type 0} (does : S → List ℕ → List ℕ → List ℕ → S →
     done = done;
   }
 
-  -- more bytes follow, and the drain may have sent
+  -- if more bytes are given, the same lines were processed, and these bytes are left too, even if the drain has sent what it took
   pub gone_given : (s s' : S) (bytes rest more : List ℕ) (old now new : Option (List ℕ)) → HasGone does s bytes rest old now s' → Keeps now new
       → HasGone does s (bytes ++ more) (rest ++ more) old new s'
   gone_given s s' bytes rest more old now new gone kept = record {
@@ -149,7 +151,7 @@ module _ {S : Type 0} (does : S → List ℕ → List ℕ → List ℕ → S →
     appended = appends_kept old now new gone.taken gone.appended kept;
   }
 
-  -- all lines that ended were processed
+  -- if the bytes left have no LF, all lines that ended in LF were processed
   pub ended_are_done : (s s' : S) (given tail : List ℕ) (old new : Option (List ℕ)) → (gone : HasGone does s given tail old new s') → IsOneLine tail
       → HaveRun does s (ended_lines given) gone.taken s'
   ended_are_done s s' given tail old new gone one =
@@ -157,7 +159,7 @@ module _ {S : Type 0} (does : S → List ℕ → List ℕ → List ℕ → S →
       (sym (ap ended_lines gone.split ∙ lines_ended gone.done tail gone.ended
       ∙ ap (λ more. gone.done ++ more) (one_line_unended tail one) ∙ append-nil gone.done)) gone.ran
 
-  -- .. and the bytes held are those after them
+  -- if the bytes left have no LF, they are the bytes after the lines that ended in LF
   pub ended_split : (s s' : S) (given tail : List ℕ) (old new : Option (List ℕ)) → (gone : HasGone does s given tail old new s') → IsOneLine tail
       → given ≡ with_line_feeds (ended_lines given) ++ tail
   ended_split s s' given tail old new gone one =
@@ -165,7 +167,7 @@ module _ {S : Type 0} (does : S → List ℕ → List ℕ → List ℕ → S →
       (sym (ap ended_lines gone.split ∙ lines_ended gone.done tail gone.ended
       ∙ ap (λ more. gone.done ++ more) (one_line_unended tail one) ∙ append-nil gone.done))
 
-  -- if no bytes are held, these are all lines
+  -- if no bytes are left, all lines of the trace were processed
   pub all_are_done : (s s' : S) (given tail : List ℕ) (old new : Option (List ℕ)) → (gone : HasGone does s given tail old new s') → length tail ≡ 0
       → HaveRun does s (lines_of_trace given) gone.taken s'
   all_are_done s s' given tail old new gone none =
@@ -179,7 +181,7 @@ module _ {S : Type 0} (does : S → List ℕ → List ℕ → List ℕ → S →
       ap lines_of_trace gone.split ∙ lines_cut gone.done tail gone.ended
       ∙ ap (λ more. gone.done ++ more) (one_line_cut tail one some)
 
-  -- the bytes held are the last line, which was processed ..
+  -- if the bytes left are the last line, without an LF, and it was processed in full, all lines of the trace were processed
   pub last_is_done : (s mid s' : S) (given tail : List ℕ) (old now new : Option (List ℕ)) → HasGone does s given tail old now mid → IsOneLine tail
       → 0 < length tail → HasDone does mid tail now new (Ok tt) s'
       → (taken : List ℕ) × Appends old new taken × HaveRun does s (lines_of_trace given) taken s'
@@ -195,7 +197,7 @@ module _ {S : Type 0} (does : S → List ℕ → List ℕ → List ℕ → S →
   cut_off s mid s' bytes rest line old now new stopped gone done =
       record { mid = mid; earlier = gone.taken; here = done.taken; rest = done.rest; split = refl; some = done.whole; ran = gone.ran; did = done.did }
 
-  -- .. or the drain failed in it
+  -- if the feed has ended, and the drain failed in a last line without an LF, the output of that line was cut short
   pub stopped_at_last : (ended : Bool) (s mid s' : S) (given tail : List ℕ) (old now new : Option (List ℕ)) (stopped : Stopped)
       → HasGone does s given tail old now mid → IsOneLine tail → 0 < length tail → HasDone does mid tail now new (Err stopped) s' → ended ≡ true
       → (taken : List ℕ) × Appends old new taken × HasRunInto does ended s given taken s'
@@ -205,7 +207,7 @@ module _ {S : Type 0} (does : S → List ℕ → List ℕ → List ℕ → S →
     (gone.done, tail, inr (over, last_cut s mid given tail old now gone one some), cut_off s mid s' given tail tail old now new stopped gone done),
   )
 
-  -- the drain failed in a line that ended
+  -- if the drain failed in a line that ended in LF, the output of that line was cut short
   pub stopped_before : (ended : Bool) (s s' : S) (given : List ℕ) (old new : Option (List ℕ)) → HasStopped does s given old new s'
       → (taken : List ℕ) × Appends old new taken × HasRunInto does ended s given taken s'
   stopped_before ended s s' given old new last =
@@ -225,16 +227,16 @@ module _ {S : Type 0} (does : S → List ℕ → List ℕ → List ℕ → S →
         ),
       )
 
--- there is an unfinished line
+-- the effect of an unfinished line that has bytes is the one that `leaves` gives
 pub has_left : {S : Type 0} (leaves : S → List ℕ → S → Type 0) (s : S) (tail : List ℕ) (s' : S) → 0 < length tail → leaves s tail s' → HasLeft leaves s tail s'
 has_left leaves s [] s' some left = absurd (omega (arith, some))
 has_left leaves s (b ∷ tail) s' some left = left
 
--- a pull of 0 bytes is the end
+-- if a pull returns 0 bytes, the feed has ended
 pub ended_at : (ended : Bool) (count : ℕ) → ended ≡ nat_eq count 0 → count ≡ 0 → ended ≡ true
 ended_at ended count is none = is ∙ ap (λ n. nat_eq n 0) none
 
--- a fact of an error
+-- if a fact holds for every error, it holds for a result that is an error
 pub at_error : {A : Type 0} (P : A → Type 0) (Q : Stopped → Type 0) (r : Result A Stopped) → is_err r ≡ true → ((e : Stopped) → Q e) → MatchResult r P Q
 at_error P Q (Ok x) failed h = cc
 at_error P Q (Err e) failed h = h e
@@ -255,7 +257,7 @@ pub is_err_of : (r : Result (Unit {0}) Stopped) → is_err r ≡ true → (e : S
 is_err_of (Ok x) failed = cc
 is_err_of (Err e) failed = (e, refl)
 
--- the rest of a line's effect is added
+-- if a line had the effect `first`, and the rest of its effect leads on to `does`, the line had the effect `does`
 pub done_then : {S : Type 0} (first does : S → List ℕ → List ℕ → List ℕ → S → Type 0) (s mid s' : S) (line : List ℕ) (old new : Option (List ℕ))
     (result : Result (Unit {0}) Stopped) → HasDone first s line old new result mid
     → ((taken rest : List ℕ) → first s line taken rest mid → does s line taken rest s') → HasDone does s line old new result s'

@@ -9,7 +9,7 @@ use Rattle.streams.proofs.LineLemmas.{found_cut}
 use Rattle.replay_core.specs.Doing.{HasDone}
 use Rattle.replay_core.specs.QuickLine.{EndsFront, HasDoneFront}
 
--- the line at the front, and the bytes after its LF
+-- the bytes are a line of `len - 1` bytes, its LF, and the bytes after it
 pub front_ends : (rest : List ℕ) (len : ℕ) → EndsFront rest len
     → IsOneLine (take (len - 1) rest) × (rest ≡ (take (len - 1) rest ++ 10 ∷ []) ++ drop len rest)
 front_ends rest len ends =
@@ -17,18 +17,18 @@ front_ends rest len ends =
     let some = ends.some in
     (found.0, found.1 ∙ ap (λ n. (take (len - 1) rest ++ 10 ∷ []) ++ drop n rest) (omega arith))
 
--- if the result is Ok (Some len), a line was processed in full
+-- if the result is Ok (Some len), the line at the front has `len` bytes with its LF and was processed in full
 pub front_at : {S : Type 0} (does : S → List ℕ → List ℕ → List ℕ → S → Type 0) (s : S) (bytes : List ℕ) (old new : Option (List ℕ))
     (o : Option ℕ) (len : ℕ) → o ≡ Some len → (s' : S) → HasDoneFront does s bytes old new (Ok o) s'
     → EndsFront bytes len × HasDone does s (take (len - 1) bytes) old new (Ok tt) s'
 front_at does s bytes old new o len is s' h =
     subst (λ (o : Option ℕ). HasDoneFront does s bytes old new (Ok o) s') is h
 
--- a line that was read ends at the front
+-- if a request of `len` bytes was read, the first line of the bytes ends there
 pub read_ends : (bytes : List ℕ) (tenant : ℕ) (command : Command) (len : ℕ) → ReadsAs bytes tenant command len → EndsFront bytes len
 read_ends bytes tenant command len read = record { some = read.some; within = read.within; ended = read.ended }
 
--- the drain failed in the line at the front
+-- if the drain failed in the line at the front and the result is an error, `HasDoneFront` holds
 pub front_failed : {S : Type 0} (does : S → List ℕ → List ℕ → List ℕ → S → Type 0) (s : S) (bytes : List ℕ) (old new : Option (List ℕ))
     (r : Result (Option ℕ) Stopped) (len : ℕ) (stopped : Stopped) (s' : S) → is_err r ≡ true → EndsFront bytes len
     → HasDone does s (take (len - 1) bytes) old new (Err stopped) s' → HasDoneFront does s bytes old new r s'

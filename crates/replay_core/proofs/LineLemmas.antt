@@ -30,12 +30,12 @@ last_line : (b : ℕ) (line : List ℕ) → IsOneLine (b ∷ line) → lines_of_
 last_line b [] h = rw h.0 refl
 last_line b (c ∷ line) h = rw h.0 (ap (onto_first b) (last_line c line h.1))
 
--- bytes without an LF are one line
+-- some bytes without an LF are one line of a trace
 pub one_line_cut : (line : List ℕ) → IsOneLine line → 0 < length line → lines_of_trace line ≡ line ∷ []
 one_line_cut [] h some = absurd (omega arith)
 one_line_cut (b ∷ line) h some = last_line b line h
 
--- but not a line that ended
+-- bytes without an LF have no line that ended in LF
 pub one_line_unended : (line : List ℕ) → IsOneLine line → ended_lines line ≡ []
 one_line_unended [] h = refl
 one_line_unended (b ∷ line) h = rw h.0 (ap (onto_ended b) (one_line_unended line h.1))

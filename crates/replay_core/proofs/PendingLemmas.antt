@@ -12,7 +12,7 @@ use Rattle.std.proofs.lemmas.Bool.{cases_lt, ltb-true, ltb-false, lt-ltb, le-ltb
 use Rattle.std.proofs.lemmas.List.{append-nil, take_all, take-append-le, take-take, length-take, length-append}
 use Rattle.std.proofs.Math.Seq.{take-append-add}
 
--- a line of at most 256 bytes is its own beginning
+-- the first 256 bytes of a line of at most 256 bytes are the whole line
 pub take-short : (line : List ℕ) → length line ≤ 256 → take 256 line ≡ line
 take-short line few = take_all 256 line few
 
@@ -29,7 +29,8 @@ take-more line bytes free is = elim (cases_lt 256 (length line)) [
       ap (λ n. take n (line ++ bytes)) e ∙ take-append-add line bytes free ∙ ap (λ xs. xs ++ take free bytes) (sym short)
 ]
 
--- if the next bytes fit, the first 256 bytes of the longer line are the old ones and then these
+-- if the next bytes fit behind the bytes held, they are added to them, and whether the line has more than 256 bytes does not
+-- change
 pub holds_fitting : (line bytes : List ℕ) → length bytes ≤ 256 - length (take 256 line)
     → (take 256 line ++ bytes ≡ take 256 (line ++ bytes)) × (nat_lt 256 (length line) ≡ nat_lt 256 (length (line ++ bytes)))
 holds_fitting line bytes fits =
@@ -43,7 +44,7 @@ holds_fitting line bytes fits =
       ],
     )
 
--- otherwise they are the old ones and a front of these, and the line has more than 256 bytes
+-- if the next bytes do not fit, those that fit are added, and the line then has more than 256 bytes
 pub holds_overflowing : (line bytes : List ℕ) → 256 - length (take 256 line) < length bytes
     → (take 256 line ++ take (256 - length (take 256 line)) bytes ≡ take 256 (line ++ bytes)) × (true ≡ nat_lt 256 (length (line ++ bytes)))
 holds_overflowing line bytes over =
@@ -65,11 +66,11 @@ stripped : (test : Bool) (line : List ℕ) → 256 < length line → 255 < lengt
 stripped true line h = omega (arith, length-take (length line - 1) line)
 stripped false line h = omega arith
 
--- a line of more than 256 bytes is too long, however it ends
+-- a line of more than 256 bytes is too long, even if the last of them is a CR
 pub overlong : (line : List ℕ) → 256 < length line → reading_of line ≡ Err Long
 overlong line h = reading_of-long line (stripped (nat_eq (slice_index line (length line - 1)) 13) line h)
 
--- so a line with an event has no more
+-- a line with an event has at most 256 bytes
 pub event_short : (line : List ℕ) (event : Event) → reading_of line ≡ Ok (Some event) → length line ≤ 256
 event_short line event read = elim (cases_lt 256 (length line)) [
   | inl over ↦ absurd (no_fault (sym (overlong line over) ∙ read))
@@ -79,7 +80,7 @@ event_short line event read = elim (cases_lt 256 (length line)) [
     no_fault : Err Long ≡ Ok (Some event) → ⊥
     no_fault h = cc
 
--- the bytes held are a front of the line
+-- the bytes held are the line, or its front if it is too long
 pub held_front : (line front : List ℕ) (pending : Pending) → HoldsLine line pending → front ≡ pending.held.items → IsFrontOf line front
 held_front line front pending holds is = record {
   same = ap (λ xs. take 256 xs) (is ∙ holds.front) ∙ take-take 256 256 line (omega arith);

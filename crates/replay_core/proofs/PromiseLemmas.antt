@@ -1,4 +1,4 @@
--- The bytes taken keep the promises.
+-- The bytes that the drain takes keep the promises.
 use Rattle.std.proofs.Common.{◌≡◌, ℕ, ◌*◌, ◌^◌, ◌≤◌, Bool, List, [], ◌∷◌, ◌++◌, length, Option, None, Err, ap, sym, subst, ◌∙◌}
 use Rattle.std.proofs.lemmas.List.{length-replicate}
 use Rattle.model_core.specs.declared.limits.TheConstants.{MOST_SUPERBLOCKS}
@@ -14,7 +14,7 @@ use Rattle.streams.specs.declared.tally.ReplayError.TheVariants as Failed
 use Rattle.replay_core.specs.Runs.{Counts, HasRun, IsCutShort, Replays}
 use Rattle.replay_core.specs.Promised.{IsAllowedOutput, BeginsAllowed, TakesAllowed}
 
--- a kernel's limits are those of the opening world that it shows
+-- if a kernel shows an opening world, the RAM of that world has at most 2^32 bytes
 ram_shown : (k : KernelContent) (superblocks tenants : ℕ) → Shows k (opening_world superblocks tenants) → superblocks * 2 ^ k.order * 4096 ≤ 2 ^ 32
 unfolding opening_world
 ram_shown k superblocks tenants shows =
@@ -41,12 +41,12 @@ answered_in_part only before after lines line taken tally cut = λ superblocks t
           (shown_allowed only before (lines ++ line ∷ []) superblocks tenants shows least),
     )
 
--- if all lines were answered in full
+-- if all lines were answered in full, they are counted, and the bytes taken are the text of allowed replies
 pub all_promised : (only : Option ℕ) (before after : KernelContent) (lines : List (List ℕ)) (taken : List ℕ) (tally : Tally) → HasRun only before after lines taken tally
     → Counts tally lines taken × IsAllowedOutput only before lines taken
 all_promised only before after lines taken tally ran = (ran.counted, answered_in_full only before lines taken ran.shown)
 
--- if the drain failed
+-- if the drain failed, the lines that were run are counted, and the bytes taken are a prefix of the text of allowed replies
 pub part_promised : (ended : Bool) (only : Option ℕ) (before after : KernelContent) (given taken : List ℕ) (tally : Tally)
     → Replays ended only before after given taken (Err (Failed.Drain tally)) → TakesAllowed ended only before given taken (Err (Failed.Drain tally))
 part_promised ended only before after given taken tally (done, line, come, cut) =

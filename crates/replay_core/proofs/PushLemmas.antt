@@ -1,4 +1,4 @@
--- Bytes offered one part after another.
+-- Bytes that are pushed one part after another.
 use Rattle.std.proofs.Common.{◌≡◌, ℕ, zero, suc, ◌+◌, ◌<◌, ◌≤◌, Bool, true, false, List, [], ◌∷◌, ◌++◌, Option, Some, Result, Ok, Err, length, take, drop, refl, sym, ap, subst, ◌∙◌, arith, add-one, append_assoc, length-append, take-append-drop}
 use Rattle.std.proofs.lemmas.List.{append-nil, length-take-le}
 use Rattle.std.specs.List.{concat, slice_get}
@@ -13,7 +13,7 @@ use Rattle.world_core.specs.Output.{is_shown, shown_text}
 use Rattle.replay_core.specs.Pushes.{HasPushed, IsWholeAtOk}
 use Rattle.streams.proofs.MoveLemmas.{appends_nothing, appends_more, appends_kept}
 
--- all of the text was taken and counted, except for the rest, which is still to be offered
+-- all of the text was taken and counted, except for `rest`, which is still to be pushed
 pub record HasPushedBut (old new : Option (List ℕ)) (text rest : List ℕ) (written written' : ℕ) : Type 0 where
   pub taken : List ℕ
   pub split : text ≡ taken ++ rest
@@ -23,7 +23,7 @@ pub record HasPushedBut (old new : Option (List ℕ)) (text rest : List ℕ) (wr
 pub nothing_pushed : (known : Option (List ℕ)) (text : List ℕ) (written : ℕ) → HasPushedBut known known text text written written
 nothing_pushed known text written = record { taken = []; split = refl; appended = appends_nothing known; counted = omega arith }
 
--- the next part was taken
+-- if the next part was taken and counted too, only the bytes after it are still to be pushed
 pub pushed_more : (old now new : Option (List ℕ)) (text rest part after : List ℕ) (written written' written'' : ℕ)
     → HasPushedBut old now text rest written written' → rest ≡ part ++ after → Appends now new part → written'' ≡ written' + length part
     → HasPushedBut old new text after written written''
@@ -48,7 +48,7 @@ pushed_part old now new failing text rest line after written written' written'' 
     let whole : line ≡ more.taken = more.split ∙ ap (λ xs. more.taken ++ xs) more.whole ∙ append-nil more.taken in
     pushed_more old now new text rest more.taken after written written' written'' had (cut ∙ ap (λ xs. xs ++ after) whole) more.appended more.counted
 
--- nothing is left
+-- if nothing is left and the drain has not failed, the whole text was pushed
 pub pushed_all : (old new : Option (List ℕ)) (failing : Bool) (text rest : List ℕ) (written written' : ℕ)
     → HasPushedBut old new text rest written written' → rest ≡ [] → failing ≡ false → HasPushed old new failing text written written' (Ok tt)
 pushed_all old new failing text rest written written' had none fine = record {
@@ -61,7 +61,7 @@ pushed_all old new failing text rest written written' had none fine = record {
   failed = fine;
 }
 
--- if the test for emptiness fails, there is a byte
+-- if the test for emptiness is false, there is a byte
 pub some_left : (bytes : List ℕ) (test : Bool) → test ≡ nat_eq (length bytes) 0 → test ≡ false → 0 < length bytes
 some_left bytes test is full = grind (arith, nat_tests)
 
@@ -69,7 +69,7 @@ part_at_err : (result : Result (Unit {0}) Stopped) (rest : List ℕ) → is_err 
 part_at_err (Ok x) rest failed some = cc
 part_at_err (Err e) rest failed some = some
 
--- the drain failed at the rest
+-- if the drain failed before it took any of the rest, the text was taken up to the rest
 pub pushed_to : (old now new : Option (List ℕ)) (failing : Bool) (text rest : List ℕ) (written written' : ℕ) (result : Result (Unit {0}) Stopped)
     → is_err result ≡ true → HasPushedBut old now text rest written written' → Keeps now new → 0 < length rest → failing ≡ true
     → HasPushed old new failing text written written' result
@@ -83,7 +83,7 @@ pushed_to old now new failing text rest written written' result failed had kept 
   failed = stopped ∙ sym failed;
 }
 
--- the drain failed within the next part
+-- if the drain failed within the next part, the text was taken up to a byte of this part
 pub pushed_into : (old now new : Option (List ℕ)) (failing : Bool) (text rest line after : List ℕ) (written written' written'' : ℕ) (stopped : Stopped)
     (result : Result (Unit {0}) Stopped) → is_err result ≡ true
     → HasPushedBut old now text rest written written' → rest ≡ line ++ after → HasPushed now new failing line written' written'' (Err stopped)
@@ -100,7 +100,7 @@ pushed_into old now new failing text rest line after written written' written'' 
   failed = more.failed ∙ sym failed;
 }
 
--- the drain failed within the first part of a text ..
+-- if the drain failed within the first part of a text, the text was taken up to a byte of this part
 pub pushed_begun : (old new : Option (List ℕ)) (failing : Bool) (line after : List ℕ) (written written' : ℕ) (stopped : Stopped)
     (result : Result (Unit {0}) Stopped) → is_err result ≡ true → HasPushed old new failing line written written' (Err stopped)
     → HasPushed old new failing (line ++ after) written written' result
@@ -108,7 +108,7 @@ pushed_begun old new failing line after written written' stopped result failed p
     pushed_into old old new failing (line ++ after) (line ++ after) line after written written written' stopped result failed
     (nothing_pushed old (line ++ after) written) refl part
 
--- .. or took it, and then the second part as far as it could
+-- if the drain took the first part of a text, the result of pushing the second part is the result for the whole text
 pub pushed_both : (old now new : Option (List ℕ)) (failing failing' : Bool) (line after : List ℕ) (written written' written'' : ℕ)
     (result : Result (Unit {0}) Stopped) → HasPushed old now failing line written written' (Ok tt) → HasPushed now new failing' after written' written'' result
     → HasPushed old new failing' (line ++ after) written written'' result
@@ -123,7 +123,7 @@ pushed_both old now new failing failing' line after written written' written'' r
       failed = second.failed;
     }
 
--- at most as many bytes are counted as the text has
+-- the count grows by at most the number of bytes of the text
 pub pushed_few : (old new : Option (List ℕ)) (failing : Bool) (text : List ℕ) (written written' : ℕ) (result : Result (Unit {0}) Stopped)
     → HasPushed old new failing text written written' result → written' ≤ written + length text
 pushed_few old new failing text written written' result pushed =
@@ -138,7 +138,7 @@ row_here (row ∷ rows) (suc i) line h = row_here rows i line h
 pub row_next : (rows : List (List ℕ)) (i : ℕ) (line : List ℕ) → slice_get rows i ≡ Some line → concat (drop i rows) ≡ line ++ concat (drop (i + 1) rows)
 row_next rows i line h = rw add-one (row_here rows i line h)
 
--- a reply that is shown is shown whole
+-- the shown text of a reply that is shown is its whole text
 pub shown_whole : (only : Option ℕ) (reply : Reply) (test : Bool) → test ≡ is_shown only reply.addressee → test ≡ true → shown_text only reply ≡ text_of reply
 shown_whole only reply test is shown =
     subst (λ (b : Bool). (if b then text_of reply else []) ≡ text_of reply) (sym shown ∙ is) refl

@@ -19,14 +19,14 @@ use Rattle.streams.proofs.LineLemmas.{found_cut}
 use Rattle.replay_core.proofs.FrontLemmas.{read_ends, front_failed}
 use Rattle.replay_core.proofs.RunLemmas.{done_of_event}
 
--- a line that was read alone is at the front of the rest
+-- if the bytes before the first LF of `rest`, read alone, are a request, it is the request at the front of `rest`
 pub reads_alone : (rest : List ℕ) (end tenant : ℕ) (command : Command) → end < length rest → position (λ b. b == 10) rest ≡ Some end
     → reading_of (take end rest) ≡ Ok (Some (Tenant tenant command)) → ReadsAs rest tenant command (end + 1)
 reads_alone rest end tenant command within found reading =
     let same : end + 1 - 1 ≡ end = omega arith in
     record { some = omega arith; within = omega arith; ended = found ∙ ap Some (sym same); reading = ap (λ n. reading_of (take n rest)) same ∙ reading }
 
--- the line at the front, and the bytes after its LF
+-- if a request of `len` bytes was read, the bytes are its line of `len - 1` bytes, an LF, and the bytes after it
 pub front_cut : (rest : List ℕ) (tenant : ℕ) (command : Command) (len : ℕ) → ReadsAs rest tenant command len
     → IsOneLine (take (len - 1) rest) × (rest ≡ (take (len - 1) rest ++ 10 ∷ []) ++ drop len rest)
 front_cut rest tenant command len read =
@@ -35,7 +35,7 @@ front_cut rest tenant command len read =
     (found.0, found.1 ∙ ap (λ n. (take (len - 1) rest ++ 10 ∷ []) ++ drop n rest) (omega arith))
 
 module _ {N : Type 0} (noting : Noting N) where
-  -- a line at the front of the rest was run and answered ..
+  -- if the line at the front of `rest` was run and answered in full, all lines up to it were processed
   pub line_done : (s mid s' : Run N × KernelContent) (bytes rest : List ℕ) (old now new : Option (List ℕ)) (tenant : ℕ) (command : Command) (len : ℕ)
       → ReadsAs rest tenant command len → HasGone (answers noting) s bytes rest old now mid
       → HasDone (AnswersRead noting []) mid (Ok (Some (Tenant tenant command))) now new (Ok tt) s'
@@ -45,7 +45,7 @@ module _ {N : Type 0} (noting : Noting N) where
       gone_end (answers noting) s mid s' bytes [] rest (take (len - 1) rest) (drop len rest) old now new gone tt cut.0 cut.1
       (done_of_event noting mid s' (take (len - 1) rest) _ now new (Ok tt) read.reading done)
 
-  -- .. or the drain failed within its answer
+  -- if the drain failed within the answer to the line at the front of `rest`, it failed in a line of all the bytes
   pub line_stopped : (s mid s' : Run N × KernelContent) (bytes rest : List ℕ) (old now new : Option (List ℕ)) (stopped : Stopped) (tenant : ℕ) (command : Command) (len : ℕ)
       → ReadsAs rest tenant command len → HasGone (answers noting) s bytes rest old now mid
       → HasDone (AnswersRead noting []) mid (Ok (Some (Tenant tenant command))) now new (Err stopped) s'
@@ -55,14 +55,14 @@ module _ {N : Type 0} (noting : Noting N) where
       stopped_end (answers noting) s mid s' bytes [] rest (take (len - 1) rest) (drop len rest) old now new stopped gone tt cut.0 cut.1
       (done_of_event noting mid s' (take (len - 1) rest) _ now new (Err stopped) read.reading done)
 
-  -- the line at the front was run and answered ..
+  -- if the line at the front was run and answered in full, `HasDoneFront` holds with its length
   pub front_answered : (s s' : Run N × KernelContent) (bytes : List ℕ) (old new : Option (List ℕ)) (tenant : ℕ) (command : Command) (len : ℕ)
       → ReadsAs bytes tenant command len → HasDone (AnswersRead noting []) s (Ok (Some (Tenant tenant command))) old new (Ok tt) s'
       → HasDoneFront (answers noting) s bytes old new (Ok (Some len)) s'
   front_answered s s' bytes old new tenant command len read done =
       (read_ends bytes tenant command len read, done_of_event noting s s' (take (len - 1) bytes) _ old new (Ok tt) read.reading done)
 
-  -- .. or the drain failed within its answer
+  -- if the drain failed within the answer to the line at the front and the result is an error, `HasDoneFront` holds
   pub front_cut_short : (s s' : Run N × KernelContent) (bytes : List ℕ) (old new : Option (List ℕ)) (r : Result (Option ℕ) Stopped) (stopped : Stopped) (tenant : ℕ) (command : Command) (len : ℕ)
       → is_err r ≡ true → ReadsAs bytes tenant command len → HasDone (AnswersRead noting []) s (Ok (Some (Tenant tenant command))) old new (Err stopped) s'
       → HasDoneFront (answers noting) s bytes old new r s'
@@ -70,6 +70,6 @@ module _ {N : Type 0} (noting : Noting N) where
       front_failed (answers noting) s bytes old new r len stopped s' failed (read_ends bytes tenant command len read)
       (done_of_event noting s s' (take (len - 1) bytes) _ old new (Err stopped) read.reading done)
 
--- the bytes after the line, and the line itself, are the rest
+-- the length of the rest is the length of its first line and of the bytes after that line
 pub left_over : (rest : List ℕ) (len : ℕ) → len ≤ length rest → length (drop len rest) + len ≡ length rest
 left_over rest len within = omega (arith, length-drop len rest)

@@ -81,7 +81,7 @@ stands_more before now next xs line stands same shows = record {
       (shows _ (stands.shows w before_shows)));
 }
 
--- the text that a line shows in the world that the lines before it left
+-- if a line shows a text in every world that the kernel shows now, it shows this text in the world that the lines before it leave
 shown_here : (only : Option ℕ) (before now : KernelContent) (xs : List (List ℕ)) (line text : List ℕ) → StandsAfter before now xs
     → ((w : World) → Shows now w → shown_line only cache_limit now.order line w ≡ text)
     → (w : World) → Shows before w → shown_line only cache_limit before.order line (world_after cache_limit before.order w (events_of xs)) ≡ text
@@ -89,7 +89,7 @@ shown_here only before now xs line text stands shown w before_shows =
     ap (λ order. shown_line only cache_limit order line (world_after cache_limit before.order w (events_of xs))) (sym stands.sizes.order)
     ∙ shown (world_after cache_limit before.order w (events_of xs)) (stands.shows w before_shows)
 
--- an empty line is not a fault
+-- an empty line has no event and no fault
 pub reading_of_nothing : reading_of [] ≡ Ok None
 unfolding reading_of reading_of_words words_of
 reading_of_nothing = refl
@@ -110,13 +110,13 @@ module _ {N : Type 0} (noting : Noting N) where
       ∙ ap (λ v. noted_reading noting only limit order (number + suc (length xs)) (take 256 line) (reading_of line) v sofar)
       (sym (world_both limit order (event_in (reading_of x)) (events_of xs) w))
 
-  -- from the notes at the beginning of a run to those at its end
+  -- notes that are equal to the first and the last notes of the lines may take their place
   pub noted_from : (only : Option ℕ) (before : KernelContent) (lines : List (List ℕ)) (first first' last last' : N) → first ≡ first' → last' ≡ last
       → AreNoted noting only before lines first last → AreNoted noting only before lines first' last'
   noted_from only before lines first first' last last' begun ended noted = λ w shows.
       ended ∙ noted w shows ∙ ap (noted_lines noting only cache_limit before.order 1 lines w) begun
 
-  -- a run with the same `only` shows the same text
+  -- a run shows the text that is shown with its `only`
   shown_to : (only : Option ℕ) (now : KernelContent) (reading : Result (Option Event) LineFault) (w : World) (run : Run N) (text : List ℕ) → run.replies.only ≡ only
       → shown_reading run.replies.only cache_limit now.order reading w ≡ text → shown_reading only cache_limit now.order reading w ≡ text
   shown_to only now reading w run text same shown = ap (λ o. shown_reading o cache_limit now.order reading w) (sym same) ∙ shown
@@ -126,14 +126,14 @@ module _ {N : Type 0} (noting : Noting N) where
   AreRun only before notes lines taken s =
       (s.0.replies.only ≡ only) × HasRun only before s.1 lines taken (tally_of_run s.0) × AreNoted noting only before lines notes s.0.notes
 
-  -- the text of a line, as shown by a replay from its first line on
+  -- if the lines `xs` were run, the text that the next line shows after them is `taken` and then `rest`
   shown_now : (only : Option ℕ) (before : KernelContent) (notes : N) (xs : List (List ℕ)) (line sofar taken rest : List ℕ) (s s' : Run N × KernelContent)
       → AreRun only before notes xs sofar s → answers noting s line taken rest s'
       → (w : World) → Shows before w → shown_line only cache_limit before.order line (world_after cache_limit before.order w (events_of xs)) ≡ taken ++ rest
   shown_now only before notes xs line sofar taken rest s s' ran answered =
       shown_here only before s.1 xs line (taken ++ rest) ran.1.stands (λ v shows. shown_to only s.1 (reading_of line) v s.0 _ ran.0 (answered.shown v shows))
 
-  -- and the notes after it
+  -- if the lines `xs` were run, the notes after the next line are the notes of `xs` and this line
   noted_now : (only : Option ℕ) (before : KernelContent) (notes : N) (xs : List (List ℕ)) (line sofar taken rest : List ℕ) (s s' : Run N × KernelContent)
       → AreRun only before notes xs sofar s → answers noting s line taken rest s' → AreNoted noting only before (xs ++ line ∷ []) notes s'.0.notes
   noted_now only before notes xs line sofar taken rest s s' ran answered = λ w shows.
@@ -145,7 +145,7 @@ module _ {N : Type 0} (noting : Noting N) where
       ∙ ap (noted_reading noting only cache_limit before.order (1 + length xs) (take 256 line) (reading_of line) v) (ran.2 w shows)
       ∙ sym (noted_more only cache_limit before.order 1 xs line w notes)
 
-  -- one more line was answered in full ..
+  -- if the lines `xs` were run and the next line was answered in full, `xs` and this line were run
   one_run : (only : Option ℕ) (before : KernelContent) (notes : N) (xs : List (List ℕ)) (line taken here : List ℕ) (s s' : Run N × KernelContent)
       → AreRun only before notes xs taken s → answers noting s line here [] s' → AreRun only before notes (xs ++ line ∷ []) (taken ++ here) s'
   one_run only before notes xs line taken here s s' ran answered = (
@@ -161,7 +161,7 @@ module _ {N : Type 0} (noting : Noting N) where
     noted_now only before notes xs line taken here [] s s' ran answered,
   )
 
-  -- .. and so were all of them
+  -- if a run that has counted nothing answers lines in full, they were run and noted, and the drain took the text that they show
   pub are_run : (only : Option ℕ) (run : Run N) (before : KernelContent) (lines : List (List ℕ)) (taken : List ℕ) (s : Run N × KernelContent) → run.replies.only ≡ only
       → tally_of_run run ≡ record { lines = 0; events = 0; faults = 0; written = 0 } → HaveRun (answers noting) (run, before) lines taken s
       → AreRun only before run.notes lines taken s
@@ -181,7 +181,7 @@ module _ {N : Type 0} (noting : Noting N) where
         λ w shows. refl,
       ) ran
 
-  -- the drain failed within the answer to a line
+  -- if the drain failed within the answer to a line, the lines up to this line were run and noted, and its text was cut short
   pub run_cut : (only : Option ℕ) (run : Run N) (before : KernelContent) (done : List (List ℕ)) (line taken : List ℕ) (s : Run N × KernelContent) → run.replies.only ≡ only
       → tally_of_run run ≡ record { lines = 0; events = 0; faults = 0; written = 0 } → IsCutOff (answers noting) (run, before) done line taken s
       → IsCutShort only before s.1 done line taken (tally_of_run s.0) × AreNoted noting only before (done ++ line ∷ []) run.notes s.0.notes
@@ -205,7 +205,7 @@ module _ {N : Type 0} (noting : Noting N) where
         noted_now only before run.notes done line cut.earlier cut.here cut.rest cut.mid s ran did,
       )
 
-  -- a line is processed if its reading is
+  -- if a line was processed by its reading, it was processed by its bytes
   done_of_reading : (s s' : Run N × KernelContent) (line : List ℕ) (reading : Result (Option Event) LineFault) (old new : Option (List ℕ)) (result : Result (Unit {0}) Stopped)
       → reading_of line ≡ reading → HasDone (AnswersRead noting (take 256 line)) s reading old new result s' → HasDone (answers noting) s line old new result s'
   done_of_reading s s' line reading old new result is done = record {
@@ -216,7 +216,7 @@ module _ {N : Type 0} (noting : Noting N) where
     whole = done.whole;
   }
 
-  -- no front is noted for a line with an event
+  -- a line with an event can be processed without its front, since only faulty lines are noted by their front
   pub done_of_event : (s s' : Run N × KernelContent) (line : List ℕ) (event : Event) (old new : Option (List ℕ)) (result : Result (Unit {0}) Stopped)
       → reading_of line ≡ Ok (Some event) → HasDone (AnswersRead noting []) s (Ok (Some event)) old new result s' → HasDone (answers noting) s line old new result s'
   done_of_event s s' line event old new result is done =
@@ -238,7 +238,7 @@ module _ {N : Type 0} (noting : Noting N) where
         whole = done.whole;
       })
 
-  -- a blank line or a comment shows nothing
+  -- a blank line or a comment is processed if it is counted as a line and nothing else changes
   pub blank_done : (k : KernelContent) (line : List ℕ) (known : Option (List ℕ)) (run run' : Run N) → reading_of line ≡ Ok None
       → run'.lines ≡ run.lines + 1 → run'.events ≡ run.events → run'.faults ≡ run.faults → run'.replies ≡ run.replies → run'.notes ≡ run.notes
       → HasDone (answers noting) (run, k) line known known (Ok tt) (run', k)
@@ -261,7 +261,7 @@ module _ {N : Type 0} (noting : Noting N) where
         whole = refl;
       })
 
-  -- a line with this reading showed this text, and the drain took as much of it as it could
+  -- if the text of a line's reading was shown, and the line was run, counted and noted, the line was processed
   text_done : (s s' : Run N × KernelContent) (line text : List ℕ) (reading : Result (Option Event) LineFault) (old new : Option (List ℕ)) (failing : Bool) (result : Result (Unit {0}) Stopped)
       → reading_of line ≡ reading → SameSizes s.1 s'.1 → ((w : World) → Shows s.1 w → Shows s'.1 (world_after cache_limit s.1.order w (event_in reading)))
       → ((w : World) → Shows s.1 w → shown_reading s.0.replies.only cache_limit s.1.order reading w ≡ text)
@@ -288,7 +288,7 @@ module _ {N : Type 0} (noting : Noting N) where
         whole = shown.pushed.whole;
       })
 
-  -- an event was answered with this reply
+  -- if the reply to a line's event was shown and noted, and the line was counted, the line was processed
   pub event_done : (before after : KernelContent) (run run' : Run N) (event : Event) (reply : Reply) (line : List ℕ) (old new : Option (List ℕ)) (failing : Bool) (result : Result (Unit {0}) Stopped)
       → reading_of line ≡ Ok (Some event) → Steps before event after reply
       → HasShown old new failing (shown_text run.replies.only reply) run.replies run'.replies result
@@ -305,7 +305,8 @@ module _ {N : Type 0} (noting : Noting N) where
   noted_nobody None fault n = refl
   noted_nobody (Some t) fault n = refl
 
-  -- the reply to a fault is addressed to nobody
+  -- if a faulty line was noted and counted, and the reply to its fault was shown, which is addressed to nobody, the line was
+  -- processed
   pub fault_done : (k : KernelContent) (run run' : Run N) (notes : N) (fault : LineFault) (line front : List ℕ) (old new : Option (List ℕ)) (failing : Bool) (result : Result (Unit {0}) Stopped)
       → reading_of line ≡ Err fault → take 256 front ≡ take 256 line
       → HasShown old new failing (shown_text run.replies.only (record { addressee = To.Nobody; body = Say.Fault fault })) run.replies run'.replies result
@@ -317,7 +318,7 @@ module _ {N : Type 0} (noting : Noting N) where
       text_done (run, k) (run', k) line _ (Err fault) old new failing result read (same_sizes k) (λ w shows. shows) (λ w shows. refl) shown lines (omega (arith, events)) faults
       (λ w shows. noted ∙ noted_nobody run.replies.only fault notes ∙ faulty ∙ ap (noting.faulty run.notes (run.lines + 1) fault) same)
 
-  -- the beginning of a line is noted if it is faulty
+  -- to note the beginning of a line whose end could not be read, its reading and its first 256 bytes are enough
   pub unended_noted : (run run' : Run N) (line front : List ℕ) (reading : Result (Option Event) LineFault) → reading ≡ reading_of line → take 256 front ≡ take 256 line
       → run' ≡ record run { notes = noted_fault noting (run.lines + 1) (take 256 front) reading run.notes } → IsUnended noting run line run'
   unended_noted run run' line front reading read same is =
@@ -334,7 +335,7 @@ module _ {N : Type 0} (noting : Noting N) where
       ap (λ r. r.notes) left ∙ ap (λ r. noted_fault noting (run.lines + 1) [] r run.notes) (sym reading_of_nothing)
   left_noted run run' (b ∷ tail) left = ap (λ r. r.notes) left
 
-  -- the feed failed after the lines that ended
+  -- if the feed failed, the lines that ended in LF were run and noted, and the unfinished line is noted if it is faulty
   pub run_ended : (only : Option ℕ) (run : Run N) (before : KernelContent) (given taken : List ℕ) (s : Run N × KernelContent) → run.replies.only ≡ only
       → tally_of_run run ≡ record { lines = 0; events = 0; faults = 0; written = 0 } → HasRunEnded (answers noting) (IsUnended noting) (run, before) given taken s
       → HasRun only before s.1 (ended_lines given) taken (tally_of_run s.0) × (mid : N) × (tail : List ℕ)

@@ -1,4 +1,4 @@
--- The readings of lines can be run: the pattern of a cache has a byte.
+-- A kernel can run every event that is read from a line: the pattern of a cache has at least one byte.
 use Rattle.std.proofs.Common.{◌≡◌, sym, List, ℕ, Option, Some, None, Result, Ok, Err}
 use Rattle.words_core.specs.declared.event.Event.{Event}
 use Rattle.words_core.specs.declared.event.Event.TheVariants as On
@@ -22,7 +22,7 @@ possible_pattern (On.Tenant t Command.Reap) possible = tt
 possible_pattern (On.Tenant t Command.Report) possible = tt
 possible_pattern (On.Admin command) possible = tt
 
--- the reading of a line can be run
+-- the reading of a line has no event, or one that a kernel can run
 pub read_is_runnable : (line : List ℕ) (reading : Result (Option Event) LineFault) → reading ≡ reading_of line → IsRunnable reading
 read_is_runnable line (Ok (Some event)) is = possible_pattern event (reading_possible line event (sym is))
 read_is_runnable line (Ok None) is = tt

@@ -1,5 +1,5 @@
 -- Lines that are processed one after another. `does` is the effect of one line: it leads from a state to the next one. The drain
--- takes the first bytes of the line's output. If it fails, the others are left.
+-- takes the whole output of the line, or only a prefix of it if the drain fails.
 use Rattle.std.specs.Prelude.{◌≡◌, ℕ, ◌<◌, List, [], ◌∷◌, ◌++◌, length, Option, Result, Err}
 use Rattle.std.specs.Io.KnownBytes.{Appends}
 use Rattle.world_core.specs.Output.{with_line_feeds}

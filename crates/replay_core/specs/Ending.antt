@@ -25,8 +25,8 @@ abbrev pub HasRunInto : {S : Type 0} → (S → List ℕ → List ℕ → List �
 HasRunInto does ended s given taken s' =
     (done : List (List ℕ)) × (line : List ℕ) × HasCome ended given (done ++ line ∷ []) × IsCutOff does s done line taken s'
 
--- If the result is Ok, all lines were processed. If the feed failed, the lines that ended in LF were. If the drain failed, some
--- lines were, and the output of the next one was cut short.
+-- If the result is Ok, all lines were processed. If the feed failed, the lines that ended in LF were processed. If the drain
+-- failed, some lines were processed, and the output of the next one was cut short.
 abbrev pub RunsAs : {S K : Type 0} → (S × K → List ℕ → List ℕ → List ℕ → S × K → Type 0) → (S → List ℕ → S → Type 0) → Bool → S × K
     → List ℕ → List ℕ → Result (Unit {0}) EndFailed → S × K → Type 0
 RunsAs does leaves ended s given taken (Ok done) s' = HaveRun does s (lines_of_trace given) taken s'

@@ -9,7 +9,7 @@ use Rattle.world_core.specs.World.{World, world_step, world_after}
 use Rattle.world_core.specs.Output.{event_in, is_shown}
 use Rattle.words_core.specs.Grammar.{reading_of}
 
--- the notes after one more refusal, and after one more faulty line: its number, its fault and its first 256 bytes
+-- how notes change: `refused` adds a refusal, and `faulty` adds a faulty line by its number, its fault and its first 256 bytes
 pub record Noting (N : Type 0) : Type 0 where
   pub refused : N → Refusal → N
   pub faulty : N → ℕ → LineFault → List ℕ → N

@@ -2,12 +2,12 @@
 use Rattle.std.specs.Prelude.{◌≡◌, ℕ, ◌≤◌, nat_lt, List, length, take}
 use Rattle.replay_core.specs.declared.pending.Pending.{Pending}
 
--- the first 256 bytes of the line are held, with a flag that says whether it has more; this shows whether the line is too long
+-- the first 256 bytes of the line are held, with a flag that is true if the line has more; a line with more is too long
 pub record HoldsLine (line : List ℕ) (pending : Pending) : Type 0 where
   pub front : pending.held.items ≡ take 256 line
   pub longer : pending.longer ≡ nat_lt 256 (length line)
 
--- the whole line, or the front of a line that is too long
+-- the front is the whole line, or begins with the first 256 bytes of a line that is too long
 pub record IsFrontOf (line front : List ℕ) : Type 0 where
   pub same : take 256 front ≡ take 256 line
   pub whole : length line ≤ 256 → front ≡ line

@@ -49,7 +49,7 @@ pub record AnswersRead {N : Type 0} (noting : Noting N) (front : List ℕ) (s : 
   pub noted : (w : World) → Shows s.1 w
       → s'.0.notes ≡ noted_reading noting s.0.replies.only cache_limit s.1.order (s.0.lines + 1) front reading w s.0.notes
 
--- the same for a line, given by its bytes
+-- `AnswersRead` for a line that is given by its bytes; its front is its first 256 bytes
 abbrev pub answers : {N : Type 0} → Noting N → Run N × KernelContent → List ℕ → List ℕ → List ℕ → Run N × KernelContent → Type 0
 answers noting s line taken rest s' = AnswersRead noting (take 256 line) s (reading_of line) taken rest s'
 

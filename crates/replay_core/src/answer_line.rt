@@ -35,7 +35,7 @@ const RARE: usize = 6;
 
 impl<N: Notes> Run<N> {
     /// Runs and answers the quick line at the front of these bytes and returns its length with the line end: LF, or CR LF if
-    /// `RETURNS`. Returns `None` and does nothing if there is none.
+    /// `RETURNS`. If there is no quick line, returns `None` and does nothing.
     #[inline(always)]
     pub fn answer_line<const RETURNS: bool, D: Drain>(
         &mut self,
@@ -66,7 +66,8 @@ impl<N: Notes> Run<N> {
         }
     }
 
-    /// [`Run::answer_line`] for a line that is not answered in the drain's buffer, whose tenant was read.
+    /// Does what [`Run::answer_line`] does, for a line whose tenant was read and whose answer is not written in the drain's
+    /// buffer.
     #[cold]
     #[inline(never)]
     fn answer_line_apart<const RETURNS: bool, D: Drain>(

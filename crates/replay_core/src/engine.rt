@@ -36,19 +36,19 @@ pub fn do_lines<S: Sink, F: Feed, D: Drain>(
     feed: &mut F,
     drain: &mut D,
 ) -> Result<(), EndFailed>
-    // Each line has at least one byte.
+    // Each line takes at least one byte of the feed.
     requires more { F.room_left feed.old ≤ S.lines_left sink.old }
     requires feed_fine { F.has_failed feed.old ≡ false }
     requires drain_fine { D.has_failed drain.old ≡ false }
-    // The bytes that were given and taken during the call. Even if the bytes of the feed are not known, the number of bytes given
-    // is known.
+    // The feed gives the bytes `given`, and the drain takes the bytes `taken`. The number of bytes given is known even if the
+    // bytes of the feed are not.
     ensures ran { (given : List ℕ) × (taken : List ℕ)
         × Consumes (F.remaining feed.old) (F.remaining feed.new) given
         × Appends (D.contents drain.old) (D.contents drain.new) taken
         × RunsAs S.does S.leaves (F.has_ended feed.new) (sink.old, kernel.old) given taken result (sink.new, kernel.new)
         × (F.room_left feed.new + length given ≡ F.room_left feed.old) }
     ensures ended { IsRunToEnd result (F.has_ended feed.new) }
-    // The bytes given are then all that the feed had.
+    // If the feed has ended, it has given all its bytes.
     ensures whole { F.has_ended feed.new ≡ true → IsAtEnd (F.remaining feed.new) }
     ensures failed { NamesEndFailed result (F.has_failed feed.new) (D.has_failed drain.new) }
 {

@@ -8,7 +8,7 @@ use words_core::{Answer, Body, LineFault, Refusal};
 
 /// Notes of a replay: the refusals that are shown, and the faulty lines. They have no effect on the replies.
 pub trait Notes: Default + Drop {
-    // The notes after one more refusal, and after one more faulty line.
+    // How a refusal and a faulty line change the notes.
     ghost noting: { Noting Self };
 
     /// Notes a refusal that is shown, before its reply is pushed.

@@ -27,7 +27,7 @@ impl Pending {
         }
     }
 
-    /// Returns true if it has no bytes.
+    /// Returns true if no bytes were added.
     pub fn is_empty(&self) -> bool
         ensures { (line : List ℕ) → HoldsLine line self.now → result ≡ (length line == 0) }
     {

@@ -34,7 +34,7 @@ impl<N: Notes> Run<N> {
         ensures failed { D.has_failed drain.new ≡ is_err result }
     {
         let rest = do_front::<RETURNS, Self, D>(self, piece, kernel, drain)?;
-        // The count fits its type.
+        // For the proof: the count of lines fits its type.
         let _lines = self.lines;
         if rest.len() < WINDOW {
             return self.run_last_lines(rest, kernel, drain);
@@ -120,7 +120,7 @@ impl<N: Notes> QuickSink for Run<N> {
         kernel: &mut Kernel,
         drain: &mut D,
     ) -> Result<Option<usize>, Stopped> {
-        // The count fits its type.
+        // For the proof: the count of lines fits its type.
         let _lines = self.lines;
         if returns {
             self.answer_line::<CR_LF, D>(bytes, buffer, kernel, drain)
@@ -143,8 +143,8 @@ fn read_alone<'a>(line: &[u8], buffer: &'a mut [u8; MOST_BYTES]) -> Option<Reque
     }
 }
 
-/// The same as [`read_alone`], for a line that ends in LF, or in CR LF if `RETURNS`. Copies the line into a window, where other
-/// bytes follow it.
+/// Does what [`read_alone`] does, for a line that ends in LF, or in CR LF if `RETURNS`. Copies the line and an LF to the front of
+/// `WINDOW` bytes and reads it there.
 fn read_in_window<'a, const RETURNS: bool>(
     line: &[u8],
     buffer: &'a mut [u8; MOST_BYTES],

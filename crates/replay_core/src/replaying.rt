@@ -25,8 +25,8 @@ pub fn replay<F: Feed, D: Drain>(
 ) -> Result<Tally, ReplayError>
     requires feed_fine { F.has_failed feed.old ≡ false }
     requires drain_fine { D.has_failed drain.old ≡ false }
-    // The bytes given and taken during the call and their relation, for any world that the kernel showed. Even if the bytes of
-    // the feed are not known, the number of bytes given is known.
+    // The feed gives the bytes `given`, and the drain takes the bytes `taken`. Their relation holds for any world that the kernel
+    // showed. The number of bytes given is known even if the bytes of the feed are not.
     ensures ran { (given : List ℕ) × (taken : List ℕ)
         × Consumes (F.remaining feed.old) (F.remaining feed.new) given
         × Appends (D.contents drain.old) (D.contents drain.new) taken
@@ -39,7 +39,7 @@ pub fn replay<F: Feed, D: Drain>(
         × Appends (D.contents drain.old) (D.contents drain.new) taken
         × TakesAllowed (F.has_ended feed.new) only kernel.old given taken result }
     ensures ended { IsDone result (F.has_ended feed.new) }
-    // The bytes given are then all that the feed had.
+    // If the feed has ended, it has given all its bytes.
     ensures whole { F.has_ended feed.new ≡ true → IsAtEnd (F.remaining feed.new) }
     ensures failed { NamesFailed result (F.has_failed feed.new) (D.has_failed drain.new) }
 {
@@ -56,8 +56,8 @@ pub fn replay_noted<F: Feed, D: Drain, N: Notes>(
 ) -> Result<Tally, ReplayError>
     requires feed_fine { F.has_failed feed.old ≡ false }
     requires drain_fine { D.has_failed drain.old ≡ false }
-    // The bytes given and taken during the call and their relation, for any world that the kernel showed. Even if the bytes of
-    // the feed are not known, the number of bytes given is known.
+    // The feed gives the bytes `given`, and the drain takes the bytes `taken`. Their relation holds for any world that the kernel
+    // showed. The number of bytes given is known even if the bytes of the feed are not.
     ensures ran { (given : List ℕ) × (taken : List ℕ)
         × Consumes (F.remaining feed.old) (F.remaining feed.new) given
         × Appends (D.contents drain.old) (D.contents drain.new) taken
@@ -71,14 +71,14 @@ pub fn replay_noted<F: Feed, D: Drain, N: Notes>(
         × Appends (D.contents drain.old) (D.contents drain.new) taken
         × TakesAllowed (F.has_ended feed.new) only kernel.old given taken result }
     ensures ended { IsDone result (F.has_ended feed.new) }
-    // The bytes given are then all that the feed had.
+    // If the feed has ended, it has given all its bytes.
     ensures whole { F.has_ended feed.new ≡ true → IsAtEnd (F.remaining feed.new) }
     ensures failed { NamesFailed result (F.has_failed feed.new) (D.has_failed drain.new) }
 {
     laws::own_lines();
     laws::own_shown();
-    // Bounds for the proof: on the number of tenants, whose numbers then differ as text, and on the number of lines, since each
-    // line has at least one byte.
+    // For the proof: there are few enough tenants that the texts of their numbers differ, and few enough bytes that the lines can
+    // be counted.
     let _tenants = kernel.tenants();
     let _room = feed.room();
     let mut run = Run::new(only, mem::take(notes));

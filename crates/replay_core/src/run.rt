@@ -76,7 +76,7 @@ impl<N: Notes> Sink for Run<N> {
         kernel: &mut Kernel,
         drain: &mut D,
     ) -> Result<&'a [u8], Stopped> {
-        // For the proof: the count fits its type.
+        // For the proof: the count of lines fits its type.
         let _lines = self.lines;
         if returns {
             self.run_ended_lines::<CR_LF, D>(piece, kernel, drain)
