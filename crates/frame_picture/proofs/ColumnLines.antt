@@ -6,7 +6,7 @@ use Rattle.std.proofs.lemmas.Option.{slice_get_within}
 use Rattle.frame_picture.specs.declared.history.Column.{Column}
 use Rattle.frame_picture.specs.Histories.{IsEven, IsComplete}
 
--- the factors of two multiples of w are in the same order as the multiples
+-- if a * w is below b * w, a is below b
 factor_below : (a b w : ℕ) → a * w < b * w → a < b
 factor_below a b w less = go (cases_order a b)
   where
@@ -18,7 +18,7 @@ factor_below a b w less = go (cases_order a b)
         let more : b * w ≤ a * w = mul-le-mul_right w le in
         absurd (omega arith)
 
--- the next line after n columns, if it is a multiple of the width
+-- if n columns of width w are right for l lines, and line l + 1 is a multiple of w, it is the line of column n + 1
 pub next_multiple : (n w l : ℕ) → n * w ≤ l → l < (n + 1) * w → (l + 1) % w ≡ 0 → l + 1 ≡ (n + 1) * w
 next_multiple n w l some all zero =
     let q : ℕ = (l + 1) / w in
@@ -28,7 +28,7 @@ next_multiple n w l some all zero =
     let e : q ≡ n + 1 = omega arith in
     sym is ∙ ap (λ x. x * w) e
 
--- a width is positive if fewer than n + 1 widths of lines are run
+-- if l lines are fewer than n + 1 widths, the width is positive
 positive : (n w l : ℕ) → l < (n + 1) * w → 0 < w
 positive n w l all = go (cases_order 0 w)
   where
@@ -37,7 +37,7 @@ positive n w l all = go (cases_order 0 w)
     go (inr (inl pos)) = pos
     go (inr (inr below)) = absurd (omega arith)
 
--- if the next line gets column n + 1, half of the n columns, with twice the width, still cover the lines
+-- if line l + 1 is the line of column n + 1, then half of the n columns, with twice the width, are right for l lines
 half_reach : (n h w l : ℕ) → 0 < w → l + 1 ≡ (n + 1) * w → h ≡ n / 2 → (h * (2 * w) ≤ l) × (l < (h + 1) * (2 * w))
 half_reach n h w l pos is half = go (cases_order n (2 * h))
   where
@@ -49,7 +49,7 @@ half_reach n h w l pos is half = go (cases_order n (2 * h))
         let at : l + 1 ≡ (2 * h + 1 + 1) * w = subst (λ x. l + 1 ≡ (x + 1) * w) e is in
         (omega arith, omega arith)
 
--- the last line of n columns, if it is a multiple of the width
+-- if n columns of width w are right for l lines, and l is a multiple of w, line l is the line of column n
 last_multiple : (n w l : ℕ) → 0 < w → n * w ≤ l → l < (n + 1) * w → l % w ≡ 0 → l ≡ n * w
 last_multiple n w l pos some all zero =
     let q : ℕ = l / w in
@@ -59,8 +59,8 @@ last_multiple n w l pos some all zero =
     let e : q ≡ n = omega arith in
     sym is ∙ ap (λ x. x * w) e
 
--- if some lines have no column yet, they have none in half of the columns with twice the width either, and one more column is
--- enough
+-- if n columns leave some of the l lines without a column, so do half of the columns with twice the width, and one more of these
+-- is enough
 half_within : (n h w l : ℕ) → n * w < l → l < (n + 1) * w → h ≡ n / 2 → (h * (2 * w) < l) × (l ≤ (h + 1) * (2 * w))
 half_within n h w l some all half = go (cases_order n (2 * h))
   where
@@ -76,7 +76,7 @@ half_within n h w l some all half = go (cases_order n (2 * h))
         let to : l < (2 * h + 1 + 1) * w = subst (λ x. l < (x + 1) * w) e all in
         (omega arith, omega arith)
 
--- one more column for the lines that have none yet
+-- if some lines have no column yet, and fewer than a width, one more column for the last line makes the columns complete
 completes : (columns more : List Column) (w l : ℕ) → length columns * w < l → l ≤ (length columns + 1) * w
     → ((i : ℕ) (column : Column) → slice_get columns i ≡ Some column → column.line ≡ (i + 1) * w)
     → length more ≡ length columns + 1 → ((i : ℕ) → i < length columns → slice_get more i ≡ slice_get columns i)
@@ -101,7 +101,7 @@ completes columns more w l some all each one before last = record {
         omega (arith, at, most, some)
     go i column there (inr (inr above)) = absurd (omega (arith, slice_get_within more i column there))
 
--- the same with equal numbers
+-- `IsEven` still holds if the width and the number of lines are replaced by equal numbers
 pub moved : (columns : List Column) (w w' l l' : ℕ) → w' ≡ w → l' ≡ l → IsEven columns w l → IsEven columns w' l'
 moved columns w w' l l' e e' even = subst (λ x. IsEven columns x l') (sym e) (subst (IsEven columns w) (sym e') even)
 
@@ -112,7 +112,7 @@ module _ (columns : List Column) (w l : ℕ) (even : IsEven columns w l) where
   pos : 0 < w
   pos = positive (length columns) w l even.all
 
-  -- a line that is not a multiple of the width
+  -- if line l + 1 is not a multiple of the width, the columns stay even without a column for it
   pub waits : (l + 1) % w ≢ 0 → IsEven columns w (l + 1)
   waits other = record {
     some = omega (arith, even.some);
@@ -122,7 +122,7 @@ module _ (columns : List Column) (w l : ℕ) (even : IsEven columns w l) where
     each = even.each;
   }
 
-  -- a line that is a multiple of the width, and gets a column
+  -- if line l + 1 is a multiple of the width and gets the next column, the columns stay even
   pub keeps : (l + 1) % w ≡ 0 → (more : List Column) → length more ≡ length columns + 1
       → ((i : ℕ) → i < length columns → slice_get more i ≡ slice_get columns i)
       → ((column : Column) → slice_get more (length columns) ≡ Some column → column.line ≡ l + 1)
@@ -143,7 +143,7 @@ module _ (columns : List Column) (w l : ℕ) (even : IsEven columns w l) where
       go i column there (inr (inl below)) = even.each i column (sym (before i below) ∙ there)
       go i column there (inr (inr above)) = absurd (omega (arith, slice_get_within more i column there))
 
-  -- every second column is dropped
+  -- if line l + 1 is a multiple of the width and every second column is dropped, the columns are even with twice the width
   pub halves : (l + 1) % w ≡ 0 → (half : List Column) → length half ≡ length columns / 2
       → ((i : ℕ) → i < length half → slice_get half i ≡ slice_get columns (2 * i + 1))
       → IsEven half (2 * w) l
@@ -158,7 +158,7 @@ module _ (columns : List Column) (w l : ℕ) (even : IsEven columns w l) where
       is : l + 1 ≡ (length columns + 1) * w
       is = next_multiple (length columns) w l even.some even.all zero
 
-  -- the trace ends at a line that has a column
+  -- if the trace ends at a line that is a multiple of the width, the columns are complete
   pub ends_even : l % w ≡ 0 → IsComplete columns w l
   ends_even zero =
       let is : l ≡ length columns * w = last_multiple (length columns) w l pos even.some even.all zero in record {
@@ -171,20 +171,20 @@ module _ (columns : List Column) (w l : ℕ) (even : IsEven columns w l) where
             omega (arith, at, most, is);
       }
 
-  -- the trace ends at a line that has no column, so some lines have none yet
+  -- if the trace ends at another line, some lines have no column yet
   some_left : l % w ≢ 0 → length columns * w < l
   some_left other =
       let same : length columns * w ≡ l → ⊥ = λ e. other (ap (λ x. x % w) (sym e) ∙ mul-mod_left (length columns) w) in
       omega (arith, even.some, same)
 
-  -- these lines get a column
+  -- if the trace ends at another line and this line gets the next column, the columns are complete
   pub ends_after : l % w ≢ 0 → (more : List Column) → length more ≡ length columns + 1
       → ((i : ℕ) → i < length columns → slice_get more i ≡ slice_get columns i)
       → ((column : Column) → slice_get more (length columns) ≡ Some column → column.line ≡ l)
       → IsComplete more w l
   ends_after other more = completes columns more w l (some_left other) (omega (arith, even.all)) even.each
 
-  -- .. or every second column is dropped first
+  -- the columns are also complete if every second one is dropped before the last line gets the next column
   pub ends_halved : l % w ≢ 0 → (half more : List Column) → length half ≡ length columns / 2
       → ((i : ℕ) → i < length half → slice_get half i ≡ slice_get columns (2 * i + 1))
       → length more ≡ length half + 1 → ((i : ℕ) → i < length half → slice_get more i ≡ slice_get half i)

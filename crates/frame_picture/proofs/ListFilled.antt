@@ -21,7 +21,7 @@ more_filled P xs i v within before here k x less is =
     subst (P k) (get_or_from_slice_get (slice_set xs i v) k x x is)
     (more_set x P xs i v within (λ j below. before j (get_or xs j x) below (slice_get-get_or xs j x (omega arith))) here k less)
 
--- if at most one element is added behind the others, each element is an old one or the new one
+-- if at most one element is added behind the old ones, and it has the property P, each element is an old one or has P
 pub old_or_new : {X : Type 0} (P : X → Type 0) (old new : List X) (most : ℕ) → (length old < most → length new ≡ length old + 1)
     → (most ≤ length old → new ≡ old) → ((i : ℕ) → i < length old → slice_get new i ≡ slice_get old i)
     → ((x : X) → length old < most → slice_get new (length old) ≡ Some x → P x)

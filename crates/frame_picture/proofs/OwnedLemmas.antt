@@ -19,7 +19,7 @@ listed_cells-append order t first end sheets (x ∷ xs) ys =
     ap (λ cells. cells_of order t first end (slice_get sheets x) ++ cells) (listed_cells-append order t first end sheets xs ys)
     ∙ sym (append_assoc (cells_of order t first end (slice_get sheets x)) _ _)
 
--- the cells with one more listed sheet
+-- if one more sheet is listed, its cells follow the cells of the sheets that were listed before
 pub listed_more : (order t first end : ℕ) (sheets : List Sheet) (listed : List ℕ) (j : ℕ) (sheet : Sheet) → j < length listed
     → slice_index listed j < length sheets → sheet ≡ get_or sheets (slice_index listed j) sheet
     → listed_cells order t first end sheets (take (j + 1) listed) ≡ listed_cells order t first end sheets (take j listed) ++ cells_in order t first end sheet
@@ -29,7 +29,8 @@ listed_more order t first end sheets listed j sheet within there is =
     ∙ ap (λ cells. listed_cells order t first end sheets (take j listed) ++ cells)
     (append-nil _ ∙ ap (cells_of order t first end) (slice_get-get_or sheets (slice_index listed j) sheet there ∙ ap Some (sym is)))
 
--- the counts with the cells of one more sheet
+-- if the counts were those of the cells before, and the cells of one more sheet are counted, the counts are those of all the
+-- cells
 pub counts_more : (before here after : List FrameKind) (old new : List ℕ) → after ≡ before ++ here
     → ((k : ℕ) → k < 6 → length before < 2 ^ 64 → get_or old k 0 ≡ count_by (λ cell. rank_of cell == k) before)
     → ((k : ℕ) → k < 6 → get_or old k 0 + length here < 2 ^ 64 → get_or new k 0 ≡ get_or old k 0 + count_by (λ cell. rank_of cell == k) here)
@@ -41,7 +42,7 @@ counts_more before here after old new more was counted k less fits =
     let few : count_by test before ≤ length before = count_by-le-length test before in
     counted k less (omega (arith, fits, long, is, few)) ∙ ap (λ n. n + count_by test here) is ∙ sym (ap (count_by test) more ∙ sum_by-append _ before here)
 
--- the total with the cells of one more sheet
+-- if the total was the number of the cells before, and the cells of one more sheet are added, it is the number of all the cells
 pub shown_more : (before here after : List FrameKind) (old new : ℕ) → after ≡ before ++ here → (length before < 2 ^ 64 → old ≡ length before)
     → new ≡ min (old + length here) 18446744073709551615 → length after < 2 ^ 64 → new ≡ length after
 shown_more before here after old new more was is fits =
@@ -49,13 +50,13 @@ shown_more before here after old new more was is fits =
     let before_is : old ≡ length before = was (omega (arith, fits, long)) in
     omega (arith, is, before_is, long, fits)
 
--- a sheet without frames of the tenant is not listed
+-- a sheet without frames of the tenant adds no cells to a row
 pub passed_more : (order t first end : ℕ) (sheets : List Sheet) (i : ℕ) (sheet : Sheet) → i < length sheets → sheet ≡ get_or sheets i sheet
     → cells_in order t first end sheet ≡ [] → row_cells order t first end (take (i + 1) sheets) ≡ row_cells order t first end (take i sheets)
 passed_more order t first end sheets i sheet within is none =
     row_cells_more order t first end sheets i sheet within is ∙ ap (λ cells. row_cells order t first end (take i sheets) ++ cells) none ∙ append-nil _
 
--- the listed indices stay, and the new index is behind them
+-- if the index of a sheet is stored behind the listed ones, the sheet's cells follow the cells of the listed sheets
 pub listed_set : (order t first end : ℕ) (sheets : List Sheet) (listed : List ℕ) (len i : ℕ) (sheet : Sheet) → len < length listed
     → i < length sheets → sheet ≡ get_or sheets i sheet
     → listed_cells order t first end sheets (take (len + 1) (set listed len i)) ≡ listed_cells order t first end sheets (take len listed) ++ cells_in order t first end sheet
@@ -65,7 +66,7 @@ listed_set order t first end sheets listed len i sheet within there is =
     (subst (λ (n : ℕ). n < length sheets) (sym same) there) (is ∙ ap (λ (n : ℕ). get_or sheets n sheet) (sym same))
     ∙ ap (λ (xs : List ℕ). listed_cells order t first end sheets xs ++ cells_in order t first end sheet) (take-set listed len i)
 
--- the listed indices are indices of sheets
+-- if the listed indices and the index that is stored behind them are indices of sheets, all listed indices are
 pub listed_inside : (listed : List ℕ) (len i most : ℕ) → len < length listed → i < most → ((j : ℕ) → j < len → slice_index listed j < most)
     → (j : ℕ) → j < len + 1 → slice_index (set listed len i) j < most
 listed_inside listed len i most within less before j below = go (cases_order j len)

@@ -14,7 +14,7 @@ use Rattle.frame_picture.specs.Rectangles.{goes_on, run_at, run_in, IsRectangle,
 
 -- ---- the runs of one column
 
--- a run that begins at a row
+-- if a run begins at a row, it has all rows from there on up to the first one that does not have the tone
 run_begins : (tone : Tone) (cells : List Tone) (row : ℕ) → 0 < run_at tone cells row
     → run_at tone cells row ≡ prefix_len (is_tone tone) (drop row cells)
 run_begins tone cells row some = go (cases_Bool (goes_on tone cells row))
@@ -81,7 +81,7 @@ run_of_cell tone cells (suc row) within is =
 
 -- ---- the columns with one run
 
--- the columns from c up to e have the run; e is behind the last column, or a column with another run
+-- the columns from c to e - 1 have the run; e is behind the last column, or is a column with another run
 record IsUntil (runs : ℕ → ℕ) (run n c e : ℕ) : Type 0 where
   more : c < e
   most : e ≤ n
@@ -154,7 +154,7 @@ module _ (columns : List (List Tone)) (tone : Tone) (rows : ℕ) (rectangles : L
   n : ℕ
   n = length columns
 
-  -- the run at a row in the column
+  -- the run that begins at a row in the column is the run in the column's cells
   runs_here : (first : ℕ) → run_in columns tone rows first column ≡ run_at tone (take rows cells) first
   runs_here first = ap (λ xs. run_at tone (take rows xs) first) (get_or_from_slice_get columns column cells [] there)
 
@@ -241,7 +241,7 @@ any_after P (x ∷ xs) ys any =
     let less : later.0 < length (xs ++ ys) = later.2 in
     (suc later.0, later.1, omega arith, later.3, later.4)
 
--- no rectangle yet
+-- no rectangle ends before one of the columns `from + 1` to `from`, since there are none
 pub rectangles_none : (columns : List (List Tone)) (tone : Tone) (rows height from : ℕ) → AreRectangles columns tone rows height from from []
 rectangles_none columns tone rows height from = record {
   each = λ k d less. absurd (omega arith);
@@ -254,7 +254,8 @@ rows_none columns tone rows from to = record {
   all = λ end row above upto less. absurd (omega arith);
 }
 
--- the rectangles that end behind these
+-- the rectangles that end before the columns up to `mid`, with those that end before the columns from there up to `to`, are all
+-- of them
 pub rectangles_on : (columns : List (List Tone)) (tone : Tone) (rows height from mid to : ℕ) (front back : List Rectangle) → mid ≤ to
     → AreRectangles columns tone rows height from mid front → AreRectangles columns tone rows height mid to back
     → AreRectangles columns tone rows height from to (front ++ back)
@@ -282,7 +283,7 @@ rectangles_on columns tone rows height from mid to front back le before after = 
         ahead (inl on) = inl on
         ahead (inr any) = inr (any_before (λ r. (r.row ≡ row) × (r.column + r.columns ≡ end)) front back any)
 
--- the next row, if a rectangle ends before column `end` ..
+-- if rectangle r begins in row `height` and ends before column `end`, the rectangles below row `height + 1` are those below and r
 pub row_with : (columns : List (List Tone)) (tone : Tone) (rows height end : ℕ) (rectangles : List Rectangle) (r : Rectangle) → r.row ≡ height
     → IsRectangle (run_in columns tone rows height) (length columns) end r → AreRectangles columns tone rows height (end - 1) end rectangles
     → AreRectangles columns tone rows (height + 1) (end - 1) end (rectangles ++ r ∷ [])
@@ -324,7 +325,7 @@ row_with columns tone rows height end rectangles r top_row rectangle are = recor
     split at row above upto less (inr top) =
         inr (Any-push (λ x. (x.row ≡ row) × (x.column + x.columns ≡ at)) rectangles r (omega (arith, top_row), omega (arith, ends)))
 
--- .. and if none does
+-- if no rectangle begins in row `height` and ends before column `end`, the rectangles below row `height + 1` are those below
 pub row_without : (columns : List (List Tone)) (tone : Tone) (rows height end : ℕ) (rectangles : List Rectangle)
     → GoesOn (run_in columns tone rows height) (length columns) end → AreRectangles columns tone rows height (end - 1) end rectangles
     → AreRectangles columns tone rows (height + 1) (end - 1) end rectangles

@@ -10,7 +10,7 @@ use Rattle.frame_picture.specs.Kinds.{rank_of}
 use Rattle.frame_picture.specs.Rows.{cells_between, owned_cells, cells_in, row_cells, kind_count}
 use Rattle.frame_picture.specs.Tones.{taken_cells, drawn_kinds, IsMostCommon}
 
--- the cells of a slot that the tenant holds
+-- if the tenant holds the slot, its cells are the slot's cells in the range of frames
 pub owned : (order t first end : ℕ) (owner : Owner) (cells : List FrameKind) → owner.tenant ≡ t
     → owned_cells order t first end (Some owner) cells ≡ cells_between (owner.slot * 2 ^ order) first end cells
 owned order t first end owner cells mine =
@@ -23,7 +23,7 @@ row_cells-append order t first end (x ∷ xs) ys =
     ap (λ cells. cells_in order t first end x ++ cells) (row_cells-append order t first end xs ys)
     ∙ sym (append_assoc (cells_in order t first end x) (row_cells order t first end xs) (row_cells order t first end ys))
 
--- the cells of a row with one more sheet
+-- with one more sheet, the cells of a row are the cells of the sheets before it and then the sheet's own cells
 pub row_cells_more : (order t first end : ℕ) (sheets : List Sheet) (i : ℕ) (sheet : Sheet) → i < length sheets → sheet ≡ get_or sheets i sheet
     → row_cells order t first end (take (i + 1) sheets) ≡ row_cells order t first end (take i sheets) ++ cells_in order t first end sheet
 row_cells_more order t first end sheets i sheet within is =
@@ -32,7 +32,7 @@ row_cells_more order t first end sheets i sheet within is =
     ∙ ap (λ x. row_cells order t first end (take i sheets) ++ (cells_in order t first end x ++ [])) (sym is)
     ∙ ap (λ cells. row_cells order t first end (take i sheets) ++ cells) (append-nil (cells_in order t first end sheet))
 
--- the counts of the cells, with the frames without a cell added to the last count
+-- if the frames without a cell are added to the count of the frames not held, the counts are those of `kind_count`
 pub counted : (counts : List ℕ) (cells : List FrameKind) (frames v : ℕ) → length counts ≡ 6
     → ((k : ℕ) → k < 6 → get_or counts k 0 ≡ count_by (λ cell. rank_of cell == k) cells)
     → v ≡ get_or counts 5 0 + (frames - length cells)
@@ -71,7 +71,7 @@ taken_along count same equal =
 few_kinds : (taken : ℕ) → drawn_kinds taken ≤ 6
 few_kinds taken = elim (taken == 0) as (λ b. cond b 6 4 ≤ 6) [ true ↦ omega arith | false ↦ omega arith ]
 
--- so they are drawn as the same kind
+-- equal counts are drawn as the same kind
 pub drawn_along : (count same : ℕ → ℕ) (kind : ℕ) → ((k : ℕ) → k < 6 → count k ≡ same k)
     → IsMostCommon (drawn_kinds (taken_cells count)) count kind → IsMostCommon (drawn_kinds (taken_cells same)) same kind
 drawn_along count same kind equal most =

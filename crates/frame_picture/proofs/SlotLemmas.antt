@@ -1,4 +1,4 @@
--- The slots of a tenant, with one more sheet or column.
+-- The greatest slot of a tenant, with one more sheet or column.
 use Rattle.std.proofs.Common.{◌≡◌, ℕ, ◌+◌, ◌<◌, max, List, Some, None, length, get_or, ap, refl, subst, sym, ◌∙◌, ◌⊎◌, inl, inr, arith}
 use Rattle.std.proofs.lemmas.Bool.{cases_order}
 use Rattle.std.proofs.lemmas.List.{get_or_default}
@@ -9,7 +9,7 @@ use Rattle.frame_picture.specs.Bounds.{IsGreatest}
 use Rattle.frame_picture.specs.Slots.{IsAbove, IsSheetOf}
 use Rattle.frame_picture.proofs.Greatest.{greatest_none, greatest_both}
 
--- the slot of a sheet that the tenant holds
+-- in a sheet that the tenant holds, the greatest slot of the tenant plus 1 is the slot of the sheet plus 1
 pub held_slot : (t : ℕ) (sheet : Sheet) (owner : Owner) → sheet.owner ≡ Some owner → owner.tenant ≡ t
     → IsGreatest (IsAbove (λ slot. IsSheetOf t slot sheet)) 0 (owner.slot + 1)
 held_slot t sheet owner is mine = record {
@@ -22,13 +22,13 @@ held_slot t sheet owner is mine = record {
   some = inr (owner.slot, is ∙ ap (λ (tenant : ℕ). Some (let o : Owner = record { tenant = tenant; slot = owner.slot } in o)) mine, refl);
 }
 
--- no slot, if another tenant holds it
+-- in a sheet that another tenant holds, the tenant has no slot
 pub other_slot : (t : ℕ) (sheet : Sheet) (owner : Owner) → sheet.owner ≡ Some owner → (owner.tenant ≡ t → ⊥)
     → IsGreatest (IsAbove (λ slot. IsSheetOf t slot sheet)) 0 0
 other_slot t sheet owner is other = greatest_none (IsAbove (λ slot. IsSheetOf t slot sheet)) 0
     (λ n held. other (ap (λ (o : Owner). o.tenant) (same_Some owner (record { tenant = t; slot = held.0 }) (sym is ∙ held.1))))
 
--- no slot, if nobody does
+-- in a sheet that nobody holds, the tenant has no slot
 pub no_slot : (t : ℕ) (sheet : Sheet) → sheet.owner ≡ None → IsGreatest (IsAbove (λ slot. IsSheetOf t slot sheet)) 0 0
 no_slot t sheet is = greatest_none (IsAbove (λ slot. IsSheetOf t slot sheet)) 0
     (λ n held. let none : None ≡ Some (let o : Owner = record { tenant = t; slot = held.0 } in o) = sym is ∙ held.1 in cc none)
@@ -41,7 +41,7 @@ pub slots_none : {X : Type 0} (P : ℕ → X → Type 0) (xs : List X) (lowest :
 slots_none P xs lowest = greatest_none (IsAbove (λ slot. AnyBefore (P slot) xs 0)) lowest
     (λ n is. let less : is.1.0 < 0 = is.1.2 in omega arith)
 
--- the slots with the next element
+-- with the next element, the greatest is the greater one of the greatest before it and the greatest of this element
 pub slots_more : {X : Type 0} (P : ℕ → X → Type 0) (xs : List X) (i lowest slots more : ℕ) (x : X) → i < length xs → x ≡ get_or xs i x
     → IsGreatest (IsAbove (λ slot. AnyBefore (P slot) xs i)) lowest slots → IsGreatest (IsAbove (λ slot. P slot x)) 0 more
     → IsGreatest (IsAbove (λ slot. AnyBefore (P slot) xs (i + 1))) lowest (max more slots)

@@ -45,14 +45,14 @@ pub record SameShape (old new : History) : Type 0 where
 abbrev pub Doubles : History → History → Type 0
 Doubles old new = (length (columns_of old) ≡ most_columns_of old) × (width_of new ≡ min (2 * width_of old) (2 ^ 32 - 1))
 
--- After this number of lines, each line that is a multiple of the width has a column, and no other line has one.
+-- After this number of lines, each line whose number is a multiple of the width has a column, and no other line has one.
 pub record IsEven (columns : List Column) (width lines : ℕ) : Type 0 where
   pub some : length columns * width ≤ lines
   pub all : lines < (length columns + 1) * width
   pub each : (i : ℕ) (column : Column) → slice_get columns i ≡ Some column → column.line ≡ (i + 1) * width
 
--- At the end, after this number of lines, each line that is a multiple of the width has a column, and so has the last line. No
--- other line has one.
+-- At the end, after this number of lines, each line whose number is a multiple of the width has a column, and so has the last
+-- line. No other line has one.
 pub record IsComplete (columns : List Column) (width lines : ℕ) : Type 0 where
   pub all : lines ≤ length columns * width
   pub few : length columns * width < lines + width

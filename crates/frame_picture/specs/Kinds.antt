@@ -2,7 +2,7 @@
 use Rattle.std.specs.Prelude.{ℕ}
 use Rattle.kernel_core.specs.declared.frames.FrameKind.{FrameKind}
 
--- the rank of a kind among all kinds
+-- the index of a kind in this order
 abbrev pub rank_of : FrameKind → ℕ
 rank_of FrameKind.Page = 0
 rank_of FrameKind.Full = 1

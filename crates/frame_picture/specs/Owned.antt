@@ -5,12 +5,12 @@ use Rattle.frame_picture.specs.declared.history.Sheet.{Sheet}
 use Rattle.frame_picture.specs.declared.owned.OwnSheets.{OwnSheets}
 use Rattle.frame_picture.specs.Rows.{cells_in, row_cells}
 
--- the cells of tenant t's frames from first to end - 1 in a sheet, if there is one
+-- the cells of tenant t's frames from first to end - 1 in a sheet, or no cells if there is no sheet
 abbrev pub cells_of : ℕ → ℕ → ℕ → ℕ → Option Sheet → List FrameKind
 cells_of order t first end None = []
 cells_of order t first end (Some sheet) = cells_in order t first end sheet
 
--- the same in the sheets with these indices
+-- the cells of tenant t's frames from first to end - 1 in the sheets with these indices
 abbrev pub listed_cells : ℕ → ℕ → ℕ → ℕ → List Sheet → List ℕ → List FrameKind
 listed_cells order t first end sheets [] = []
 listed_cells order t first end sheets (i ∷ listed) = cells_of order t first end (slice_get sheets i) ++ listed_cells order t first end sheets listed

@@ -1,4 +1,4 @@
--- The frames of a row of a tenant's band in a column, and their number of each kind.
+-- The frames of a row of a tenant's band in a column, and how many of them have each kind.
 use Rattle.std.specs.Prelude.{ℕ, ◌+◌, ◌-◌, ◌*◌, ◌^◌, ◌==◌, min, if◌then◌else◌, List, [], ◌∷◌, ◌++◌, Option, Some, None, length, count_by, slice_range}
 use Rattle.model_core.specs.declared.owner.Owner.{Owner}
 use Rattle.kernel_core.specs.declared.frames.FrameKind.{FrameKind}
@@ -10,7 +10,7 @@ use Rattle.frame_picture.specs.declared.grid.Grid.{Grid}
 abbrev pub cells_between : ℕ → ℕ → ℕ → List FrameKind → List FrameKind
 cells_between base first end cells = slice_range cells (min (length cells) (first - base)) (min (length cells) (end - base))
 
--- the cells of tenant t, if a slot with this owner has these cells; slots have 2 ^ order frames
+-- the cells of tenant t's frames from first to end - 1, if a superblock of 2 ^ order frames has this owner and these cells
 abbrev pub owned_cells : ℕ → ℕ → ℕ → ℕ → Option Owner → List FrameKind → List FrameKind
 owned_cells order t first end None cells = []
 owned_cells order t first end (Some owner) cells =

@@ -35,11 +35,11 @@ abbrev pub free_of : ℕ → ℕ → Option Column → ℕ
 free_of t k None = 0
 free_of t k (Some column) = free_in k (slice_get column.figures.items t)
 
--- the same for tenant t in column n, or 0 if there is no such column
+-- the number of frames in tenant t's free blocks of order k and above in column n, or 0 if there is no such column
 abbrev pub free_in_column : List Column → ℕ → ℕ → ℕ → ℕ
 free_in_column columns t k n = free_of t k (slice_get columns n)
 
--- the same in the column before column n, or 0 before the first column
+-- this number in the column before column n, or 0 if n is the first column
 abbrev pub free_before : List Column → ℕ → ℕ → ℕ → ℕ
 free_before columns t k zero = 0
 free_before columns t k (suc n) = free_in_column columns t k n

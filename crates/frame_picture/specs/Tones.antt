@@ -8,7 +8,7 @@ use Rattle.frame_picture.specs.Rows.{row_cells, kind_count, first_of, end_of}
 use Rattle.frame_picture.specs.declared.grid.Grid.{Grid}
 use Rattle.frame_picture.specs.declared.drawing.Tone.{Tone}
 
--- nothing is held
+-- the tone of a row in which nothing is held
 abbrev pub not_held : Tone
 not_held = record { kind = NotHeld; quarters = 0 }
 
@@ -25,7 +25,7 @@ pub record IsMostCommon (kinds : ℕ) (count : ℕ → ℕ) (kind : ℕ) : Type 
 abbrev pub taken_cells : (ℕ → ℕ) → ℕ
 taken_cells count = count 0 + count 1 + count 2 + count 3
 
--- if a frame is taken, a row has one of the first four kinds, however many frames are free
+-- the number of kinds from which a row's kind is chosen: the four taken kinds if a frame is taken, or else all six
 abbrev pub drawn_kinds : ℕ → ℕ
 drawn_kinds taken = if taken == 0 then 6 else 4
 
@@ -33,7 +33,8 @@ drawn_kinds taken = if taken == 0 then 6 else 4
 abbrev pub quarters_of : ℕ → ℕ → ℕ
 quarters_of taken frames = min (div_ceil (4 * min taken frames) frames) 4
 
--- the row is drawn as the most common kind of its taken frames, darker the more of its frames are taken
+-- The tone has the most common kind of the row's taken frames, or of all its frames if none is taken. Its quarters are the taken
+-- share, and the drawing is darker the more there are.
 pub record IsRowTone (column : Column) (t : ℕ) (grid : Grid) (row : ℕ) (tone : Tone) : Type 0 where
   pub most : let cells = row_cells grid.order t (first_of grid row) (end_of grid row) column.sheets.items in
       let count = kind_count cells (end_of grid row - first_of grid row) in

@@ -41,7 +41,7 @@ pub fn is_tone(tone: Tone, cell: Tone) -> bool
     rank(cell.kind) == rank(tone.kind) && cell.quarters == tone.quarters
 }
 
-/// Sets the tones of tenant `t`'s rows in the first columns, as many as there are cells for.
+/// Stores the tones of tenant `t`'s rows in column `i` in `cells[i]`, for each index `i` of both slices.
 pub fn set_cells(cells: &mut [[Tone; MOST_ROWS]], columns: &[Column], t: u8, grid: Grid)
     ensures { (at row : ℕ) (column : Column) (rows : List Tone) → slice_get columns.now at ≡ Some column → slice_get cells.new at ≡ Some rows
         → row < 256 → row < grid.rows → IsRowTone column t grid row (slice_index_or rows row not_held) }
@@ -54,7 +54,7 @@ pub fn set_cells(cells: &mut [[Tone; MOST_ROWS]], columns: &[Column], t: u8, gri
     }
 }
 
-/// Sets the tones of tenant `t`'s rows in a column.
+/// Stores the tones of tenant `t`'s rows in a column.
 fn set_rows(rows: &mut [Tone; MOST_ROWS], column: &Column, own: &OwnSheets, t: u8, grid: Grid)
     requires { IsOwn t column.now.sheets.items own.now }
     ensures { (row : ℕ) → row < 256 → row < grid.rows → IsRowTone column.now t grid row (slice_index_or rows.new row not_held) }
@@ -64,7 +64,7 @@ fn set_rows(rows: &mut [Tone; MOST_ROWS], column: &Column, own: &OwnSheets, t: u
     }
 }
 
-/// Returns the tone of a row.
+/// Returns the tone of tenant `t`'s row in a column, or [`Tone::NOT_HELD`] if the grid does not have the row.
 fn row_tone(column: &Column, own: &OwnSheets, t: u8, grid: Grid, row: u32) -> Tone
     requires { IsOwn t column.now.sheets.items own.now }
     ensures { row < grid.rows → IsRowTone column.now t grid row result }
@@ -77,7 +77,7 @@ fn row_tone(column: &Column, own: &OwnSheets, t: u8, grid: Grid, row: u32) -> To
     tone_of(&counts, frames.end - frames.start)
 }
 
-/// Returns the number of a row's frames of each kind. Frames that the column does not show are not held.
+/// Returns the number of a row's frames of each kind. Frames that the column does not show count as not held.
 fn row_counts(column: &Column, own: &OwnSheets, t: u8, grid: Grid, row: u32) -> [usize; KINDS]
     requires row { row < grid.rows }
     requires own { IsOwn t column.now.sheets.items own.now }
@@ -152,7 +152,7 @@ fn count_kinds(
     (counts, shown)
 }
 
-/// Does the same as [`count_kinds`], for the listed sheets.
+/// Does the same as [`count_kinds`], but only for the sheets that `own` lists.
 fn count_listed(
     sheets: &[Sheet],
     own: &OwnSheets,
@@ -197,7 +197,7 @@ fn cells_of(sheet: &Sheet, t: u8, order: u32, first: u32, end: u32) -> &[FrameKi
     &cells[from..to]
 }
 
-/// Counts cells, by kind and in total.
+/// Adds the cells to the counts of their kinds and to the total.
 fn count_cells(cells: &[FrameKind], counts: &mut [usize; KINDS], shown: &mut usize)
     ensures kinds { (k : ℕ) → k < 6 → slice_index counts.old k + length cells.now < 2 ^ 64
         → slice_index counts.new k ≡ slice_index counts.old k + count_by (λ cell. rank_of cell == k) cells.now }

@@ -13,7 +13,8 @@ use std::ops::Range;
 pub struct Grid {
     /// A superblock has `2^order` frames.
     pub order: u32,
-    /// The number of frames shown: those of all slots up to the greatest one that was ever held, and of at least one slot.
+    /// The number of frames shown: the frames of the slots up to the greatest one that the tenant holds in any column. At least
+    /// one slot is shown.
     pub frames: u32,
     /// The number of frames in a row: a power of two, or all frames if 2^15 is too small. The last row may have fewer.
     pub frames_per_row: u32,
@@ -27,7 +28,7 @@ pub struct Grid {
 impl Grid {
     ghost use Rattle.frame_picture.specs.Grids.{IsGridOf};
 
-    /// Returns the rows of tenant `t`, at most `most_rows`.
+    /// Returns the grid of tenant `t`'s band, with at most `most_rows` rows.
     pub fn of(history: &History, t: u8, most_rows: u32) -> Grid
         requires { 0 < most_rows }
         ensures { IsGridOf history.now t most_rows result }
@@ -47,7 +48,7 @@ impl Grid {
         }
     }
 
-    /// Returns the frames of a row: the first one, and the number above the last one.
+    /// Returns the range of a row's frames.
     pub fn frames_of(self, row: u32) -> Range<u32>
         requires { row < self.rows }
         ensures start { result.start ≡ row * self.frames_per_row }
@@ -77,7 +78,7 @@ impl Grid {
         self.frames.max(1)
     }
 
-    /// Returns the first frame of a slot, if it is shown.
+    /// Returns the first frame of a slot, or `None` if the slot is not shown.
     pub fn slot_start(self, slot: u32) -> Option<u32>
         ensures { MatchOption result (self.frames ≤ slot * 2 ^ self.order)
             (λ frame. (frame ≡ slot * 2 ^ self.order) × (frame < self.frames)) }
@@ -116,7 +117,7 @@ fn rows_up_to(frames: u32, frames_per_row: u32) -> u32
     frames.div_ceil(frames_per_row)
 }
 
-/// Returns the number above the greatest slot that tenant `t` holds in a column, or 0 if it holds none.
+/// Returns the greatest slot that tenant `t` holds in a column plus 1, or 0 if it holds none.
 fn slots_in(column: &Column, t: u8) -> u32
     ensures few { result ≤ 2 ^ 16 }
     ensures greatest { IsGreatest (IsAbove (λ slot. HasSlot t slot column.now)) 0 result }
@@ -128,7 +129,7 @@ fn slots_in(column: &Column, t: u8) -> u32
     slots
 }
 
-/// Returns the number above the slot of a sheet if tenant `t` holds it, or else 0.
+/// Returns the slot of a sheet plus 1 if tenant `t` holds it, or else 0.
 fn slots_up_to(sheet: &Sheet, t: u8) -> u32
     ensures few { result ≤ 2 ^ 16 }
     ensures greatest { IsGreatest (IsAbove (λ slot. IsSheetOf t slot sheet.now)) 0 result }

@@ -8,7 +8,7 @@ use kernel_core::{FrameKind, Kernel};
 use model_core::owner::Owner;
 use std::alloc::{AllocError, Global};
 
-/// The largest number of columns. With it a history never takes more than the machine's own memory.
+/// The largest number of columns. With it, the kinds of the frames, one byte each, take as many bytes as the machine's RAM.
 pub const MOST_COLUMNS: u32 = 4096;
 
 /// A superblock after some line.
@@ -39,7 +39,7 @@ pub struct Figures {
 pub struct Column {
     /// The number of lines that were run up to then.
     pub line: u32,
-    /// The superblocks, by number.
+    /// The superblocks, indexed by number.
     pub sheets: Vec<Sheet>,
     /// The figures of each tenant.
     pub figures: Vec<Figures>,
@@ -173,7 +173,8 @@ impl History {
         }
     }
 
-    /// Counts one more line, after which the kernel is in this state.
+    /// Counts one more line, after which the kernel is in this state. If the number of lines is then a multiple of the width, the
+    /// next column gets the state.
     pub fn add_line(&mut self, kernel: &Kernel)
         ensures counted { line_count self.old < u32.MAX → line_count self.new ≡ line_count self.old + 1 }
         ensures sizes { SameShape self.old self.new }
@@ -214,7 +215,7 @@ impl History {
         }
     }
 
-    /// Ends the history: the lines that have no column yet get one.
+    /// Ends the history: if the last lines have no column yet, the next column gets the state of the kernel.
     pub fn end(&mut self, kernel: &Kernel)
         ensures lines { line_count self.new ≡ line_count self.old }
         ensures sizes { SameShape self.old self.new }
@@ -237,7 +238,7 @@ impl History {
         self.keep(kernel);
     }
 
-    /// Stores the state of the kernel in the next column.
+    /// Stores the state of the kernel in the next column. Does nothing if all columns are in use.
     fn keep(&mut self, kernel: &Kernel)
         ensures lines { line_count self.new ≡ line_count self.old }
         ensures sizes { SameShape self.old self.new }
@@ -276,7 +277,7 @@ impl History {
 }
 
 impl Figures {
-    /// No frame is held.
+    /// The figures of a tenant that holds no frame.
     pub const NONE: Figures = Figures {
         held: 0,
         taken: 0,

@@ -1,4 +1,4 @@
-//! Stores the state of a kernel.
+//! Stores the state of a kernel in a column.
 
 ghost use Rattle.std.specs.Prelude.{◌≡◌, ℕ, ◌+◌, ◌*◌, ◌^◌, ◌<◌, ◌≤◌, Some, length, slice_get, slice_index};
 ghost use Rattle.model_core.specs.declared.owner.Owner.{Owner};
@@ -17,7 +17,7 @@ use kernel_core::{FrameKind, Kernel};
 use model_core::owner::Owner;
 use model_core::report::OrderRow;
 
-/// Stores the owner and the frames of each superblock.
+/// Stores the owner of each superblock and the kinds of its frames.
 pub fn show_sheets(sheets: &mut [Sheet], kernel: &Kernel)
     ensures owners { (w : World) (s : ℕ) (sheet : Sheet) → Shows kernel.now w → slice_get sheets.new s ≡ Some sheet
         → sheet.owner ≡ owner_at w.owners s }
@@ -30,7 +30,7 @@ pub fn show_sheets(sheets: &mut [Sheet], kernel: &Kernel)
     }
 }
 
-/// Stores a superblock with this owner.
+/// Stores this owner of a superblock and the kinds of its frames.
 fn show_sheet(sheet: &mut Sheet, kernel: &Kernel, owner: Option<Owner>)
     ensures owner { sheet.new.owner ≡ owner }
     ensures cells { (w : World) → Shows kernel.now w → AreCells kernel.now.order w owner sheet.new.cells.items }

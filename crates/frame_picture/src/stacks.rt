@@ -107,7 +107,8 @@ pub fn refused_in(columns: &[Column], t: u8, column: usize) -> u32
     refused_at(columns, t, column).saturating_sub(before)
 }
 
-/// Returns the number of requests that were refused for lack of frames up to a column.
+/// Returns the number of requests of tenant `t` that were refused for lack of frames up to a column, or 0 if there is no such
+/// column.
 pub fn refused_at(columns: &[Column], t: u8, column: usize) -> u32
     ensures { result ≡ refused_until columns.now t column }
 {

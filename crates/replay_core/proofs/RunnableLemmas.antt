@@ -1,4 +1,4 @@
--- A kernel can run every event that is read from a line: the pattern of a cache has at least one byte.
+-- A kernel can run every event that is read from a line: the pattern of a cache has 1 to 16 bytes.
 use Rattle.std.proofs.Common.{◌≡◌, sym, List, ℕ, Option, Some, None, Result, Ok, Err}
 use Rattle.words_core.specs.declared.event.Event.{Event}
 use Rattle.words_core.specs.declared.event.Event.TheVariants as On

@@ -3,7 +3,7 @@ use Rattle.frame_picture.specs.Kinds.{rank_of}
 use Rattle.frame_picture.specs.Rows.{row_cells}
 use Rattle.frame_picture.proofs.drawing.count_kinds.Given as goal
 
--- the counts are those of the sheets so far
+-- the counts are those of the listed sheets and of the sheets so far
 abbrev pub invariant-loop-sheet : goal.invariant-loop-sheet
 invariant-loop-sheet l = record {
   long : length l.counts ≡ 6;

@@ -4,7 +4,7 @@ use Rattle.frame_picture.specs.Slots.{IsAbove, IsSheetOf}
 use Rattle.frame_picture.proofs.SlotLemmas.{AnyBefore}
 use Rattle.frame_picture.proofs.grid.slots_in.Given as goal
 
--- the greatest slot is that of the sheets so far
+-- `slots` is the greatest slot of the tenant in the sheets so far plus 1
 abbrev pub invariant-loop-sheet : goal.invariant-loop-sheet
 invariant-loop-sheet l = record {
   few : l.slots ≤ 2 ^ 16;

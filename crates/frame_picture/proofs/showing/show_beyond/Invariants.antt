@@ -5,7 +5,7 @@ use Rattle.kernel_core.specs.Shows.{ShowsMachine}
 use Rattle.kernel_core.specs.declared.frames.FrameKind.{FrameKind}
 use Rattle.frame_picture.proofs.showing.show_beyond.Given as goal
 
--- the cells so far are set
+-- the cells so far are stored
 abbrev pub invariant-loop-k : goal.invariant-loop-k
 invariant-loop-k l = record {
   kept : (j : ℕ) → j < l.from → slice_get l.cells j ≡ slice_get l.fn.cells j;

@@ -2,7 +2,7 @@ use Rattle.std.proofs.Common.{◌≡◌, ℕ, zero, suc, ◌+◌, ◌*◌, ◌^�
 use Rattle.frame_picture.specs.Stacks.{frames_of_orders}
 use Rattle.frame_picture.proofs.stacks.free_from.Goals as goal
 
--- the frames with one more order
+-- if `frames` is the number of frames in the free blocks of the orders below k, adding those of order k gives the number up to k
 frames_more : (free : List ℕ) (order k frames : ℕ) → order ≤ k → ((n : ℕ) → k ≡ order + n → frames ≡ frames_of_orders free order n)
     → (n : ℕ) → k + 1 ≡ order + n → frames + slice_index free k * 2 ^ k ≡ frames_of_orders free order n
 frames_more free order k frames le before zero e = absurd (omega arith)

@@ -3,6 +3,6 @@ use Rattle.frame_picture.specs.Stacks.{taken_in_column}
 use Rattle.frame_picture.proofs.Greatest.{IsValue}
 use Rattle.frame_picture.proofs.stacks.most_taken.Given as goal
 
--- the most is that of the columns so far
+-- `most` is the largest number of taken frames in the columns so far
 abbrev pub invariant-loop-column : goal.invariant-loop-column
 invariant-loop-column l = IsGreatest (IsValue (taken_in_column l.columns l.t) l.column) 0 l.most
