@@ -6,15 +6,15 @@ use Rattle.std.proofs.KnownBytes.{Appends-kept, Appends-nil, Appends-trans}
 use Rattle.std.specs.Io.KnownBytes.{Appends, Keeps}
 use Rattle.picture_svg.specs.Texts.{AppendsText, WritesText}
 
--- nothing is written yet
+-- before anything is written, the empty text was appended
 pub nothing : (a : Option (List ℕ)) (P : List ℕ → Type 0) → P [] → AppendsText a a P
 nothing a P is = record { text = []; appended = Appends-nil a; is = is }
 
--- one text
+-- a text that was appended is exactly this text
 pub exactly : (a b : Option (List ℕ)) (text : List ℕ) → Appends a b text → AppendsText a b (λ x. x ≡ text)
 exactly a b text h = record { text = text; appended = h; is = refl }
 
--- .. and another text behind it
+-- if exactly this text was appended after `front`, exactly the two were appended
 pub then_exactly : {a b : Option (List ℕ)} {front : List ℕ} (c : Option (List ℕ)) (text : List ℕ) → AppendsText a b (λ x. x ≡ front)
     → Appends b c text → AppendsText a c (λ x. x ≡ front ++ text)
 then_exactly {a} {b} {front} c text first last = record {
@@ -31,18 +31,18 @@ then_text {a} {b} {c} {front} {back} first last = record {
   is = ap (λ x. x ++ last.text) first.is ∙ ap (λ x. front ++ x) last.is;
 }
 
--- the same text in another form
+-- if a text was appended, so was a text that is equal to it
 pub renamed : {a b : Option (List ℕ)} {text : List ℕ} (whole : List ℕ) → text ≡ whole → AppendsText a b (λ x. x ≡ text) → AppendsText a b (λ x. x ≡ whole)
 renamed whole e h = record { text = h.text; appended = h.appended; is = h.is ∙ e }
 
 pub as_text : {a b : Option (List ℕ)} {text : List ℕ} (whole : List ℕ) → AppendsText a b (λ x. x ≡ text) → text ≡ whole → AppendsText a b (λ x. x ≡ whole)
 as_text whole h e = renamed whole e h
 
--- some text, which is not specified
+-- if a text with a property was appended, some text was, which is not specified
 pub whatever : {a b : Option (List ℕ)} {P : List ℕ → Type 0} → AppendsText a b P → AppendsText a b (λ _. ⊤)
 whatever h = record { text = h.text; appended = h.appended; is = tt }
 
--- two texts, one after the other
+-- if a text with P and then a text with Q was appended, and R holds for the two joined, a text with R was appended
 pub both : {a b c : Option (List ℕ)} {P Q : List ℕ → Type 0} (R : List ℕ → Type 0) → AppendsText a b P → AppendsText b c Q
     → ((x y : List ℕ) → P x → Q y → R (x ++ y)) → AppendsText a c R
 both {a} {b} {c} R first second joined = record {
@@ -51,7 +51,7 @@ both {a} {b} {c} R first second joined = record {
   is = joined first.text second.text first.is second.is;
 }
 
--- a text behind them
+-- if a text with P and then this text was appended, and R holds for the two joined, a text with R was appended
 pub and_text : {a b : Option (List ℕ)} {P : List ℕ → Type 0} (c : Option (List ℕ)) (text : List ℕ) (R : List ℕ → Type 0) → AppendsText a b P
     → Appends b c text → ((x : List ℕ) → P x → R (x ++ text)) → AppendsText a c R
 and_text {a} {b} c text R first last joined = record {
@@ -60,7 +60,7 @@ and_text {a} {b} c text R first last joined = record {
   is = joined first.text first.is;
 }
 
--- some text, and this text behind it
+-- if a text and then this text was appended, some text was, which is not specified
 pub more : {a b : Option (List ℕ)} {P : List ℕ → Type 0} (c : Option (List ℕ)) (text : List ℕ) → AppendsText a b P
     → Appends b c text → AppendsText a c (λ _. ⊤)
 more c text first last = and_text c text (λ _. ⊤) first last (λ _ _. tt)
@@ -105,13 +105,13 @@ each_more f a (suc n) =
     ∙ sym (append_assoc (f a) (flat_map f (range_with_len (a + 1) n)) (f (a + 1 + n)))
     ∙ ap (λ k. (f a ++ flat_map f (range_with_len (a + 1) n)) ++ f k) (let e : a + 1 + n ≡ a + suc n = omega arith in e)
 
--- one more number
+-- the texts of the numbers below n + 1 are the texts of the numbers below n and then the text of n
 pub texts_more : (f : ℕ → List ℕ) (n : ℕ) → flat_map f (range_with_len 0 (n + 1)) ≡ flat_map f (range_with_len 0 n) ++ f n
 texts_more f n =
     ap (λ k. flat_map f (range_with_len 0 k)) (let e : n + 1 ≡ suc n = omega arith in e) ∙ each_more f 0 n
     ∙ ap (λ k. flat_map f (range_with_len 0 n) ++ f k) (let e : 0 + n ≡ n = omega arith in e)
 
--- one more number, whose text is empty
+-- if the text of n is empty, the texts of the numbers below n + 1 are the texts of the numbers below n
 pub texts_same : (f : ℕ → List ℕ) (n : ℕ) → f n ≡ [] → flat_map f (range_with_len 0 n) ≡ flat_map f (range_with_len 0 (n + 1))
 texts_same f n none =
     sym (texts_more f n ∙ ap (λ t. flat_map f (range_with_len 0 n) ++ t) none ∙ append-nil (flat_map f (range_with_len 0 n)))

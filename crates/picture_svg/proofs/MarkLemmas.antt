@@ -35,7 +35,7 @@ pub no_turn : (columns : List Column) (t k column : ℕ) → free_in_column colu
 unfolding turn_text
 no_turn columns t k column same = cond-true _ [] _ (eq-eqb (free_in_column columns t k column) (free_before columns t k column) same)
 
--- a layer, from these parts
+-- a layer, joined from its parts
 abbrev layer_of : List Column → ℕ → ℕ → ℕ → List ℕ → ℕ → ℕ → List ℕ
 layer_of columns t foot k class width height =
     (codes "<path class=\"cells " ++ (class ++ (codes "\" transform=\"translate(" ++ (decimal LEFT ++ (codes " " ++ (decimal foot ++ (codes ") scale("

@@ -66,7 +66,7 @@ same_heights history most t (x ∷ xs) (y ∷ ys) e first second =
     ap (λ n. n ∷ rows_of xs) (same_rows history t most x y first.0 second.0)
     ∙ ap (λ rows. y.rows ∷ rows) (same_heights history most (t + 1) xs ys (omega arith) first.1 second.1)
 
--- the height at which one more band ends
+-- with one more band, the bands end lower by the height of this band
 pub bottom_push : (top : ℕ) (grids : List Grid) (grid : Grid)
     → bottom_of top (rows_of (grids ++ grid ∷ [])) ≡ lower (bottom_of top (rows_of grids)) (band_height grid.rows)
 bottom_push top [] grid = refl
@@ -80,7 +80,7 @@ grids_of_bands picture history t top [] text are = tt
 grids_of_bands picture history t top (grid ∷ grids) text are =
     (are.2.is_grid, grids_of_bands picture history (t + 1) (lower top (band_height grid.rows)) grids are.1 are.3)
 
--- one more band below the others
+-- if the band of the next tenant is appended below the others, these are the bands of the tenants from t on
 pub bands_push : (picture : Picture) (history : History) (t top k bottom : ℕ) (grids : List Grid) (grid : Grid) (text band : List ℕ) → t + length grids ≡ k
     → bottom_of top (rows_of grids) ≡ bottom → AreBands picture history t top grids text → IsBandOf picture history k grid bottom band
     → AreBands picture history t top (grids ++ grid ∷ []) (text ++ band)
@@ -100,7 +100,7 @@ bands_push picture history t top k bottom (x ∷ grids) grid text band e at are 
   ap (λ s. s ++ band) are.4 ∙ append_assoc are.0 are.1 band,
 )
 
--- an element of the first n elements
+-- element k of the first n elements is element k of all of them
 pub in_front : {X : Type 0} (xs : List X) (n k : ℕ) (x : X) → slice_get (take n xs) k ≡ Some x → slice_get xs k ≡ Some x
 in_front xs n k x there =
     let within : k < length (take n xs) = slice_get_within (take n xs) k x there in

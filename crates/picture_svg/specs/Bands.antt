@@ -23,7 +23,7 @@ pub record IsFiguresText (columns : List Column) (t top : ℕ) (text : List ℕ)
   pub whole : let last = length columns - 1 in
       text ≡ figures_text (taken_in_column columns t last) (figures_in_column columns t last).held most (refused_until columns t last) top
 
--- a stack whose height represents the most frames that are free in a column, at least 1
+-- a stack whose height represents the largest number of free frames in a column, but at least 1
 pub record IsStackText (history : History) (t foot : ℕ) (text : List ℕ) : Type 0 where
   pub most : ℕ
   pub greatest : IsGreatest (λ frames. SomeIndex (columns_of history) (λ n. free_in_column (columns_of history) t 0 n

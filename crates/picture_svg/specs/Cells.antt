@@ -36,7 +36,7 @@ pub record IsTonePath (columns : List (List Tone)) (rows : ℕ) (tone : Tone) (s
 abbrev pub shade_of : ℕ → List ℕ
 shade_of quarters = if quarters == 1 then codes " one" else if quarters == 2 then codes " two" else if quarters == 3 then codes " three" else []
 
--- whether a shade is drawn: if a row is one frame, only that of four quarters is
+-- a shade is drawn if it has four quarters, or if a row has more than one frame
 abbrev pub is_drawn : Grid → ℕ → Bool
 is_drawn grid quarters = (quarters == 4) || nat_lt 1 grid.frames_per_row
 
@@ -50,7 +50,7 @@ pub record AreShadePaths (columns : List (List Tone)) (grid : Grid) (kind : Fram
       (drawn_shades grid) paths
   pub whole : text ≡ concat paths
 
--- the paths of a kind; free frames are the ground
+-- the paths of a kind; free frames have no path, since the ground shows them
 abbrev pub AreKindPaths : List (List Tone) → Grid → FrameKind → List ℕ → Type 0
 AreKindPaths columns grid FrameKind.Free text = text ≡ []
 AreKindPaths columns grid FrameKind.NotHeld text = IsTonePath columns (drawn_rows grid) not_held [] text

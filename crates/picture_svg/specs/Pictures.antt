@@ -14,7 +14,7 @@ use Rattle.picture_svg.specs.Bands.{AreCellsOf, IsBand}
 use Rattle.picture_svg.specs.Sizes.{band_height, lower}
 use Rattle.picture_svg.specs.Texts.{opening_text, title_text}
 
--- the number of the first tenant that is drawn, and the number above the last one's
+-- the number of the first tenant that is drawn, and the number of the last one plus 1
 abbrev pub first_tenant : Picture → ℕ
 first_tenant picture = picture.first
 

@@ -1,12 +1,12 @@
--- The heights of the parts of a picture, in pixels. A sum is at most the greatest number of 32 bits.
+-- The heights of the parts of a picture, in pixels. A sum above 2^32 - 1 becomes 2^32 - 1.
 use Rattle.std.specs.Prelude.{ℕ, ◌+◌, ◌-◌, ◌*◌, ◌/◌, ◌^◌, max, min}
 use Rattle.picture_svg.specs.declared.svg.TheConstants.{ABOVE, BELOW, ROWS_HEIGHT, MOST_ROW_HEIGHT}
 
--- the height that is this number of pixels lower
+-- the height this number of pixels below y
 abbrev pub lower : ℕ → ℕ → ℕ
 lower y pixels = min (y + pixels) (2 ^ 32 - 1)
 
--- the height of a row if there are this many
+-- the height of a row if there are this many rows
 abbrev pub row_height : ℕ → ℕ
 row_height rows = max 1 (min (ROWS_HEIGHT / rows) MOST_ROW_HEIGHT)
 

@@ -13,7 +13,7 @@ pub record AppendsText (old new : Option (List ℕ)) (IsText : List ℕ → Type
   pub appended : Appends old new text
   pub is : IsText text
 
--- if the result is `Ok`, the known bytes have grown by such a text
+-- if the result is `Ok`, the known bytes have grown by a text with this property
 abbrev pub WritesText : {E : Type 0} → Result (Unit {0}) E → Option (List ℕ) → Option (List ℕ) → (List ℕ → Type 0) → Type 0
 WritesText result old new IsText = OnOk result (AppendsText old new IsText)
 
@@ -52,7 +52,7 @@ title_text lines name superblocks frames width = concat (codes "<text class=\"he
     ∷ codes ", of " ∷ decimal frames ∷ codes " frames each. Lines to a column: " ∷ decimal width
     ∷ codes "; it shows the machine after the last of them.</text>\n" ∷ [])
 
--- the note above the rows of a band, at the right, if each row is several frames
+-- the note above the rows of a band, at the right, if each row has several frames
 unfoldable pub row_note : ℕ → ℕ → List ℕ
 row_note frames y = if nat_lt 1 frames then concat (codes "<text class=\"right\" x=\"" ∷ decimal (LEFT + WIDTH)
     ∷ codes "\" y=\"" ∷ decimal y

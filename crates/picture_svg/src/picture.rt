@@ -20,7 +20,7 @@ const TALL_BANDS: u32 = 4;
 /// The tenants that are drawn, and the cells of one band.
 #[derive(Debug, Drop)]
 pub struct Picture {
-    /// The number of the first tenant that is drawn, and the number above the last one's.
+    /// The number of the first tenant that is drawn, and the number of the last one plus 1.
     first: u8,
     end: u8,
     cells: Vec<[Tone; MOST_ROWS]>,
@@ -29,7 +29,7 @@ pub struct Picture {
 }
 
 impl Picture {
-    /// Returns a picture that can draw this history once it has ended, with the tenant `only`, or with all tenants if that is
+    /// Returns a picture that can draw this history once it has ended, with the tenant `only`, or with all tenants if `only` is
     /// `None`. Fails if memory runs out.
     pub fn new(alloc: Global, history: &History, only: Option<u8>) -> Result<Picture, AllocError>
         ensures one { IfOk result (λ picture. IfSome only
@@ -51,7 +51,7 @@ impl Picture {
         })
     }
 
-    /// Moves the word below the lowest number of the axis down by this many pixels, so that the two do not overlap.
+    /// Moves the word `refused`, below the lowest number of the axis, down by this many pixels, so that the two do not overlap.
     pub fn set_label_gap(&mut self, pixels: u32)
         ensures { self.new ≡ record self.old { label_gap = pixels } }
     {
@@ -59,7 +59,7 @@ impl Picture {
     }
 
     /// Draws the frames of a history, with the name of its trace, and flushes. If the history has more columns than the history
-    /// that was passed to `new` can have, only the first ones are drawn.
+    /// that was passed to `new` can have, only the first ones are drawn. Fails if the writer fails.
     pub fn draw<W: Write>(
         &mut self,
         history: &History,
@@ -89,7 +89,7 @@ impl Picture {
         out.flush()
     }
 
-    /// Returns the rows of a tenant's band.
+    /// Returns the grid of a tenant's band.
     fn grid(&self, history: &History, t: u8) -> Grid
         ensures { IsGridOf history.now t (most_rows_of (drawn_tenants self.now)) result }
     {

@@ -407,7 +407,7 @@ fn draw_rectangle<W: Write>(out: &mut W, rectangle: Rectangle) -> io::Result<()>
     write!(out, "M{column} {row}h{columns}v{rows}h-{columns}z")
 }
 
-/// Returns the width of a column if there are this many.
+/// Returns the width of a column if there are this many columns.
 fn column_width(columns: usize) -> Decimal
     ensures { result.hundred_millionths ≡ WIDTH * 10 ^ 8 / columns }
 {
@@ -571,8 +571,8 @@ fn frames_step(frames: u32) -> u32 {
     step
 }
 
-/// Writes beside the title of a band: the tenant's figures at the end, the most frames that were taken in a column, and the
-/// number of requests that were refused for lack of frames.
+/// Writes figures of the tenant beside the title of its band: its frames at the end, the largest number of its frames that were
+/// taken in a column, and the number of its requests that were refused for lack of frames.
 fn draw_figures<W: Write>(out: &mut W, columns: &[Column], t: u8, top: u32) -> io::Result<()>
     ensures { WritesText result (W.contents out.old) (W.contents out.new) (IsFiguresText columns.now t top) }
 {
@@ -693,7 +693,8 @@ fn draw_scale<W: Write>(out: &mut W, top: u32, foot: u32, most: u64) -> io::Resu
     )
 }
 
-/// Draws the outline of a layer: where the number of free frames in blocks of this order and above changes, and the new number.
+/// Draws the outline of a layer: a step to the new number in each column in which the number of free frames in blocks of this
+/// order and above changes.
 fn draw_turns<W: Write>(out: &mut W, columns: &[Column], t: u8, order: usize) -> io::Result<()>
     requires { order < ORDERS }
     ensures { WritesText result (W.contents out.old) (W.contents out.new)

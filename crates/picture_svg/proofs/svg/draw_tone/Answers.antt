@@ -6,7 +6,7 @@ use Rattle.picture_svg.specs.Cells.{class_of, IsTonePath}
 use Rattle.picture_svg.proofs.JoinedTexts.{both, exactly, last_text}
 use Rattle.picture_svg.proofs.svg.draw_tone.Goals as goal
 
--- the path is its parts, one behind the other
+-- the parts of a path, appended one after another, are the text of the path
 whole_path : (kind class shade path : List ℕ) → kind ≡ class
     → ((codes "<path class=\"" ++ (kind ++ (shade ++ codes "\" d=\""))) ++ path) ++ codes "\"/>\n" ≡ path_text class shade path
 unfolding path_text

@@ -7,7 +7,7 @@ use Rattle.picture_svg.specs.Texts.{opening_text, title_text, AppendsText}
 use Rattle.picture_svg.proofs.PictureLemmas.{AreGrids}
 use Rattle.picture_svg.proofs.picture.Picture.draw.Given as goal
 
--- the height at which the bands of the tenants so far end
+-- `height` is the height at which the bands of the tenants so far end
 abbrev pub invariant-loop-t : goal.invariant-loop-t
 invariant-loop-t g l = record {
   same : l.self ≡ l.fn.self;
