@@ -29,7 +29,7 @@ IsLineRun t line before after own = SameSizes before after
     × ((w : World) → Shows before w → Shows after (world_after cache_limit before.order w (event_in (reading_of line))))
     × ((w : World) → Shows before w → own ≡ has_entry (own_list t (history cache_limit before.order w (event_in (reading_of line)))))
 
--- the same for a line, by its reading
+-- if a line's reading was run, and `own` says whether its event has entries in the own list, `IsLineRun` holds for the line
 pub line_run : (t : ℕ) (line : List ℕ) (before after : KernelContent) (own : Bool) (reading : Result (Option Event) LineFault) → reading_of line ≡ reading → SameSizes before after
     → ((w : World) → Shows before w → Shows after (world_after cache_limit before.order w (event_in reading)))
     → ((w : World) → Shows before w → own ≡ has_entry (own_list t (history cache_limit before.order w (event_in reading))))
@@ -40,14 +40,14 @@ line_run t line before after own reading is sizes shows found = (
   subst (λ r. (w : World) → Shows before w → own ≡ has_entry (own_list t (history cache_limit before.order w (event_in r)))) (sym is) found,
 )
 
--- an event is the tenant's own if it has entries
+-- if a line's event was run, and `own` says whether the event has entries in the own list, `IsLineRun` holds for the line
 pub event_run : (t : ℕ) (line : List ℕ) (before after : KernelContent) (event : Event) (reply : Reply) (own : Bool) → reading_of line ≡ Ok (Some event)
     → Steps before event after reply → own ≡ has_entry (own_entries t event reply.body) → IsLineRun t line before after own
 event_run t line before after event reply own read steps is =
     line_run t line before after own (Ok (Some event)) read steps.sizes steps.shows
     (λ w shows. is ∙ ap (λ (r : Reply). has_entry (own_entries t event r.body)) (steps.answer w shows) ∙ ap has_entry (sym (append-nil _)))
 
--- a line without an event is not the tenant's own
+-- a line without an event changes nothing and is not the tenant's own
 pub nothing_run : (t : ℕ) (line : List ℕ) (k : KernelContent) (reading : Result (Option Event) LineFault) → reading_of line ≡ reading → event_in reading ≡ []
     → IsLineRun t line k k false
 nothing_run t line k reading read none =
@@ -55,7 +55,7 @@ nothing_run t line k reading read none =
     (λ w shows. subst (λ (es : List Event). Shows k (world_after cache_limit k.order w es)) (sym none) shows)
     (λ w shows. subst (λ (es : List Event). false ≡ has_entry (own_list t (history cache_limit k.order w es))) (sym none) refl)
 
--- a line that is not the tenant's own was not pushed
+-- if a line that is not the tenant's own was run, and nothing was pushed, the line was processed in full
 pub not_kept : (own : OwnLines) (line : List ℕ) (before after : KernelContent) (known : Option (List ℕ)) (is_own : Bool)
     → IsLineRun own.tenant line before after is_own → is_own ≡ false → HasDone keeps (own, before) line known known (Ok tt) (own, after)
 not_kept own line before after known is_own run is = record {
@@ -66,7 +66,7 @@ not_kept own line before after known is_own run is = record {
   whole = refl;
 }
 
--- a line of the tenant's own was pushed
+-- if a line of the tenant's own was run, and it was pushed with an LF, the line was processed: in full if the push succeeded
 pub kept : (own : OwnLines) (line : List ℕ) (before after : KernelContent) (old new : Option (List ℕ)) (failing is_own : Bool) (written written' : ℕ) (result : Result (Unit {0}) Stopped)
     → IsLineRun own.tenant line before after is_own → is_own ≡ true → HasPushed old new failing (line ++ 10 ∷ []) written written' result
     → HasDone keeps (own, before) line old new result (own, after)
@@ -85,7 +85,8 @@ kept own line before after old new failing is_own written written' result run is
   whole = pushed.whole;
 }
 
--- the text kept of some lines, and of one more
+-- if `taken` is the text kept of the lines `xs`, and `text` is the text kept of the next line, the text kept of all is both
+-- joined
 own_more : (t : ℕ) (before now next : KernelContent) (xs : List (List ℕ)) (line taken text : List ℕ)
     → HasKept t before now xs taken → KeepsLine t line now next text
     → (w : World) → Shows before w → own_text t cache_limit before.order (xs ++ line ∷ []) w ≡ taken ++ text
@@ -117,7 +118,7 @@ are_kept own before lines taken s ran =
     run_keeps keeps (AreKept own.tenant before) (one_kept own.tenant before) [] lines [] taken (own, before) s
     (refl, record { stands = record { sizes = same_sizes before; shows = λ w shows. shows }; kept = λ w shows. refl }) ran
 
--- the drain failed within the last line
+-- if the drain failed within the text of a line, the text of the lines before it was taken in full, and its own only in part
 pub kept_short : (own : OwnLines) (before : KernelContent) (done : List (List ℕ)) (line taken : List ℕ) (s : OwnLines × KernelContent) → IsCutOff keeps (own, before) done line taken s
     → IsKeptShort own.tenant before s.1 done line taken
 kept_short own before done line taken s cut =

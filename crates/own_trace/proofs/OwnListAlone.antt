@@ -192,7 +192,7 @@ grant_refused order t w m is =
     subst (λ o. is_refused (grant_step order t w o (position is_none w.owners)).reply.body ≡ is_none (position is_none w.owners)) (sym is)
     (granted_refused order t w m (position is_none w.owners))
 
--- no superblock is in a slot that is not held
+-- if the tenant is alone, it is still alone after a grant, since no superblock was in the slot that it gets
 granted_alone : (limit order t : ℕ) (k : Known) (w : World) (m : Machine) (free : Option ℕ) → MeetsWorld limit order k w → slice_get w.machines t ≡ Some m → position is_none w.owners ≡ free
     → IsAlone t w.owners → IsAlone t (grant_step order t w (Some m) free).world.owners
 unfolding grant_step answer
@@ -225,7 +225,7 @@ own_grant limit order t w v b room =
           (granted_alone limit order t b.known_alone v b.machine (position is_none v.owners) b.meets_alone b.there refl b.by_itself);
     }
 
--- The event is in the own list
+-- An event that is in the own list
 
 if_has : (b : Bool) (entry : Entry) → has_entry (if b then entry ∷ [] else []) ≡ true → b ≡ true
 if_has true entry has = refl
@@ -253,7 +253,7 @@ own_step limit order t (On.Admin (Do.Reset named)) w v b has =
 own_step limit order t (On.Admin (Do.Move named slot)) w v b has = absurd (false≢true has)
 own_step limit order t (On.Admin Do.Pool) w v b has = absurd (false≢true has)
 
--- Both worlds after it
+-- Both worlds after an event that is in the own list
 
 both_after : (limit order t : ℕ) (event : Event) (w v : World) → 3 ≤ order → CanBeRequested event → (b : Beside limit order t w v) → IsOwnStep limit order t event w v
     → Beside limit order t (world_step limit order event w).world (world_step limit order event v).world
@@ -272,7 +272,8 @@ both_after limit order t event w v le can b step =
       by_itself = step.by_itself;
     }
 
--- .. and after an event that is not in the own list, and that the tenant's own world does not see
+-- after an event that is not in the own list, and is not run in the tenant's own world, the tenant still has the same machine in
+-- both
 other_after : (limit order t : ℕ) (event : Event) (w v : World) → 3 ≤ order → CanBeRequested event → (b : Beside limit order t w v) → entries_at limit order t event w ≡ []
     → Beside limit order t (world_step limit order event w).world v
 other_after limit order t event w v le can b none =
@@ -300,7 +301,7 @@ some_entry (entry ∷ entries) some = refl
 abbrev lines_in : List RunLine → List (List ℕ)
 lines_in runs = map (λ run. run.line) runs
 
--- one event, and the lines kept after it
+-- if the lines kept after an event have the same own list when they are run alone, so have the lines kept from this event on
 one_event : (limit order t : ℕ) (line : List ℕ) (event : Event) (w v : World) (later : List RunLine) (more : List Event) → 3 ≤ order → reading_of line ≡ Ok (Some event)
     → Beside limit order t w v
     → ((next : World) → Beside limit order t (world_step limit order event w).world next

@@ -35,7 +35,7 @@ free_few [] = omega arith
 free_few (None ∷ xs) = omega (arith, free_few xs)
 free_few (Some x ∷ xs) = omega (arith, free_few xs)
 
--- the list without it is shorter by one
+-- if an element passes the test, the list without the first one that passes is shorter by one
 less_one : (test : Option Owner → Bool) (xs : Owners) → list_any test xs ≡ true → length xs ≡ suc (length (without test xs))
 less_one test [] any = absurd (false≢true any)
 less_one test (x ∷ xs) any = go (test x) any (less_one test xs)
@@ -54,7 +54,7 @@ same_free test (Some x ∷ xs) none = go (test (Some x)) (same_free test xs none
     go true later = refl
     go false later = later
 
--- other elements are still there
+-- removing an element that does not pass another test does not change whether some element passes that other test
 others_stay : (test other : Option Owner → Bool) (xs : Owners) → ((o : Option Owner) → test o ≡ true → other o ≡ false)
     → list_any other (without test xs) ≡ list_any other xs
 others_stay test other [] apart = refl
@@ -81,7 +81,8 @@ no_times test (x ∷ xs) none = go (test x) none (no_times test xs)
     go true none later = absurd (false≢true (sym none))
     go false none later = omega (arith, later none)
 
--- if `ys` has each slot of `xs`, it has at least as many elements as `xs`, not counting its free ones
+-- if `ys` has each slot of `xs`, in which no slot comes twice, `ys` has at least as many elements that are not free as `xs` has
+-- elements
 pigeons : (t : ℕ) (xs ys : Owners) → list_all (is_of t) xs ≡ true → ((u : ℕ) → times (is_owner t u) xs ≤ 1)
     → ((u : ℕ) → list_any (is_owner t u) xs ≡ true → list_any (is_owner t u) ys ≡ true) → length xs + nobodys ys ≤ length ys
 pigeons t [] ys all once there = omega (arith, free_few ys)
@@ -114,7 +115,8 @@ both t (Some x ∷ xs) taken own =
     let parts = and_parts (x.tenant == t) (list_all (is_own_or_free t) xs) own in
     and_from (x.tenant == t) (list_all (is_of t) xs) parts.0 (both t xs taken parts.1)
 
--- If a machine with as many superblocks, some of them in the same slots of this tenant, has a free one, so has the tenant alone.
+-- If another machine has as many superblocks, the same slots of this tenant, and a free superblock, the tenant's own machine has
+-- one too.
 pub alone_has_room : (t : ℕ) (whole alone : Owners) (found : Option ℕ) → list_all (is_own_or_free t) alone ≡ true → ((u : ℕ) → times (is_owner t u) alone ≤ 1)
     → ((u : ℕ) → list_any (is_owner t u) alone ≡ list_any (is_owner t u) whole) → length alone ≡ length whole → position is_none alone ≡ found
     → is_none (position is_none whole) ≡ false → is_none found ≡ false

@@ -1,4 +1,4 @@
--- For each law an instance: a trace in which another tenant goes first.
+-- An instance of each law: a trace in which another tenant's lines come first.
 use Rattle.std.proofs.Common.{◌≡◌, ℕ, List, filter, arith}
 use Rattle.std.specs.Prelude.{codes}
 use Rattle.std.specs.List.{flat_map}

@@ -1,4 +1,4 @@
--- Which bytes are taken, for the bytes given.
+-- Which bytes the drain takes for the bytes that the feed gives.
 use Rattle.std.specs.Prelude.{◌≡◌, ℕ, Bool, true, false, List, [], ◌∷◌, ◌++◌, Result, Ok, Err}
 use Rattle.words_core.specs.Cutting.{lines_of_trace}
 use Rattle.words_core.specs.Grammar.{reading_of}

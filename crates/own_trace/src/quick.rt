@@ -1,4 +1,4 @@
-//! Runs quick requests.
+//! Runs quick requests, and pushes the lines of the tenant's own requests.
 
 ghost use Rattle.std.specs.Prelude.{◌≡◌, ◌≤◌, false, Some, Ok, length, is_err, IfOk, MatchResult};
 ghost use Rattle.words_core.specs.Grammar.{reading_of};
@@ -80,7 +80,7 @@ fn keep_request<const RETURNS: bool, D: Drain>(
     push_line(line, drain)
 }
 
-/// Runs a request. Returns true if the request is in the tenant's own list. It is there if the tenant made it, whatever the
+/// Runs a request. Returns true if the request is in the tenant's own list: it is there if the tenant made it, whatever the
 /// answer was.
 fn run_request<const RETURNS: bool>(
     asked: u32,
