@@ -12,7 +12,7 @@ each_more f a (suc n) =
     ∙ sym (append_assoc (f a) (flat_map f (range_with_len (a + 1) n)) (f (a + 1 + n)))
     ∙ ap (λ k. (f a ++ flat_map f (range_with_len (a + 1) n)) ++ f k) (let e : a + 1 + n ≡ a + suc n = omega arith in e)
 
--- the texts of a range that ends one number later
+-- the texts of the numbers from `first` to t are the texts of those below t and then the text of t
 pub range_more : (f : ℕ → List ℕ) (first t : ℕ) → first ≤ t
     → flat_map f (range_with_len first (t + 1 - first)) ≡ flat_map f (range_with_len first (t - first)) ++ f t
 range_more f first t from =
@@ -20,12 +20,12 @@ range_more f first t from =
     ∙ each_more f first (t - first)
     ∙ ap (λ k. flat_map f (range_with_len first (t - first)) ++ f k) (let e : first + (t - first) ≡ t = omega (arith, from) in e)
 
--- eleven parts, joined
+-- eleven joined texts are the concatenation of their list
 eleven : (a b c d e f g h i j k : List ℕ) → ((a ++ (b ++ (c ++ (d ++ (e ++ (f ++ (g ++ (h ++ i)))))))) ++ j) ++ k
     ≡ concat (a ∷ b ∷ c ∷ d ∷ e ∷ f ∷ g ∷ h ∷ i ∷ j ∷ k ∷ [])
 eleven a b c d e f g h i j k = simp (append_assoc, append-nil)
 
--- a row has these parts
+-- these parts, joined, are the row of a tenant
 pub row_is : (orders line t refused refused' : ℕ) (figures figures' : Figures) → figures ≡ figures' → refused ≡ refused'
     → ((decimal line ++ (codes "," ++ (decimal t ++ (codes "," ++ (decimal figures.held ++ (codes "," ++ (decimal figures.taken
     ++ (codes "," ++ decimal refused)))))))) ++ flat_map free_cell (take orders figures.free)) ++ codes "\n"

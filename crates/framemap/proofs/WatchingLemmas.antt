@@ -16,7 +16,7 @@ use Rattle.replay_core.proofs.RunLemmas.{events_more}
 use Rattle.framemap.specs.declared.watched.Watched.{Watched}
 use Rattle.framemap.specs.Watching.{watches, HasWatched}
 
--- a request at the front of the rest is counted
+-- if the request at the front of the rest was counted as an event and a line, all lines up to it were counted
 pub request_counted : (s mid s' : Watched × KernelContent) (bytes rest : List ℕ) (known : Option (List ℕ)) (tenant : ℕ) (command : Command) (len : ℕ)
     → ReadsAs rest tenant command len → HasGone watches s bytes rest known known mid → s'.0.events ≡ mid.0.events + 1
     → (line_count mid.0.history + 1 < 2 ^ 32 → line_count s'.0.history ≡ line_count mid.0.history + 1)
@@ -31,7 +31,7 @@ request_counted s mid s' bytes rest known tenant command len read gone events li
       whole = refl;
     })
 
--- one more line ..
+-- if the lines `xs` were counted, and then one more line, all of them were counted
 one_watched : (old : Watched) (xs : List (List ℕ)) (line taken here : List ℕ) (s s' : Watched × KernelContent) → HasWatched xs old s.0 → watches s line here [] s'
     → HasWatched (xs ++ line ∷ []) old s'.0
 one_watched old xs line taken here s s' sofar did =
@@ -48,7 +48,7 @@ one_watched old xs line taken here s s' sofar did =
           omega (arith, length_more, before, did.lines (omega (arith, length_more, before, below)));
     }
 
--- .. and all of them
+-- if lines were processed one after another, they were counted
 pub have_watched : (old : Watched) (before : KernelContent) (lines : List (List ℕ)) (taken : List ℕ) (s : Watched × KernelContent)
     → HaveRun watches (old, before) lines taken s → HasWatched lines old s.0
 have_watched old before lines taken s ran =

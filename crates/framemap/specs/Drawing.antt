@@ -9,7 +9,7 @@ use Rattle.framemap.specs.declared.run.TheConstants.{LABEL_GAP}
 use Rattle.framemap.specs.declared.settings.Settings.{Settings}
 use Rattle.framemap.specs.Tables.{table_text}
 
--- the tenants that are drawn, the requested one or all: the first, and the number above the last one's
+-- the number of the first tenant that is drawn, and the number of the last one plus 1; the requested tenant is drawn, or all are
 abbrev pub first_drawn : Option ℕ → ℕ
 first_drawn None = 0
 first_drawn (Some t) = t
@@ -18,7 +18,7 @@ abbrev pub end_drawn : ℕ → Option ℕ → ℕ
 end_drawn tenants None = tenants
 end_drawn tenants (Some t) = t + 1
 
--- the picture is one of the requested tenants, with the requested number of columns
+-- the picture is of the requested tenants, and has cells for the requested number of columns
 pub record IsRequestedPicture (settings : Settings) (picture : Picture) : Type 0 where
   pub first : first_tenant picture ≡ first_drawn settings.machine.only
   pub end : end_of_tenants picture ≡ end_drawn settings.machine.config.tenants settings.machine.only
@@ -31,7 +31,7 @@ IsDrawnText settings history picture text = MatchBool settings.figures
     (text ≡ table_text history (first_drawn settings.machine.only) (end_drawn (tenants_of history) settings.machine.only))
     ((name : Option (List ℕ)) × IsPictureOf picture history name text)
 
--- the text shows a history of all lines of a trace, if its bytes are known
+-- the text shows a history; if the bytes of the trace are known, the history has all its lines
 pub record IsDrawing (settings : Settings) (known : Option (List ℕ)) (text : List ℕ) : Type 0 where
   pub history : History
   pub picture : Picture

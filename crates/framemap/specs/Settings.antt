@@ -12,7 +12,7 @@ use Rattle.command_line.specs.declared.outcome.Outcome.{Outcome}
 use Rattle.framemap.specs.declared.settings.Settings.{Settings}
 use Rattle.framemap.specs.declared.settings.TheConstants.{DEFAULT_COLUMNS}
 
--- at most as many columns as the text says, or the default if it says no number; at least 1 and at most MOST_COLUMNS
+-- the number of columns is the number in the text, or the default if there is none, limited to the range from 1 to MOST_COLUMNS
 pub record AreColumns (text : Option Text) (columns : ℕ) : Type 0 where
   pub written : Option ℕ
   pub read : MayWrite text written

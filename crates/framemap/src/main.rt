@@ -71,8 +71,8 @@ fn read_command_line(rt: &(impl Env + AllocGlobal)) -> Result<Settings, Outcome>
     read_words(rt.alloc(), texts.as_slice())
 }
 
-/// Runs the trace of a reader, and writes to standard output. A trace that could not be opened, for any reason, is unreadable. A
-/// trace may have any number of bytes; only the number of its lines is limited.
+/// Runs the trace of a reader, and writes its picture or its figures to standard output. A trace that could not be opened, for
+/// any reason, is unreadable. A trace may have any number of bytes; only the number of its lines is limited.
 fn run_opened<R: Read + Drop>(
     rt: &(impl Print + AllocGlobal),
     settings: &Settings,
@@ -97,7 +97,7 @@ fn run_opened<R: Read + Drop>(
     }
 }
 
-/// Runs the trace of a reader, and writes to standard output.
+/// Runs the trace of a reader, and writes its picture or its figures to standard output.
 fn run_read<R: Read + Drop>(
     rt: &(impl Print + AllocGlobal),
     settings: &Settings,

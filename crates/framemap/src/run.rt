@@ -38,13 +38,13 @@ impl Drawn {
         Drawn { outcome, events: 0 }
     }
 
-    /// Returns whether the picture is done and the trace had no event.
+    /// Returns whether the picture or table was written and the trace had no event.
     pub fn is_of_nothing(&self) -> bool {
         matches!(self.outcome, Outcome::Done) && self.events == 0
     }
 }
 
-/// The distance in pixels by which the word below the lowest number of the axis is moved down, so that the two do not overlap.
+/// The distance in pixels by which the word `refused` is moved down, so that it does not overlap the lowest number of the axis.
 const LABEL_GAP: u32 = 4;
 
 /// Runs a trace on a new machine with these settings, and draws its frames over the lines. If the trace cannot be read to its
@@ -127,7 +127,7 @@ fn watch<F: Feed + Drop>(
 {
     let mut limited = LineLimit::new(feed, LINES_ABOVE);
     let mut unheard = WriterDrain::new(io::sink());
-    // There are at most as many events as bytes.
+    // For the proof: there are at most as many events as bytes.
     let _most = limited.room();
     do_lines(kernel, watched, &mut limited, &mut unheard)?;
     watched.history.end(kernel);

@@ -1,4 +1,4 @@
-//! The command line.
+//! Reads the command line.
 
 ghost use Rattle.std.specs.Prelude.{◌≡◌, IfErr, IfOk, map};
 ghost use Rattle.clap.specs.Words.{app_of};

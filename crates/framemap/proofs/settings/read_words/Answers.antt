@@ -18,7 +18,7 @@ returns-clause-asked c =
     asks_rows found (matches_of map_command_line words) _ rows
     (record { machine = record { sizes = c.in_ok-found.ensures.asked.sizes; only = c.in_ok-found.ensures.asked.only }; columns = columns; figures = figures; file = c.in_ok-path_of.ensures.path })
 
--- an error that `?` passes on
+-- if a result has the error e, and Q holds for e, then Q holds for the error of the result
 passed : (r : Result Settings Outcome) (e : Outcome) (Q : Outcome → Type 0) → IsErrAnd r (λ o. o ≡ e) → Q e → IfErr r Q
 passed (Ok settings) e Q is fact = tt
 passed (Err outcome) e Q is fact = subst Q (sym is) fact
