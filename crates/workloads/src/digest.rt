@@ -6,13 +6,13 @@ use std::io::{self, Write};
 #[derive(Debug, Drop)]
 pub struct Digest {
     sum: u64,
-    /// The last bytes, up to seven, the first of them lowest, and how many they are.
+    /// The last bytes, at most seven, with the first one in the highest bits; and the number of these bytes.
     tail: u64,
     count: u32,
 }
 
 impl Digest {
-    /// Of nothing.
+    /// Returns the digest of nothing.
     pub fn new() -> Digest {
         Digest {
             sum: 0,
@@ -21,7 +21,7 @@ impl Digest {
         }
     }
 
-    /// A number comes.
+    /// Adds a number.
     #[inline(always)]
     pub fn add(&mut self, number: u64) {
         self.sum = (self.sum ^ number)
@@ -29,7 +29,7 @@ impl Digest {
             .rotate_left(29);
     }
 
-    /// What it comes to.
+    /// Returns the value of the digest.
     pub fn value(&self) -> u64 {
         let tail = self.tail.wrapping_add(u64::from(self.count));
         (self.sum ^ tail)
@@ -37,7 +37,7 @@ impl Digest {
             .rotate_left(29)
     }
 
-    /// A byte comes.
+    /// Adds a byte.
     fn add_byte(&mut self, byte: u8) {
         self.tail = (self.tail << 8) | u64::from(byte);
         self.count = self.count.wrapping_add(1) % 8;
@@ -47,7 +47,7 @@ impl Digest {
         }
     }
 
-    /// Bytes come.
+    /// Adds bytes.
     pub fn add_bytes(&mut self, bytes: &[u8]) {
         let front = ((8 - self.count as usize % 8) % 8).min(bytes.len());
         for byte in &bytes[..front] {

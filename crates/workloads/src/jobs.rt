@@ -1,4 +1,4 @@
-//! The jobs that users wait for, each on traces of its own.
+//! The jobs that users wait for, each on its own traces.
 
 ghost use Rattle.replay_core.specs.Standing.{IsRunnable};
 
@@ -20,31 +20,31 @@ use std::alloc::{AllocError, Global};
 use std::io::{BufWriter, Read, Write};
 use words_core::{Answer, Event, LineFault, Refusal};
 
-/// Room for a line of a trace, on the average.
+/// The capacity of a trace in bytes, for each of its lines.
 const LINE_BYTES: usize = 32;
 
-/// The bytes that a drain holds back.
+/// The size of a drain's buffer in bytes.
 const BUFFER_BYTES: usize = 65_536;
 
-/// How many columns a picture has.
+/// The largest number of columns of a picture.
 const COLUMNS: u32 = 600;
 
-/// What is done with a trace.
+/// What is done with each trace.
 #[derive(Clone, Copy, Debug, PartialEq, Eq)]
 pub enum Job {
-    /// It is replayed, once for all and once for one tenant.
+    /// The trace is replayed, once for all tenants and once for one.
     Replay,
-    /// The own list of a tenant is kept.
+    /// A tenant's own list of the trace is written.
     Own,
-    /// It is replayed, and its faults and refusals are noted.
+    /// The trace is replayed, and its faults and refusals are noted.
     Tally,
-    /// The replies to it are checked, and then once more with one byte of them turned.
+    /// The replies to the trace are checked, and then checked again with one bit changed.
     Check,
-    /// It is drawn.
+    /// The picture of the trace is drawn.
     Picture,
 }
 
-/// A job on a load: so many traces, each of so many lines.
+/// A job on a load, with the number of traces and the number of lines in each.
 #[derive(Clone, Copy, Debug)]
 pub struct Work {
     pub job: Job,
@@ -54,7 +54,7 @@ pub struct Work {
 }
 
 impl Work {
-    /// A job on a load.
+    /// Returns the work with these values.
     const fn of(job: Job, load: Load, traces: u32, lines: u32) -> Work {
         Work {
             job,
@@ -65,7 +65,7 @@ impl Work {
     }
 }
 
-/// The works of a workload of this name.
+/// Returns the works of the workload with this name, or none if the name is unknown.
 pub fn works_of(alloc: Global, name: &str) -> Result<Vec<Work>, AllocError> {
     let mut works = Vec::new(alloc);
     let loads = [
@@ -111,7 +111,7 @@ pub fn works_of(alloc: Global, name: &str) -> Result<Vec<Work>, AllocError> {
     Ok(works)
 }
 
-/// Does a work with traces of this seed, and adds all that comes out to the digest.
+/// Does a work on traces that are made from this seed, and adds all results to the digest.
 pub fn run(alloc: Global, work: &Work, seed: u64, digest: &mut Digest) -> Result<(), AllocError> {
     for trace in 0..work.traces {
         let own_seed = seed.wrapping_mul(1000).wrapping_add(u64::from(trace));
@@ -135,12 +135,13 @@ pub fn run(alloc: Global, work: &Work, seed: u64, digest: &mut Digest) -> Result
     Ok(())
 }
 
-/// A new machine.
+/// Boots a new machine.
 fn booted(alloc: Global, config: Config) -> Result<Kernel, AllocError> {
     Kernel::boot(alloc, config).map_err(|_| AllocError)
 }
 
-/// Replays the trace of a reader into a writer, for one tenant or for all, and returns a number that depends on how it went.
+/// Replays the trace of a reader into a writer, for one tenant or for all. Returns a number that depends on the counts and the
+/// errors.
 fn replay_between<R: Read + Drop, W: Write + Drop, N: Notes>(
     alloc: Global,
     config: Config,
@@ -181,7 +182,7 @@ fn replay_between<R: Read + Drop, W: Write + Drop, N: Notes>(
     )
 }
 
-/// Writes a tenant's own list of the trace of a reader, and answers whether all was done.
+/// Writes a tenant's own list of the trace of a reader. Returns true if nothing failed.
 fn keep_between<R: Read + Drop, W: Write + Drop>(
     alloc: Global,
     config: Config,
@@ -202,7 +203,7 @@ fn keep_between<R: Read + Drop, W: Write + Drop>(
     Ok(kept.is_ok() && flushed)
 }
 
-/// Replays a trace, for one tenant or for all.
+/// Replays a trace, for one tenant or for all, and adds the replies to the digest.
 fn replay_all(
     alloc: Global,
     config: Config,
@@ -215,7 +216,7 @@ fn replay_all(
     Ok(())
 }
 
-/// Replays a trace, and notes its faulty lines and the refusals.
+/// Replays a trace, and adds the replies and the notes of its faults and refusals to the digest.
 fn replay_and_note(
     alloc: Global,
     config: Config,
@@ -236,7 +237,7 @@ fn replay_and_note(
     Ok(())
 }
 
-/// Keeps the own list of a tenant.
+/// Adds a tenant's own list of a trace to the digest.
 fn keep_own(
     alloc: Global,
     config: Config,
@@ -249,7 +250,7 @@ fn keep_own(
     Ok(())
 }
 
-/// Checks the replies to a trace, and then once more with a byte of their last quarter turned.
+/// Checks the replies to a trace, and then checks them again with one bit in their last quarter changed.
 fn check_both(
     alloc: Global,
     config: Config,
@@ -274,7 +275,7 @@ fn check_both(
     Ok(())
 }
 
-/// A number that hangs on what is found.
+/// Checks replies. Returns a number that depends on what is found.
 fn checked(alloc: Global, config: Config, trace: &[u8], replies: &[u8]) -> Result<u64, AllocError> {
     if !config.is_bootable() {
         return Ok(0);
@@ -303,12 +304,12 @@ fn checked(alloc: Global, config: Config, trace: &[u8], replies: &[u8]) -> Resul
     }
 }
 
-/// A count, or 0 if it is greater than any of a trace.
+/// Returns a count, or 0 if it does not fit into 64 bits.
 fn low(count: u128) -> u64 {
     u64::try_from(count).unwrap_or(0)
 }
 
-/// Draws what becomes of the frames.
+/// Runs a trace, and adds its picture to the digest.
 fn draw(
     alloc: Global,
     config: Config,
@@ -328,7 +329,7 @@ fn draw(
     Ok(())
 }
 
-/// Writes the picture, and answers whether it was written.
+/// Adds a picture to the digest. Returns true if it was written.
 fn draw_into(alloc: Global, history: &History, picture: &mut Picture, digest: &mut Digest) -> bool {
     let Ok(mut writer) = BufWriter::with_capacity(alloc, BUFFER_BYTES, digest) else {
         return false;
@@ -336,7 +337,7 @@ fn draw_into(alloc: Global, history: &History, picture: &mut Picture, digest: &m
     picture.draw(history, Some("trace"), &mut writer).is_ok()
 }
 
-/// Runs a line, as `framemap` does, and keeps what the machine is like after it.
+/// Runs a line, as `framemap` does, and adds the state of the machine after it to the history.
 fn watch_line(reading: Result<Option<Event>, LineFault>, kernel: &mut Kernel, history: &mut History)
     requires { IsRunnable reading }
 {

@@ -1,4 +1,4 @@
-//! Loads: what the tenants of a machine ask for, and how often.
+//! Loads: what the tenants of a machine request, and how often.
 
 use kernel_core::Config;
 
@@ -11,35 +11,35 @@ pub enum Kind {
     Give,
     Read,
     Write,
-    /// A cache more, of any size.
+    /// A new cache of any size.
     Cache,
-    /// A cache less, if it has no live object.
+    /// A destroy of any cache. It is refused if there is no cache with this number, or if the cache has a live object.
     Destroy,
     Reap,
     Report,
     Move,
     TakeBack,
-    /// A tenant begins again: it is reset, is granted as many superblocks, and makes its caches.
+    /// A tenant begins again: it is reset, gets as many superblocks as at the start, and makes its caches.
     Reset,
     Pool,
-    /// No command.
+    /// A line that is no command.
     Odd,
 }
 
-/// What the tenants of a machine ask for.
+/// What the tenants of a machine request.
 #[derive(Clone, Copy, Debug)]
 pub struct Load {
     pub config: Config,
-    /// How many superblocks are granted at the start, to the tenants in turn.
+    /// The number of superblocks that are granted at the start, to the tenants in turn.
     pub granted: u32,
-    /// The bytes of the objects of the caches that each tenant makes at the start.
+    /// The sizes of the objects of each tenant's caches at the start, in bytes.
     pub sizes: &'static [u32],
-    /// The orders of the blocks, each as often as it stands here.
+    /// The orders of blocks. Each block gets the order of a random entry, so an order with more entries is more frequent.
     pub orders: &'static [u32],
-    /// A tenant that has so many blocks or objects gives one back before it gets another.
+    /// A tenant that has this many blocks or objects gives one back before it gets another.
     pub most_blocks: usize,
     pub most_objects: usize,
-    /// How many of so many lines are of which kind.
+    /// Each kind of line with its weight. A kind is chosen as often as its weight says, relative to the sum of all weights.
     pub kinds: &'static [(Kind, u32)],
 }
 
@@ -57,7 +57,7 @@ const WIDE: Config = Config {
     tenants: 3,
 };
 
-/// The same with as many tenants as there may be.
+/// A machine of 256 MiB with the largest number of tenants.
 const CROWDED_MACHINE: Config = Config {
     order: 8,
     superblocks: 256,
@@ -141,7 +141,7 @@ pub const BYTES: Load = Load {
     ],
 };
 
-/// All commands, with lines that are none.
+/// All commands, and lines that are no commands.
 pub const MIXED: Load = Load {
     config: SMALL,
     granted: 30,
@@ -167,7 +167,8 @@ pub const MIXED: Load = Load {
     ],
 };
 
-/// Nearly full: much is refused, empty slabs are given back by need, and the administrator moves, resets and looks.
+/// A machine that is nearly full. Many requests are refused, empty slabs are freed on demand, and the administrator moves
+/// superblocks, resets tenants and requests the table of owners.
 pub const CROWDED: Load = Load {
     config: CROWDED_MACHINE,
     granted: 252,

@@ -1,9 +1,9 @@
-//! The benchmark: does the jobs that users wait for, on traces that it makes from a seed, and prints a digest of all that came out.
+//! The benchmark: does the jobs that users wait for, on traces that it makes from a seed, and prints a digest of all results.
 //!
 //! `workloads NAME SEED [PART]`
 //!
-//! NAME is one of `replay`, `own`, `tally`, `check`, `picture` and `crowded`, or `all`; SEED is a number below 2^32. With PART each
-//! trace has one line where it had PART.
+//! NAME is one of `replay`, `own`, `tally`, `check`, `picture` and `crowded`, or `all`; SEED is a number below 2^32. With PART,
+//! the number of lines of each trace is divided by PART.
 #![tactic(auto)]
 
 ghost use Rattle.std.specs.Prelude.{◌<◌};
@@ -21,7 +21,7 @@ use std::process::ExitCode;
 use std::rt::Env;
 use std::{env, io};
 
-/// All workloads.
+/// The names of all workloads.
 const NAMES: [&str; 6] = ["replay", "own", "tally", "check", "picture", "crowded"];
 
 fn main(rt: HostRuntime) -> ExitCode {
@@ -40,7 +40,7 @@ fn main(rt: HostRuntime) -> ExitCode {
     }
 }
 
-/// Does what the words ask for, and answers whether they ask for something.
+/// Runs the workloads that the words request. Returns false if they name no workload or have no valid seed.
 fn run_words(rt: &(impl Env + Print + AllocGlobal)) -> io::Result<bool> {
     let mut words = env::args(rt)?;
     let _program = words.next();

@@ -1,5 +1,5 @@
-//! Traces that do something in every line: each command is asked of a kernel while the trace is made, and what it answers, frames
-//! and places, is what later lines name.
+//! Makes traces whose lines name blocks and objects that the tenants hold. While a trace is made, a kernel runs each command, and
+//! later lines name the frames and places in its answers.
 
 ghost use Rattle.std.specs.Prelude.{◌≡◌, ◌<◌, MatchOption};
 ghost use Rattle.words_core.specs.Requests.{IsAskable};
@@ -12,7 +12,7 @@ use kernel_core::Kernel;
 use std::alloc::{AllocError, Global};
 use words_core::{AdminCommand, Answer, Body, CACHES, Request};
 
-/// Lines that are no commands; a tenant's number stands before each.
+/// The ends of lines that are no commands. A tenant's number comes before each.
 const ODD_LINES: [&[u8]; 8] = [
     b" frobnicate 1\n",
     b" alloc\n",
@@ -27,15 +27,15 @@ const ODD_LINES: [&[u8]; 8] = [
 /// Patterns of new caches.
 static PATTERN: [u8; 16] = *b"\xa5\x5a\x01\xfe\xa5\x5a\x02\xfd\xa5\x5a\x03\xfc\xa5\x5a\x04\xfb";
 
-/// What a tenant holds, as it was told.
+/// What a tenant holds, according to the answers.
 #[derive(Debug, Drop)]
 struct Tenant {
     /// The first frames of its blocks.
     blocks: Vec<u32>,
     objects: Vec<Object>,
-    /// By cache, the bytes of an object.
+    /// The size of the objects of each cache, in bytes.
     sizes: [u32; CACHES],
-    /// How many superblocks it was granted at the start.
+    /// The number of superblocks that it was granted at the start.
     slots: u32,
 }
 
@@ -46,7 +46,7 @@ struct Object {
     size: u32,
 }
 
-/// What a command was answered.
+/// What a maker uses of an answer.
 #[derive(Clone, Copy)]
 enum Told {
     Frame(u32),
@@ -56,27 +56,27 @@ enum Told {
     Refused,
 }
 
-/// Makes a trace of a load.
+/// A maker of a trace for a load.
 #[derive(Debug, Drop)]
 pub struct Maker {
     load: Load,
     kernel: Kernel,
     numbers: Numbers,
-    /// The kinds of lines, each as often as it is to come.
+    /// The kinds of lines, each with as many entries as its weight.
     kinds: Vec<Kind>,
     tenants: Vec<Tenant>,
-    /// What the tenants store.
+    /// The bytes that tenants store.
     bytes: [u8; 64],
-    /// The line that is written.
+    /// The line that is being written.
     line: Line,
     pub trace: Vec<u8>,
-    /// Of all answers.
+    /// The digest of all answers.
     pub digest: Digest,
 }
 
 impl Maker {
-    /// A new machine of the load, with the lines that grant its superblocks and make its caches. The trace has room for so many
-    /// bytes.
+    /// Boots a machine of the load, and begins the trace with the lines that grant superblocks and make caches. The trace has a
+    /// capacity of `room` bytes. Fails if memory runs out.
     pub fn new(alloc: Global, load: Load, seed: u64, room: usize) -> Result<Maker, AllocError> {
         let Ok(kernel) = Kernel::boot(alloc, load.config) else {
             return Err(AllocError);
@@ -111,7 +111,7 @@ impl Maker {
         Ok(maker)
     }
 
-    /// The superblocks are shared out in turn, and each tenant makes its caches.
+    /// Adds the lines that grant superblocks to the tenants in turn, and the lines that make each tenant's caches.
     fn begin(&mut self) -> Result<(), AllocError> {
         let tenants = self.load.config.tenants.max(1);
         for superblock in 0..self.load.granted {
@@ -127,7 +127,7 @@ impl Maker {
         Ok(())
     }
 
-    /// Puts so many lines more behind the trace; a tenant that begins again makes some beside.
+    /// Adds this many random lines to the trace. A reset, and a take-back that succeeds, add further lines.
     pub fn make(&mut self, lines: u32) -> Result<(), AllocError> {
         let tenants = self.load.config.tenants.max(1);
         let kinds = u32::try_from(self.kinds.len()).unwrap_or(0);
@@ -142,7 +142,7 @@ impl Maker {
         Ok(())
     }
 
-    /// A line of this kind.
+    /// Adds a line of this kind, and for some kinds further lines.
     fn make_line(&mut self, t: u32, kind: Kind) -> Result<(), AllocError> {
         match kind {
             Kind::Alloc => self.alloc(t),
@@ -167,13 +167,13 @@ impl Maker {
         }
     }
 
-    /// Puts the line that was written behind the trace.
+    /// Appends the written line to the trace.
     #[inline(always)]
     fn put_line(&mut self) -> Result<(), AllocError> {
         self.trace.extend_from_slice(self.line.text())
     }
 
-    /// Asks the kernel, and puts the line behind the trace.
+    /// Appends the line of a request to the trace, and runs the request.
     fn ask(&mut self, t: u32, request: Request<'_>) -> Result<Told, AllocError>
         requires { IsAskable request }
     {
@@ -193,7 +193,7 @@ impl Maker {
         Ok(told)
     }
 
-    /// A block, of any order of the load; if the tenant has too many, one of them is given back.
+    /// Adds an `alloc` of an order of the load. If the tenant has the largest number of blocks, adds a `free` instead.
     fn alloc(&mut self, t: u32) -> Result<(), AllocError> {
         let most = self.load.most_blocks;
         if self
@@ -213,7 +213,7 @@ impl Maker {
         Ok(())
     }
 
-    /// A block is given back: any may be the one. If there is none, a frame that begins none is named.
+    /// Adds a `free` of any of the tenant's blocks, or of a random frame if it has no block.
     fn free(&mut self, t: u32) -> Result<(), AllocError> {
         let draw = self.numbers.next();
         let mut frame = (draw >> 48) as u32;
@@ -226,7 +226,7 @@ impl Maker {
         Ok(())
     }
 
-    /// An object of any cache; if the tenant has too many, one of them is given back.
+    /// Adds a `take` from any cache of the load. If the tenant has the largest number of objects, adds a `give` instead.
     fn take(&mut self, t: u32) -> Result<(), AllocError> {
         let most = self.load.most_objects;
         if self
@@ -245,7 +245,7 @@ impl Maker {
         Ok(())
     }
 
-    /// An object is given back: any may be the one. If there is none, a place is named where none begins.
+    /// Adds a `give` of any of the tenant's objects, or of a random place if it has no object.
     fn give(&mut self, t: u32) -> Result<(), AllocError> {
         let draw = self.numbers.next();
         let mut object = Object {
@@ -263,7 +263,8 @@ impl Maker {
         Ok(())
     }
 
-    /// A place that the tenant holds, and how many bytes from there on.
+    /// Returns a place in a block or an object of the tenant, and the number of bytes to use from there on, at most 64. If none
+    /// is found, returns place 0 and 64 bytes.
     fn some_room(&mut self, t: u32) -> (u32, u32) {
         let draw = self.numbers.next();
         let Some(tenant) = self.tenants.get(t as usize) else {
@@ -285,7 +286,7 @@ impl Maker {
         }
     }
 
-    /// 1 to 64 bytes are read, as often as not the most or the fewest.
+    /// Adds a `read` of 1 to 64 bytes.
     fn read(&mut self, t: u32) -> Result<(), AllocError> {
         let (place, room) = self.some_room(t);
         let len = self.some_count(room);
@@ -293,7 +294,7 @@ impl Maker {
         Ok(())
     }
 
-    /// 1 to 64 bytes are stored.
+    /// Adds a `write` of 1 to 64 bytes.
     fn write(&mut self, t: u32) -> Result<(), AllocError> {
         let (place, room) = self.some_room(t);
         let len = self.some_count(room);
@@ -312,7 +313,8 @@ impl Maker {
         Ok(())
     }
 
-    /// How many bytes of so many.
+    /// Returns a number of bytes up to `room`: in a third of all calls 1, in a third `room`, and otherwise any number from 1 to
+    /// `room`.
     fn some_count(&mut self, room: u32) -> u32 {
         let room = room.max(1);
         match self.numbers.below(3) {
@@ -322,7 +324,7 @@ impl Maker {
         }
     }
 
-    /// The caches that each tenant makes at the start.
+    /// Adds the lines that make the caches which a tenant has at the start.
     fn make_caches(&mut self, t: u32) -> Result<(), AllocError> {
         for size in self.load.sizes {
             self.cache(t, *size, 8)?;
@@ -381,7 +383,7 @@ impl Maker {
         Ok(())
     }
 
-    /// A line of the administrator, or those by which a tenant begins again.
+    /// Adds a line of the administrator, or all lines of a tenant that begins again.
     fn administer_some(&mut self, t: u32, kind: Kind) -> Result<(), AllocError> {
         let slots = self.tenants.get(t as usize).map_or(1, |it| it.slots.max(1));
         let slot = self.numbers.below(slots);
@@ -409,7 +411,7 @@ impl Maker {
         }
     }
 
-    /// Runs a command of the administrator, and answers whether it was done.
+    /// Runs a command of the administrator. Returns true if it was not refused.
     fn administer(&mut self, command: &AdminCommand) -> bool {
         match self.kernel.administer(command) {
             Some(answer) => {
@@ -441,14 +443,14 @@ impl Maker {
     }
 }
 
-/// How many numbers there are, or 1.
+/// Returns the number of elements, or 1 if there are none.
 fn count_of(numbers: &[u32]) -> u32
     ensures { 0 < result }
 {
     u32::try_from(numbers.len()).unwrap_or(1).max(1)
 }
 
-/// One of so many, if there are some.
+/// Returns an index below `count`, chosen by `draw`, or `None` if `count` is 0.
 #[inline(always)]
 fn chosen(draw: u64, count: usize) -> Option<usize>
     ensures { MatchOption result (count ≡ 0) (λ at. at < count) }
@@ -461,7 +463,7 @@ fn chosen(draw: u64, count: usize) -> Option<usize>
     Some(at.min(count - 1))
 }
 
-/// What a maker has to know of an answer.
+/// Returns what a maker uses of an answer.
 fn told_by(answer: &Answer<'_>) -> Told {
     match answer {
         Answer::Frame(frame) => Told::Frame(*frame),
@@ -472,7 +474,7 @@ fn told_by(answer: &Answer<'_>) -> Told {
     }
 }
 
-/// A number for what was told.
+/// Returns the number that the digest gets for an answer.
 fn number_of(told: Told) -> u64 {
     match told {
         Told::Frame(frame) => u64::from(frame),

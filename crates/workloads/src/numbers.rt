@@ -1,18 +1,18 @@
-//! Numbers that look random, the same for the same seed.
+//! Pseudorandom numbers. Equal seeds give equal numbers.
 
 ghost use Rattle.std.specs.Prelude.{◌<◌};
 
-/// The upper bits of a xorshift generator (Marsaglia, Journal of Statistical Software 8, 2003).
+/// A xorshift generator (Marsaglia, Journal of Statistical Software 8, 2003). Numbers below a limit come from its upper 32 bits.
 #[derive(Debug, Drop)]
 pub struct Numbers(u64);
 
 impl Numbers {
-    /// A generator for each seed.
+    /// Returns the generator with this seed.
     pub fn new(seed: u64) -> Numbers {
         Numbers(seed.wrapping_add(1).wrapping_mul(0x9e37_79b9_7f4a_7c15) | 1)
     }
 
-    /// The next number.
+    /// Returns the next number.
     #[inline(always)]
     pub fn next(&mut self) -> u64 {
         self.0 ^= self.0 << 13;
@@ -21,7 +21,7 @@ impl Numbers {
         self.0
     }
 
-    /// The next number, below `n`.
+    /// Returns the next number, which is below `n`.
     #[inline(always)]
     pub fn below(&mut self, n: u32) -> u32
         requires { 0 < n }

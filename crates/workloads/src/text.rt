@@ -1,11 +1,11 @@
-//! The text of lines.
+//! Writes the text of lines.
 
 ghost use Rattle.std.specs.Prelude.{◌≤◌};
 ghost use Rattle.workloads.specs.declared.text.TheConstants.{ROOM};
 
 use words_core::Request;
 
-/// Room for any line.
+/// The size of the buffer of a line in bytes. It is enough for any line.
 const ROOM: usize = 192;
 
 static HEX: [u8; 16] = *b"0123456789abcdef";
@@ -19,7 +19,7 @@ pub struct Line {
 }
 
 impl Line {
-    /// With nothing in it.
+    /// Returns an empty line.
     pub fn new() -> Line {
         Line {
             bytes: [0; ROOM],
@@ -27,18 +27,18 @@ impl Line {
         }
     }
 
-    /// What was written.
+    /// Returns the bytes of the line.
     pub fn text(&self) -> &[u8] {
         &self.bytes[..self.len]
     }
 
-    /// Begins with a tenant's number.
+    /// Begins a new line with a tenant's number.
     pub fn begin(&mut self, tenant: u32) {
         self.len = 0;
         self.number(tenant);
     }
 
-    /// A byte more, if there is room.
+    /// Appends a byte, if there is space for it.
     #[inline(always)]
     fn byte(&mut self, byte: u8) {
         if self.len < ROOM {
@@ -47,7 +47,7 @@ impl Line {
         }
     }
 
-    /// A word, with the blanks that part it from others.
+    /// Appends a word, with the blanks that separate it from others.
     #[inline(always)]
     pub fn word(&mut self, word: &[u8]) {
         for byte in word {
@@ -55,7 +55,7 @@ impl Line {
         }
     }
 
-    /// A number.
+    /// Appends a number.
     #[inline(always)]
     pub fn number(&mut self, number: u32) {
         let mut digits = [b'0'; 10];
@@ -74,7 +74,7 @@ impl Line {
         }
     }
 
-    /// Bytes in hex.
+    /// Appends bytes in hex.
     fn hex(&mut self, bytes: &[u8]) {
         for byte in bytes {
             self.byte(HEX[(byte >> 4) as usize]);
@@ -82,7 +82,7 @@ impl Line {
         }
     }
 
-    /// A tenant's request.
+    /// Writes the line of a tenant's request.
     pub fn request(&mut self, tenant: u32, request: &Request<'_>) {
         self.begin(tenant);
         match request {
@@ -109,7 +109,7 @@ impl Line {
         self.byte(b'\n');
     }
 
-    /// What stands behind the tenant's number in a line of other requests.
+    /// Appends the part of a line after the tenant's number, for rare requests.
     fn rare_request(&mut self, request: &Request<'_>) {
         match request {
             Request::Read { place, len } => {
@@ -144,7 +144,7 @@ impl Line {
         }
     }
 
-    /// A line of the administrator, with its numbers.
+    /// Writes a line of the administrator, with its numbers.
     pub fn admin(&mut self, word: &[u8], numbers: &[u32]) {
         self.len = 0;
         self.word(b"admin ");
