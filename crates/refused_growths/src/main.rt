@@ -1,8 +1,8 @@
 //! Makes one call after a number of allocations, and prints its result.
 //!
 //! Standard input is a line `SPENT CALL`: first SPENT allocations are made and freed, and then the call with that name is made.
-//! If the allocation with a fixed number is refused, SPENT decides which growth of the call that is. `tests/refused-growths`
-//! tries all of them.
+//! `tests/refused-growths` lets the allocation with a fixed number fail. SPENT decides which growth of the call has this number,
+//! and the test tries all growths.
 #![tactic(auto)]
 
 use buddy_core::Buddy;
@@ -81,7 +81,7 @@ const BAD: [(u32, u32, u32); 7] = [
     (u32::MAX, u32::MAX, u32::MAX),
 ];
 
-/// Boots kernels with bad sizes. Returns the first result that is not `BadConfig`, if there is one.
+/// Boots kernels with bad sizes. Returns the first result that is not `BadConfig`, or else `BadConfig`.
 fn badly_booted(alloc: Global) -> &'static str {
     for (order, superblocks, tenants) in BAD {
         let answer = booted(
@@ -99,7 +99,7 @@ fn badly_booted(alloc: Global) -> &'static str {
     "BadConfig"
 }
 
-/// Command lines: one that is accepted, and some that are refused.
+/// Command lines: the first one is accepted, and the others are refused.
 const IN_ORDER: [&str; 9] = [
     "--order",
     "3",

@@ -2,7 +2,8 @@
 
 use std::io::{self, Write};
 
-/// A number that hangs on all numbers that were added, in their order, and on all bytes, in theirs, and not on how the bytes were cut.
+/// A number that depends on the added numbers, in their order, and on the added bytes, in theirs, but not on how the bytes were
+/// cut into pieces.
 #[derive(Debug, Drop)]
 pub struct Digest {
     sum: u64,
