@@ -43,8 +43,8 @@ fn ends_fail_at_each_call_of_long_lines(rt: HostRuntime) -> Result<(), Fail> {
     fails_at_each_call(&rt, &table, &trace, REPLIES)
 }
 
-/// Runs a trace on the machine of a table, first with a feed that fails at call 1, 2, 3 and so on, and then with such a drain.
-/// Pieces have one byte if only one tenant's lines are shown, and 20 bytes otherwise.
+/// Runs a trace on the machine of a table, first with a feed that fails at call 1, 2, 3 and so on, and then with a drain that
+/// fails at these calls. Pieces have one byte if only one tenant's lines are shown, and 20 bytes otherwise.
 fn fails_at_each_call(
     rt: &(impl AllocGlobal + Abort),
     table: &Table,
@@ -66,9 +66,9 @@ fn fails_at_each_call(
 
 /// Runs a trace with a feed and a drain that fail after these numbers of good calls. Returns true if neither failed.
 ///
-/// Checks that the pushed bytes are a beginning of the trace's output, as long as the tally says. The kernel then runs the lines
-/// after those in the tally. After a failed feed, these lines write the rest of the output; after a failed drain, the rest after
-/// the reply that was cut.
+/// Checks that the pushed bytes are a beginning of the trace's output, and as many as the tally says. Then the kernel runs the
+/// lines that the tally does not count. After a failed feed, they write the rest of the output. After a failed drain, they write
+/// what comes after the reply that was cut.
 fn is_done_after(
     rt: &(impl AllocGlobal + Abort),
     table: &Table,

@@ -133,7 +133,7 @@ fn no_calls() -> Log {
     }
 }
 
-/// Returns one line per read. After `good_reads` reads one read is interrupted, and the next one returns the line.
+/// A reader that returns one line per read. After `good_reads` reads one read is interrupted, and the next one returns the line.
 #[derive(Drop)]
 struct LineReader<'a> {
     rest: &'a [u8],
@@ -162,8 +162,8 @@ impl Read for LineReader<'_> {
     }
 }
 
-/// Takes all bytes, and counts its calls. After `good_writes` writes one write takes no byte, and after `good_flushes` flushes
-/// one flush is interrupted. The next call succeeds.
+/// A writer that takes all bytes and counts its calls. After `good_writes` writes one write takes no byte, and after
+/// `good_flushes` flushes one flush is interrupted. The next call succeeds.
 #[derive(Drop)]
 struct LogWriter<'a> {
     good_writes: u32,
@@ -337,7 +337,7 @@ const FULL: usize = 65_536;
 /// The number of bytes that are pushed, and the number that the drain holds then.
 const FILLINGS: [(usize, usize); 3] = [(FULL - 1, FULL - 1), (FULL, FULL), (FULL + 1, 1)];
 
-/// A drain is flushed without an error if its buffer is full, if one byte is free, and if one byte did not fit.
+/// A drain is flushed without an error if its buffer is full, if one byte is free, and if the last byte did not fit.
 #[test]
 fn full_buffer_is_flushed(rt: HostRuntime) -> Result<(), Fail> {
     for (len, held) in FILLINGS {

@@ -1,4 +1,4 @@
-//! The parts of a kernel, alone and as the kernel shows them: fixed values.
+//! Fixed values of the parts of a kernel, alone and as the kernel shows them.
 
 use buddy_core::Buddy;
 use kernel_core::{Config, Kernel};
@@ -28,15 +28,15 @@ fn kernel_after(alloc: Global, trace: &[u8]) -> Result<Kernel, Fail> {
     Ok(kernel)
 }
 
-/// All blocks are freed and joined.
+/// After these lines, all blocks are freed and joined.
 const JOINED: &[u8] = b"admin grant 0\n0 alloc 0\n0 alloc 1\n0 alloc 2\n0 alloc 0\n\
     0 free 0\n0 free 1\n0 free 2\n0 free 4\n";
 
-/// Frame 0 is free, but too small for the last block, which begins at frame 4.
+/// After these lines, frame 0 is free, but too small for the last block, which begins at frame 4.
 const PASSED_OVER: &[u8] = b"admin grant 0\n0 alloc 0\n0 alloc 1\n0 alloc 2\n0 alloc 0\n\
     0 free 0\n0 free 4\n0 alloc 1\n";
 
-/// Frames 2 and 3 are joined, and their buddy is split.
+/// After these lines, frames 2 and 3 are joined, and their buddy is split.
 const BESIDE_SPLIT: &[u8] = b"admin grant 0\n0 alloc 0\n0 alloc 0\n0 alloc 0\n\
     0 free 0\n0 free 2\n";
 

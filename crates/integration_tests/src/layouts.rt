@@ -1,4 +1,4 @@
-//! Layouts and patterns: fixed values.
+//! Fixed values of layouts and patterns.
 
 use layout_core::{Layout, Pattern};
 use std::process::Abort;
@@ -54,7 +54,7 @@ fn layouts_have_these_numbers(rt: HostRuntime) {
     }
 }
 
-/// Objects of 100 bytes, in a slab of the second colour.
+/// In a slab of the second colour, objects of 100 bytes are found at their offsets.
 #[test]
 fn objects_are_found(rt: HostRuntime) {
     let Ok(layout) = Layout::of(100, 8) else {

@@ -87,7 +87,7 @@ fn begins_alike(rt: &(impl AllocGlobal + Abort), trace: &[u8], output: &[u8]) ->
     Ok(())
 }
 
-/// Each prefix of the noise in each gap, and all of the noise in every gap.
+/// A tenant gets the same replies with each prefix of the noise in each gap, and with all of the noise in every gap.
 #[test]
 fn others_make_noise(rt: HostRuntime) -> Result<(), Fail> {
     for count in 0..=NOISE.len() {
@@ -98,7 +98,7 @@ fn others_make_noise(rt: HostRuntime) -> Result<(), Fail> {
     is_told_alike(&rt, &NOISE, 0, GAPS)
 }
 
-/// A refused take-back, and a move of the tenant's only slot, in each gap and in every gap.
+/// A tenant gets the same replies with a refused take-back, or a move of its only slot, in each gap and in every gap.
 #[test]
 fn administrator_is_quiet(rt: HostRuntime) -> Result<(), Fail> {
     for line in &QUIET {

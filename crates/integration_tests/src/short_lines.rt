@@ -15,12 +15,12 @@ fn window_of(line: &[u8]) -> [u8; WINDOW] {
     window
 }
 
-/// Numbers of tenants, and then other numbers.
+/// Numbers of tenants. The other numbers in a line are below.
 const TENANTS: [u32; 6] = [0, 1, 9, 10, 63, 999];
 
 const NUMBERS: [u32; 8] = [0, 1, 9, 10, 255, 4096, 12_345, 999_999_999];
 
-/// The words before a number, and those after it.
+/// The words before a number, and the words after it.
 const COMMANDS: [(&str, &str); 8] = [
     ("alloc", ""),
     ("free", ""),

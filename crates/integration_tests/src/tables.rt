@@ -25,7 +25,7 @@ pub const WIDER: Config = Config {
     ..MACHINE
 };
 
-/// A machine with the largest number of both.
+/// A machine with the largest numbers of superblocks and tenants.
 pub const WIDEST: Config = Config {
     superblocks: 256,
     tenants: 64,

@@ -1,10 +1,10 @@
-//! The greatest machine.
+//! Traces on the largest machine.
 
 use super::Row;
 
-/// On a machine of 256 superblocks and 64 tenants.
+/// Rows for a machine of 256 superblocks and 64 tenants.
 pub static ROWS: [Row; 1] = [
-    // The last tenant, and the first number that names none.
+    // The last tenant, and the first number that names no tenant.
     Row {
         trace: b"63 alloc 0\n64 alloc 0\n",
         output: b"63> refused 1 NoFrames\n!> refused 12 NoTenant\n",
