@@ -35,7 +35,7 @@ abbrev pub free_of : ℕ → ℕ → Option Column → ℕ
 free_of t k None = 0
 free_of t k (Some column) = free_in k (slice_get column.figures.items t)
 
--- the number of frames in tenant t's free blocks of order k and above in column n, or 0 if there is no such column
+-- the number of frames in tenant t's free blocks of order k and above in column n, or 0 if there is no column n
 abbrev pub free_in_column : List Column → ℕ → ℕ → ℕ → ℕ
 free_in_column columns t k n = free_of t k (slice_get columns n)
 

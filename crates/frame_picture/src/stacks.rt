@@ -31,8 +31,8 @@ pub fn most_taken(columns: &[Column], t: u8) -> u32
     most
 }
 
-/// Returns the number of tenant `t`'s frames in free blocks of this order and above, in a column. Returns 0 if there is no such
-/// column.
+/// Returns the number of tenant `t`'s frames in free blocks of this order and above, in a column. Returns 0 if there is no column
+/// with this index.
 pub fn free_at(columns: &[Column], t: u8, order: usize, column: usize) -> u64
     requires { order < ORDERS }
     ensures { result ≡ free_in_column columns.now t order column }
@@ -107,8 +107,8 @@ pub fn refused_in(columns: &[Column], t: u8, column: usize) -> u32
     refused_at(columns, t, column).saturating_sub(before)
 }
 
-/// Returns the number of requests of tenant `t` that were refused for lack of frames up to a column, or 0 if there is no such
-/// column.
+/// Returns the number of requests of tenant `t` that were refused for lack of frames up to a column. Returns 0 if there is no
+/// column with this index.
 pub fn refused_at(columns: &[Column], t: u8, column: usize) -> u32
     ensures { result ≡ refused_until columns.now t column }
 {

@@ -89,8 +89,8 @@ module _ {S : Type 0} (does : S → List ℕ → List ℕ → List ℕ → S →
     done = last.done;
   }
 
-  -- if the lines before `rest` were processed, the outcome for `rest` (the lines left, or the drain's failure) is the outcome for
-  -- all the bytes
+  -- if the lines before `rest` were processed, and then the lines of `rest` with this result, all lines were processed with this
+  -- result
   pub result_on : {A : Type 0} (r : Result A Stopped) (now_of : A → List ℕ) (s mid s' : S) (bytes rest : List ℕ) (old now new : Option (List ℕ))
       → HasGone does s bytes rest old now mid
       → MatchResult r (λ x. HasGone does mid rest (now_of x) now new s') (λ _. HasStopped does mid rest now new s')

@@ -110,7 +110,7 @@ module _ {N : Type 0} (noting : Noting N) where
       ∙ ap (λ v. noted_reading noting only limit order (number + suc (length xs)) (take 256 line) (reading_of line) v sofar)
       (sym (world_both limit order (event_in (reading_of x)) (events_of xs) w))
 
-  -- notes that are equal to the first and the last notes of the lines may take their place
+  -- `AreNoted` holds if the notes before and after the lines are replaced by equal notes
   pub noted_from : (only : Option ℕ) (before : KernelContent) (lines : List (List ℕ)) (first first' last last' : N) → first ≡ first' → last' ≡ last
       → AreNoted noting only before lines first last → AreNoted noting only before lines first' last'
   noted_from only before lines first first' last last' begun ended noted = λ w shows.

@@ -15,7 +15,8 @@ use kernel_core::Kernel;
 use streams::{Drain, Stopped};
 use words_core::{Addressee, Answer, Event, LineFault, Refusal, Reply, Request};
 
-/// Runs a line that was read as `reading`, and passes it to the sink. `front` is the line, or its beginning if it is too long.
+/// Runs a line that was read as `reading`, and passes it with its answer to the sink. `front` is the line, or its beginning if it
+/// is too long.
 pub fn answer<S: Sink, D: Drain>(
     reading: Result<Option<Event>, LineFault>,
     front: &[u8],
@@ -43,7 +44,7 @@ pub fn answer<S: Sink, D: Drain>(
     done
 }
 
-/// Runs the event of a line.
+/// Runs the event of a line, and passes the line with its answer to the sink.
 fn run_event<S: Sink, D: Drain>(
     event: &Event,
     line: &[u8],
@@ -72,7 +73,7 @@ fn run_event<S: Sink, D: Drain>(
     }
 }
 
-/// Runs the request of a line's event.
+/// Runs the request of a line's event, and passes the line with its answer to the sink.
 fn ask<S: Sink, D: Drain>(
     event: &Event,
     tenant: u32,

@@ -145,7 +145,8 @@ fn begin_piece<'a, S: Sink, D: Drain>(
 
 /// Processes the quick lines at the front of a piece and returns the rest of it. No beginning of a line may be pending.
 ///
-/// It reads lines that end in LF, and then, if the previous line ended in CR LF (`returned`), lines that end in CR LF.
+/// First, lines that end in LF are processed. Then, if the previous line ended in CR LF (`returned`), so are lines that end in CR
+/// LF.
 #[inline(always)]
 fn do_quick_lines<'a, S: Sink, D: Drain>(
     piece: &'a [u8],

@@ -41,7 +41,7 @@ pub(crate) fn note_body<N: Notes>(body: &Body, notes: &mut N)
     }
 }
 
-/// No notes.
+/// Notes that record nothing.
 #[derive(Debug, Default, Drop)]
 pub struct NoNotes;
 

@@ -27,7 +27,7 @@ impl Pending {
         }
     }
 
-    /// Returns true if no bytes were added.
+    /// Returns true if `self` has no bytes.
     pub fn is_empty(&self) -> bool
         ensures { (line : List ℕ) → HoldsLine line self.now → result ≡ (length line == 0) }
     {
