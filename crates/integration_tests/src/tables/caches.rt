@@ -3,8 +3,8 @@
 use super::Row;
 
 pub static ROWS: [Row; 9] = [
-    // Objects of one slab, then the first object of a second slab, which has another colour. The report counts both slabs as
-    // taken blocks.
+    // After the objects of one slab comes the first object of a second slab, which has another colour. The report counts both
+    // slabs as taken blocks.
     Row {
         trace: b"admin grant 0\n0 cache 200 8 a5\n0 take 0\n0 take 0\n0 take 0\n0 take 0\n\
             0 take 0\n0 take 0\n0 take 0\n0 take 0\n0 take 0\n0 take 0\n0 take 0\n0 take 0\n\
@@ -20,13 +20,13 @@ pub static ROWS: [Row; 9] = [
             0> order 1 free 1 taken 0\n0> order 2 free 1 taken 0\n0> order 3 free 0 taken 0\n\
             0> cache 0 full 1 partial 1 empty 0 live 21\n",
     },
-    // The greatest chunk whose slabs have a record after their objects, and the least chunk whose slabs have none.
+    // 504 is the greatest chunk whose slabs have a record after their objects, and 512 is the least chunk whose slabs have none.
     Row {
         trace: b"0 cache 504 8 01\n0 cache 505 8 01\n",
         output: b"0> cache 0 chunk 504 order 0 objects 8 colours 5\n\
             0> cache 1 chunk 512 order 0 objects 8 colours 1\n",
     },
-    // A slab of several frames, and the next one in another colour. Sizes are checked before alignments.
+    // A slab can have several frames, and the next slab has another colour. Sizes are checked before alignments.
     Row {
         trace: b"admin grant 0\n0 cache 3000 8 01\n0 take 0\n0 take 0\n0 take 0\n0 take 0\n\
             0 take 0\n0 take 0\n0 cache 4097 8 00\n0 cache 1 12 00\n0 cache 0 12 00\n",
@@ -76,7 +76,7 @@ pub static ROWS: [Row; 9] = [
         output: b"0> cache 0 chunk 200 order 0 objects 20 colours 9\n0> refused 1 NoFrames\n\
             admin> granted 0 slot 0 superblock 0\n0> object 0\n",
     },
-    // Layouts: the chunk, order, objects and colours for a size and an alignment.
+    // A size and an alignment decide the chunk, the order, and the numbers of objects and colours.
     Row {
         trace: b"0 cache 1 8 00\n0 cache 16 16 00\n0 cache 17 8 00\n0 cache 24 8 00\n\
             0 cache 64 8 00\n0 cache 64 64 00\n0 cache 65 64 00\n0 cache 100 8 00\n\

@@ -1,4 +1,4 @@
-//! The readings of lines: events, nothing, and faults.
+//! Lines that are events, lines that are nothing, and faulty lines.
 
 use super::Row;
 
@@ -8,8 +8,8 @@ pub static ROWS: [Row; 7] = [
         trace: b"",
         output: b"",
     },
-    // Numbers that name no tenant, unknown words, too few words, and faulty numbers and bytes. A comment and a blank line write
-    // nothing.
+    // Numbers that name no tenant are refused. Unknown words, too few words, and faulty numbers and bytes are faults. A comment
+    // and a blank line write nothing.
     Row {
         trace: b"9 alloc 0\nadmin grant 9\nfrob\n0 frob\n0\n0 alloc\n0 alloc x\n\
             0 alloc 4294967296\n00000000000 alloc 0\n0 write 0 abc\n# note\n\n",
@@ -37,8 +37,8 @@ pub static ROWS: [Row; 7] = [
         trace: b"\t00  alloc\t 0000000000 \n",
         output: b"0> refused 1 NoFrames\n",
     },
-    // The ends of each range: places, lengths, patterns and numbers. The order of tests. Bytes that are not blanks. A comment
-    // must begin its line.
+    // Places, lengths, patterns and numbers at the ends of their ranges, lines with two faults, and bytes that are not blanks. A
+    // comment must begin its line.
     Row {
         trace: b"admin grant 0\n0 alloc 3\n0 read 32767 2\n0 read 32768 1\n\
             0 write 4294967295 00\n\

@@ -8,14 +8,14 @@ pub static ROWS: [Row; 10] = [
         trace: b"admin grant 0\n0 alloc 0\n0 read 0 4\n",
         output: b"admin> granted 0 slot 0 superblock 0\n0> frame 0\n0> bytes 00000000\n",
     },
-    // An empty machine has no frames.
+    // A tenant without superblocks has no frames.
     Row {
         trace: b"0 alloc 0\n0 report\n",
         output: b"0> refused 1 NoFrames\n0> frames 0 live 0 free 0 top none split 0\n\
             0> order 0 free 0 taken 0\n0> order 1 free 0 taken 0\n0> order 2 free 0 taken 0\n\
             0> order 3 free 0 taken 0\n",
     },
-    // Splits, then exhaustion.
+    // Blocks are split until none is free. An order above a superblock's is a bad order even then.
     Row {
         trace: b"admin grant 0\n0 alloc 0\n0 alloc 1\n0 alloc 2\n0 alloc 0\n0 alloc 0\n\
             0 alloc 4\n",

@@ -21,7 +21,7 @@ pub static ROWS: [Row; 7] = [
             0> reaped 1\n0> object 8\n0> given\n0> destroyed 1\n\
             0> cache 0 chunk 200 order 0 objects 20 colours 9\n0> object 0\n",
     },
-    // A reap reports a number of frames.
+    // A reap reports the number of frames that it freed.
     Row {
         trace: b"admin grant 0\n0 cache 3000 8 01\n0 take 0\n0 give 0 0\n0 reap\n0 reap\n",
         output: b"admin> granted 0 slot 0 superblock 0\n\

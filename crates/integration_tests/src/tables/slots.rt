@@ -9,7 +9,7 @@ pub static ROWS: [Row; 10] = [
         output: b"admin> granted 1 slot 0 superblock 0\nadmin> granted 1 slot 1 superblock 1\n\
             admin> refused 13 PoolEmpty\n",
     },
-    // Each tenant counts its own frames.
+    // Each tenant numbers its own frames from 0.
     Row {
         trace: b"admin grant 1\nadmin grant 0\n0 alloc 3\n1 alloc 1\n1 alloc 1\n0 alloc 0\n",
         output: b"admin> granted 1 slot 0 superblock 0\nadmin> granted 0 slot 0 superblock 1\n\
@@ -38,7 +38,7 @@ pub static ROWS: [Row; 10] = [
             admin> taken superblock 0\nadmin> granted 0 slot 0 superblock 0\n0> frame 0\n\
             0> bytes 00\n",
     },
-    // An empty pool, the table of owners, and a reset of everything that a tenant has.
+    // If no superblock is free, a grant is refused. `admin pool` lists the owners. A reset takes everything that a tenant has.
     Row {
         trace: b"admin grant 1\nadmin grant 1\nadmin grant 0\nadmin pool\n1 alloc 3\n1 alloc 3\n\
             0 alloc 0\nadmin reset 1\n",
