@@ -18,7 +18,7 @@ factor_below a b w less = go (cases_order a b)
         let more : b * w ≤ a * w = mul-le-mul_right w le in
         absurd (omega arith)
 
--- if n columns of width w are right for l lines, and line l + 1 is a multiple of w, it is the line of column n + 1
+-- if l lines fill n columns of width w, and l + 1 is a multiple of w, line l + 1 fills column n + 1
 pub next_multiple : (n w l : ℕ) → n * w ≤ l → l < (n + 1) * w → (l + 1) % w ≡ 0 → l + 1 ≡ (n + 1) * w
 next_multiple n w l some all zero =
     let q : ℕ = (l + 1) / w in
@@ -28,7 +28,7 @@ next_multiple n w l some all zero =
     let e : q ≡ n + 1 = omega arith in
     sym is ∙ ap (λ x. x * w) e
 
--- if l lines are fewer than n + 1 widths, the width is positive
+-- if l lines do not fill n + 1 columns, the width is positive
 positive : (n w l : ℕ) → l < (n + 1) * w → 0 < w
 positive n w l all = go (cases_order 0 w)
   where
@@ -37,7 +37,7 @@ positive n w l all = go (cases_order 0 w)
     go (inr (inl pos)) = pos
     go (inr (inr below)) = absurd (omega arith)
 
--- if line l + 1 is the line of column n + 1, then half of the n columns, with twice the width, are right for l lines
+-- if line l + 1 fills column n + 1, then l lines fill n / 2 columns of twice the width
 half_reach : (n h w l : ℕ) → 0 < w → l + 1 ≡ (n + 1) * w → h ≡ n / 2 → (h * (2 * w) ≤ l) × (l < (h + 1) * (2 * w))
 half_reach n h w l pos is half = go (cases_order n (2 * h))
   where
@@ -49,7 +49,7 @@ half_reach n h w l pos is half = go (cases_order n (2 * h))
         let at : l + 1 ≡ (2 * h + 1 + 1) * w = subst (λ x. l + 1 ≡ (x + 1) * w) e is in
         (omega arith, omega arith)
 
--- if n columns of width w are right for l lines, and l is a multiple of w, line l is the line of column n
+-- if l lines fill n columns of width w, and l is a multiple of w, no line is left over
 last_multiple : (n w l : ℕ) → 0 < w → n * w ≤ l → l < (n + 1) * w → l % w ≡ 0 → l ≡ n * w
 last_multiple n w l pos some all zero =
     let q : ℕ = l / w in
@@ -59,8 +59,8 @@ last_multiple n w l pos some all zero =
     let e : q ≡ n = omega arith in
     sym is ∙ ap (λ x. x * w) e
 
--- if n columns leave some of the l lines without a column, so do half of the columns with twice the width, and one more of these
--- is enough
+-- if l lines fill n columns and more lines are left over, they also fill n / 2 columns of twice the width with lines left over,
+-- and one more column is enough for these
 half_within : (n h w l : ℕ) → n * w < l → l < (n + 1) * w → h ≡ n / 2 → (h * (2 * w) < l) × (l ≤ (h + 1) * (2 * w))
 half_within n h w l some all half = go (cases_order n (2 * h))
   where
@@ -76,7 +76,8 @@ half_within n h w l some all half = go (cases_order n (2 * h))
         let to : l < (2 * h + 1 + 1) * w = subst (λ x. l < (x + 1) * w) e all in
         (omega arith, omega arith)
 
--- if some lines have no column yet, and fewer than a width, one more column for the last line makes the columns complete
+-- if lines are left over after these columns, at most as many as a column has, one more column for the last line makes the
+-- columns complete
 completes : (columns more : List Column) (w l : ℕ) → length columns * w < l → l ≤ (length columns + 1) * w
     → ((i : ℕ) (column : Column) → slice_get columns i ≡ Some column → column.line ≡ (i + 1) * w)
     → length more ≡ length columns + 1 → ((i : ℕ) → i < length columns → slice_get more i ≡ slice_get columns i)

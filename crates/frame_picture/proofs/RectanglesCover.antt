@@ -241,7 +241,7 @@ any_after P (x ∷ xs) ys any =
     let less : later.0 < length (xs ++ ys) = later.2 in
     (suc later.0, later.1, omega arith, later.3, later.4)
 
--- no rectangle ends before one of the columns `from + 1` to `from`, since there are none
+-- there are no columns from `from + 1` to `from`, so no rectangle ends before one of them
 pub rectangles_none : (columns : List (List Tone)) (tone : Tone) (rows height from : ℕ) → AreRectangles columns tone rows height from from []
 rectangles_none columns tone rows height from = record {
   each = λ k d less. absurd (omega arith);
@@ -254,8 +254,8 @@ rows_none columns tone rows from to = record {
   all = λ end row above upto less. absurd (omega arith);
 }
 
--- the rectangles that end before the columns up to `mid`, with those that end before the columns from there up to `to`, are all
--- of them
+-- the rectangles that end before a column up to `mid`, and those that end before a later column up to `to`, are together all that
+-- end before a column up to `to`
 pub rectangles_on : (columns : List (List Tone)) (tone : Tone) (rows height from mid to : ℕ) (front back : List Rectangle) → mid ≤ to
     → AreRectangles columns tone rows height from mid front → AreRectangles columns tone rows height mid to back
     → AreRectangles columns tone rows height from to (front ++ back)
@@ -283,7 +283,7 @@ rectangles_on columns tone rows height from mid to front back le before after = 
         ahead (inl on) = inl on
         ahead (inr any) = inr (any_before (λ r. (r.row ≡ row) × (r.column + r.columns ≡ end)) front back any)
 
--- if rectangle r begins in row `height` and ends before column `end`, the rectangles below row `height + 1` are those below and r
+-- if rectangle r begins in row `height` and ends before column `end`, it is added to the rectangles of the rows below
 pub row_with : (columns : List (List Tone)) (tone : Tone) (rows height end : ℕ) (rectangles : List Rectangle) (r : Rectangle) → r.row ≡ height
     → IsRectangle (run_in columns tone rows height) (length columns) end r → AreRectangles columns tone rows height (end - 1) end rectangles
     → AreRectangles columns tone rows (height + 1) (end - 1) end (rectangles ++ r ∷ [])
@@ -325,7 +325,7 @@ row_with columns tone rows height end rectangles r top_row rectangle are = recor
     split at row above upto less (inr top) =
         inr (Any-push (λ x. (x.row ≡ row) × (x.column + x.columns ≡ at)) rectangles r (omega (arith, top_row), omega (arith, ends)))
 
--- if no rectangle begins in row `height` and ends before column `end`, the rectangles below row `height + 1` are those below
+-- if no rectangle begins in row `height` and ends before column `end`, the rectangles of the rows below do not change
 pub row_without : (columns : List (List Tone)) (tone : Tone) (rows height end : ℕ) (rectangles : List Rectangle)
     → GoesOn (run_in columns tone rows height) (length columns) end → AreRectangles columns tone rows height (end - 1) end rectangles
     → AreRectangles columns tone rows (height + 1) (end - 1) end rectangles

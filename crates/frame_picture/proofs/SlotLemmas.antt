@@ -9,7 +9,7 @@ use Rattle.frame_picture.specs.Bounds.{IsGreatest}
 use Rattle.frame_picture.specs.Slots.{IsAbove, IsSheetOf}
 use Rattle.frame_picture.proofs.Greatest.{greatest_none, greatest_both}
 
--- in a sheet that the tenant holds, the greatest slot of the tenant plus 1 is the slot of the sheet plus 1
+-- if the tenant holds a sheet, the greatest slot of the tenant in the sheet is the sheet's slot
 pub held_slot : (t : ℕ) (sheet : Sheet) (owner : Owner) → sheet.owner ≡ Some owner → owner.tenant ≡ t
     → IsGreatest (IsAbove (λ slot. IsSheetOf t slot sheet)) 0 (owner.slot + 1)
 held_slot t sheet owner is mine = record {
@@ -22,13 +22,13 @@ held_slot t sheet owner is mine = record {
   some = inr (owner.slot, is ∙ ap (λ (tenant : ℕ). Some (let o : Owner = record { tenant = tenant; slot = owner.slot } in o)) mine, refl);
 }
 
--- in a sheet that another tenant holds, the tenant has no slot
+-- if another tenant holds a sheet, the tenant has no slot in it
 pub other_slot : (t : ℕ) (sheet : Sheet) (owner : Owner) → sheet.owner ≡ Some owner → (owner.tenant ≡ t → ⊥)
     → IsGreatest (IsAbove (λ slot. IsSheetOf t slot sheet)) 0 0
 other_slot t sheet owner is other = greatest_none (IsAbove (λ slot. IsSheetOf t slot sheet)) 0
     (λ n held. other (ap (λ (o : Owner). o.tenant) (same_Some owner (record { tenant = t; slot = held.0 }) (sym is ∙ held.1))))
 
--- in a sheet that nobody holds, the tenant has no slot
+-- if nobody holds a sheet, the tenant has no slot in it
 pub no_slot : (t : ℕ) (sheet : Sheet) → sheet.owner ≡ None → IsGreatest (IsAbove (λ slot. IsSheetOf t slot sheet)) 0 0
 no_slot t sheet is = greatest_none (IsAbove (λ slot. IsSheetOf t slot sheet)) 0
     (λ n held. let none : None ≡ Some (let o : Owner = record { tenant = t; slot = held.0 } in o) = sym is ∙ held.1 in cc none)

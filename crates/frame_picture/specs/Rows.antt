@@ -29,7 +29,7 @@ abbrev pub kind_count : List FrameKind → ℕ → ℕ → ℕ
 kind_count cells frames k =
     count_by (λ cell. rank_of cell == k) cells + (if k == rank_of FrameKind.NotHeld then frames - length cells else 0)
 
--- the frames of a row: the first one, and the number above the last one
+-- the frames of a row: the number of the first one, and the number of the last one plus 1
 
 abbrev pub first_of : Grid → ℕ → ℕ
 first_of grid row = row * grid.frames_per_row

@@ -13,7 +13,7 @@ abbrev pub column_figures : ℕ → Option Column → Figures
 column_figures t None = empty_figures
 column_figures t (Some column) = slice_index_or column.figures.items t empty_figures
 
--- the figures in column n, which are empty if there is no such column
+-- the figures in column n, which are empty if there is no column n
 abbrev pub figures_in_column : List Column → ℕ → ℕ → Figures
 figures_in_column columns t n = column_figures t (slice_get columns n)
 

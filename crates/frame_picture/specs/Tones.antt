@@ -15,7 +15,7 @@ not_held = record { kind = NotHeld; quarters = 0 }
 abbrev pub is_tone : Tone → Tone → Bool
 is_tone tone cell = (rank_of cell.kind == rank_of tone.kind) && (cell.quarters == tone.quarters)
 
--- `kind` is the index of the greatest of the first `kinds` counts, or the first such index if several are greatest
+-- `kind` is the index of the greatest of the first `kinds` counts; if several are greatest, it is the first of them
 pub record IsMostCommon (kinds : ℕ) (count : ℕ → ℕ) (kind : ℕ) : Type 0 where
   pub among : kind < kinds
   pub greatest : (k : ℕ) → k < kinds → count k ≤ count kind

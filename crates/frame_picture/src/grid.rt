@@ -117,7 +117,7 @@ fn rows_up_to(frames: u32, frames_per_row: u32) -> u32
     frames.div_ceil(frames_per_row)
 }
 
-/// Returns the greatest slot that tenant `t` holds in a column plus 1, or 0 if it holds none.
+/// Returns 1 more than the greatest slot that tenant `t` holds in a column, or 0 if it holds none.
 fn slots_in(column: &Column, t: u8) -> u32
     ensures few { result ≤ 2 ^ 16 }
     ensures greatest { IsGreatest (IsAbove (λ slot. HasSlot t slot column.now)) 0 result }
@@ -129,7 +129,7 @@ fn slots_in(column: &Column, t: u8) -> u32
     slots
 }
 
-/// Returns the slot of a sheet plus 1 if tenant `t` holds it, or else 0.
+/// Returns 1 more than the slot of a sheet if tenant `t` holds it, or else 0.
 fn slots_up_to(sheet: &Sheet, t: u8) -> u32
     ensures few { result ≤ 2 ^ 16 }
     ensures greatest { IsGreatest (IsAbove (λ slot. IsSheetOf t slot sheet.now)) 0 result }
