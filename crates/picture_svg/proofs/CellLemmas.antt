@@ -59,7 +59,7 @@ quarters_are a b c e d (suc (suc zero)) less = refl
 quarters_are a b c e d (suc (suc (suc zero))) less = refl
 quarters_are a b c e d (suc (suc (suc (suc i)))) less = absurd (omega arith)
 
--- a path of the tone with the quarters and the class of shade i is a path of the tone with these quarters and their class
+-- the path for entry i of the table of shades is a path of the tone with `quarters_at i`, in the shade of these quarters
 pub tone_at : {old new : Option (List ℕ)} (columns : List (List Tone)) (rows : ℕ) (kind : FrameKind) (a b c e : Bor (List ℕ)) (d : Bor (List ℕ) × ℕ)
     (i : ℕ) → i < 4 → a.now ≡ codes " one" → b.now ≡ codes " two" → c.now ≡ codes " three" → e.now ≡ []
     → AppendsText old new (IsTonePath columns rows (record { kind = kind; quarters = (get_or ((a, 1) ∷ (b, 2) ∷ (c, 3) ∷ (e, 4) ∷ []) i d).1 })

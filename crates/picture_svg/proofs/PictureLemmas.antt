@@ -46,7 +46,7 @@ same_rows history t most a b first second =
     (subst (λ frames. IsLeastPower (λ size. div_ceil frames size ≤ most) (max frames 1) a.frames_per_row) frames first.row) second.row in
     a.all ∙ ap (λ n. div_ceil n a.frames_per_row) frames ∙ ap (div_ceil b.frames) size ∙ sym b.all
 
--- ---- grids of the tenants from one on
+-- ---- grids of the tenants from a given one on
 
 abbrev pub AreGrids : History → ℕ → ℕ → List Grid → Type 0
 AreGrids history most t [] = Unit {0}
