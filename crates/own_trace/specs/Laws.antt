@@ -14,8 +14,8 @@ KeptAreOwnList = (limit order superblocks tenants t : ℕ) (trace : List ℕ) �
     flat_map (λ run. own_list t run.exchanges) (filter (is_own_line t) (run_lines limit order (lines_of_trace trace) (opening_world superblocks tenants)))
     ≡ own_list t (opening_history limit order superblocks tenants (events_of (lines_of_trace trace)))
 
--- If the kept lines are run alone, on a new machine of the same sizes, their own list is the same. This holds if slots have at
--- least 8 frames and RAM has at most 2 ^ 32 bytes.
+-- If the kept lines are run alone, on a new machine of the same sizes, the own list there is the own list of the whole trace.
+-- This holds if slots have at least 8 frames and RAM has at most 2 ^ 32 bytes.
 abbrev pub OwnListAlone : Type 0
 OwnListAlone = (limit order superblocks tenants t : ℕ) (trace : List ℕ) → 3 ≤ order → superblocks * 2 ^ order * 4096 ≤ 2 ^ 32 → t < tenants →
     own_list t (opening_history limit order superblocks tenants (events_of (lines_of_trace (own_trace limit order superblocks tenants t trace))))
