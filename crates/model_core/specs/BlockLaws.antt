@@ -1,4 +1,4 @@
--- The laws of blocks. Each is the contract of a function of the module `block_laws`.
+-- The laws of the blocks of a buddy system. The contracts of the module `block_laws` state them.
 use Rattle.std.specs.Prelude.{◌≡◌, ◌⊎◌, ◌↔◌, ℕ, ◌+◌, ◌/◌, ◌^◌, ◌<◌, ◌≤◌, Bool, true, Some, MatchOption}
 use Rattle.model_core.specs.Blocks.{Block, block, HasFrame, IsAligned, buddy, around, slot_block, Taken, with_taken, without_taken, IsTaken, HasTaken, IsFree, IsChoice, IsWithout, IsSound}
 use Rattle.model_core.specs.Choice.{is_free, choose}
@@ -8,30 +8,31 @@ abbrev pub EachFrameInOne : Type 0
 EachFrameInOne = (top : ℕ) (held : ℕ → Bool) (taken : Taken) (x : ℕ) → held (x / 2 ^ top) ≡ true → (IsTaken taken x → ⊥)
     → (b : Block) × IsFree top held taken b × HasFrame b x × ((c : Block) → IsFree top held taken c → HasFrame c x → c ≡ b)
 
--- The free blocks after a block of order k is reserved out of the free block of order j at f. That free block is gone, and the
--- upper halves of its splits are added, one of each order from k to j - 1.
+-- The free blocks after the first 2 ^ k frames of the free block of order j at frame f are reserved. The free block of order j is
+-- gone, and the upper half of each split is added: one block of each order from k to j - 1.
 abbrev pub IsFreeOnceSplit : (Block → Type 0) → ℕ → ℕ → ℕ → Block → Type 0
 IsFreeOnceSplit WasFree f j k b = (WasFree b × (b ≡ block f j → ⊥)) ⊎ ((i : ℕ) × (k ≤ i) × (i < j) × (b ≡ block (f + 2 ^ i) i))
 
--- a reservation at the first frame of a free block changes the free blocks as `IsFreeOnceSplit` says
+-- if the first 2 ^ k frames of a free block are reserved, the free blocks change as `IsFreeOnceSplit` says
 abbrev pub Splits : Type 0
 Splits = (top : ℕ) (held : ℕ → Bool) (taken : Taken) (f j k : ℕ) → IsFree top held taken (block f j) → k ≤ j → (b : Block)
     → (IsFree top held (with_taken taken f k) b ↔ IsFreeOnceSplit (IsFree top held taken) f j k b)
 
--- A release of the block of order k at f joins blocks up to order j. At each order from k to j - 1, the buddy of the block around
--- f is free. At order j, the block around f is a whole slot or its buddy is not free.
+-- A release of the block of order k at frame f joins blocks up to order j. At each order from k to j - 1, the aligned block that
+-- has frame f has a free buddy. At order j, the aligned block that has frame f is a whole slot, or its buddy is not free.
 pub record JoinsTo (top : ℕ) (held : ℕ → Bool) (taken : Taken) (f k j : ℕ) : Type 0 where
   pub rises : k ≤ j
   pub within : j ≤ top
   pub joined : (i : ℕ) → k ≤ i → i < j → IsFree top held taken (buddy (around f i))
   pub stops : (j ≡ top) ⊎ (IsFree top held taken (buddy (around f j)) → ⊥)
 
--- The free blocks after the block of order k at f is released and joined up to order j. The buddies that it is joined with are
--- gone, and the joined block is added.
+-- The free blocks after the block of order k at frame f is released and joined up to order j. The buddies that are joined with it
+-- are gone, and the joined block is added.
 abbrev pub IsFreeOnceJoined : (Block → Type 0) → ℕ → ℕ → ℕ → Block → Type 0
 IsFreeOnceJoined WasFree f k j b = (b ≡ around f j) ⊎ (WasFree b × ((i : ℕ) → k ≤ i → i < j → b ≡ buddy (around f i) → ⊥))
 
--- if the taken blocks are sound, a release of a taken block joins it up to some order, as `IsFreeOnceJoined` says
+-- If the taken blocks are sound, a release of a taken block joins it up to some order, as `JoinsTo` says. The free blocks change
+-- as `IsFreeOnceJoined` says.
 abbrev pub Joins : Type 0
 Joins = (top : ℕ) (held : ℕ → Bool) (taken : Taken) (f k : ℕ) → IsSound top held taken → taken f ≡ Some k
     → (j : ℕ) × JoinsTo top held taken f k j × ((b : Block)
@@ -68,12 +69,13 @@ abbrev pub FreeIsTested : Type 0
 FreeIsTested = (top : ℕ) (held : ℕ → Bool) (taken : Taken) (b : Block)
     → (is_free top held taken b ≡ true) ↔ IsFree top held taken b
 
--- if `slots` is above every held slot, `choose` returns the choice for order k, or None if no free block is large enough
+-- If `slots` is above every held slot, `choose` returns the free block that serves a request for order k. It returns None if no
+-- free block is large enough.
 abbrev pub ChoiceIsFound : Type 0
 ChoiceIsFound = (top : ℕ) (held : ℕ → Bool) (taken : Taken) (slots k : ℕ) → ((u : ℕ) → held u ≡ true → u < slots)
     → MatchOption (choose top held taken slots k) (IsWithout top held taken k) (IsChoice top held taken k)
 
--- for each order there is at most one choice
+-- at most one free block is the choice for order k
 abbrev pub OneChoice : Type 0
 OneChoice = (top : ℕ) (held : ℕ → Bool) (taken : Taken) (k : ℕ) (b c : Block) → IsChoice top held taken k b
     → IsChoice top held taken k c → b ≡ c

@@ -1,4 +1,4 @@
--- The blocks of frames of a binary buddy system: which blocks are aligned, taken and free, and which free block a request gets.
+-- The blocks of a binary buddy system: which blocks are aligned, taken and free, and which free block serves a request.
 -- Frames and slots are numbered from 0. `top` is the order of a slot: slot u has 2 ^ top frames, from frame u * 2 ^ top on.
 -- `held` is true of the held slots. Free blocks are stored nowhere: they follow from the held slots and the taken blocks.
 use Rattle.std.specs.Prelude.{◌≡◌, ◌⊎◌, ℕ, ◌+◌, ◌-◌, ◌*◌, ◌/◌, ◌%◌, ◌^◌, ◌<◌, ◌≤◌, Bool, true, ◌==◌, if◌then◌else◌, Option, Some, None}
@@ -52,13 +52,13 @@ abbrev pub HasTaken : Taken → Block → Type 0
 HasTaken taken b = (x : ℕ) × HasFrame b x × IsTaken taken x
 
 -- The block is aligned, lies in a held slot and has no taken frame. It is a whole slot, or the aligned block of the next order
--- around it has a taken frame. These are the free blocks if halves are joined at every release.
+-- around it has a taken frame. In a buddy system that joins free halves at every release, exactly these blocks are free.
 abbrev pub IsFree : ℕ → (ℕ → Bool) → Taken → Block → Type 0
 IsFree top held taken b = IsAligned top b × (held (b.first / 2 ^ top) ≡ true) × (HasTaken taken b → ⊥)
     × ((b.order ≡ top) ⊎ HasTaken taken (around b.first (b.order + 1)))
 
--- The free block that a request for order k is served from. Among the free blocks of order k or more it has the least order, and
--- among the free blocks of that order the least first frame. The request gets the block's first 2 ^ k frames.
+-- The free block that serves a request for order k. It has the least order of all free blocks of order k or more, and the least
+-- first frame of all free blocks of its order. The request gets the block's first 2 ^ k frames.
 abbrev pub IsChoice : ℕ → (ℕ → Bool) → Taken → ℕ → Block → Type 0
 IsChoice top held taken k b = IsFree top held taken b × (k ≤ b.order)
     × ((c : Block) → IsFree top held taken c → k ≤ c.order → (b.order < c.order) ⊎ ((b.order ≡ c.order) × (b.first ≤ c.first)))

@@ -39,8 +39,8 @@ writes Operation.Grant place = false
 writes (Operation.TakeBack slot) place = false
 writes Operation.Reset place = false
 
--- The operation leaves the place alone: it does not write the place, does not make or free a slab there, and does not grant or
--- take away the slot of the place.
+-- The operation leaves the place alone: it does not write the place, makes or frees no slab that has the place, and does not grant
+-- or take away the slot of the place.
 pub record IsLeftAlone (limit order : ℕ) (operation : Operation) (m : Machine) (place : ℕ) : Type 0 where
   pub unwritten : writes operation place ≡ false
   pub unmade : makes_slab_at order operation m place ≡ false
@@ -52,7 +52,7 @@ abbrev pub BytesStay : Type 0
 BytesStay = (limit order : ℕ) (operation : Operation) (m : Machine) (place : ℕ) → IsWellFormed limit order m
     → IsLeftAlone limit order operation m place → (after limit order operation m).bytes place ≡ m.bytes place
 
--- each operation of the list leaves the place alone
+-- if the operations of the list run one after another from machine m on, each leaves the place alone
 abbrev pub AllLeaveAlone : ℕ → ℕ → List Operation → Machine → ℕ → Type 0
 AllLeaveAlone limit order [] m place = ⊤
 AllLeaveAlone limit order (operation ∷ operations) m place =

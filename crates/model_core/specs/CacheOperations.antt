@@ -32,7 +32,7 @@ create_step limit size align pattern m =
 abbrev pub cache_answer : Step (Option ℕ) → Step (Result ℕ CacheRefusal)
 cache_answer step = record { answer = ok_or step.answer CacheRefusal.NoCacheSlot; machine = step.machine }
 
--- makes a cache; refuses a size or an alignment that is not allowed, and a cache beyond the limit
+-- makes a cache; refuses a size or an alignment that is not allowed, and every cache if all numbers below the limit are used
 unfoldable pub cache_step : ℕ → ℕ → ℕ → List ℕ → Machine → Step (Result ℕ CacheRefusal)
 cache_step limit size align pattern m =
     if not (is_size size) then refuse CacheRefusal.BadSize m
@@ -46,7 +46,7 @@ hand_out c s m = record {
   machine = with_cache (with_slab (with_live (next_object s) true s) c) m;
 }
 
--- hands out the first object of a new slab on the chosen block, or refuses if there is no such block
+-- hands out the first object of a new slab on the chosen block, or refuses if no block was chosen
 abbrev pub take_new : Cache → Machine → Option ℕ → Step (Result ℕ TakeRefusal)
 take_new c m None = refuse TakeRefusal.NoFrames m
 take_new c m (Some first) = hand_out (grown_cache first c) (new_slab c first) (grown first c m)
@@ -75,7 +75,7 @@ abbrev pub give_of : ℕ → Machine → Option Cache → Step (Result (Unit {0}
 give_of place m None = refuse GiveRefusal.NoCache m
 give_of place m (Some c) = give_object c m (find (λ object. object.place == place) (live_objects c))
 
--- gives back the live object at this place to the cache with this number; the bytes of the object stay
+-- gives back the live object that begins at this place to the cache with this number; the bytes of the object stay
 unfoldable pub give_step : ℕ → ℕ → Machine → Step (Result (Unit {0}) GiveRefusal)
 give_step number place m = give_of place m (cache_of m number)
 

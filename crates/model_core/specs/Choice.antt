@@ -10,7 +10,7 @@ abbrev pub is_any_below : (ℕ → Bool) → ℕ → Bool
 is_any_below p zero = false
 is_any_below p (suc n) = is_any_below p n || p n
 
--- the number found so far; if none was found, n if it passes the test, else None
+-- The number that was found below n, if there is one. Otherwise n if n passes the test, else None.
 abbrev pub found_or : (ℕ → Bool) → ℕ → Option ℕ → Option ℕ
 found_or p n (Some i) = Some i
 found_or p n None = if p n then Some n else None
@@ -40,15 +40,15 @@ is_free top held taken b = (nat_le b.order top && b.first % 2 ^ b.order == 0)
     && (is_clear (is_available top held taken) b.order (b.first / 2 ^ b.order)
     && (b.order == top || not (is_clear (is_available top held taken) (suc b.order) (b.first / 2 ^ suc b.order))))
 
--- the first frame of the first free block of order j
+-- the first frame of the first free block of order j, or None
 abbrev pub first_free : ℕ → (ℕ → Bool) → Taken → ℕ → ℕ → Option ℕ
 first_free top held taken slots j = least (λ f. is_free top held taken (block f j)) (slots * 2 ^ top)
 
--- the least order of at least k that has a free block
+-- the least order from k to `top` for which a block is free, or None
 abbrev pub first_order : ℕ → (ℕ → Bool) → Taken → ℕ → ℕ → Option ℕ
 first_order top held taken slots k = least (λ j. nat_le k j && is_some (first_free top held taken slots j)) (suc top)
 
--- the block that `IsChoice` describes, or None if there is none
+-- the block that `IsChoice` describes, or None if no free block has order k or more
 abbrev pub choose : ℕ → (ℕ → Bool) → Taken → ℕ → ℕ → Option Block
 choose top held taken slots k =
     option_and_then (λ j. option_map (λ f. block f j) (first_free top held taken slots j)) (first_order top held taken slots k)

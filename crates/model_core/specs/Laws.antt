@@ -1,4 +1,4 @@
--- The laws of the machine. Each is the contract of a function of the module `laws`.
+-- The laws of the machine. The contracts of the module `laws` state them.
 use Rattle.std.specs.Prelude.{◌≡◌, ℕ, ◌+◌, ◌*◌, ◌/◌, ◌^◌, ◌<◌, ◌≤◌, Bool, true, false, List, [], ◌∷◌, ◌++◌, Option, Some, None, Ok, OnErr, option_map, option_and_then, is_some, if◌then◌else◌, find, flat_map, Contains, AllPairs, ◌==◌}
 use Rattle.std.specs.Option.{option_map_or}
 use Rattle.std.specs.Result.{result_ok}
@@ -20,15 +20,16 @@ ChoiceIsUntaken = (order k first : ℕ) (m : Machine) → choice order m k ≡ S
     → IsAligned order (block first k)
     × ((x : ℕ) → HasFrame (block first k) x → (holds m (x / 2 ^ order) ≡ true) × (IsTaken (taken_in m) x → ⊥))
 
--- any other representation of the same held slots and taken blocks leads to the same choice as the machine
+-- If `held` and `taken` agree with the held slots and taken blocks of the machine, the machine makes the choice that `IsChoice`
+-- describes for them. If they have no free block of order k or more, the machine finds none.
 abbrev pub ChoicesMeet : Type 0
 ChoicesMeet = (order k : ℕ) (held : ℕ → Bool) (taken : Taken) (m : Machine) → ((u : ℕ) → holds m u ≡ held u)
     → ((f : ℕ) → taken_in m f ≡ taken f)
     → ((first j : ℕ) → IsChoice order held taken k (block first j) → choice order m k ≡ Some first)
     × (IsWithout order held taken k → choice order m k ≡ None)
 
--- What a request for a block of order k does. `served first n` is the step that serves it with the block at frame `first` of
--- machine n.
+-- `step` is what a request for a block of order k does to machine m. `served first n` is the step that serves the request with the
+-- block at frame `first` of machine n. `refused` is the step that refuses it.
 pub record IsByNeed {A : Type 0} (order k : ℕ) (m : Machine) (served : ℕ → Machine → Step A)
     (refused step : Step A) : Type 0 where
   -- if a block is found, no slab is freed
@@ -63,7 +64,7 @@ abbrev pub KeepsWellFormed : Type 0
 KeepsWellFormed = (limit order : ℕ) (operation : Operation) (m : Machine) → IsPossible operation
     → IsWellFormed limit order m → IsWellFormed limit order (after limit order operation m)
 
--- .. so the machine after any list of these operations on the empty machine is well formed
+-- .. so any list of these operations leads from the empty machine to a well formed machine
 abbrev pub RunsWellFormed : Type 0
 RunsWellFormed = (limit order : ℕ) (operations : List Operation) → ArePossible operations
     → IsWellFormed limit order (run limit order operations empty_machine)
@@ -129,7 +130,7 @@ RecordsFree = (limit order : ℕ) (m : Machine) → IsWellFormed limit order m �
     → (place : ℕ) → HasByte object place
     → (FRAME_BYTES * object.slab.first ≤ place) × (place < FRAME_BYTES * object.slab.first + RECORD_OFFSET)
 
--- the place that a take returns
+-- the place that the operation returns if it is a take that succeeds, else None
 abbrev pub taken_place : ℕ → Operation → Machine → Option ℕ
 taken_place order (Operation.Take number) m = result_ok (take_step order number m).answer
 taken_place order (Operation.Alloc k) m = None
@@ -143,8 +144,8 @@ taken_place order Operation.Grant m = None
 taken_place order (Operation.TakeBack slot) m = None
 taken_place order Operation.Reset m = None
 
--- The block of the slab that the cache makes for a take, or None. The cache makes a slab if none of its slabs is partial or empty
--- and a block is found, if need be after all empty slabs are freed.
+-- The block of the slab that the cache makes for a take, or None if it makes no slab. It makes a slab if none of its slabs is
+-- partial or empty, and a block is found when empty slabs are freed on demand.
 abbrev pub block_of_growth : ℕ → Machine → Cache → Option Block
 block_of_growth order m c =
     if is_some (slab_to_use (find is_partial c.slabs) (find is_empty c.slabs)) then None

@@ -28,7 +28,8 @@ pub record Layout : Type 0 where
 abbrev pub chunk_of : ℕ → ℕ → ℕ
 chunk_of size align = max 16 ((size + align - 1) / align * align)
 
--- the slabs of small objects have one frame, whose last RECORD_BYTES bytes are reserved for the control record
+-- Objects are small if their chunk is below 512 bytes. Their slab has one frame, and the frame's last RECORD_BYTES bytes are
+-- reserved for the control record.
 abbrev pub is_small : ℕ → Bool
 is_small chunk = nat_lt chunk 512
 
@@ -75,8 +76,8 @@ abbrev pub in_object : Layout → ℕ → ℕ → ℕ → Bool
 in_object l size colour offset =
     nat_le colour offset && (nat_lt ((offset - colour) / l.chunk) l.count && nat_lt ((offset - colour) % l.chunk) size)
 
--- A slab with this colour offset has space for its objects: they end within `room`, and `room` ends within the slab. In a slab of
--- small objects, `room` ends before the control record.
+-- A slab with this colour offset has space for its 1 to 256 objects: they end within `room`, and `room` ends within the slab. In
+-- a slab of small objects, `room` ends before the control record.
 pub record IsFit (l : Layout) (colour : ℕ) : Type 0 where
   pub chunked : 16 ≤ l.chunk
   pub some : 0 < l.count

@@ -33,18 +33,18 @@ pub record Machine : Type 0 where
   pub blocks : List Block
   -- the caches, by rising number
   pub caches : List Cache
-  -- the byte at a place, if there is one
+  -- the byte at a place, or None if the place has no byte
   pub bytes : ℕ → Option ℕ
 
 unfoldable pub empty_machine : Machine
 empty_machine = record { slots = []; blocks = []; caches = []; bytes = λ place. None }
 
--- a list that rises by key, with x inserted at its place
+-- the list, which rises by key, with x inserted so that it still rises
 abbrev pub put_rising : {X : Type 0} → (X → ℕ) → X → List X → List X
 put_rising key x [] = x ∷ []
 put_rising key x (y ∷ ys) = if nat_lt (key x) (key y) then x ∷ (y ∷ ys) else y ∷ put_rising key x ys
 
--- the least number from n on that a rising list does not have
+-- the least number from n on that is not in the list; the list rises and has no number below n
 abbrev pub least_missing : ℕ → List ℕ → ℕ
 least_missing n [] = n
 least_missing n (x ∷ xs) = if x == n then least_missing (n + 1) xs else n
@@ -80,7 +80,7 @@ slab_blocks c = map (slab_block c) c.slabs
 unfoldable pub taken_blocks : Machine → List Block
 taken_blocks m = m.blocks ++ flat_map slab_blocks m.caches
 
--- the order of the first block in the list that begins at frame f
+-- the order of the first block in the list that begins at frame f, or None if no block begins there
 abbrev pub order_in : List Block → Taken
 order_in [] f = None
 order_in (b ∷ bs) f = if b.first == f then Some b.order else order_in bs f
@@ -89,6 +89,6 @@ order_in (b ∷ bs) f = if b.first == f then Some b.order else order_in bs f
 abbrev pub taken_in : Machine → Taken
 taken_in m = order_in (taken_blocks m)
 
--- the first frame of the block of order k that a request gets
+-- the first frame of the block that a request for order k gets, or None if no free block is large enough
 unfoldable pub choice : ℕ → Machine → ℕ → Option ℕ
 choice order m k = option_map (λ b. b.first) (choose order (holds m) (taken_in m) (beyond m.slots) k)

@@ -13,17 +13,17 @@ pub record IsAmple (order k : ℕ) (m : Machine) : Type 0 where
   pub of_slot : k ≤ order
   pub fewer : frames_taken (reaped m) < length m.slots * 2 ^ (order - k)
 
--- a well formed machine that is ample for order k has a block for a request of this order ..
+-- a well formed machine that is ample for order k has a block of this order for a request, if empty slabs are freed on demand ..
 abbrev pub BlockIsPromised : Type 0
 BlockIsPromised = (limit order k : ℕ) (m : Machine) → IsWellFormed limit order m → IsAmple order k m
     → (first : ℕ) × (choice_by_need order k m ≡ Some first)
 
--- .. so a page block of this order is not refused ..
+-- .. so an alloc of this order is not refused ..
 abbrev pub AllocIsPromised : Type 0
 AllocIsPromised = (limit order k : ℕ) (m : Machine) → IsWellFormed limit order m → IsAmple order k m
     → (first : ℕ) × ((alloc_step order k m).answer ≡ Ok first)
 
--- .. and neither is an object of a cache whose slabs have this order
+-- .. and neither is a take from a cache whose slabs have this order
 abbrev pub TakeIsPromised : Type 0
 TakeIsPromised = (limit order number : ℕ) (m : Machine) (c : Cache) → IsWellFormed limit order m → cache_of m number ≡ Some c
     → IsAmple order (layout c).order m → (place : ℕ) × ((take_step order number m).answer ≡ Ok place)

@@ -24,12 +24,13 @@ AreApart (b ∷ bs) = AllByRecursion (IsApart b) bs × AreApart bs
 abbrev pub IsPlaced : ℕ → Machine → Block → Type 0
 IsPlaced order m b = IsAligned order b × (holds m (b.first / 2 ^ order) ≡ true)
 
--- the slab has its layout's number of objects, and one of its colour offsets
+-- the slab has as many objects as the cache's layout says, and one of the layout's colour offsets
 pub record IsCut (c : Cache) (s : Slab) : Type 0 where
   pub count : length s.live ≡ (layout c).count
   pub colour : (made : ℕ) × (s.colour ≡ colour_offset c.align made (layout c))
 
--- the cache's numbers and its pattern are within their limits; its slabs are in rising order and cut by its layout
+-- The cache's size, alignment and pattern are allowed, and `made` is below the number of colours. The slabs are in order of their
+-- first frames and are cut by the cache's layout.
 pub record IsCache (c : Cache) : Type 0 where
   pub sized : is_size c.size ≡ true
   pub aligned : is_alignment c.align ≡ true

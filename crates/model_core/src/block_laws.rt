@@ -1,11 +1,11 @@
-//! The laws of blocks, which follow from the definitions of taken and free blocks alone. Each is the
-//! contract of an empty function, to be called where a proof needs the law.
+//! The laws of blocks, which follow from the definitions of taken and free blocks alone. The contracts of empty functions state
+//! them: a proof that needs a law calls the function.
 
 ghost use Rattle.model_core.specs.BlockLaws.{EachFrameInOne, Splits, Joins, ReservedIsUntaken, ReserveStaysSound, ReleaseStaysSound, GrantStaysSound, TakeBackStaysSound, FreeIsTested, ChoiceIsFound, OneChoice};
 
 /// Each frame that lies in a held slot and is not taken is in exactly one free block. A reservation removes the free block that
-/// it splits, and the upper half of each split stays free. If the taken blocks are sound, a released block is joined with its
-/// buddy as long as the buddy is free (Knuth, TAOCP 1, 2.5, algorithms R and S).
+/// it splits, and the upper half of each split becomes a free block. If the taken blocks are sound, a released block is joined
+/// with its buddy as long as the buddy is free (Knuth, TAOCP 1, 2.5, algorithms R and S).
 pub fn splits_and_joins()
     ensures one_block { EachFrameInOne }
     ensures splits { Splits }

@@ -11,7 +11,7 @@ pub struct Config {
     pub order: u32,
     /// The number of superblocks of the machine, 1 to 256.
     pub superblocks: u32,
-    /// The number of tenants that share it, 1 to 64.
+    /// The number of tenants that share the machine, 1 to 64.
     pub tenants: u32,
 }
 

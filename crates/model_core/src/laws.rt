@@ -1,11 +1,11 @@
-//! The laws of the machine. Each is the contract of an empty function, to be called where a proof needs the law.
+//! The laws of the machine. The contracts of empty functions state them: a proof that needs a law calls the function.
 
 ghost use Rattle.model_core.specs.Layouts.{LayoutsFit};
 ghost use Rattle.model_core.specs.Room.{BlockIsPromised, AllocIsPromised, TakeIsPromised};
 ghost use Rattle.model_core.specs.Laws.{ChoiceIsUntaken, ChoicesMeet, AllocReaps, TakeReaps, RefusalsStay, KeepsWellFormed, RunsWellFormed, TakenApart, TakenSound, AllocTakes, FreeReleases, GrowthTakes, ReapReleases, ObjectsApart, RecordsFree, ConstructedFirst, ConstructedWhenTaken};
 ghost use Rattle.model_core.specs.ByteLaws.{AllocKeeps, FreeKeeps, TakeKeeps, GiveKeeps, BytesStay, RunsKeepBytes, WritesAlone, SlabsLeaveZeroes};
 
-/// For each accepted size and alignment, the objects of a slab fit at every colour offset.
+/// For each accepted size and alignment, the objects of a slab are aligned and fit into the slab at every colour offset.
 pub fn layouts_fit()
     ensures { LayoutsFit }
 {}
@@ -29,7 +29,7 @@ pub fn reaps_by_need()
     ensures refused { RefusalsStay }
 {}
 
-/// After any list of operations that can be requested, from the empty machine on, the machine is well formed.
+/// Any list of operations that can be requested leads from the empty machine to a well formed machine.
 pub fn stays_well_formed()
     ensures step { KeepsWellFormed }
     ensures run { RunsWellFormed }

@@ -4,7 +4,7 @@
 /// Why a page block is refused, in the order tested.
 #[derive(Clone, Copy, Debug, PartialEq, Eq)]
 pub enum AllocRefusal {
-    /// The order is above that of a superblock.
+    /// The order is above the order of a superblock.
     BadOrder,
     /// No block of the requested order or above is free, and none would be if all empty slabs were freed.
     NoFrames,
