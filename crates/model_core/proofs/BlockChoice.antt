@@ -1,4 +1,4 @@
--- The choice: `is_free` tests for free blocks, `choose` finds the choice, and there is at most one.
+-- `is_free` is true of exactly the free blocks. `choose` finds the free block that serves a request, and there is only one.
 use Rattle.std.proofs.Common.{◌≡◌, ◌⊎◌, inl, inr, refl, sym, ◌∙◌, ap, ℕ, zero, suc, ◌*◌, ◌/◌, ◌%◌, ◌^◌, ◌<◌, ◌≤◌, Bool, true, false, not, Option, Some, None, eq-eqb, arith}
 use Rattle.std.specs.Prelude.{◌==◌, ◌&&◌, ◌||◌, nat_le, if◌then◌else◌, is_some, MatchOption}
 use Rattle.std.specs.Option.{option_and_then, option_map}
@@ -11,7 +11,7 @@ use Rattle.model_core.specs.Choice.{found_or, least, is_available, is_free, firs
 use Rattle.model_core.specs.BlockLaws.{FreeIsTested, ChoiceIsFound, OneChoice}
 use Rattle.model_core.proofs.BlocksByNumber.{number_is, free_is_open, open_is_free}
 
--- i is the least number below n that passes
+-- i is the least number that passes the test, and it is below n
 abbrev pub IsLeast : (ℕ → Bool) → ℕ → ℕ → Type 0
 IsLeast p n i = (i < n) × (p i ≡ true) × ((m : ℕ) → m < i → p m ≡ false)
 
@@ -34,7 +34,7 @@ least_says p (suc n) = go (least p n) (least_says p n)
     go None below = here (p n) refl below
     go (Some i) (lt, pass, below) = (omega arith, pass, below)
 
--- if a number below n passes, there is a least one
+-- if a number below n passes the test, `least` finds a number
 pub least_found : (p : ℕ → Bool) (n m : ℕ) → m < n → p m ≡ true → is_some (least p n) ≡ true
 least_found p n m lt pass = go (least p n) (least_says p n)
   where
@@ -86,7 +86,7 @@ choice_is_found top held taken slots k below = go (first_order top held taken sl
     within : (c : Block) → IsFree top held taken c → c.first < slots * 2 ^ top
     within c free = (div-lt_iff_lt-mul (pow_pos top)).0 (below (c.first / 2 ^ top) free.1)
 
-    -- the order of a free block passes the test if it is at least k
+    -- if a free block has order k or more, its order passes the test of `first_order`
     passes : (c : Block) → IsFree top held taken c → k ≤ c.order → (nat_le k c.order && is_some (first_free top held taken slots c.order)) ≡ true
     passes c free le = and_from _ _ (le-leb k c.order le) (least_found (λ f. is_free top held taken (block f c.order)) (slots * 2 ^ top) c.first (within c free) ((free_is_tested top held taken c).1 free))
 

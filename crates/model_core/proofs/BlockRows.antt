@@ -1,4 +1,4 @@
--- Worked examples of the choice, by computation. Slots have order 3, which is 8 frames.
+-- Worked examples of the blocks that requests get, checked by computation. Slots have order 3, so each has 8 frames.
 use Rattle.std.proofs.Common.{◌≡◌, refl, ℕ, Bool, Some, None, Option, List, [], ◌∷◌}
 use Rattle.std.specs.Prelude.{map, filter, ◌++◌, nat_lt, ◌==◌}
 use Rattle.model_core.specs.Blocks.{Block, block, buddy, around, Taken, with_taken, without_taken}
@@ -11,7 +11,7 @@ first_slots n u = nat_lt u n
 abbrev nothing : Taken
 nothing f = None
 
--- the blocks of the list, as a map of taken blocks
+-- the map of taken blocks that has exactly the blocks of the list
 abbrev blocks_of : List Block → Taken
 blocks_of [] = nothing
 blocks_of (b ∷ bs) = with_taken (blocks_of bs) b.first b.order
@@ -28,8 +28,8 @@ abbrev serve_rest : Taken → ℕ → Option Block → (Taken → List (Option �
 serve_rest taken k None rest = None ∷ rest taken
 serve_rest taken k (Some b) rest = Some b.first ∷ rest (with_taken taken b.first k)
 
--- the first frames that requests for these orders get, one after the other, if slots 0 to n - 1 are held; None if one gets
--- nothing
+-- The first frames of the blocks that requests for these orders get, one after the other. None is the result of a request that
+-- gets nothing. Slots 0 to n - 1 are held.
 abbrev serve : ℕ → Taken → List ℕ → List (Option ℕ)
 serve n taken [] = []
 serve n taken (k ∷ ks) = serve_rest taken k (choose 3 (first_slots n) taken n k) (λ after. serve n after ks)
@@ -38,7 +38,7 @@ serve n taken (k ∷ ks) = serve_rest taken k (choose 3 (first_slots n) taken n 
 empty : serve 0 nothing (0 ∷ []) ≡ None ∷ []
 empty = refl
 
--- each request gets the lower half of a split, until the slot is used up
+-- the first request splits the slot, the next three get the upper halves of its splits, and the fifth gets nothing
 splits_then_exhaustion : serve 1 nothing (0 ∷ 1 ∷ 2 ∷ 0 ∷ 0 ∷ []) ≡ Some 0 ∷ Some 2 ∷ Some 4 ∷ Some 1 ∷ None ∷ []
 splits_then_exhaustion = refl
 
@@ -46,23 +46,23 @@ splits_then_exhaustion = refl
 upper_halves : filter (λ b. is_free 3 (first_slots 1) (blocks_of (block 0 0 ∷ [])) b) all_blocks ≡ block 1 0 ∷ block 2 1 ∷ block 4 2 ∷ []
 upper_halves = refl
 
--- after the four blocks are released in this order, they are joined to one block of order 3
+-- after the blocks at frames 0, 1, 2 and 4 are released, they are joined to one block of order 3
 joins : choose 3 (first_slots 1) (without_taken (without_taken (without_taken (without_taken full 0) 1) 2) 4) 1 0 ≡ Some (block 0 3)
 joins = refl
 
--- frame 0 is released while its buddy, frame 1, is taken: they are not joined
+-- if frame 0 is released while its buddy, frame 1, is taken, the two are not joined
 not_joined : filter (λ b. is_free 3 (first_slots 1) (without_taken full 0) b) all_blocks ≡ block 0 0 ∷ []
 not_joined = refl
 
--- frame 0 is free but too small for order 1, so the request gets frame 4; a request for order 0 then gets frame 0
+-- frame 0 is free but too small for order 1, so a request for order 1 gets frame 4; a request for order 0 then gets frame 0
 too_small_passed_over : serve 1 (without_taken (without_taken full 0) 4) (1 ∷ 0 ∷ []) ≡ Some 4 ∷ Some 0 ∷ []
 too_small_passed_over = refl
 
--- the least order goes before the least frame: slot 0 is whole, slot 1 is split
+-- if slot 0 is whole and slot 1 is split, a request for order 0 gets a frame of slot 1: the least order goes before the least frame
 order_before_frame : serve 2 (blocks_of (block 8 0 ∷ [])) (0 ∷ 3 ∷ 0 ∷ []) ≡ Some 9 ∷ Some 0 ∷ Some 10 ∷ []
 order_before_frame = refl
 
--- slot 1 can be held without slot 0
+-- if slot 1 is held without slot 0, the choice is the whole of slot 1
 only_slot_1 : choose 3 (λ u. u == 1) nothing 2 0 ≡ Some (block 8 3)
 only_slot_1 = refl
 

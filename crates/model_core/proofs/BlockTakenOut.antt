@@ -5,8 +5,8 @@ use Rattle.std.proofs.lemmas.Bool.{both_ways, cases_lt, cases_eq, false_from_ne_
 use Rattle.model_core.specs.Numbered.{number_at, is_clear, IsOpen}
 use Rattle.model_core.proofs.BlockHalves.{clear_below, clear_at, same_above, clear_same, clear_more, one_open}
 
--- `small` passes the frames that `large` passes, except the block of order k around f, which lies in the open block of order j
--- around f
+-- `small` passes the frames that `large` passes, except the frames of the block of order k around f. This block lies in the block
+-- of order j around f, which is open under `large`.
 pub record TakesOut (large small : ℕ → Bool) (top f k j : ℕ) : Type 0 where
   pub order : k ≤ j
   pub open_block : IsOpen large top j (number_at j f)
@@ -19,7 +19,7 @@ pub record IsOtherHalf (f i x : ℕ) : Type 0 where
   pub one_whole : number_at (suc i) x ≡ number_at (suc i) f
 
 module _ (large small : ℕ → Bool) (top f k j : ℕ) (out : TakesOut large small top f k j) where
-  -- no block around f is clear any more
+  -- no block around f is clear under `small`
   without_f : (i x : ℕ) → is_clear small i (number_at i x) ≡ true → number_at i x ≡ number_at i f → ⊥
   without_f i x clear same = both_ways (small f) (out.inside f refl) (clear_at small i f (ap (is_clear small i) (sym same) ∙ clear))
 
@@ -45,7 +45,8 @@ module _ (large small : ℕ → Bool) (top f k j : ℕ) (out : TakesOut large sm
       go (inl e) = omega arith
       go (inr fails) = both_ways _ fails (clear_below large f (suc j) i (omega arith) clear)
 
-  -- an open block was open before and is not the open block around f, or it is the other half at one of the splits
+  -- A block that is open under `small` is the other half at one of the splits, or it is open under `large`. In the second case it
+  -- is not the open block of order j around f.
   pub open_after : (i x : ℕ) → IsOpen small top i (number_at i x)
       → (IsOpen large top i (number_at i x) × (i ≡ j → number_at i x ≡ number_at i f → ⊥)) ⊎ ((k ≤ i) × (i < j) × IsOtherHalf f i x)
   open_after i x (le, clear, end) = go (cases_lt i k)
@@ -77,7 +78,7 @@ module _ (large small : ℕ → Bool) (top f k j : ℕ) (out : TakesOut large sm
       go (inl lt) = below lt end (λ same. both_ways (small x) (out.inside x same) (clear_at small i x clear))
       go (inr up) = above up end (cases_eq (number_at (suc i) x) (number_at (suc i) f))
 
-  -- every block that was open stays open, except the open block around f
+  -- every block that is open under `large`, except the block of order j around f, is open under `small`
   pub open_stays : (i x : ℕ) → IsOpen large top i (number_at i x) → (i ≡ j → number_at i x ≡ number_at i f → ⊥) → IsOpen small top i (number_at i x)
   open_stays i x (le, clear, end) other = (le, still (cases_lt i k), ending end)
     where
@@ -106,7 +107,7 @@ module _ (large small : ℕ → Bool) (top f k j : ℕ) (out : TakesOut large sm
       ending (inl e) = inl e
       ending (inr fails) = inr (false_from_ne_true _ (λ full. both_ways _ fails (clear_more small large (suc i) x fewer full)))
 
-  -- the other half at each split is open
+  -- the other half at each split is open under `small`
   pub open_half : (i x : ℕ) → k ≤ i → i < j → IsOtherHalf f i x → IsOpen small top i (number_at i x)
   open_half i x up lt half = (omega (arith, out.open_block.0), off_above i x up half.other ∙ was_clear, inr (false_from_ne_true _ (λ full. without_f (suc i) x full half.one_whole)))
     where

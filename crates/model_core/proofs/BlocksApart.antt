@@ -27,14 +27,14 @@ overlap_from a b x (a_low, a_high) (b_low, b_high) =
 pub apart_turned : (a b : Block) → IsApart a b → IsApart b a
 apart_turned a b h x in_b in_a = h x in_a in_b
 
--- a block has its first frame
+-- the first frame of a block lies in the block
 pub has_first : (b : Block) → HasFrame b b.first
 has_first b = (omega arith, omega (arith, pow_pos b.order))
 
 pub apart_first : (a b : Block) → IsApart a b → a.first ≡ b.first → ⊥
 apart_first a b h e = h a.first (has_first a) (subst (λ x. HasFrame b x) (sym e) (has_first b))
 
--- a place in a block is in no block that is apart from it
+-- if blocks a and b are apart, a place in a is not in b
 pub apart_place : (place : ℕ) (a b : Block) → IsApart a b → in_block place a ≡ true → in_block place b ≡ false
 apart_place place a b h e = false_from_ne_true (in_block place b) (λ f. h (place / FRAME_BYTES) (in_block-true place a e) (in_block-true place b f))
 
@@ -60,7 +60,7 @@ pub across_put : (cs bs : List Block) (b : Block) → Across cs bs → Each (IsA
 across_put [] bs b c e = tt
 across_put (a ∷ cs) bs b (f, c) (h, e) = ((apart_turned b a h, f), across_put cs bs b c e)
 
--- a block that is apart from all can be added
+-- if the blocks of a list are apart, they stay apart when a block that is apart from all of them is inserted
 pub apart_put : (cs bs : List Block) (b : Block) → AreApart (cs ++ bs) → Each (IsApart b) (cs ++ bs) → AreApart (cs ++ b ∷ bs)
 apart_put cs bs b h e =
     let p : AreApart cs × AreApart bs × Across cs bs = apart_parts cs bs h in
@@ -84,7 +84,8 @@ one_holder f (y ∷ ys) a b x (e, h) (inr i) (inl t) p q =
     absurd (each_in (λ z. IsApart (f y) (f z)) a ys (each_unmap (IsApart (f y)) f ys e) i x (subst (λ z. HasFrame (f z) x) (sym t) q) p)
 one_holder f (y ∷ ys) a b x (e, h) (inr i) (inr j) p q = one_holder f ys a b x h i j p q
 
--- if the blocks of the elements are apart, no place is both in the block of an element that passes and of one that fails
+-- If the blocks of the elements are apart, a place in the block of an element that passes the test is in no block of an element
+-- that fails it.
 pub one_side : {X : Type 0} (f : X → Block) (p : X → Bool) (xs : List X) (place : ℕ) → AreApart (map f xs)
     → list_any (λ x. in_block place (f x)) (filter p xs) ≡ true → list_any (λ x. in_block place (f x)) (filter (λ x. not (p x)) xs) ≡ false
 one_side {X} f p xs place h e = false_from_ne_true (list_any (λ x. in_block place (f x)) (filter (λ x. not (p x)) xs)) (λ k.

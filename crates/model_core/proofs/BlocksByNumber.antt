@@ -1,5 +1,5 @@
--- Blocks by their frames and blocks by number: the frames of an aligned block, the tests of taken and available frames, and free
--- blocks as open blocks.
+-- An aligned block has exactly the frames with its number. An aligned block is free if and only if it is open under the test
+-- `is_available`.
 use Rattle.std.proofs.Common.{◌≡◌, ◌⊎◌, inl, inr, refl, sym, ◌∙◌, ap, ℕ, zero, suc, ◌+◌, ◌-◌, ◌*◌, ◌/◌, ◌%◌, ◌^◌, ◌<◌, ◌≤◌, Bool, true, false, not, Option, Some, None, add-one, arith}
 use Rattle.std.proofs.Math.Nat.{pow-suc, div-div-eq-div-mul, div-eq_of_lt-le, div-mul-le_self, lt-div-mul-add, mul-mod_left, mul-div_cancel}
 use Rattle.std.proofs.lemmas.Nat.{pow_pos, pow-add, shr_split}
@@ -48,7 +48,7 @@ aligned_below f k j le aligned = ap (λ n. n % 2 ^ k) parts ∙ mul-mod_left (nu
     parts : f ≡ number_at j f * 2 ^ (j - k) * 2 ^ k
     parts = sym (first_is f j aligned) ∙ ap (λ n. number_at j f * n) size ∙ regroup (number_at j f) (2 ^ (j - k)) (2 ^ k)
 
--- an aligned block has exactly the frames with its number
+-- a frame lies in the aligned block of order k at f if and only if the frame and f have the same number at order k
 pub number_of_frame : (f k x : ℕ) → f % 2 ^ k ≡ 0 → HasFrame (block f k) x → number_at k x ≡ number_at k f
 number_of_frame f k x aligned (low, high) =
     let first : number_at k f * 2 ^ k ≡ f = first_is f k aligned in
@@ -69,7 +69,7 @@ frame_of_number f k x aligned same =
 pub number_next : (k x : ℕ) → number_at (k + 1) x ≡ number_at (suc k) x
 number_next k x = ap (λ n. number_at n x) (add-one k)
 
--- two frames of one block of order k are in one slot
+-- two frames of one block of order `top` or less are in one slot
 pub same_slot : (top k x y : ℕ) → k ≤ top → number_at k x ≡ number_at k y → x / 2 ^ top ≡ y / 2 ^ top
 same_slot top k x y le same = sym (number_is top x) ∙ same_above x y k top le same ∙ number_is top y
 

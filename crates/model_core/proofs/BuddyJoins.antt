@@ -1,4 +1,4 @@
--- The numbers of buddies, how a release changes the free blocks, and why the taken blocks stay sound.
+-- A release joins free buddies as the laws of blocks say, and the taken blocks stay sound.
 use Rattle.std.proofs.Common.{◌≡◌, ◌⊎◌, inl, inr, refl, sym, ◌∙◌, ap, subst, ℕ, suc, ◌+◌, ◌-◌, ◌*◌, ◌/◌, ◌%◌, ◌^◌, ◌<◌, ◌≤◌, Bool, true, false, Some, eq-eqb, add-one, arith}
 use Rattle.std.specs.Prelude.{◌==◌, ◌↔◌}
 use Rattle.std.proofs.Math.Nat.{pow-suc, mul-mod_left}
@@ -13,7 +13,7 @@ use Rattle.model_core.proofs.BlockTakenOut.{TakesOut, IsOtherHalf, open_after, o
 use Rattle.model_core.proofs.BlocksByNumber.{number_is, number_first, aligned_first, number_around, number_of_frame, frame_of_number, same_slot, available_tells, available_is, taken_is_unavailable, free_is_open, open_is_free}
 use Rattle.model_core.proofs.FreeBlocks.{same_block, same_bool, has_first, with_here, with_other, without_here, without_other, taken_after, released_taken, even_number, reserved_is_untaken}
 
--- r is the number of the buddy of the block of order i around x
+-- the buddy of the block of order i around frame x has the number r
 pub record IsBuddyNumber (x i r : ℕ) : Type 0 where
   pub first : (buddy (around x i)).first ≡ r * 2 ^ i
   pub whole : r / 2 ≡ number_at i x / 2
@@ -70,7 +70,8 @@ buddy_number x i = go (halves n)
 pub buddy_aligned : (x i : ℕ) → (buddy (around x i)).first % 2 ^ i ≡ 0
 buddy_aligned x i = let w = buddy_number x i in ap (λ m. m % 2 ^ i) w.1.first ∙ mul-mod_left w.0 (2 ^ i)
 
--- the buddy of the block of order i around x is its other half, and no other aligned block of this order is
+-- The block of order i around x and its buddy are the two halves of the block of order i + 1 around x. No other aligned block
+-- of order i is the half that does not contain x.
 pub buddy_is_half : (x i : ℕ) → IsOtherHalf x i (buddy (around x i)).first
 buddy_is_half x i =
     let w = buddy_number x i in
@@ -92,7 +93,7 @@ only_buddy x i b order aligned half = same_block b (buddy (around x i)) aligned 
         go (inr p) (inl q) (inl r) = absurd (another (omega arith))
         go (inr p) (inl q) (inr r) = absurd (other (omega arith))
 
--- a release, read backwards, takes its block out of the available frames
+-- a release, read backwards, takes the released block out of the available frames
 pub releasing : (top : ℕ) (held : ℕ → Bool) (taken : Taken) (f k : ℕ) → IsSound top held taken → taken f ≡ Some k
     → (j : ℕ) × TakesOut (is_available top held (without_taken taken f)) (is_available top held taken) top f k j
 releasing top held taken f k sound here = go (open_around (is_available top held (without_taken taken f)) top f (freed f refl))
@@ -220,7 +221,7 @@ reserve_stays_sound top held taken f j k sound free le = record { placed = place
         go (inl p) (inr q) = absurd (off h n g x q p here i there has_h has_g)
         go (inr p) (inr q) = sound.apart g i h n x (sym (with_other taken f k g p) ∙ there) (sym (with_other taken f k h q) ∙ here) has_g has_h
 
--- a block that is taken after a release was taken before
+-- a block that is taken after a release was taken before the release
 still_taken : (taken : Taken) (f g i : ℕ) → without_taken taken f g ≡ Some i → taken g ≡ Some i
 still_taken taken f g i e = go (cases_eq g f)
   where

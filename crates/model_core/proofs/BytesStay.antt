@@ -58,7 +58,7 @@ give_keeps number place m = go (cache_of m number)
 
 -- The byte at a place
 
--- if the place is in a slab of both machines or of neither, both have the same byte there
+-- if the place is in a slab of both machines or of neither, both machines have the same byte at the place
 abbrev Same : ℕ → Machine → Machine → Type 0
 Same place m n = in_slab n place ≡ in_slab m place → n.bytes place ≡ m.bytes place
 

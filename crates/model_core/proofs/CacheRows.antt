@@ -1,4 +1,4 @@
--- Worked examples of caches and slabs, by computation. Slots have 8 frames.
+-- Worked examples of caches and slabs, checked by computation. Slots have 8 frames.
 use Rattle.std.proofs.Common.{◌≡◌, refl, List, [], ◌∷◌, ◌++◌, map, replicate, Some, None, Ok, Err}
 use Rattle.std.specs.List.{range_with_len}
 use Rattle.model_core.specs.declared.limits.TheConstants.{MOST_CACHES}
@@ -28,7 +28,8 @@ large_slabs : numbers (Grant ∷ Create 3000 8 (1 ∷ []) ∷ replicate 6 (Take 
 unfolding number_of layout_of cache_step create_step next_number take_step grown_cache grown slab_to_use fresh_byte by_need reaped choice taken_blocks empty_machine next_slot after_grant
 large_slabs = refl
 
--- the partial slab at frame 0 is used before the empty slab at frame 1, and an object keeps its bytes
+-- The partial slab at frame 0 is used before the empty slab at frame 1. An object that is given back and taken again has the same
+-- bytes as before.
 abbrev three_taken : List Operation
 three_taken = Grant ∷ Create 2048 8 (17 ∷ []) ∷ Take 0 ∷ Take 0 ∷ Take 0 ∷ Write 2048 (34 ∷ []) ∷ Give 0 4096 ∷ Give 0 2048 ∷ Take 0 ∷ []
 
@@ -81,7 +82,8 @@ record_reads_zero : (read_step 4064 2 (machine_after reaped_and_taken)).answer �
 unfolding layout_of cache_step create_step next_number take_step give_step reap_step reaped alloc_step read_step in_reach grown_cache grown slab_to_use fresh_byte by_need choice taken_blocks empty_machine next_slot after_grant
 record_reads_zero = refl
 
--- a slab cannot be freed as a page block, and an object is given back once, by its first byte, to its own cache
+-- A slab cannot be freed as a page block, and its slot cannot be taken back. An object can be given back only once, only at its
+-- first byte, and only to its own cache.
 abbrev a_slab : List Operation
 a_slab = Grant ∷ Alloc 0 ∷ Free 0 ∷ Create 64 8 (0 ∷ []) ∷ Take 0 ∷ []
 

@@ -1,4 +1,4 @@
--- After an object's flag is set, and after growth, the machine stays well formed.
+-- A machine stays well formed if an object is marked live or not live, and if a cache grows by a slab.
 use Rattle.std.proofs.Common.{◌≡◌, ◌≢◌, ℕ, ◌+◌, ◌-◌, ◌*◌, ◌<◌, Bool, true, false, List, [], ◌∷◌, ◌++◌, map, length, Some, None, refl, sym, ap, ◌∙◌, subst, inl, inr, arith}
 use Rattle.std.specs.Prelude.{if◌then◌else◌, is_some, slice_set}
 use Rattle.std.specs.List.{AllByRecursion as Each}
@@ -26,11 +26,11 @@ in_all_laid c s [] i j = elim i [ ]
 in_all_laid c s (d ∷ cs) (inl e) j = in_left (laid c s) (laid_in d) (all_laid cs) (subst (λ x. IsIn (laid c s) (laid_in x)) (sym e) (in_map (laid c) s c.slabs j))
 in_all_laid c s (d ∷ cs) (inr i) j = in_right (laid c s) (laid_in d) (all_laid cs) (in_all_laid c s cs i j)
 
--- a list has the same keys if an element is replaced by one with its key
+-- if an element of a list is replaced by an element with the same key, the list of keys stays the same
 pub same_keys : {X : Type 0} (key : X → ℕ) (before later : List X) (x y : X) → key y ≡ key x → map key (before ++ y ∷ later) ≡ map key (before ++ x ∷ later)
 same_keys key before later x y e = map-append key before (y ∷ later) ∙ (ap (λ n. map key before ++ n ∷ map key later) e ∙ sym (map-append key before (x ∷ later)))
 
--- numbers stay within the limit if a cache is replaced by one with its number
+-- if a cache is replaced by a cache with the same number, the numbers of all caches stay below the limit
 renumbered : (limit : ℕ) (before later was is : List Cache) (c d : Cache) → d.number ≡ c.number → was ≡ before ++ c ∷ later → is ≡ before ++ d ∷ later
     → Each (Numbered limit) was → Each (Numbered limit) is
 renumbered limit before later was is c d same from to h =
@@ -40,7 +40,7 @@ renumbered limit before later was is c d same from to h =
 
 -- One flag is set
 
--- how the list of all slabs changes when object i of slab s is marked with b
+-- how the list of all slabs changes when the live flag of object i of slab s becomes b
 pub record IsFlagged (c : Cache) (s : Slab) (i : ℕ) (b : Bool) (m : Machine) : Type 0 where
   pub xs : List Laid
   pub ys : List Laid
@@ -96,7 +96,8 @@ fresh_some : (b : Bool) (n : ℕ) → is_some (if b then Some n else None) ≡ b
 fresh_some true n = refl
 fresh_some false n = refl
 
--- how growth changes the lists of slabs
+-- When cache c grows by a slab at frame `first`, the list of all slabs gets this slab. The grown cache is one of the machine's
+-- caches, and it has the slab.
 pub record IsGrown (first : ℕ) (c : Cache) (m : Machine) : Type 0 where
   pub xs : List Laid
   pub ys : List Laid

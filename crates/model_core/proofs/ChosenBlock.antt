@@ -1,4 +1,4 @@
--- The block that a request gets.
+-- The block that a request gets is aligned, lies in a held slot, and is apart from all taken blocks.
 use Rattle.std.proofs.Common.{◌≡◌, ℕ, ◌/◌, ◌^◌, ◌<◌, true, eqb, List, [], ◌∷◌, Option, Some, None, refl, ap, ◌∙◌, subst, inl, inr, arith}
 use Rattle.std.specs.Prelude.{if◌then◌else◌, option_map, MatchOption}
 use Rattle.std.specs.List.{list_any, AllByRecursion as Each}
@@ -14,7 +14,7 @@ use Rattle.model_core.specs.Elements.{IsIn}
 use Rattle.model_core.proofs.Lists.{each_in, each_from}
 use Rattle.model_core.proofs.BlocksApart.{apart_first, has_first}
 
--- held slots lie below the bound
+-- `beyond slots` is above every slot of the list
 pub held_below : (slots : List ℕ) (u : ℕ) → list_any (λ v. eqb v u) slots ≡ true → u < beyond slots
 held_below [] u e = absurd (false≢true e)
 held_below (v ∷ slots) u e = elim (or_cases (eqb v u) (list_any (λ v. eqb v u) slots) e) [
@@ -35,7 +35,7 @@ choice_is_untaken order k first m e = go (choose order (holds m) (taken_in m) (b
         subst (λ f. IsAligned order (block f k) × ((x : ℕ) → HasFrame (block f k) x → (holds m (x / 2 ^ order) ≡ true) × (IsTaken (taken_in m) x → ⊥)))
         same (reserved_is_untaken order (holds m) (taken_in m) b.first b.order k c.0 c.1)
 
--- if the blocks of a list are apart, a look-up at a block's first frame finds its order
+-- if the blocks of a list are apart, `order_in` returns the order of the block of the list that begins at a frame
 pub order_in_listed : (bs : List Block) (b : Block) → AreApart bs → IsIn b bs → order_in bs b.first ≡ Some b.order
 order_in_listed [] b h i = elim i [ ]
 order_in_listed (a ∷ bs) b (e, h) (inl same) = subst (λ c. order_in (a ∷ bs) c.first ≡ Some c.order) same (ap (λ t. if t then Some a.order else order_in bs a.first) (eq-eqb a.first a.first refl))
@@ -43,16 +43,16 @@ order_in_listed (a ∷ bs) b (e, h) (inr i) =
     ap (λ t. if t then Some a.order else order_in bs b.first) (ne_eqb a.first b.first (λ same. apart_first a b (each_in (IsApart a) b bs e i) same))
     ∙ order_in_listed bs b h i
 
--- the block that a request gets is apart from all taken blocks
+-- if the taken blocks are apart, the block that a request gets is apart from all of them
 pub chosen_apart : (order k first : ℕ) (m : Machine) → AreApart (taken_blocks m) → choice order m k ≡ Some first → Each (IsApart (block first k)) (taken_blocks m)
 chosen_apart order k first m h e = each_from (IsApart (block first k)) (taken_blocks m) (λ b i x has of.
     ((choice_is_untaken order k first m e).1 x has).1 (b.first, b.order, order_in_listed (taken_blocks m) b h i, of))
 
--- .. and it is aligned and lies in a held slot
+-- the block that a request gets is aligned and lies in a held slot
 pub chosen_placed : (order k first : ℕ) (m : Machine) → choice order m k ≡ Some first → IsAligned order (block first k) × (holds m (first / 2 ^ order) ≡ true)
 chosen_placed order k first m e = ((choice_is_untaken order k first m e).0, ((choice_is_untaken order k first m e).1 first (has_first (block first k))).0)
 
--- Another representation of the same slots and blocks
+-- The choice for maps that agree with the machine's held slots and taken blocks
 
 pub choices_meet : ChoicesMeet
 unfolding choice

@@ -39,8 +39,8 @@ writes Operation.Grant place = false
 writes (Operation.TakeBack slot) place = false
 writes Operation.Reset place = false
 
--- The operation leaves the place alone: it does not write the place, makes or frees no slab that has the place, and does not grant
--- or take away the slot of the place.
+-- The operation leaves the place alone: it does not write the place, makes or frees no slab that has the place, and does not
+-- grant or take away the slot of the place.
 pub record IsLeftAlone (limit order : ℕ) (operation : Operation) (m : Machine) (place : ℕ) : Type 0 where
   pub unwritten : writes operation place ≡ false
   pub unmade : makes_slab_at order operation m place ≡ false

@@ -28,8 +28,8 @@ ChoicesMeet = (order k : ℕ) (held : ℕ → Bool) (taken : Taken) (m : Machine
     → ((first j : ℕ) → IsChoice order held taken k (block first j) → choice order m k ≡ Some first)
     × (IsWithout order held taken k → choice order m k ≡ None)
 
--- `step` is what a request for a block of order k does to machine m. `served first n` is the step that serves the request with the
--- block at frame `first` of machine n. `refused` is the step that refuses it.
+-- `step` is what a request for a block of order k does to machine m. `served first n` is the step that serves the request with
+-- the block at frame `first` of machine n. `refused` is the step that refuses the request.
 pub record IsByNeed {A : Type 0} (order k : ℕ) (m : Machine) (served : ℕ → Machine → Step A)
     (refused step : Step A) : Type 0 where
   -- if a block is found, no slab is freed

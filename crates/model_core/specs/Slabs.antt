@@ -24,7 +24,7 @@ pub record LiveObject : Type 0 where
   -- its first place
   pub place : ℕ
 
--- the live objects among object i and the objects after it in slab s; the list has the live flags of these objects
+-- the live objects of slab s from object i on; the list has the flags of these objects
 abbrev pub live_from : Cache → Slab → ℕ → List Bool → List LiveObject
 live_from c s i [] = []
 live_from c s i (live ∷ rest) =
