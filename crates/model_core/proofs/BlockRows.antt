@@ -58,7 +58,8 @@ not_joined = refl
 too_small_passed_over : serve 1 (without_taken (without_taken full 0) 4) (1 ∷ 0 ∷ []) ≡ Some 4 ∷ Some 0 ∷ []
 too_small_passed_over = refl
 
--- if slot 0 is whole and slot 1 is split, a request for order 0 gets a frame of slot 1: the least order goes before the least frame
+-- The least order goes before the least frame: if slot 0 is whole and slot 1 is split, a request for order 0 gets a frame of
+-- slot 1.
 order_before_frame : serve 2 (blocks_of (block 8 0 ∷ [])) (0 ∷ 3 ∷ 0 ∷ []) ≡ Some 9 ∷ Some 0 ∷ Some 10 ∷ []
 order_before_frame = refl
 

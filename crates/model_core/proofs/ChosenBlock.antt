@@ -35,7 +35,7 @@ choice_is_untaken order k first m e = go (choose order (holds m) (taken_in m) (b
         subst (λ f. IsAligned order (block f k) × ((x : ℕ) → HasFrame (block f k) x → (holds m (x / 2 ^ order) ≡ true) × (IsTaken (taken_in m) x → ⊥)))
         same (reserved_is_untaken order (holds m) (taken_in m) b.first b.order k c.0 c.1)
 
--- if the blocks of a list are apart, `order_in` returns the order of the block of the list that begins at a frame
+-- if the blocks of a list are apart, a lookup at the first frame of block b of the list returns the order of b
 pub order_in_listed : (bs : List Block) (b : Block) → AreApart bs → IsIn b bs → order_in bs b.first ≡ Some b.order
 order_in_listed [] b h i = elim i [ ]
 order_in_listed (a ∷ bs) b (e, h) (inl same) = subst (λ c. order_in (a ∷ bs) c.first ≡ Some c.order) same (ap (λ t. if t then Some a.order else order_in bs a.first) (eq-eqb a.first a.first refl))

@@ -1,4 +1,4 @@
--- An object that was not handed out since its slab was made is in constructed state.
+-- An object that was not handed out since its slab was made stays in constructed state after every step.
 use Rattle.std.proofs.Common.{◌≡◌, ◌≢◌, ℕ, ◌+◌, ◌-◌, ◌*◌, ◌/◌, ◌%◌, ◌^◌, ◌<◌, Bool, true, false, not, ◌&&◌, eqb, ltb, leb, List, ◌∷◌, ◌++◌, map, length, get_or, Option, Some, None, refl, sym, ap, ◌∙◌, subst, ◌⊎◌, inl, inr, arith}
 use Rattle.std.specs.Prelude.{if◌then◌else◌, filter, slice_set, slice_get}
 use Rattle.std.specs.List.{list_any, AllByRecursion as Each}
@@ -23,7 +23,7 @@ use Rattle.model_core.proofs.PageSteps.{not_busy}
 use Rattle.model_core.proofs.CacheSteps.{in_all_laid, IsFlagged, flagged, IsGrown, grown_is}
 use Rattle.model_core.proofs.Objects.{IsByte, IsByteOf, byte_is_of, IsPageByte, IsLiveByte, reached, live_byte, page_apart}
 
--- if an object of the slab begins at the place, it is not live and reads as the pattern
+-- if an object of the slab begins at the place, the object is not live and reads as the pattern of its cache
 abbrev pub IsFresh : (ℕ → Option ℕ) → ℕ → Laid → Type 0
 IsFresh bytes place l = (i : ℕ) → i < (laid_layout l).count → place ≡ object_place (laid_layout l) l.first l.colour i
     → (get_or l.live i false ≡ false) × ((j : ℕ) → j < l.size → bytes (place + j) ≡ Some (pattern_byte l.pattern j))
@@ -31,7 +31,7 @@ IsFresh bytes place l = (i : ℕ) → i < (laid_layout l).count → place ≡ ob
 abbrev pub AllFresh : ℕ → Machine → Type 0
 AllFresh place m = Each (IsFresh m.bytes place) (all_laid m.caches)
 
--- if an object of the slab begins at the place, it reads as the pattern, live or not
+-- if an object of the slab begins at the place, the object, live or not, reads as the pattern of its cache
 abbrev pub IsConstructed : (ℕ → Option ℕ) → ℕ → Laid → Type 0
 IsConstructed bytes place l = (i : ℕ) → i < (laid_layout l).count → place ≡ object_place (laid_layout l) l.first l.colour i
     → (j : ℕ) → j < l.size → bytes (place + j) ≡ Some (pattern_byte l.pattern j)
@@ -87,7 +87,7 @@ fresh_written order place begin new m w e h = each_same m.bytes (written begin n
     stays l in_ls i j p b dead true is = absurd (dead_byte order m l i j p w in_ls b dead (reached m begin (length new) p e
         (leb-true begin p (and_parts (leb begin p) (ltb p (begin + length new)) is).0) (ltb-true p (begin + length new) (and_parts (leb begin p) (ltb p (begin + length new)) is).1)))
 
--- One flag is set. If no object that begins at the place is marked live, the objects there stay fresh.
+-- One flag is set. The objects that begin at the place stay fresh, unless one of them is marked live.
 
 pub fresh_flagged : {limit : ℕ} (order place : ℕ) (c : Cache) (s : Slab) (i : ℕ) (b : Bool) (m : Machine) → IsWellFormed limit order m → IsIn c m.caches → IsIn s c.slabs
     → (b ≡ true → object_place (layout c) s.first s.colour i ≢ place) → AllFresh place m → AllFresh place (with_cache (with_slab (with_live i b s) c) m)
@@ -105,7 +105,7 @@ fresh_flagged order place c s i b m w in_c in_s other h =
     flag k lt at dead false is (inl same) = ap (λ n. get_or (slice_set s.live i b) n false) same ∙ (get_or-set_same s.live i b false (subst (λ n. n < length s.live) same lt) ∙ is)
     flag k lt at dead true is (inl same) = absurd (other is (ap (λ n. object_place (layout c) s.first s.colour n) (sym same) ∙ sym at))
 
--- after any flag is set, an object that begins at the place still reads as the pattern
+-- if all objects that begin at the place are fresh, they still read as their patterns after any flag is set
 pub constructed_flagged : {limit : ℕ} (order place : ℕ) (c : Cache) (s : Slab) (i : ℕ) (b : Bool) (m : Machine) → IsWellFormed limit order m → IsIn c m.caches → IsIn s c.slabs
     → AllFresh place m → AllConstructed place (with_cache (with_slab (with_live i b s) c) m)
 constructed_flagged order place c s i b m w in_c in_s h =
@@ -186,7 +186,7 @@ fresh_reaped order place m w h =
 
 -- Slots
 
--- the slot of an object's byte is the slot of its slab, and it is held
+-- each byte of an object lies in the slot of the object's slab, and this slot is held
 slab_slot : {limit : ℕ} (order : ℕ) (m : Machine) (l : Laid) (i j p : ℕ) → IsWellFormed limit order m → IsIn l (all_laid m.caches) → IsByte l i j p
     → (slot_of order p ≡ l.first / 2 ^ order) × (list_any (λ v. eqb v (slot_of order p)) m.slots ≡ true)
 slab_slot order m l i j p w in_ls b =

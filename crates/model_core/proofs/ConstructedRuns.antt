@@ -1,5 +1,5 @@
--- Over every list of operations: an object that was not handed out since its slab was made is in constructed state, and so is
--- one that a take has just handed out for the first time.
+-- After any list of operations, an object that was not handed out since its slab was made is in constructed state. So is an object
+-- that a take has just handed out for the first time.
 use Rattle.std.proofs.Common.{◌≡◌, ℕ, ◌+◌, ◌<◌, Bool, true, false, eqb, List, [], ◌∷◌, ◌++◌, Some, Result, refl, sym, ap, ◌∙◌, subst, arith}
 use Rattle.std.specs.Prelude.{if◌then◌else◌}
 use Rattle.std.specs.Option.{option_map_or}
@@ -27,11 +27,12 @@ use Rattle.model_core.proofs.ObjectsApart.{IsLaidObject, laid_object}
 use Rattle.model_core.proofs.ConstructedObjects.{IsFresh, AllFresh, IsConstructed, AllConstructed, fresh_constructed, constructed_flagged, fresh_written, fresh_flagged, fresh_grown, fresh_destroyed, fresh_reaped, fresh_granted, fresh_taken_back}
 use Rattle.model_core.proofs.WellFormedRuns.{keeps_well_formed, runs_well_formed}
 
--- after an operation that hands out no object at the place, objects there are fresh; if it hands one out, they are constructed
+-- If the operation hands out no object that begins at the place, all objects that begin there are fresh in machine n. If it hands
+-- one out, all of them are constructed in machine n.
 abbrev Leaves : ℕ → ℕ → Operation → Machine → Machine → Type 0
 Leaves order place operation m n = (hands_out order operation m place ≡ false → AllFresh place n) × (hands_out order operation m place ≡ true → AllConstructed place n)
 
--- if the operation hands out no object, it is enough that objects at the place are fresh
+-- for an operation that hands out no object, `Leaves` follows if all objects that begin at the place are fresh afterwards
 leaves_fresh : {P Q : Type 0} → P → (false ≡ false → P) × (false ≡ true → Q)
 leaves_fresh h = (λ _. h, λ e. absurd (false≢true e))
 
@@ -96,11 +97,11 @@ hand_outs-append : (limit order place : ℕ) (before since : List Operation) (m 
 hand_outs-append limit order place [] since m n = refl
 hand_outs-append limit order place (operation ∷ before) since m n = hand_outs-append limit order place before since (after limit order operation m) _
 
--- if no object at the place was handed out since its slab was made, objects there are fresh after the operations
+-- if no object that begins at the place was handed out since its slab was made, all objects that begin there are fresh
 fresh_left : (limit order place : ℕ) (operations : List Operation) → ArePossible operations → hand_outs limit order place operations empty_machine 0 ≡ 0 → AllFresh place (run limit order operations empty_machine)
 fresh_left limit order place operations can none = fresh_run limit order place operations empty_machine 0 can (runs_well_formed limit order [] tt) (λ _. fresh_empty place) none
 
--- an object reads as its pattern if all objects that begin at its place are in constructed state
+-- an object reads as the pattern of its cache if all objects that begin at the object's first place are constructed
 object_reads : {limit : ℕ} (order : ℕ) (m : Machine) (object : Object) (j : ℕ) → IsWellFormed limit order m → IsObject m object → j < object.cache.size → AllConstructed (place_of object) m
     → m.bytes (place_of object + j) ≡ Some (pattern_byte object.cache.pattern j)
 object_reads order m object j w is_object in_size h =

@@ -1,4 +1,4 @@
--- The number of numbers below a bound that pass a test.
+-- How many numbers below a bound pass a test. The number of free blocks is the same for all bounds above the held slots.
 use Rattle.std.proofs.Common.{◌≡◌, ◌⊎◌, inl, inr, refl, sym, ◌∙◌, ap, ℕ, zero, suc, ◌+◌, ◌*◌, ◌/◌, ◌^◌, ◌<◌, ◌≤◌, Bool, true, false, arith}
 use Rattle.std.specs.Prelude.{if◌then◌else◌}
 use Rattle.std.proofs.Math.Nat.{div-lt_iff_lt-mul}
@@ -8,7 +8,7 @@ use Rattle.model_core.specs.Blocks.{block, Taken}
 use Rattle.model_core.specs.Choice.{is_free, count_below, free_blocks}
 use Rattle.model_core.proofs.BlockChoice.{free_is_tested}
 
--- what one number adds to a count
+-- what one number adds to a count: 1 if it passes the test, else 0
 abbrev pub bit : Bool → ℕ
 bit b = if b then 1 else 0
 
@@ -32,7 +32,7 @@ count_none p (suc n) none =
     let last : bit (p n) ≡ 0 = ap bit (none n (omega arith)) in
     omega arith
 
--- if no number from n on passes, the count below a bound of n or more is the count below n
+-- if no number from n on passes the test, the count below n is the count below every greater bound too
 pub count_past : (p : ℕ → Bool) (n m : ℕ) → n ≤ m → ((f : ℕ) → n ≤ f → p f ≡ false) → count_below p m ≡ count_below p n
 count_past p n zero le none = let same : n ≡ 0 = omega arith in ap (count_below p) (sym same)
 count_past p n (suc m) le none = go (cases_lt m n) (count_past p n m)
@@ -44,7 +44,7 @@ count_past p n (suc m) le none = go (cases_lt m n) (count_past p n m)
         let before : count_below p m ≡ count_below p n = rest past none in
         omega arith
 
--- two bounds from which on no number passes give the same count
+-- if no number from n on and no number from m on passes the test, the counts below n and below m are equal
 pub count_either : (p : ℕ → Bool) (n m : ℕ) → ((f : ℕ) → n ≤ f → p f ≡ false) → ((f : ℕ) → m ≤ f → p f ≡ false) → count_below p n ≡ count_below p m
 count_either p n m past_n past_m = go (cases_lt n m)
   where
@@ -52,7 +52,7 @@ count_either p n m past_n past_m = go (cases_lt n m)
     go (inl below) = sym (count_past p n m (omega arith) past_n)
     go (inr above) = count_past p m n above past_m
 
--- no block past the held slots is free
+-- a block that begins past all held slots is not free
 none_past : (top : ℕ) (held : ℕ → Bool) (taken : Taken) (slots k f : ℕ) → ((u : ℕ) → held u ≡ true → u < slots) → slots * 2 ^ top ≤ f → is_free top held taken (block f k) ≡ false
 none_past top held taken slots k f above past = false_from_ne_true _ (λ e.
     let within : f < slots * 2 ^ top = (div-lt_iff_lt-mul (pow_pos top)).0 (above (f / 2 ^ top) ((free_is_tested top held taken (block f k)).0 e).1) in

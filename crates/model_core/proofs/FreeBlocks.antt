@@ -1,4 +1,4 @@
--- The free blocks: each available frame lies in one of them, and a reservation changes them as `Splits` says.
+-- Each available frame lies in exactly one free block, and a reservation changes the free blocks as `Splits` says.
 use Rattle.std.proofs.Common.{◌≡◌, ◌⊎◌, inl, inr, refl, sym, ◌∙◌, ap, subst, ℕ, suc, ◌+◌, ◌*◌, ◌/◌, ◌%◌, ◌^◌, ◌<◌, ◌≤◌, Bool, true, false, Some, None, eq-eqb, arith}
 use Rattle.std.specs.Prelude.{◌==◌}
 use Rattle.std.proofs.Math.Nat.{pow-suc, add-div_right, add-mod_right}
@@ -13,7 +13,7 @@ use Rattle.model_core.proofs.BlockHalves.{open_around, one_open, same_above}
 use Rattle.model_core.proofs.BlockTakenOut.{TakesOut, IsOtherHalf, open_after, open_stays, open_half}
 use Rattle.model_core.proofs.BlocksByNumber.{number_is, first_is, same_first, number_first, aligned_first, number_around, aligned_below, number_of_frame, frame_of_number, same_slot, available_tells, available_is, taken_is_unavailable, free_is_open, open_is_free}
 
--- aligned blocks of the same order and number are the same
+-- two aligned blocks with the same order and number are the same block
 pub same_block : (b c : Block) → b.first % 2 ^ b.order ≡ 0 → c.first % 2 ^ c.order ≡ 0 → b.order ≡ c.order → number_at b.order b.first ≡ number_at b.order c.first → b ≡ c
 same_block b c at_b at_c orders numbers =
     ap (λ f. block f b.order) (same_first b.first c.first b.order at_b (ap (λ n. c.first % 2 ^ n) orders ∙ at_c) numbers) ∙ ap (λ n. block c.first n) orders
@@ -24,11 +24,12 @@ same_bool true false to from = sym (to refl)
 same_bool false true to from = from refl
 same_bool false false to from = refl
 
--- a block has its first frame
+-- the first frame of a block lies in the block
 pub has_first : (f k : ℕ) → HasFrame (block f k) f
 has_first f k = (omega arith, omega (arith, pow_pos k))
 
--- what a look-up finds after a reservation or a release, at its frame and at other frames
+-- After a reservation of a block of order k at frame f, a lookup at f returns k. After a release at f, it returns None. A lookup at
+-- any other frame returns the same as before.
 pub with_here : (taken : Taken) (f k : ℕ) → with_taken taken f k f ≡ Some k
 with_here taken f k = cond-true (f == f) (Some k) (taken f) (eq-eqb f f refl)
 
@@ -57,7 +58,7 @@ taken_after taken f k x here (g, j, e, has) = go (cases_eq g f)
     go (inl same) = inl (subst (λ b. HasFrame b x) (ap (λ n. block n j) same ∙ ap (block f) (same_Some j k (sym e ∙ ap taken same ∙ here))) has)
     go (inr ne) = inr (g, j, without_other taken f g ne ∙ e, has)
 
--- a frame that is taken after a release was taken by another block
+-- a frame that is taken after a release lies in a taken block that was not released
 pub released_taken : (taken : Taken) (f x : ℕ) → IsTaken (without_taken taken f) x → (g j : ℕ) × (g ≡ f → ⊥) × (taken g ≡ Some j) × HasFrame (block g j) x
 released_taken taken f x (g, j, e, has) = go (cases_eq g f)
   where
@@ -105,7 +106,8 @@ even_number f i aligned = ap (number_at i) parts ∙ number_first (2 * number_at
 pub number_plus : (f i : ℕ) → number_at i (f + 2 ^ i) ≡ number_at i f + 1
 number_plus f i = number_is i (f + 2 ^ i) ∙ add-div_right f (pow_pos i) ∙ ap (λ n. n + 1) (sym (number_is i f))
 
--- the upper half of an aligned block is the other half beside its lower half, and no other aligned block is
+-- An aligned block of order i + 1 at frame f has two halves: the lower half begins at f, the other half begins at f + 2 ^ i. No
+-- other aligned block of order i is the other half.
 pub upper_half : (f i : ℕ) → f % 2 ^ suc i ≡ 0 → IsOtherHalf f i (f + 2 ^ i)
 upper_half f i aligned =
     let even : number_at i f ≡ 2 * number_at (suc i) f = even_number f i aligned in
@@ -122,7 +124,7 @@ only_half f i x at_f at_x half = same_first x (f + 2 ^ i) i at_x (add-mod_right 
     numbers : (n m q : ℕ) → m ≡ 2 * q → n / 2 ≡ m / 2 → (n ≡ m → ⊥) → n ≡ m + 1
     numbers n m q even whole ne = omega arith
 
--- a reservation takes a block out of the available frames
+-- a reservation takes the frames of the reserved block out of the available frames
 pub reserving : (top : ℕ) (held : ℕ → Bool) (taken : Taken) (f j k : ℕ) → IsFree top held taken (block f j) → k ≤ j → TakesOut (is_available top held taken) (is_available top held (with_taken taken f k)) top f k j
 reserving top held taken f j k free le = record {
   order = le;

@@ -1,4 +1,4 @@
--- Slabs as they lie in memory, each with the numbers of its cache.
+-- Slabs as they lie in memory, each with the number, object size, alignment and pattern of its cache.
 use Rattle.std.proofs.Common.{◌≡◌, ℕ, ◌-◌, ◌*◌, ◌/◌, ◌^◌, ◌<◌, Bool, true, not, ◌&&◌, ◌||◌, eqb, List, [], ◌∷◌, ◌++◌, map, length, Option, refl, sym, ap, ◌∙◌, subst}
 use Rattle.std.proofs.lemmas.List.{map-append}
 use Rattle.std.specs.Prelude.{flat_map, is_some}

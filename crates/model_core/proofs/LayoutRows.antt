@@ -1,4 +1,4 @@
--- The table of layouts, by computation.
+-- Worked examples of the layout for a size and an alignment, checked by computation.
 use Rattle.std.proofs.Common.{◌≡◌, refl}
 use Rattle.model_core.specs.Layouts.{layout_of}
 

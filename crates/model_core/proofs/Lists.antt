@@ -1,4 +1,4 @@
--- Lists: what holds of each element, also after an element is added or replaced, and lists that rise by key.
+-- Facts about lists: what is true of each element, what is true of some element, and lists that rise by key.
 use Rattle.std.proofs.Common.{◌≡◌, ◌≢◌, ℕ, zero, suc, ◌+◌, ◌<◌, ◌≤◌, Bool, true, false, not, ◌||◌, cond, eqb, ltb, List, [], ◌∷◌, ◌++◌, map, get_or, replicate, Option, None, Some, refl, sym, ap, ◌∙◌, subst, ◌⊎◌, inl, inr, arith}
 use Rattle.std.specs.Prelude.{if◌then◌else◌, is_some, filter, find, flat_map}
 use Rattle.std.specs.List.{list_any, AllByRecursion as Each}
@@ -37,7 +37,8 @@ pub each_right : {X : Type 0} (P : X → Type 0) (xs ys : List X) → Each P (xs
 each_right P [] ys a = a
 each_right P (x ∷ xs) ys (p, a) = each_right P xs ys a
 
--- what holds of each element still holds after one more such element is put in the middle, or after an element is left out
+-- If every element of a list has a property, this stays true when an element with the property is inserted. It also stays true
+-- when an element is left out.
 pub each_put : {X : Type 0} (P : X → Type 0) (xs ys : List X) (x : X) → Each P (xs ++ ys) → P x → Each P (xs ++ x ∷ ys)
 each_put P xs ys x a p = each_append P xs (x ∷ ys) (each_left P xs ys a) (p, each_right P xs ys a)
 
@@ -102,7 +103,7 @@ pub each_from : {X : Type 0} (P : X → Type 0) (xs : List X) → ((x : X) → I
 each_from P [] f = tt
 each_from P (x ∷ xs) f = (f x (inl refl), each_from P xs (λ y i. f y (inr i)))
 
--- a list that no element is in is empty
+-- a list without elements is empty
 pub none_in : {X : Type 0} (xs : List X) → ((x : X) → IsIn x xs → ⊥) → xs ≡ []
 none_in [] f = refl
 none_in (x ∷ xs) f = absurd (f x (inl refl))
@@ -171,7 +172,7 @@ pub none_any : {X : Type 0} (p : X → Bool) (xs : List X) → list_any p xs ≡
 none_any p [] e = tt
 none_any p (x ∷ xs) e = ((or_parts (p x) (list_any p xs) e).0, none_any p xs (or_parts (p x) (list_any p xs) e).1)
 
--- if `find` finds nothing, no element passes
+-- if `find` returns None, no element passes the test
 pub any_unfound : {X : Type 0} (p : X → Bool) (xs : List X) → find p xs ≡ None → list_any p xs ≡ false
 any_unfound p [] e = refl
 any_unfound {X} p (x ∷ xs) e = go (p x) e (any_unfound p xs)
@@ -193,7 +194,7 @@ any_in p x [] i is = elim i [ ]
 any_in p x (y ∷ ys) (inl e) is = or_left (p y) (list_any p ys) (ap p e ∙ is)
 any_in p x (y ∷ ys) (inr i) is = or_right (p y) (list_any p ys) (any_in p x ys i is)
 
--- an element that passes p either passes q or fails it
+-- some element passes p if and only if some element that passes q passes p, or some element that fails q passes p
 pub any_split : {X : Type 0} (p q : X → Bool) (xs : List X) → list_any p xs ≡ (list_any p (filter q xs) || list_any p (filter (λ x. not (q x)) xs))
 any_split p q [] = refl
 any_split p q (x ∷ xs) = go (q x) (any_split p q xs)
@@ -216,7 +217,7 @@ rises_above key n (x ∷ xs) (l, r) = (l, each_weaker (λ y. key x + 1 ≤ key y
 pub key_above : {X : Type 0} (key : X → ℕ) (n : ℕ) (x : X) (xs : List X) → RisesFrom n (map key xs) → IsIn x xs → n ≤ key x
 key_above key n x xs r i = each_in (λ y. n ≤ key y) x xs (rises_above key n xs r) i
 
--- an element of a rising list is found by its key
+-- in a list that rises by key, `find` finds each element by its key
 pub in_found : {X : Type 0} (key : X → ℕ) (n : ℕ) (x : X) (xs : List X) → RisesFrom n (map key xs) → IsIn x xs → find (λ y. eqb (key y) (key x)) xs ≡ Some x
 in_found key n x [] rises i = elim i [ ]
 in_found key n x (y ∷ ys) (low, rises) (inl same) =
@@ -225,7 +226,7 @@ in_found key n x (y ∷ ys) (low, rises) (inr i) =
     let above : key y + 1 ≤ key x = key_above key (key y + 1) x ys rises i in
     ap (λ b. cond b (Some y) (find (λ z. eqb (key z) (key x)) ys)) (ne_eqb (key y) (key x) (λ same. absurd (omega arith))) ∙ in_found key (key y + 1) x ys rises i
 
--- the list is split at element x, and no other element has its key
+-- the list is split at element x, and no other element has the key of x
 pub record Found {X : Type 0} (key : X → ℕ) (x : X) (xs : List X) : Type 0 where
   pub before : List X
   pub later : List X
@@ -257,7 +258,7 @@ map_others : {X : Type 0} (key : X → ℕ) (n : ℕ) (y : X) (xs : List X) → 
 map_others key n y [] a = refl
 map_others key n y (x ∷ xs) (e, a) = ap (λ b. (if b then y else x) ∷ map (λ z. if eqb (key z) n then y else z) xs) e ∙ ap (λ zs. x ∷ zs) (map_others key n y xs a)
 
--- if each element with key n is replaced by y, only x is replaced
+-- if n is the key of x and every element with key n is replaced by y, only x is replaced
 pub found_replaced : {X : Type 0} (key : X → ℕ) (x : X) (xs : List X) (f : Found key x xs) (y : X) (n : ℕ) → n ≡ key x
     → map (λ z. if eqb (key z) n then y else z) xs ≡ f.before ++ y ∷ f.later
 found_replaced {X} key x xs f y n e =
@@ -271,7 +272,7 @@ found_replaced {X} key x xs f y n e =
     parts bs a = map-append (λ z. if eqb (key z) n then y else z) bs (x ∷ f.later)
         ∙ ap (λ zs. zs ++ map (λ z. if eqb (key z) n then y else z) (x ∷ f.later)) (map_others key n y bs (subst (λ k. Each (λ z. eqb (key z) k ≡ false) bs) (sym e) a))
 
--- the elements before and after the place where `put_rising` puts x
+-- the elements before x and after x in the list that `put_rising` returns
 pub record PutIn {X : Type 0} (key : X → ℕ) (x : X) (xs : List X) : Type 0 where
   pub before : List X
   pub later : List X
@@ -291,7 +292,7 @@ put_in {X} key x (y ∷ ys) = go (ltb (key x) (key y)) refl (put_in key x ys)
       is = ap (λ b. if b then x ∷ (y ∷ ys) else y ∷ put_rising key x ys) e ∙ ap (λ zs. y ∷ zs) p.is;
     }
 
--- an element of the longer list is the new element or was in the list
+-- an element of the list that `put_rising` returns is x or an element of the old list
 pub in_put : {X : Type 0} (key : X → ℕ) (x y : X) (ys : List X) → IsIn y (put_rising key x ys) → (x ≡ y) ⊎ IsIn y ys
 in_put key x y [] i = i
 in_put {X} key x y (z ∷ zs) i = go (ltb (key x) (key z)) i (in_put key x y zs)
@@ -311,11 +312,11 @@ put_has {X} key x y (z ∷ zs) i = go (ltb (key x) (key z)) (put_has key x y zs)
     go false more (inr (inl e)) = inl e
     go false more (inr (inr i)) = inr (more (inr i))
 
--- if an element of the list passes the test, so does an element of the longer list
+-- if an element of a list passes the test, an element of the list with x inserted passes the test too
 pub any_with : {X : Type 0} (p : X → Bool) (key : X → ℕ) (x : X) (xs : List X) → list_any p xs ≡ true → list_any p (put_rising key x xs) ≡ true
 any_with p key x xs e = let s = some_any p xs e in any_in p s.0 (put_rising key x xs) (put_has key x s.0 xs (inr s.1)) s.2
 
--- if the key is new, the longer list rises too
+-- if a list rises and no element has the key of x, the list with x inserted rises too
 pub put_rises : {X : Type 0} (key : X → ℕ) (n : ℕ) (x : X) (xs : List X) → RisesFrom n (map key xs) → n ≤ key x → Each (λ y. key y ≢ key x) xs
     → RisesFrom n (map key (put_rising key x xs))
 put_rises key n x [] r le a = (le, tt)
@@ -334,7 +335,7 @@ filter_rises {X} key p n (x ∷ xs) (l, r) = go (p x) (filter_rises key p (key x
     go true rest = (l, rest)
     go false rest = rises_more (key x + 1) n (map key (filter p xs)) (omega arith) rest
 
--- the least missing number is at least n, and it is missing
+-- `least_missing n xs` is at least n, and it is not in xs if xs rises from n on
 pub least_above : (n : ℕ) (xs : List ℕ) → n ≤ least_missing n xs
 least_above n [] = omega arith
 least_above n (x ∷ xs) = go (eqb x n) (least_above (n + 1) xs)

@@ -1,4 +1,4 @@
--- What stays true of a machine's memory after each kind of change.
+-- After each kind of change, the memory of a machine is still laid out as `IsLaidOut` says.
 use Rattle.std.proofs.Common.{◌≡◌, ◌≢◌, ℕ, ◌-◌, ◌*◌, ◌/◌, ◌^◌, Bool, true, false, not, ◌&&◌, ◌||◌, eqb, List, [], ◌∷◌, ◌++◌, map, length, Option, Some, None, refl, sym, ap, ◌∙◌, subst}
 use Rattle.std.specs.Prelude.{if◌then◌else◌, is_some, filter}
 use Rattle.std.specs.List.{list_any, AllByRecursion as Each}
@@ -20,25 +20,25 @@ use Rattle.model_core.proofs.LaidSlabs.{Laid, laid_layout, laid_block, in_laid, 
 pub any_put : {X : Type 0} (p : X → Bool) (xs ys : List X) (x : X) → list_any p (xs ++ x ∷ ys) ≡ (p x || list_any p (xs ++ ys))
 any_put p xs ys x = any_append p xs (x ∷ ys) ∙ (or_turned (list_any p xs) (p x) (list_any p ys) ∙ ap (λ b. p x || b) (sym (any_append p xs ys)))
 
--- a place in no slab is in no object
+-- a place that is in no slab is in no object
 pub no_object : (place : ℕ) (ls : List Laid) → list_any (in_laid place) ls ≡ false → list_any (in_laid_object place) ls ≡ false
 no_object place ls e = any_none (in_laid_object place) ls (each_weaker (λ l. in_laid place l ≡ false) (λ l. in_laid_object place l ≡ false) (λ l h. and_left (in_laid place l) _ h) ls (none_any (in_laid place) ls e))
 
--- the frames of a placed block lie in its slot
+-- every frame of an aligned block lies in the slot of the block's first frame
 pub frame_slot : (order x : ℕ) (b : Block) → IsAligned order b → HasFrame b x → x / 2 ^ order ≡ b.first / 2 ^ order
 frame_slot order x b aligned has = same_slot order b.order x b.first aligned.0 (number_of_frame b.first b.order x aligned.1 has)
 
 pub place_held : (order : ℕ) (slots : List ℕ) (place : ℕ) (b : Block) → Placed order slots b → in_block place b ≡ true → list_any (λ v. eqb v (slot_of order place)) slots ≡ true
 place_held order slots place b p e = ap (λ u. list_any (λ v. eqb v u) slots) (frame_slot order (place / FRAME_BYTES) b p.0 (in_block-true place b e)) ∙ p.1
 
--- a place of a slab lies in a held slot
+-- a place in a slab lies in a held slot
 pub slab_held : (order : ℕ) (slots : List ℕ) (place : ℕ) (ls : List Laid) → Each (λ l. Placed order slots (laid_block l)) ls → list_any (in_laid place) ls ≡ true
     → list_any (λ v. eqb v (slot_of order place)) slots ≡ true
 slab_held order slots place ls h e =
     let s : (l : Laid) × IsIn l ls × (in_laid place l ≡ true) = some_any (in_laid place) ls e in
     place_held order slots place (laid_block s.0) (each_in (λ l. Placed order slots (laid_block l)) s.0 ls h s.1) s.2
 
--- One page block is added or removed
+-- A page block is added, or page blocks are removed
 
 pub block_put : (order : ℕ) (slots : List ℕ) (xs ys : List Block) (b : Block) (ls : List Laid) (bytes : ℕ → Option ℕ)
     → IsLaidOut order slots (xs ++ ys) ls bytes → Placed order slots b → Each (IsApart b) (xs ++ ys) → Each (IsApart b) (map laid_block ls) → IsLaidOut order slots (xs ++ b ∷ ys) ls bytes
@@ -67,7 +67,7 @@ blocks_filtered order slots q bs ls bytes l = record {
   mapped = l.mapped;
 }
 
--- Other flags of one slab
+-- The flags of one slab change
 
 abbrev pub with_flags : List Bool → Laid → Laid
 with_flags flags l = record l { live = flags }

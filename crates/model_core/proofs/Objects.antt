@@ -1,4 +1,5 @@
--- Where objects lie, which of them are live, and what is in reach.
+-- Each byte of an object lies in the object's slab. The objects that `live_objects` lists are live, and every place in reach has a
+-- byte.
 use Rattle.std.proofs.Common.{◌≡◌, ℕ, suc, ◌+◌, ◌-◌, ◌*◌, ◌/◌, ◌%◌, ◌^◌, ◌<◌, ◌≤◌, Bool, true, false, not, ◌&&◌, ◌||◌, eqb, ltb, leb, List, [], ◌∷◌, map, length, get_or, refl, sym, ap, ◌∙◌, subst, ◌⊎◌, inl, inr, arith}
 use Rattle.std.specs.Prelude.{if◌then◌else◌, is_some, flat_map}
 use Rattle.std.specs.List.{list_any, AllByRecursion as Each}
@@ -65,7 +66,7 @@ pub record IsLive (c : Cache) (o : LiveObject) : Type 0 where
   pub live : get_or o.slab.live o.index false ≡ true
   pub at : o.place ≡ object_place (layout c) o.slab.first o.slab.colour o.index
 
--- o is an object of the slab that is live, given the flags from object n on
+-- o is a live object of slab s with an index of n or more; the list has the flags of the objects from n on
 record IsLiveFrom (c : Cache) (s : Slab) (n : ℕ) (flags : List Bool) (o : LiveObject) : Type 0 where
   slab_is : o.slab ≡ s
   low : n ≤ o.index
@@ -164,7 +165,7 @@ reached m place len p e low high = elim (or_cases (list_any (within_block place 
       })
 ]
 
--- a byte of a live object is a byte of its laid slab
+-- a byte of a live object is, as `IsByte` says, the same byte of the object with this index of the laid slab
 pub live_byte : (m : Machine) (place : ℕ) (h : IsLiveByte m place) → IsCutLaid (laid h.cache h.slab) → IsByte (laid h.cache h.slab) h.index h.byte place
 live_byte m place h c = record { index_in = subst (λ n. h.index < n) c.count h.index_in; byte_in = h.byte_in; at = h.at }
 
@@ -175,7 +176,7 @@ page_apart order m place l h =
     any_none (in_laid place) (all_laid m.caches) (each_weaker (λ k. IsApart h.page (laid_block k)) (λ k. in_laid place k ≡ false) (λ k a. apart_place place h.page (laid_block k) a h.in_page) (all_laid m.caches)
     (each_unmap (IsApart h.page) laid_block (all_laid m.caches) apart))
 
--- a place in reach has a byte
+-- a place in a page block or in a live object has a byte
 pub reached_mapped : {limit : ℕ} (order : ℕ) (m : Machine) (place : ℕ) → IsWellFormed limit order m → IsPageByte m place ⊎ IsLiveByte m place → is_some (m.bytes place) ≡ true
 reached_mapped order m place w (inl h) =
     let l : IsLaidOut order m.slots m.blocks (all_laid m.caches) m.bytes = laid_out order m w in

@@ -56,7 +56,7 @@ one_key key n (z ∷ xs) x y (l, r) (inr i) (inl b) e =
     absurd (omega (arith, ap key b))
 one_key key n (z ∷ xs) x y (l, r) (inr i) (inr j) e = one_key key (key z + 1) xs x y r i j e
 
--- what is true of an object and of its slab as it lies in memory
+-- what is true of an object of a well formed machine, and of the laid slab of the object
 pub record IsLaidObject (order : ℕ) (m : Machine) (o : Object) : Type 0 where
   pub cache_in : IsIn o.cache m.caches
   pub slab_in : IsIn o.slab o.cache.slabs

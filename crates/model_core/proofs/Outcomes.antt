@@ -1,4 +1,4 @@
--- The machine after an operation: unchanged if it is refused, else with one change.
+-- A refused operation leaves the machine unchanged. Any other operation changes it as one field of `Outcomes` says.
 use Rattle.std.proofs.Common.{◌≡◌, ℕ, ◌<◌, Bool, true, false, not, cond, eqb, ltb, leb, List, [], ◌∷◌, length, Option, Some, None, Result, Ok, refl, sym, ap, ◌∙◌, subst}
 use Rattle.std.specs.Prelude.{if◌then◌else◌, OnErr, find, filter, is_some, option_map, option_and_then}
 use Rattle.std.specs.List.{list_any}
@@ -31,7 +31,8 @@ used_in c s e = go (find is_partial c.slabs) refl e
     go None f e = (find_in is_empty s c.slabs e).0
     go (Some t) f e = (find_in is_partial s c.slabs (f ∙ e)).0
 
--- if no element passes, leaving out those that pass changes nothing; so a cache without empty slabs is not changed by a reap
+-- If no element passes the test, leaving out all elements that pass changes nothing. So a reap does not change a cache that has
+-- no empty slab.
 kept_all : {X : Type 0} (p : X → Bool) (xs : List X) → find p xs ≡ None → filter (λ x. not (p x)) xs ≡ xs
 kept_all p [] e = refl
 kept_all {X} p (x ∷ xs) e = go (p x) e (kept_all p xs)
@@ -58,7 +59,8 @@ stands_by_need order k c m i e = by_need_keeps (λ n. IsIn c n.caches) order k m
 
 -- Steps with answers
 
--- Q holds of the step of an alloc if it holds of each refusal and of each allocation on demand
+-- Q is true of the step of an alloc if it is true of each refusal and of each step that allocates a block, with empty slabs freed
+-- on demand
 pub alloc_outcome : (order k : ℕ) (m : Machine) (Q : Step (Result ℕ AllocRefusal) → Type 0) → ((refusal : AllocRefusal) → Q (refuse refusal m))
     → ((first : ℕ) → choice_by_need order k m ≡ Some first → Q (record { answer = Ok first; machine = with_block (block first k) (by_need order k m) }))
     → Q (alloc_step order k m)
@@ -70,8 +72,8 @@ alloc_outcome order k m Q refused found = go (ltb order k) (choice_by_need order
     go false None e = subst (λ n. Q (refuse AllocRefusal.NoFrames n)) (sym (by_need_none order k m e)) (refused AllocRefusal.NoFrames)
     go false (Some first) e = found first e
 
--- Q holds of a take, with the block of the slab that the take makes or None, if Q holds of each refusal, of an object of an
--- existing slab, and of the first object of a slab that is made on demand
+-- Q is true of the step of a take and of the block of the slab that it makes (None if it makes no slab), if Q is true in three
+-- cases: of each refusal, of each object of an existing slab, and of the first object of each slab that is made on demand.
 pub take_outcome : (order number : ℕ) (m : Machine) (Q : Option Block → Step (Result ℕ TakeRefusal) → Type 0) → ((refusal : TakeRefusal) → Q None (refuse refusal m))
     → ((c : Cache) (s : Slab) → IsIn c m.caches → IsIn s c.slabs → Q None (hand_out c s m))
     → ((c : Cache) (first : ℕ) → let n = by_need order (layout c).order m in IsIn c n.caches → choice_by_need order (layout c).order m ≡ Some first
@@ -102,7 +104,7 @@ refusals_stay order n m = (
 
 -- All operations
 
--- what has to be shown so that Q holds of each operation and the machine after it
+-- if these facts are true, Q is true of each operation and the machine after it
 pub record Outcomes (limit order : ℕ) (m : Machine) (Q : Operation → Machine → Type 0) : Type 0 where
   pub refused : (operation : Operation) → made_block order operation m ≡ None → Q operation m
   pub page_taken : (k first : ℕ) → choice_by_need order k m ≡ Some first → Q (Alloc k) (with_block (block first k) (by_need order k m))

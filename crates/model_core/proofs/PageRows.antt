@@ -1,4 +1,4 @@
--- Worked examples of page blocks, by computation. Slots have 8 frames.
+-- Worked examples of page blocks, checked by computation. Slots have 8 frames.
 use Rattle.std.proofs.Common.{◌≡◌, refl, List, [], ◌∷◌, ◌++◌, Some, None, Ok, Err}
 use Rattle.model_core.specs.declared.refusals.AllocRefusal.{AllocRefusal}
 use Rattle.model_core.specs.declared.refusals.ReadRefusal.{ReadRefusal}
@@ -10,12 +10,13 @@ use Rattle.model_core.specs.Operations.{alloc_step, free_step, read_step, write_
 use Rattle.model_core.specs.Runs.{Operation, Alloc, Free, Write, Grant, TakeBack, Reset}
 use Rattle.model_core.proofs.RowAnswers.{number_of, numbers, machine_after}
 
--- a machine without slots refuses every page block
+-- a machine without slots refuses a page block
 no_slots : (alloc_step 3 0 empty_machine).answer ≡ Err AllocRefusal.NoFrames
 unfolding alloc_step by_need reaped choice taken_blocks empty_machine
 no_slots = refl
 
--- blocks are split until single frames are left: requests get frame 0, order 1 at frame 2, order 2 at frame 4, then frame 1
+-- Requests for orders 0, 1, 2 and 0 get the blocks at frames 0, 2, 4 and 1, and the slot is then used up. A request above the order
+-- of a slot is refused as well.
 abbrev four_blocks : List Operation
 four_blocks = Grant ∷ Alloc 0 ∷ Alloc 1 ∷ Alloc 2 ∷ Alloc 0 ∷ []
 
@@ -31,19 +32,21 @@ above_the_order : (alloc_step 3 4 (machine_after four_blocks)).answer ≡ Err Al
 unfolding alloc_step by_need reaped choice taken_blocks empty_machine next_slot after_grant
 above_the_order = refl
 
--- after all four blocks are freed, they are one block of order 3 again
+-- after all four blocks are freed, the slot is one free block of order 3 again
 joins : numbers (four_blocks ++ (Free 0 ∷ Free 1 ∷ Free 2 ∷ Free 4 ∷ Alloc 3 ∷ []))
     ≡ Some 0 ∷ Some 0 ∷ Some 2 ∷ Some 4 ∷ Some 1 ∷ Some 0 ∷ Some 0 ∷ Some 1 ∷ Some 2 ∷ Some 0 ∷ []
 unfolding number_of alloc_step free_step by_need reaped choice taken_blocks empty_machine next_slot after_grant
 joins = refl
 
--- frame 0 is free, but too small for order 1; for order 0 it is the free block of least order
+-- Frame 0 and the block at frame 4 are free. A request for order 1 gets frame 4, because frame 0 alone is too small. A request for
+-- order 0 then gets frame 0.
 too_small : numbers (four_blocks ++ (Free 0 ∷ Free 4 ∷ Alloc 1 ∷ Alloc 0 ∷ []))
     ≡ Some 0 ∷ Some 0 ∷ Some 2 ∷ Some 4 ∷ Some 1 ∷ Some 0 ∷ Some 2 ∷ Some 4 ∷ Some 0 ∷ []
 unfolding number_of alloc_step free_step by_need reaped choice taken_blocks empty_machine next_slot after_grant
 too_small = refl
 
--- the least slot that is not held is granted, and the least order goes before the least frame
+-- A grant gives the least slot that is not held. A request for order 0 gets a frame of slot 1, which is split, and not of slot 0,
+-- which is whole: the least order goes before the least frame.
 two_slots : numbers (Grant ∷ Grant ∷ TakeBack 0 ∷ Alloc 0 ∷ Grant ∷ Alloc 0 ∷ Alloc 3 ∷ [])
     ≡ Some 0 ∷ Some 1 ∷ Some 0 ∷ Some 8 ∷ Some 0 ∷ Some 9 ∷ Some 0 ∷ []
 unfolding number_of alloc_step take_back_step is_busy after_take_back by_need reaped choice taken_blocks empty_machine next_slot after_grant
@@ -71,7 +74,8 @@ scrubbed : (read_step 0 3 (machine_after (Grant ∷ Alloc 0 ∷ Write 0 (10 ∷ 
 unfolding alloc_step free_step write_step read_step take_back_step is_busy after_take_back in_reach by_need reaped choice taken_blocks empty_machine next_slot after_grant
 scrubbed = refl
 
--- a range within a page block is in reach; a range from one block into the next is not, nor is a range far away
+-- A range within a page block is in reach. A range from one block into the next is not, nor is a range far away. A read of 0 or 65
+-- bytes is refused for its length.
 abbrev two_frames : List Operation
 two_frames = Grant ∷ Alloc 0 ∷ Alloc 0 ∷ []
 
@@ -95,11 +99,11 @@ too_many : (read_step 4294967295 65 (machine_after two_frames)).answer ≡ Err R
 unfolding alloc_step read_step by_need reaped choice taken_blocks empty_machine next_slot after_grant
 too_many = refl
 
--- a block is freed only once, and only by its first frame
+-- a block can be freed only once, and only at its first frame
 released_twice : numbers (Grant ∷ Alloc 0 ∷ Free 1 ∷ Free 0 ∷ Free 0 ∷ []) ≡ Some 0 ∷ Some 0 ∷ None ∷ Some 0 ∷ None ∷ []
 unfolding number_of alloc_step free_step by_need reaped choice taken_blocks empty_machine next_slot after_grant
 released_twice = refl
 
--- after a reset the machine is the empty one
+-- after a reset the machine is the empty machine
 after_reset : machine_after (Grant ∷ Alloc 0 ∷ Reset ∷ []) ≡ empty_machine
 after_reset = refl
