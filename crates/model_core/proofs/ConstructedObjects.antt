@@ -1,4 +1,4 @@
--- An object that was not handed out since its slab was made stays in constructed state after every step.
+-- If an object was not handed out since its slab was made, every step leaves it in constructed state.
 use Rattle.std.proofs.Common.{◌≡◌, ◌≢◌, ℕ, ◌+◌, ◌-◌, ◌*◌, ◌/◌, ◌%◌, ◌^◌, ◌<◌, Bool, true, false, not, ◌&&◌, eqb, ltb, leb, List, ◌∷◌, ◌++◌, map, length, get_or, Option, Some, None, refl, sym, ap, ◌∙◌, subst, ◌⊎◌, inl, inr, arith}
 use Rattle.std.specs.Prelude.{if◌then◌else◌, filter, slice_set, slice_get}
 use Rattle.std.specs.List.{list_any, AllByRecursion as Each}

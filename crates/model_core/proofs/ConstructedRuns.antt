@@ -1,5 +1,5 @@
--- After any list of operations, an object that was not handed out since its slab was made is in constructed state. So is an object
--- that a take has just handed out for the first time.
+-- After any list of operations, an object that was not handed out since its slab was made is in constructed state. So is an
+-- object that a take has just handed out for the first time.
 use Rattle.std.proofs.Common.{◌≡◌, ℕ, ◌+◌, ◌<◌, Bool, true, false, eqb, List, [], ◌∷◌, ◌++◌, Some, Result, refl, sym, ap, ◌∙◌, subst, arith}
 use Rattle.std.specs.Prelude.{if◌then◌else◌}
 use Rattle.std.specs.Option.{option_map_or}

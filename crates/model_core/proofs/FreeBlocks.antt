@@ -28,8 +28,8 @@ same_bool false false to from = refl
 pub has_first : (f k : ℕ) → HasFrame (block f k) f
 has_first f k = (omega arith, omega (arith, pow_pos k))
 
--- After a reservation of a block of order k at frame f, a lookup at f returns k. After a release at f, it returns None. A lookup at
--- any other frame returns the same as before.
+-- After a reservation of a block of order k at frame f, a lookup at f returns k. After a release at f, it returns None. A lookup
+-- at any other frame returns the same as before.
 pub with_here : (taken : Taken) (f k : ℕ) → with_taken taken f k f ≡ Some k
 with_here taken f k = cond-true (f == f) (Some k) (taken f) (eq-eqb f f refl)
 
@@ -80,7 +80,7 @@ each_frame_in_one top held taken x on off = go (open_around (is_available top he
             let orders : c.order ≡ j = one_open (is_available top held taken) top c.order j x (subst (IsOpen (is_available top held taken) top c.order) (sym number) (free_is_open top held taken c free)) is_open in
             same_block c (around x j) free.0.1 (aligned_first _ j) orders (sym number ∙ ap (λ n. number_at n x) orders ∙ sym (number_around x j) ∙ ap (λ n. number_at n (x / 2 ^ j * 2 ^ j)) (sym orders))
 
--- a block that is reserved out of a free block is aligned, and its frames are held and not taken
+-- a block that is reserved out of a free block is aligned, and all its frames lie in held slots and are not taken
 pub reserved_is_untaken : ReservedIsUntaken
 reserved_is_untaken top held taken f j k free le = ((omega (arith, free.0.0), aligned), frames)
   where
@@ -93,7 +93,7 @@ reserved_is_untaken top held taken f j k free le = ((omega (arith, free.0.0), al
         number : number_at j x ≡ number_at j f
         number = same_above x f k j le (number_of_frame f k x aligned has)
 
--- if f is aligned for order i + 1, its number at order i is twice its number at order i + 1
+-- if f is a multiple of 2 ^ (i + 1), its number at order i is twice its number at order i + 1
 pub even_number : (f i : ℕ) → f % 2 ^ suc i ≡ 0 → number_at i f ≡ 2 * number_at (suc i) f
 even_number f i aligned = ap (number_at i) parts ∙ number_first (2 * number_at (suc i) f) i
   where

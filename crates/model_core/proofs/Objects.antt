@@ -1,5 +1,5 @@
--- Each byte of an object lies in the object's slab. The objects that `live_objects` lists are live, and every place in reach has a
--- byte.
+-- Each byte of an object lies in the object's slab. The objects that `live_objects` lists are live, and every place in reach has
+-- a byte.
 use Rattle.std.proofs.Common.{◌≡◌, ℕ, suc, ◌+◌, ◌-◌, ◌*◌, ◌/◌, ◌%◌, ◌^◌, ◌<◌, ◌≤◌, Bool, true, false, not, ◌&&◌, ◌||◌, eqb, ltb, leb, List, [], ◌∷◌, map, length, get_or, refl, sym, ap, ◌∙◌, subst, ◌⊎◌, inl, inr, arith}
 use Rattle.std.specs.Prelude.{if◌then◌else◌, is_some, flat_map}
 use Rattle.std.specs.List.{list_any, AllByRecursion as Each}
@@ -165,7 +165,7 @@ reached m place len p e low high = elim (or_cases (list_any (within_block place 
       })
 ]
 
--- a byte of a live object is, as `IsByte` says, the same byte of the object with this index of the laid slab
+-- if a place is byte j of live object i of a slab, it is byte j of object i of the laid slab
 pub live_byte : (m : Machine) (place : ℕ) (h : IsLiveByte m place) → IsCutLaid (laid h.cache h.slab) → IsByte (laid h.cache h.slab) h.index h.byte place
 live_byte m place h c = record { index_in = subst (λ n. h.index < n) c.count h.index_in; byte_in = h.byte_in; at = h.at }
 

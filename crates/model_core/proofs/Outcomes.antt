@@ -59,8 +59,8 @@ stands_by_need order k c m i e = by_need_keeps (λ n. IsIn c n.caches) order k m
 
 -- Steps with answers
 
--- Q is true of the step of an alloc if it is true of each refusal and of each step that allocates a block, with empty slabs freed
--- on demand
+-- Q is true of the step of an alloc if Q is true of each refusal and of each alloc that succeeds. An alloc that succeeds frees
+-- empty slabs on demand.
 pub alloc_outcome : (order k : ℕ) (m : Machine) (Q : Step (Result ℕ AllocRefusal) → Type 0) → ((refusal : AllocRefusal) → Q (refuse refusal m))
     → ((first : ℕ) → choice_by_need order k m ≡ Some first → Q (record { answer = Ok first; machine = with_block (block first k) (by_need order k m) }))
     → Q (alloc_step order k m)

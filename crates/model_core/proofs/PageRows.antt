@@ -15,8 +15,8 @@ no_slots : (alloc_step 3 0 empty_machine).answer ≡ Err AllocRefusal.NoFrames
 unfolding alloc_step by_need reaped choice taken_blocks empty_machine
 no_slots = refl
 
--- Requests for orders 0, 1, 2 and 0 get the blocks at frames 0, 2, 4 and 1, and the slot is then used up. A request above the order
--- of a slot is refused as well.
+-- Requests for orders 0, 1, 2 and 0 get the blocks at frames 0, 2, 4 and 1, and the slot is then used up. A request for an order
+-- above the order of a slot is refused as well.
 abbrev four_blocks : List Operation
 four_blocks = Grant ∷ Alloc 0 ∷ Alloc 1 ∷ Alloc 2 ∷ Alloc 0 ∷ []
 
@@ -38,8 +38,8 @@ joins : numbers (four_blocks ++ (Free 0 ∷ Free 1 ∷ Free 2 ∷ Free 4 ∷ All
 unfolding number_of alloc_step free_step by_need reaped choice taken_blocks empty_machine next_slot after_grant
 joins = refl
 
--- Frame 0 and the block at frame 4 are free. A request for order 1 gets frame 4, because frame 0 alone is too small. A request for
--- order 0 then gets frame 0.
+-- Frame 0 and the block at frame 4 are free. A request for order 1 gets frame 4, because frame 0 alone is too small. A request
+-- for order 0 then gets frame 0.
 too_small : numbers (four_blocks ++ (Free 0 ∷ Free 4 ∷ Alloc 1 ∷ Alloc 0 ∷ []))
     ≡ Some 0 ∷ Some 0 ∷ Some 2 ∷ Some 4 ∷ Some 1 ∷ Some 0 ∷ Some 2 ∷ Some 4 ∷ Some 0 ∷ []
 unfolding number_of alloc_step free_step by_need reaped choice taken_blocks empty_machine next_slot after_grant
@@ -74,8 +74,8 @@ scrubbed : (read_step 0 3 (machine_after (Grant ∷ Alloc 0 ∷ Write 0 (10 ∷ 
 unfolding alloc_step free_step write_step read_step take_back_step is_busy after_take_back in_reach by_need reaped choice taken_blocks empty_machine next_slot after_grant
 scrubbed = refl
 
--- A range within a page block is in reach. A range from one block into the next is not, nor is a range far away. A read of 0 or 65
--- bytes is refused for its length.
+-- A range within a page block is in reach. A range from one block into the next is not, nor is a range far away. A read of 0 or
+-- 65 bytes is refused for its length.
 abbrev two_frames : List Operation
 two_frames = Grant ∷ Alloc 0 ∷ Alloc 0 ∷ []
 

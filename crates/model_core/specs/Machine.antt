@@ -85,7 +85,7 @@ abbrev pub order_in : List Block → Taken
 order_in [] f = None
 order_in (b ∷ bs) f = if b.first == f then Some b.order else order_in bs f
 
--- the taken blocks, by first frame
+-- the taken blocks of the machine, as a map from first frames to orders
 abbrev pub taken_in : Machine → Taken
 taken_in m = order_in (taken_blocks m)
 

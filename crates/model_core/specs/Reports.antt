@@ -43,8 +43,8 @@ greatest count (suc k) = if count k == 0 then greatest count k else Some k
 abbrev pub greatest_free : ℕ → Machine → Option ℕ
 greatest_free order m = if frames_free order m == 0 then None else greatest (free_count order m) (order + 1)
 
--- The share of the free frames that lies outside one free block of the greatest order, in thousandths, rounded up. It measures
--- fragmentation.
+-- The share of the free frames that lies outside one free block of the greatest order, in thousandths, rounded up. It is 0 if no
+-- frame is free. It measures fragmentation.
 abbrev pub split_share : ℕ → Option ℕ → ℕ
 split_share free None = 0
 split_share free (Some k) = 1000 - 1000 * 2 ^ k / free

@@ -1,4 +1,4 @@
--- Operations, and the machine after a list of them.
+-- The operations on a machine, and the machine after a list of operations.
 use Rattle.std.specs.Prelude.{◌≡◌, ℕ, true, List, [], ◌∷◌, ⊤}
 use Rattle.std.specs.List.{AllByRecursion}
 use Rattle.model_core.specs.Layouts.{is_pattern}
@@ -18,7 +18,7 @@ pub data Operation : Type 0 where
   Create : ℕ → ℕ → List ℕ → Operation
   -- takes an object of this cache
   Take : ℕ → Operation
-  -- gives back the object of this cache at this place
+  -- gives back the object of this cache that begins at this place
   Give : ℕ → ℕ → Operation
   -- destroys this cache
   Destroy : ℕ → Operation
@@ -28,7 +28,7 @@ pub data Operation : Type 0 where
   Grant : Operation
   -- takes back this slot
   TakeBack : ℕ → Operation
-  -- leaves the empty machine
+  -- changes the machine to the empty machine
   Reset : Operation
 
 -- the operation can be requested: if it makes a cache, the pattern is allowed

@@ -42,7 +42,7 @@ live_objects c = flat_map (live_in c) c.slabs
 abbrev pub cache_of : Machine → ℕ → Option Cache
 cache_of m number = find (λ c. c.number == number) m.caches
 
--- the slab of the cache at this frame
+-- the slab of the cache that begins at this frame
 abbrev pub slab_of : Cache → ℕ → Option Slab
 slab_of c first = find (λ s. s.first == first) c.slabs
 

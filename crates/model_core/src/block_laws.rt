@@ -12,7 +12,7 @@ pub fn splits_and_joins()
     ensures joins { Joins }
 {}
 
-/// A block that is reserved out of a free block overlaps no taken block and lies in a held slot.
+/// A block that is reserved out of a free block is aligned, overlaps no taken block and lies in a held slot.
 pub fn reserved_is_untaken()
     ensures { ReservedIsUntaken }
 {}

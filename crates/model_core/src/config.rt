@@ -7,7 +7,7 @@ use crate::limits::{LEAST_ORDER, MOST_ORDER, MOST_SUPERBLOCKS, MOST_TENANTS};
 /// The sizes of a machine.
 #[derive(Clone, Copy, Debug, PartialEq, Eq)]
 pub struct Config {
-    /// The order of a superblock, 3 to 8. It has `2^order` frames.
+    /// The order of a superblock, 3 to 8. A superblock has `2^order` frames.
     pub order: u32,
     /// The number of superblocks of the machine, 1 to 256.
     pub superblocks: u32,

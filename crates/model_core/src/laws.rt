@@ -10,7 +10,7 @@ pub fn layouts_fit()
     ensures { LayoutsFit }
 {}
 
-/// The block that a request gets overlaps no taken block and lies in a held slot.
+/// The block that a request gets is aligned, overlaps no taken block and lies in a held slot.
 pub fn choice_is_untaken()
     ensures { ChoiceIsUntaken }
 {}
