@@ -20,8 +20,8 @@ ChoiceIsUntaken = (order k first : ℕ) (m : Machine) → choice order m k ≡ S
     → IsAligned order (block first k)
     × ((x : ℕ) → HasFrame (block first k) x → (holds m (x / 2 ^ order) ≡ true) × (IsTaken (taken_in m) x → ⊥))
 
--- If `held` and `taken` agree with the held slots and taken blocks of the machine, the choice for `held` and `taken` is the choice
--- of the machine. If no free block has order k or more, the choice of the machine is None.
+-- If `held` and `taken` agree with the held slots and taken blocks of the machine, the choice for `held` and `taken` is the
+-- choice of the machine. If no free block has order k or more, the choice of the machine is None.
 abbrev pub ChoicesMeet : Type 0
 ChoicesMeet = (order k : ℕ) (held : ℕ → Bool) (taken : Taken) (m : Machine) → ((u : ℕ) → holds m u ≡ held u)
     → ((f : ℕ) → taken_in m f ≡ taken f)
