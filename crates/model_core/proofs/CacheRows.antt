@@ -50,7 +50,8 @@ given_and_destroyed : numbers (three_taken ++ (Give 0 0 ∷ Give 0 2048 ∷ Dest
 unfolding number_of layout_of cache_step create_step next_number take_step give_step destroy_step destroyed write_step in_reach grown_cache grown slab_to_use fresh_byte by_need reaped choice taken_blocks empty_machine next_slot after_grant
 given_and_destroyed = refl
 
--- a new object reads as the pattern; the bytes between objects are out of reach, and so is an object that was given back
+-- An object of a new slab reads as the pattern. The bytes between objects are out of reach, and so is an object that was given
+-- back.
 abbrev one_object : List Operation
 one_object = Grant ∷ Create 100 8 (90 ∷ []) ∷ Take 0 ∷ []
 

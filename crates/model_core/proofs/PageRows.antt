@@ -61,7 +61,7 @@ not_held : (take_back_step 3 1 (machine_after (Grant ∷ Alloc 0 ∷ []))).answe
 unfolding alloc_step take_back_step by_need reaped choice taken_blocks empty_machine next_slot after_grant
 not_held = refl
 
--- a new block reads as zero, and a block that is freed and allocated again has the same bytes
+-- a block of a newly granted slot reads as zero, and a block that is freed and allocated again has the same bytes
 abbrev written_and_released : List Operation
 written_and_released = Grant ∷ Alloc 0 ∷ Write 0 (10 ∷ 11 ∷ []) ∷ Free 0 ∷ Alloc 0 ∷ []
 

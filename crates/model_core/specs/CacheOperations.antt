@@ -22,8 +22,8 @@ created number size align pattern m = record m {
 unfoldable pub next_number : Machine → ℕ
 next_number m = least_missing 0 (map (λ c. c.number) m.caches)
 
--- Makes a cache of an accepted size and alignment. The answer is the cache's number, or None if all numbers below the limit are
--- used.
+-- Makes a cache, whose size and alignment were checked before. The answer is the cache's number, or None if all numbers below the
+-- limit are used.
 unfoldable pub create_step : ℕ → ℕ → ℕ → List ℕ → Machine → Step (Option ℕ)
 create_step limit size align pattern m =
     if nat_le limit (next_number m) then record { answer = None; machine = m }

@@ -1,4 +1,4 @@
--- Computes the free block that a request gets, and the number of free blocks. `slots` is any number above all held slots; the
+-- Computes the free block that serves a request, and the number of free blocks. `slots` is any number above all held slots; the
 -- results do not depend on it.
 use Rattle.std.specs.Prelude.{ℕ, zero, suc, ◌+◌, ◌*◌, ◌/◌, ◌%◌, ◌^◌, Bool, false, not, ◌&&◌, ◌||◌, ◌==◌, nat_lt, nat_le, if◌then◌else◌, Option, Some, None, is_some}
 use Rattle.std.specs.Option.{option_and_then, option_map}
