@@ -151,7 +151,7 @@ block_of_growth order m c =
     if is_some (slab_to_use (find is_partial c.slabs) (find is_empty c.slabs)) then None
     else option_map (λ first. block first (layout c).order) (choice_by_need order (layout c).order m)
 
--- the block of the slab that an operation makes, if it makes one
+-- the block of the slab that the operation makes, or None if it makes no slab
 abbrev pub made_block : ℕ → Operation → Machine → Option Block
 made_block order (Operation.Take number) m = option_and_then (block_of_growth order m) (cache_of m number)
 made_block order (Operation.Alloc k) m = None

@@ -13,6 +13,7 @@ abbrev pub is_clear : (ℕ → Bool) → ℕ → ℕ → Bool
 is_clear ok zero q = ok q
 is_clear ok (suc k) q = is_clear ok k (2 * q) && is_clear ok k (2 * q + 1)
 
--- Block q of order k is clear and no larger than a slot. It is a whole slot, or the block of the next order around it is not clear.
+-- Block q of order k is clear and no larger than a slot. It is a whole slot, or the block of the next order around it is not
+-- clear.
 abbrev pub IsOpen : (ℕ → Bool) → ℕ → ℕ → ℕ → Type 0
 IsOpen ok top k q = (k ≤ top) × (is_clear ok k q ≡ true) × ((k ≡ top) ⊎ (is_clear ok (suc k) (q / 2) ≡ false))
