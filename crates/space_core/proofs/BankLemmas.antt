@@ -1,4 +1,4 @@
--- The bytes of one superblock, and what a write of them changes.
+-- If any `unit` bytes replace those of an owned superblock, all that is true of every space stays true.
 use Rattle.std.proofs.Common.{◌≡◌, ◌≢◌, ℕ, ◌+◌, ◌<◌, ◌≤◌, List, [], ◌++◌, length, get_or, take, drop, replicate, None, sym, ◌∙◌, ap, subst, inl, inr, arith}
 use Rattle.std.proofs.lemmas.List.{get_or-set_same, get_or-set_other, length-set, length-take-le, length-append, length-drop, drop-drop, take-append-le}
 use Rattle.std.proofs.lemmas.Bool.{cases_eq}
@@ -8,7 +8,8 @@ use Rattle.std.specs.Global.{Vec}
 use Rattle.space_core.specs.Content.{Content, IsSpace, owner_at}
 use Rattle.space_core.specs.Windows.{put_within}
 
--- after x is written at i, entry k has P if x has it for k = i, and the old entry k has it for any other k
+-- if x satisfies P when k is i, and the old entry k satisfies P when k is not i, entry k satisfies P after x is written at index
+-- i
 pub after-set : {A : Type 0} (P : A → Type 0) (xs : List A) (i : ℕ) (x : A) (k : ℕ) (d : A) → i < length xs → (k ≡ i → P x) → (k ≢ i → P (get_or xs k d)) → P (get_or (set xs i x) k d)
 after-set P xs i x k d within here other =
     elim (cases_eq k i) [
@@ -22,7 +23,7 @@ with_bank s m bytes = record s { banks = set s.banks m bytes }
 abbrev pub with_banks : Content → List (List ℕ) → Content
 with_banks s banks = record s { banks = banks }
 
--- an owned superblock may have any `unit` bytes
+-- a space stays a space if any `unit` bytes replace the bytes of a superblock that has an owner
 pub with_bank-IsSpace : {s : Content} → IsSpace s → (m : ℕ) → owner_at s.owners m ≢ None → m < length s.owners → (bytes : List ℕ) → length bytes ≡ s.unit → IsSpace (with_bank s m bytes)
 with_bank-IsSpace {s} facts m owned within bytes size = record {
   some = facts.some;
@@ -38,7 +39,7 @@ with_bank-IsSpace {s} facts m owned within bytes size = record {
   spare = λ n lt none unmarked. after-set (λ (xs : List ℕ). xs ≡ replicate s.unit 0) s.banks m bytes n [] (omega (arith, facts.paired)) (λ same. absurd (owned (ap (owner_at s.owners) (sym same) ∙ none))) (λ _. facts.spare n (omega (arith, length-set s.banks m bytes)) none unmarked);
 }
 
--- if w is written into a vector from i on, its items are those of `put_within`
+-- after w is written into a vector from index i on, the vector has the items that `put_within` gives
 pub items-with_items_from : (read : Vec ℕ) (i : ℕ) (w : List ℕ) → i ≤ read.len → (with_items_from read i w).items ≡ put_within read.items i w
 items-with_items_from read i w within =
     let xs = read.items in

@@ -5,7 +5,7 @@ use Rattle.space_core.specs.Content.{Content, IsSpace, bank, owner_at, superbloc
 use Rattle.space_core.specs.Windows.{slot_bytes, is_in_slot, bytes_under, byte_under}
 use Rattle.space_core.specs.Laws.{IsSameFor, ReadsSame}
 
--- a byte and a range are read from the bytes of the slot
+-- the byte at an offset of a slot, and a range of a slot, depend only on the bytes of the slot
 byte_from_slot : (banks : List (List ℕ)) (i : ℕ) (o : Option ℕ) → byte_under banks i o ≡ option_map (λ xs. get_or xs i 0) (option_map (bank banks) o)
 byte_from_slot banks i None = refl
 byte_from_slot banks i (Some m) = refl
@@ -21,7 +21,7 @@ range_from_slot unit place len banks o = go (is_in_slot unit place len) o
     go true (Some m) = refl
     go false o = refl
 
--- if the bytes of each slot stay, so does all that the tenant reads
+-- if the unit and the bytes of each slot of tenant t are the same in s' as in s, the tenant reads the same
 pub reads_same : (t : ℕ) (s s' : Content) → s'.unit ≡ s.unit → ((u : ℕ) → slot_bytes s' t u ≡ slot_bytes s t u) → ReadsSame t s s'
 reads_same t s s' unit slots = record {
   slots = slots;
@@ -41,13 +41,13 @@ pub bank_kept : (banks banks' : List (List ℕ)) (o : Option ℕ) → ((m : ℕ)
 bank_kept banks banks' None kept = refl
 bank_kept banks banks' (Some m) kept = ap (λ (xs : List ℕ). Some xs) (kept m refl)
 
--- if the slots keep their superblocks and these keep their bytes, all that the tenant reads stays
+-- if each slot of tenant t keeps its superblock, and these superblocks keep their bytes, the tenant reads the same as before
 pub same_for : (t : ℕ) (s s' : Content) → s'.unit ≡ s.unit → ((u : ℕ) → superblock_at s'.slots t u ≡ superblock_at s.slots t u) → ((u m : ℕ) → superblock_at s.slots t u ≡ Some m → bank s'.banks m ≡ bank s.banks m) → IsSameFor t s s'
 same_for t s s' unit slots banks =
     let reads = reads_same t s s' unit (λ u. ap (option_map (bank s'.banks)) (slots u) ∙ bank_kept s.banks s'.banks (superblock_at s.slots t u) (banks u)) in
     record { slots = slots; banks = banks; bytes = reads.bytes; windows = reads.windows }
 
--- if b is the same for tenant t as a, and c is the same as b, then c is the same as a
+-- if a and b are the same for tenant t, and b and c are too, then a and c are the same for tenant t
 pub same_twice : (t : ℕ) (a b c : Content) → IsSameFor t a b → IsSameFor t b c → IsSameFor t a c
 same_twice t a b c first second = record {
   slots = λ u. second.slots u ∙ first.slots u;
@@ -56,6 +56,6 @@ same_twice t a b c first second = record {
   windows = λ place len. second.windows place len ∙ first.windows place len;
 }
 
--- a superblock in a slot is not one of those that have no owner
+-- a superblock in a slot differs from every superblock that has no owner
 pub not_unowned : {s : Content} → IsSpace s → (t u n m : ℕ) → superblock_at s.slots t u ≡ Some n → owner_at s.owners m ≡ None → n ≢ m
 not_unowned {s} facts t u n m under unowned same = let owned = (facts.agree t u n).0 under in let here = ap (owner_at s.owners) same in absurd (cc)

@@ -1,4 +1,4 @@
--- What is true of the space that boot makes.
+-- All that is true of every space is true of the space that boot makes.
 use Rattle.std.proofs.Common.{◌≡◌, ℕ, ◌<◌, ◌≤◌, ◌^◌, ◌*◌, zero, Bool, cond, false, List, [], Option, None, length, get_or, replicate, count_by, is_some, sym, ◌∙◌, ap, inl, inr, refl, arith}
 use Rattle.std.proofs.lemmas.List.{get_or-replicate, length-replicate, get_or_past}
 use Rattle.std.proofs.lemmas.List.Folds.{sum_by-replicate}
@@ -18,7 +18,7 @@ no_superblock tenants n t u =
       | inr past ↦ ap (λ (r : List (Option ℕ)). get_or r u None) (get_or_past (replicate tenants row) t [] (omega (arith, length-replicate tenants row)))
     ]
 
--- copies of an entry that fails the test are not counted
+-- in a list of copies of an entry that fails the test, no entry is counted
 count_by-copies : {A : Type 0} (p : A → Bool) (n : ℕ) (x : A) → p x ≡ false → count_by p (replicate n x) ≡ zero
 count_by-copies p n x fails =
     sum_by-replicate (λ y. cond (p y) 1 0) n x ∙ (ap (λ b. n * cond b 1 0) fails ∙ omega arith)

@@ -1,4 +1,4 @@
--- A grant and a take-back keep what is true of every space.
+-- A grant, a take-back and a move keep what is true of every space.
 use Rattle.std.proofs.Common.{◌≡◌, ◌≢◌, ℕ, ◌<◌, true, false, List, [], Option, Some, None, is_some, length, get_or, replicate, sym, ◌∙◌, ap, subst, inl, inr, refl, arith}
 use Rattle.std.proofs.Math.ListN.{set}
 use Rattle.std.proofs.lemmas.List.{get_or-set_same, get_or-set_other, set-set, length-set, length-replicate, get_or_past}
@@ -14,7 +14,7 @@ use Rattle.space_core.proofs.Mapping.{within_from_some, superblock-lt}
 use Rattle.space_core.proofs.BytesUnderSlots.{not_unowned}
 use Rattle.space_core.proofs.MappingKept.{superblock_at-with_entry, length-row_of-with_slot, counted-set, agree-set}
 
--- if slot u of t has a superblock, t is one of the tenants
+-- if slot u of tenant t has a superblock, t is below the number of tenants
 pub tenant-lt : (slots : List (List (Option ℕ))) (t u m : ℕ) → superblock_at slots t u ≡ Some m → t < length slots
 tenant-lt slots t u m under =
     elim (cases_lt t (length slots)) [
@@ -109,7 +109,7 @@ moved-IsSpace {s} facts t u from to under within unowned =
     subst IsSpace (moved_is s t u from to tenant)
     (with_bank-IsSpace given to owned (omega (arith, length-set left.owners to o)) (bank s.banks from) (facts.sized from (omega (arith, facts.paired, superblock-lt facts t u from under))))
 
--- the mapping is one to one
+-- no slot has two superblocks, and no superblock is in two slots
 pub space-IsApart : {s : Content} → IsSpace s → IsOneToOne s
 space-IsApart {s} facts = record {
   superblocks = λ t u m n first second. let q : (let o : Option ℕ = Some m in o) ≡ Some n = sym ((facts.agree t u m).1 first) ∙ (facts.agree t u n).1 second in cc;

@@ -1,4 +1,4 @@
--- The slots have only superblocks of the table of owners.
+-- The number of every superblock in a slot is below the number of superblocks.
 use Rattle.std.proofs.Common.{◌≡◌, ℕ, ◌<◌, List, length, get_or, Option, Some, None, IfSome, inl, inr}
 use Rattle.std.proofs.lemmas.List.{get_or_past}
 use Rattle.std.proofs.lemmas.Bool.{cases_lt}

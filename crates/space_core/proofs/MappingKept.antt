@@ -17,7 +17,7 @@ row_of-with_slot slots t u x lt = get_or-set_same slots t (set (slots_of slots t
 pub row_of_other-with_slot : (slots : List (List (Option ℕ))) (t u : ℕ) (x : Option ℕ) (k : ℕ) → k ≢ t → slots_of (with_entry slots t u x) k ≡ slots_of slots k
 row_of_other-with_slot slots t u x k differ = get_or-set_other slots t k (set (slots_of slots t) u x) [] differ
 
--- each row keeps its length
+-- after slot u of tenant t is set, the row of each tenant k has as many slots as before
 pub length-row_of-with_slot : (slots : List (List (Option ℕ))) (t u : ℕ) (x : Option ℕ) (k : ℕ) → t < length slots → length (slots_of (with_entry slots t u x) k) ≡ length (slots_of slots k)
 length-row_of-with_slot slots t u x k lt =
     elim (cases_eq k t) [
@@ -25,7 +25,7 @@ length-row_of-with_slot slots t u x k lt =
       | inr differ ↦ ap length (row_of_other-with_slot slots t u x k differ)
     ]
 
--- a slot that is set has the new entry, and every other slot keeps its own
+-- after slot u of tenant t is set to x, this slot has entry x, and every other slot keeps its entry
 pub superblock_at-with_entry : (slots : List (List (Option ℕ))) (t u : ℕ) (x : Option ℕ) → t < length slots → u < length (slots_of slots t) → superblock_at (with_entry slots t u x) t u ≡ x
 superblock_at-with_entry slots t u x lt short =
     ap (λ (row : List (Option ℕ)). get_or row u None) (row_of-with_slot slots t u x lt) ∙ get_or-set_same (slots_of slots t) u x None short
@@ -43,7 +43,7 @@ if_true b x y e = ap (λ test. if test then x else y) e
 pub if_false : {A : Type 0} (b : Bool) (x y : A) → b ≡ false → (if b then x else y) ≡ y
 if_false b x y e = ap (λ test. if test then x else y) e
 
--- after slot u is set, slot v of the tenant has the new entry if v is u, or else its own
+-- after slot u of tenant t is set to x, slot v of this tenant has entry x if v is u, or else its old entry
 pub slot_put : (slots : List (List (Option ℕ))) (t u : ℕ) (x : Option ℕ) → t < length slots → u < length (slots_of slots t) → (v : ℕ) → superblock_at (with_entry slots t u x) t v ≡ (if v == u then x else superblock_at slots t v)
 slot_put slots t u x tenant short v =
     elim (cases_eq v u) [
@@ -64,12 +64,12 @@ cases_both a b c d =
 same_owner : {a b c d : ℕ} → a ≡ b → c ≡ d → owned_by a c ≡ owned_by b d
 same_owner first second = λ i. owned_by (first i) (second i)
 
--- if an entry changes, the count loses the old entry, if it was counted, and gains the new one, if it is counted
+-- after x is written at index i, the count is less by 1 if the old entry was counted, and more by 1 if x is counted
 pub count_by-set : {A : Type 0} (p : A → Bool) (xs : List A) (i : ℕ) (x d : A) → i < length xs → count_by p (set xs i x) + cond (p (get_or xs i d)) 1 0 ≡ count_by p xs + cond (p x) 1 0
 count_by-set p xs i x d lt = sum_by-set (λ y. cond (p y) 1 0) xs i x d lt
 
--- if slot u of t and the owner of m change alike, and neither is another tenant's before or after, each tenant still holds as
--- many slots as superblocks
+-- Slot u of tenant t gets entry x, and superblock m gets owner o. If, before and after, t holds the slot exactly when it owns m,
+-- and no other tenant owns m, then each tenant still holds as many slots as it owns superblocks.
 pub counted-set : {s : Content} → IsSpace s → (t u m : ℕ) (x : Option ℕ) (o : Option Owner) → t < length s.slots → u < length s.owners → m < length s.owners
     → is_some (superblock_at s.slots t u) ≡ is_of t (owner_at s.owners m) → is_some x ≡ is_of t o
     → ((k : ℕ) → k ≢ t → is_of k (owner_at s.owners m) ≡ false) → ((k : ℕ) → k ≢ t → is_of k o ≡ false)
@@ -89,7 +89,8 @@ counted-set {s} facts t u m x o tenant slot within was is others other k lt =
           ∙ omega (arith, owners, facts.counted k lt, ap one_if (others k differ), ap one_if (other k differ))
     ]
 
--- if slot u of tenant t becomes x and the owner of superblock m becomes o, and x and o agree, slots and owners still agree
+-- Slot u of tenant t gets entry x, and superblock m gets owner o. If x and o agree, the slot had no superblock other than m, and
+-- m was in no other slot, then slots and owners still agree.
 pub agree-set : {s : Content} → IsSpace s → (t u m : ℕ) (x : Option ℕ) (o : Option Owner) → t < length s.slots → u < length s.owners → m < length s.owners
     → ((n : ℕ) → x ≡ Some n → (n ≡ m) × (o ≡ Some (owned_by t u))) → ((k v : ℕ) → o ≡ Some (owned_by k v) → (k ≡ t) × (v ≡ u) × (x ≡ Some m))
     → ((k v : ℕ) → superblock_at s.slots k v ≡ Some m → (k ≡ t) × (v ≡ u)) → ((n : ℕ) → superblock_at s.slots t u ≡ Some n → n ≡ m)

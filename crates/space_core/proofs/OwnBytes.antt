@@ -1,4 +1,4 @@
--- What a call does to the bytes that its tenant reads, place by place.
+-- What the tenant of a call reads at each place after the call.
 use Rattle.std.proofs.Common.{◌≡◌, ℕ, ◌+◌, ◌-◌, ◌/◌, ◌%◌, ◌<◌, ◌≤◌, zero, Bool, true, false, List, [], Option, Some, None, option_map, IsSome, length, get_or, drop, replicate, slice_range, sym, ◌∙◌, ap, inl, inr, refl, arith}
 use Rattle.std.specs.Prelude.{◌&&◌, nat_lt, nat_le, ◌==◌, if◌then◌else◌}
 use Rattle.std.proofs.Math.ListN.{set}
@@ -68,7 +68,7 @@ own_read {s} facts t place len bytes = go (home_of s t place len) refl
               byte_is s t (place + i) (from + i) m (ap (superblock_at s.slots t) at.0 ∙ home.2) at.1 ∙ ap Some (sym (get_or-slice_range xs from len i lt) ∙ ap (λ ys. get_or ys i 0) is);
         }
 
--- if one superblock is rewritten, a place whose byte stays the same there reads as before
+-- after superblock m gets the bytes xs, a place reads as before if it is not in m, or if xs has the old byte at its offset
 byte_at_kept-with_bank : (s : Content) (t m : ℕ) (xs : List ℕ) (p : ℕ) → m < length s.banks → (superblock_at s.slots t (p / s.unit) ≡ Some m → get_or xs (p % s.unit) 0 ≡ get_or (bank s.banks m) (p % s.unit) 0) → byte_at (with_bank s m xs) t p ≡ byte_at s t p
 byte_at_kept-with_bank s t m xs p within kept = go (superblock_at s.slots t (p / s.unit)) refl
   where
@@ -80,7 +80,7 @@ byte_at_kept-with_bank s t m xs p within kept = go (superblock_at s.slots t (p /
           | inr differ ↦ ap (λ (ys : List ℕ). Some (get_or ys (p % s.unit) 0)) (get_or-set_other s.banks m n xs [] differ)
         ]
 
--- a place of the rewritten superblock reads its new byte
+-- after superblock m gets the bytes xs, a place in m at offset i reads byte i of xs
 byte_at-with_bank : (s : Content) (t m i : ℕ) (xs : List ℕ) (p : ℕ) → m < length s.banks → superblock_at s.slots t (p / s.unit) ≡ Some m → p % s.unit ≡ i → byte_at (with_bank s m xs) t p ≡ Some (get_or xs i 0)
 byte_at-with_bank s t m i xs p within under place =
     byte_is (with_bank s m xs) t p i m under place ∙ ap (λ (ys : List ℕ). Some (get_or ys i 0)) (get_or-set_same s.banks m xs [] within)
@@ -172,7 +172,7 @@ own_take_back {s} facts t u m under p =
           ∙ sym (if_false (p / s.unit == u) _ _ (grind (arith, nat_tests)))
     ]
 
--- the slot that moves has the bytes of its old superblock, and each other slot stays
+-- after a move, tenant t holds the same slots as before and reads the same bytes in them
 pub own_move : {s : Content} → IsSpace s → (t u from to : ℕ) → superblock_at s.slots t u ≡ Some from → to < length s.owners → owner_at s.owners to ≡ None → ReadsSame t s (with_move s t u from to)
 own_move {s} facts t u from to under within unowned =
     let tenant = tenant-lt s.slots t u from under in

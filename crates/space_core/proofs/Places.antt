@@ -1,11 +1,11 @@
--- Places of one slot, and the bytes at them.
+-- The offsets of places in one slot, and the bytes of a list after a write into it.
 use Rattle.std.proofs.Common.{◌≡◌, ℕ, ◌+◌, ◌-◌, ◌*◌, ◌/◌, ◌%◌, ◌<◌, ◌≤◌, List, ◌++◌, length, get_or, take, drop, slice_range, ◌∙◌, ap, refl, arith}
 use Rattle.std.proofs.lemmas.List.{get_or-take, get_or-drop, get_or_append_left, get_or-append_right, length-take-le}
 use Rattle.std.proofs.lemmas.Nat.{same_from_place}
 use Rattle.std.proofs.Math.Nat.{div-add-mod}
 use Rattle.space_core.specs.Windows.{put_within}
 
--- if the offset of place + i is below the unit too, place + i is in the same slot
+-- if the offset of `place` plus i is below the unit, place + i is in the same slot as `place`, at this offset
 pub place-add : (unit place i : ℕ) → 0 < unit → place % unit + i < unit → ((place + i) / unit ≡ place / unit) × ((place + i) % unit ≡ place % unit + i)
 place-add unit place i some within =
     same_from_place ((place + i) / unit) ((place + i) % unit) (place / unit) (place % unit + i) unit (omega arith) within (omega (arith, div-add-mod (place + i) unit, div-add-mod place unit))

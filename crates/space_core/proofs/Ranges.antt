@@ -9,7 +9,7 @@ use Rattle.model_core.specs.declared.limits.TheConstants.{FRAME_BYTES}
 use Rattle.space_core.specs.Content.{Content, superblock_at}
 use Rattle.space_core.specs.Windows.{is_in_slot, home_of}
 
--- a range that is not empty and within the unit bytes of slot u begins in slot u and does not run over its end
+-- if a range is not empty and lies within the `unit` bytes of slot u, it begins in slot u and does not run over the slot's end
 within_slot : (unit u place len : ℕ) → u * unit ≤ place → place + len ≤ u * unit + unit → 0 < len → (place / unit ≡ u) × (place % unit + len ≤ unit)
 within_slot unit u place len low high some =
     let rest : ℕ = place - u * unit in
@@ -30,7 +30,7 @@ block_end top first order small aligned =
     omega arith
 
 -- if a range is not empty and lies in the block of 2 ^ order frames from frame first on, and the tenant holds the slot of that
--- frame, the range lies in one held slot
+-- frame, the range lies in one slot that the tenant holds
 pub range_held : (s : Content) (t top first order place len : ℕ) → s.unit ≡ FRAME_BYTES * 2 ^ top → order ≤ top → first % 2 ^ order ≡ 0 → IsSome (superblock_at s.slots t (first / 2 ^ top))
     → 0 < len → FRAME_BYTES * first ≤ place → place + len ≤ FRAME_BYTES * (first + 2 ^ order) → IsSome (home_of s t place len)
 range_held s t top first order place len unit small aligned held some begins ends =

@@ -1,4 +1,4 @@
--- The laws of a space follow from what is true of every space, and a write into a slot keeps that.
+-- The laws follow from what is true of every space. This stays true when a range of a slot is written.
 use Rattle.std.proofs.Common.{◌≡◌, ℕ, ◌/◌, ◌%◌, Option, Some, None, List, length, ◌∙◌, refl, arith}
 use Rattle.std.specs.Prelude.{IsSome}
 use Rattle.space_core.specs.Content.{Content, IsSpace, bank}

@@ -1,4 +1,4 @@
--- What the stored bytes show, and what a write of them keeps.
+-- The bytes that superblocks show, and how they change when stored bytes are written.
 use Rattle.std.proofs.Common.{◌≡◌, ◌≢◌, ℕ, ◌<◌, ◌≤◌, zero, suc, List, [], ◌∷◌, length, get_or, replicate, sym, ◌∙◌, ap, subst, inl, inr, refl, arith}
 use Rattle.std.proofs.lemmas.List.{get_or-map, map-set, length-map, get_or_past, set_past, set-get_or, length-replicate, length-set, get_or-set_same}
 use Rattle.std.proofs.lemmas.Bool.{cases_lt}
@@ -61,7 +61,7 @@ bank-shown_full unit stored m full =
       | inr past ↦ absurd (full (get_or_past stored m [] past))
     ]
 
--- a superblock reads the same after its zeros are written out
+-- all superblocks show the same bytes after the zeros of superblock m are written out
 pub shown-written_out : (unit : ℕ) (stored : List (List ℕ)) (m : ℕ) → shown_banks unit (set stored m (or_zeros unit (get_or stored m []))) ≡ shown_banks unit stored
 shown-written_out unit stored m = elim (cases_lt m (length stored)) [
   | inl lt ↦
@@ -76,7 +76,7 @@ written_out-full unit stored m some lt =
     full-from_length (get_or (set stored m (or_zeros unit (get_or stored m []))) m [])
     (omega (arith, ap length (get_or-set_same stored m (or_zeros unit (get_or stored m [])) [] lt), length-or_zeros unit (get_or stored m []) some))
 
--- the bytes of superblock m are stored, and each superblock shows the same as before
+-- superblock m has stored bytes, and all superblocks show the bytes that they have in s
 pub record IsStored (s : Content) (stored : List (List ℕ)) (m : ℕ) : Type 0 where
   pub whole : shown_banks s.unit stored ≡ s.banks
   pub full : get_or stored m [] ≢ []
@@ -88,22 +88,22 @@ stored_out {s} facts before stored m same written within = record {
   full = subst (λ (xs : List (List ℕ)). get_or xs m [] ≢ []) (sym written) (written_out-full s.unit before m facts.some (omega (arith, facts.paired, ap length same, length-shown s.unit before)));
 }
 
--- if one byte is written to a superblock that has stored bytes, the superblock shows it
+-- if superblock m has stored bytes and one of them is overwritten, the superblock shows the new byte
 pub shown-set_byte : (unit : ℕ) (stored : List (List ℕ)) (m i byte : ℕ) → get_or stored m [] ≢ [] → shown_banks unit (set stored m (set (get_or stored m []) i byte)) ≡ set (shown_banks unit stored) m (set (get_or (shown_banks unit stored) m []) i byte)
 shown-set_byte unit stored m i byte full =
     let bytes = get_or stored m [] in
     shown-set unit stored m (set bytes i byte)
     ∙ (ap (λ xs. set (shown_banks unit stored) m xs) (or_zeros-full unit (set bytes i byte) (set-full bytes i byte full)) ∙ ap (λ xs. set (shown_banks unit stored) m (set xs i byte)) (sym (bank-shown_full unit stored m full)))
 
--- the stored bytes that are read at an index are those that the superblock shows
+-- if superblock m has stored bytes, it shows the items of the vector that is read at index m
 pub shown-read : (unit : ℕ) (banks : List (Vec ℕ)) (m : ℕ) (read : Vec ℕ) → m < length banks → read ≡ get_or banks m read → get_or (lists_of banks) m [] ≢ [] → get_or (shown_banks unit (lists_of banks)) m [] ≡ read.items
 shown-read unit banks m read lt is full = bank-shown_full unit (lists_of banks) m full ∙ get_or-lists_of banks m read lt is
 
--- .. and there are as many as a superblock has
+-- a vector with the bytes of superblock m has `unit` items
 pub length-shown_read : {s : Content} → IsSpace s → (banks : List (Vec ℕ)) → s.banks ≡ shown_banks s.unit (lists_of banks) → (m : ℕ) (read : Vec ℕ) → m < length s.owners → get_or s.banks m [] ≡ read.items → length read.items ≡ s.unit
 length-shown_read {s} facts banks same m read lt here = ap length (sym here) ∙ facts.sized m (omega (arith, facts.paired))
 
--- if the stored bytes of one superblock are copied to another, so are the bytes that it shows
+-- if superblock `to` gets the stored bytes of superblock `from`, it shows the bytes that `from` shows
 pub shown-copied : (unit : ℕ) (stored : List (List ℕ)) (from to : ℕ) → from < length stored → shown_banks unit (set stored to (get_or stored from [])) ≡ set (shown_banks unit stored) to (get_or (shown_banks unit stored) from [])
 shown-copied unit stored from to lt =
     shown-set unit stored to (get_or stored from []) ∙ ap (λ bytes. set (shown_banks unit stored) to bytes) (sym (bank-shown unit stored from lt))

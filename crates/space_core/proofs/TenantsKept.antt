@@ -1,4 +1,4 @@
--- What a call for one tenant keeps of every tenant's slots and bytes.
+-- A call for one tenant changes no other tenant's slots or bytes, and changes only one slot of its own tenant.
 use Rattle.std.proofs.Common.{◌≡◌, ◌≢◌, ℕ, ◌%◌, ◌/◌, List, [], Option, Some, None, get_or, refl, sym, ap, ◌∙◌, arith}
 use Rattle.std.specs.Prelude.{◌==◌, if◌then◌else◌}
 use Rattle.std.proofs.lemmas.List.{get_or-set_other}

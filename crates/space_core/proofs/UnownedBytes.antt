@@ -1,4 +1,4 @@
--- The calls keep the bytes of the superblocks that have no owner afterwards.
+-- A call changes no byte of a superblock that has no owner after the call.
 use Rattle.std.proofs.Common.{◌≡◌, ℕ, ◌%◌, ◌/◌, List, [], Option, Some, None, refl, ap, ◌∙◌, inl, inr, arith}
 use Rattle.std.proofs.Math.ListN.{set}
 use Rattle.std.proofs.lemmas.List.{get_or-set_same, get_or-set_other, length-set}
@@ -19,7 +19,7 @@ spare_written s s' m o xs owned written n none = elim (cases_eq n m) [
   | inr differ ↦ ap (λ banks. bank banks n) written ∙ get_or-set_other s.banks m n xs [] differ
 ]
 
--- .. so they keep them if superblock m is in a slot and is written
+-- if superblock m is in a slot, writing it changes no byte of a superblock without an owner
 under_written : {s : Content} → IsSpace s → (t u m : ℕ) (xs : List ℕ) → superblock_at s.slots t u ≡ Some m → SpareStays s (with_bank s m xs)
 under_written {s} facts t u m xs under = spare_written s (with_bank s m xs) m (owned_by t u) xs ((facts.agree t u m).0 under) refl
 

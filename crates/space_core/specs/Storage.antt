@@ -5,7 +5,7 @@ use Rattle.std.specs.List.{All}
 use Rattle.std.specs.Global.{Vec}
 use Rattle.std.specs.Vec.{vec_capacity}
 
--- the `unit` bytes that a superblock with these stored bytes reads as
+-- the bytes of a superblock with these stored bytes: if none are stored, `unit` zeros
 abbrev pub or_zeros : ℕ → List ℕ → List ℕ
 or_zeros unit [] = replicate unit 0
 or_zeros unit (x ∷ xs) = x ∷ xs
@@ -13,7 +13,7 @@ or_zeros unit (x ∷ xs) = x ∷ xs
 abbrev pub shown_banks : ℕ → List (List ℕ) → List (List ℕ)
 shown_banks unit stored = map (or_zeros unit) stored
 
--- each superblock has capacity for unit bytes
+-- the vector of each superblock has capacity for at least `unit` bytes
 abbrev pub HaveCapacity : ℕ → List (Vec ℕ) → Type 0
 HaveCapacity unit banks = All (λ bank. unit ≤ vec_capacity bank) banks
 

@@ -10,7 +10,7 @@ slot_bytes s t u = option_map (bank s.banks) (superblock_at s.slots t u)
 abbrev pub is_in_slot : ℕ → ℕ → ℕ → Bool
 is_in_slot unit place len = nat_lt 0 len && nat_le (place % unit + len) unit
 
--- the superblock in which the range of tenant t lies, if the range is in one slot and t holds the slot
+-- the superblock in which the range of tenant t lies, if the range is not empty and lies in one slot that t holds
 abbrev pub home_of : Content → ℕ → ℕ → ℕ → Option ℕ
 home_of s t place len = if is_in_slot s.unit place len then superblock_at s.slots t (place / s.unit) else None
 
@@ -18,11 +18,11 @@ abbrev pub bytes_under : List (List ℕ) → ℕ → ℕ → Option ℕ → Opti
 bytes_under banks from len None = None
 bytes_under banks from len (Some m) = Some (slice_range (bank banks m) from (from + len))
 
--- the bytes of the range, if it is in one slot and t holds the slot
+-- the `len` bytes of tenant t from `place` on, if the range is not empty and lies in one slot that t holds
 abbrev pub window_of : Content → ℕ → ℕ → ℕ → Option (List ℕ)
 window_of s t place len = bytes_under s.banks (place % s.unit) len (home_of s t place len)
 
--- xs with w written from i on; what goes past the end of xs is cut off
+-- xs with w written from index i on; the part of w beyond the end of xs is cut off
 abbrev pub put_within : List ℕ → ℕ → List ℕ → List ℕ
 put_within xs i w = take (length xs) (take i xs ++ (w ++ drop (i + length w) xs))
 
@@ -30,7 +30,7 @@ abbrev pub banks_with : List (List ℕ) → ℕ → List ℕ → Option ℕ → 
 banks_with banks from w None = banks
 banks_with banks from w (Some m) = slice_set banks m (put_within (bank banks m) from w)
 
--- s with w written over the range, if it is in one slot and t holds the slot
+-- s with w written from `place` of tenant t on; if the range of `len` bytes there has no home, s itself
 abbrev pub with_window : Content → ℕ → ℕ → ℕ → List ℕ → Content
 with_window s t place len w = record s { banks = banks_with s.banks (place % s.unit) w (home_of s t place len) }
 
@@ -38,7 +38,7 @@ abbrev pub byte_under : List (List ℕ) → ℕ → Option ℕ → Option ℕ
 byte_under banks i None = None
 byte_under banks i (Some m) = Some (slice_index (bank banks m) i)
 
--- the byte at a place of tenant t, if t holds the slot
+-- the byte at a place of tenant t, if t holds the slot of the place
 abbrev pub byte_at : Content → ℕ → ℕ → Option ℕ
 byte_at s t place = byte_under s.banks (place % s.unit) (superblock_at s.slots t (place / s.unit))
 
@@ -46,6 +46,6 @@ abbrev pub banks_with_byte : List (List ℕ) → ℕ → ℕ → Option ℕ → 
 banks_with_byte banks i b None = banks
 banks_with_byte banks i b (Some m) = slice_set banks m (slice_set (bank banks m) i b)
 
--- s with byte b at a place of tenant t, if t holds the slot
+-- s with byte b at a place of tenant t; if t does not hold the slot of the place, s itself
 abbrev pub with_byte : Content → ℕ → ℕ → ℕ → Content
 with_byte s t place b = record s { banks = banks_with_byte s.banks (place % s.unit) b (superblock_at s.slots t (place / s.unit)) }

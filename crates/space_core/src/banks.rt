@@ -1,4 +1,4 @@
-//! The stored bytes of the superblocks, in one vector for each. If the vector is empty, the superblock reads as zero.
+//! The stored bytes of the superblocks: one vector for each superblock. If the vector is empty, the superblock reads as zero.
 
 ghost use Rattle.std.specs.Prelude.{◌≡◌, ◌≢◌, ◌^◌, ◌<◌, ◌≤◌, length, replicate, IfOk, slice_set, vec_len, vec_capacity, ℕ, []};
 ghost use Rattle.space_core.specs.Content.{bank};
@@ -16,7 +16,7 @@ pub(crate) fn clear_bank(banks: &mut Vec<Vec<u8>>, m: usize)
     banks[m].clear();
 }
 
-/// Fills the vector of superblock `m` with zeros if it is empty.
+/// Fills the vector of superblock `m` with `unit` zeros if the vector is empty.
 #[inline(always)]
 pub(crate) fn write_out(banks: &mut Vec<Vec<u8>>, m: usize, unit: usize)
     requires bank { m < vec_len banks.old }
@@ -33,7 +33,7 @@ pub(crate) fn write_out(banks: &mut Vec<Vec<u8>>, m: usize, unit: usize)
 /// Chunk size of the zeroing loop, in bytes. Above 2 KiB the C library uses `rep stosb`, which is no faster.
 const CLEARED: usize = 1536;
 
-/// Sets the vector to `unit` zeros.
+/// Sets `bytes` to `unit` zeros.
 #[cold]
 #[inline(never)]
 fn zero_fill(bytes: &mut Vec<u8>, unit: usize)
@@ -48,7 +48,7 @@ fn zero_fill(bytes: &mut Vec<u8>, unit: usize)
     bytes.resize(unit, 0).unwrap();
 }
 
-/// Copies the bytes of superblock `from` to superblock `to`.
+/// Copies the stored bytes of superblock `from` to superblock `to`.
 pub(crate) fn copy_bank(banks: &mut Vec<Vec<u8>>, from: usize, to: usize)
     requires from { from < vec_len banks.old }
     requires to { to < vec_len banks.old }
@@ -66,7 +66,7 @@ pub(crate) fn copy_bank(banks: &mut Vec<Vec<u8>>, from: usize, to: usize)
     }
 }
 
-/// Replaces the bytes by those of `source`.
+/// Replaces the content of `bytes` by `source`.
 fn copy_bytes(bytes: &mut Vec<u8>, source: &[u8])
     requires { length source.now ≤ vec_capacity bytes.old }
     ensures items { bytes.new.items ≡ source.now }
@@ -76,7 +76,7 @@ fn copy_bytes(bytes: &mut Vec<u8>, source: &[u8])
     bytes.extend_from_slice(source).unwrap();
 }
 
-/// Sets byte `i` of superblock `m`, whose vector is not empty.
+/// Sets stored byte `i` of superblock `m`. The vector of the superblock must not be empty.
 pub(crate) fn set_byte_at(banks: &mut Vec<Vec<u8>>, m: usize, i: usize, byte: u8)
     requires bank { m < vec_len banks.old }
     requires byte { i < length (bank (stored_bytes banks.old) m) }

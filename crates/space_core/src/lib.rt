@@ -39,7 +39,7 @@ pub struct PoolEmpty;
 #[derive(Clone, Copy, Debug, PartialEq, Eq)]
 pub struct NoSlot;
 
-/// The reason why a superblock was not moved.
+/// The reason why a slot was not moved to another superblock.
 #[derive(Clone, Copy, Debug, PartialEq, Eq)]
 pub enum MoveRefusal {
     /// The tenant does not hold the slot.
@@ -60,8 +60,8 @@ pub struct Space {
     bits: u8,
     owners: Vec<Option<Owner>>,
     slots: Vec<Vec<Option<u16>>>,
-    // The bytes of each superblock. After a grant the vector is empty, with its full capacity, until a byte is written or lent for
-    // writing.
+    // The stored bytes of each superblock. The vector has its full capacity, but is empty from boot or from a grant until a byte
+    // is first written or lent for writing.
     banks: Vec<Vec<u8>>,
     marks: Vec<bool>,
     // The bytes of a superblock with an empty vector: all zero.
@@ -122,8 +122,8 @@ impl Space {
         })
     }
 
-    /// A law: the invariants of every `Space`, and the effect of each call on the slots and bytes of its
-    /// tenant and of all others. The call does nothing.
+    /// A law: the invariants of every `Space`, and the effect of each call on the slots and bytes of its tenant and of all other
+    /// tenants. This function itself does nothing.
     pub fn laws(&self)
         ensures { SpaceLaws self.now }
     {

@@ -162,7 +162,8 @@ impl Space {
         Some(m as u16)
     }
 
-    /// Returns the least slot that tenant `t` does not hold. There is one if some superblock has no owner.
+    /// Returns the least slot that tenant `t` does not hold. Some superblock must have no owner, so that the tenant has an empty
+    /// slot.
     fn least_slot(&self, t: u8) -> u16
         requires tenant { t < length self.now.slots }
         requires pool { IsSome (position is_none self.now.owners) }
@@ -174,7 +175,7 @@ impl Space {
     }
 }
 
-/// Returns the index of the first `None`, or `None` if there is none.
+/// Returns the index of the first entry that is `None`, or `None` if no entry is.
 fn first_none<T>(items: &[Option<T>]) -> Option<usize>
     ensures value { result ≡ position is_none items.now }
     ensures below { IfSome result (λ i. i < length items.now) }

@@ -132,7 +132,7 @@ impl Space {
         place & (self.unit - 1)
     }
 
-    /// Returns the superblock in a slot that the tenant holds.
+    /// Returns the superblock in a slot of tenant `t`, which must hold the slot.
     fn held(&self, t: u8, slot: u32) -> u16
         requires tenant { t < length self.now.slots }
         requires held { IsSome (superblock_at self.now.slots t slot) }
@@ -171,7 +171,7 @@ impl Space {
     }
 }
 
-/// Returns the `len` bytes from index `from` on.
+/// Returns the `len` bytes of `bytes` from index `from` on.
 fn part(bytes: &[u8], from: usize, len: usize) -> &[u8]
     requires { from + len ≤ length bytes.now }
     ensures value { result.now ≡ slice_range bytes.now from (from + len) }

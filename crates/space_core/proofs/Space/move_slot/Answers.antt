@@ -34,7 +34,7 @@ copy_bank-requires-clause-capacity c =
     let size = facts.sized m (omega (arith, within, length-shown s.unit stored)) in
     rw c.from-source.ensures (λ k d lt. omega (arith, short, size, c.self.invariant.1.capacity k d lt))
 
--- the owner of the old superblock passes to the one that had none
+-- if superblock `from` has owner o and `to` has none, the swap gives `to` the owner o and leaves `from` without an owner
 owner_passes : (owners : List (Option Owner)) (from to : ℕ) (o : Owner) → from < length owners → to < length owners → owner_at owners from ≡ Some o → owner_at owners to ≡ None → swap owners from to ≡ set (set owners from None) to (Some o)
 owner_passes owners from to o there here owned unowned = sym (swap_is owners from to None there here) ∙ ap (λ (x : Option Owner). set (set owners from x) to (owner_at owners from)) unowned ∙ ap (set (set owners from None) to) owned
 
