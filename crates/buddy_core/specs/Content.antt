@@ -1,27 +1,27 @@
 -- What each tenant holds in the buddy system: its slots with their superblocks, and its taken blocks. Free blocks are not part of
--- it: they follow from the held slots and the taken blocks.
+-- the content, because they follow from the held slots and the taken blocks.
 use Rattle.std.specs.Prelude.{ℕ, ◌≡◌, ◌*◌, ◌^◌, ◌<◌, ◌≤◌, ◌==◌, Bool, false, Option, Some, None, is_some, List, [], length, replicate, slice_index_or, slice_set, count_by}
 use Rattle.model_core.specs.declared.limits.TheConstants.{MOST_ORDER, MOST_SUPERBLOCKS, MOST_TENANTS}
 use Rattle.model_core.specs.Blocks.{Taken, block, IsSound}
 use Rattle.model_core.specs.Choice.{is_free, count_below}
 
 -- What one tenant holds: the superblock in each slot, and for each frame the order of the taken block that begins there. An entry
--- is None if there is no superblock or block.
+-- is None if the slot has no superblock, or if no taken block begins at the frame.
 pub record Holding : Type 0 where
   pub slots : List (Option ℕ)
   pub taken : List (Option ℕ)
 
--- `top` is the order of a superblock, `superblocks` the number of superblocks; tenants are listed by number
+-- `top` is the order of a superblock, `superblocks` is the number of superblocks, and `tenants` has what each tenant holds
 pub record Content : Type 0 where
   pub top : ℕ
   pub superblocks : ℕ
   pub tenants : List Holding
 
--- no slot is held and no block is taken
+-- what a tenant holds if it holds no slot and no block
 abbrev pub nothing_held : ℕ → ℕ → Holding
 nothing_held top superblocks = record { slots = replicate superblocks None; taken = replicate (superblocks * 2 ^ top) None }
 
--- no tenant holds anything
+-- the content of a machine of which no tenant holds anything
 abbrev pub empty_buddy : ℕ → ℕ → ℕ → Content
 empty_buddy top superblocks tenants =
     record { top = top; superblocks = superblocks; tenants = replicate tenants (nothing_held top superblocks) }
@@ -32,18 +32,18 @@ no_tenant = record { slots = []; taken = [] }
 abbrev pub holding_of : ℕ → Content → Holding
 holding_of t c = slice_index_or c.tenants t no_tenant
 
--- tenant t holds h, and nothing else changes
+-- c, changed so that tenant t holds h
 abbrev pub with_holding : ℕ → Holding → Content → Content
 with_holding t h c = record c { tenants = slice_set c.tenants t h }
 
--- the superblock in a slot
+-- the superblock in slot u
 abbrev pub superblock_at : Holding → ℕ → Option ℕ
 superblock_at h u = slice_index_or h.slots u None
 
 abbrev pub is_held : Holding → ℕ → Bool
 is_held h u = is_some (superblock_at h u)
 
--- the order of the taken block that begins at a frame, or None if none begins there
+-- the order of the taken block that begins at frame f, or None if no taken block begins there
 abbrev pub taken_of : Holding → Taken
 taken_of h f = slice_index_or h.taken f None
 
@@ -78,7 +78,7 @@ taken_block_count k h = count_by (has_order k) h.taken
 abbrev pub held_slots : Holding → ℕ
 held_slots h = count_by is_some h.slots
 
--- the limits of a machine, and the lengths of its lists
+-- the sizes of a machine are within the limits, and each tenant has an entry for each slot and for each frame
 pub record IsSized (c : Content) : Type 0 where
   pub small : c.top ≤ MOST_ORDER
   pub few : c.superblocks ≤ MOST_SUPERBLOCKS

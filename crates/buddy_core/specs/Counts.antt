@@ -2,12 +2,12 @@
 use Rattle.std.specs.Prelude.{◌≡◌, ◌⊎◌, ℕ, ◌+◌, ◌^◌, ◌<◌, ◌≤◌, length, slice_index}
 use Rattle.buddy_core.specs.Stored.{StoredTenant}
 
--- one more block of each order can be counted, free or taken
+-- each count of free or taken blocks can rise by 1 without an overflow
 abbrev pub CanCountMore : StoredTenant → Type 0
 CanCountMore tenant = (i : ℕ) → (slice_index tenant.free i + 1 < 2 ^ 32) × (slice_index tenant.taken i + 1 < 2 ^ 32)
 
--- `part` has the counts of `whole` after a block of order k is taken out of a free block of order j: one half of each order from
--- k to j - 1 is then free
+-- `whole` has the counts before a block of order k is taken out of a free block of order j, and `part` has the counts afterwards.
+-- One half of each order from k to j - 1 is then free.
 pub record IsTakenOut (k j : ℕ) (whole part : StoredTenant) : Type 0 where
   pub slots : part.slots ≡ whole.slots
   pub free_size : length part.free ≡ length whole.free

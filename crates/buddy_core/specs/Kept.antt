@@ -7,7 +7,7 @@ use Rattle.buddy_core.specs.Content.{taken_block_count}
 use Rattle.buddy_core.specs.Tree.{Shows}
 use Rattle.buddy_core.specs.Stored.{StoredSuperblock, StoredTenant, bare_superblock, superblock_of, stored_tenant, superblock_at, held_by, taken_by, holding_shown}
 
--- frame x of slot u, counted from the slot's first frame, is available
+-- whether frame x of slot u is available; x counts from the slot's first frame
 abbrev pub available_in : ℕ → List StoredSuperblock → StoredTenant → ℕ → ℕ → Bool
 available_in top superblocks tenant u x = is_available top (held_by tenant) (taken_by top superblocks tenant) (u * 2 ^ top + x)
 
@@ -20,7 +20,7 @@ pub record HasTenantSizes (top superblocks : ℕ) (tenant : StoredTenant) : Type
   pub free : length tenant.free ≡ top + 1
   pub taken : length tenant.taken ≡ top + 1
 
--- a tenant's counts, and the words of its superblocks, agree with what it holds
+-- What a tenant holds is sound. The tenant's counts, and the words of its superblocks, agree with what it holds.
 pub record IsTenantKept (top : ℕ) (superblocks : List StoredSuperblock) (tenant : StoredTenant) : Type 0 where
   pub sizes : HasTenantSizes top (length superblocks) tenant
   pub within : (u m : ℕ) → superblock_at tenant u ≡ Some m → m < length superblocks

@@ -1,4 +1,4 @@
--- The orders of the free blocks that the superblocks of one tenant have, according to the root words of their trees.
+-- The orders of the free blocks in the superblocks of one tenant, according to the root words of their trees.
 use Rattle.std.specs.Prelude.{◌≡◌, ◌↔◌, ℕ, ◌+◌, ◌<◌, ◌≤◌, Option, Some, None, List, length, slice_index, slice_index_or}
 use Rattle.std.specs.Int.{bit_at}
 use Rattle.model_core.specs.declared.limits.TheConstants.{MOST_ORDER, MOST_SUPERBLOCKS}
@@ -10,19 +10,19 @@ pub record IsEnd (slots : List (Option ℕ)) (end : ℕ) : Type 0 where
   pub within : end ≤ length slots
   pub rest : (u : ℕ) → end ≤ u → slice_index_or slots u None ≡ None
 
--- A tenant has at most MOST_SUPERBLOCKS slots, and none from `end` on has a superblock. It has a count of free blocks and one of
--- taken blocks for each order.
+-- A tenant has at most MOST_SUPERBLOCKS slots, and no slot from `end` on has a superblock. For each of at most MOST_ORDER + 1
+-- orders, it has a count of free blocks and a count of taken blocks.
 pub record IsStoredTenant (slots : List (Option ℕ)) (end : ℕ) (free taken : List ℕ) : Type 0 where
   pub ends : IsEnd slots end
   pub few : length slots ≤ MOST_SUPERBLOCKS
   pub orders : length free ≤ MOST_ORDER + 1
   pub alike : length taken ≡ length free
 
--- superblock m has a free block of order j
+-- bit j of the root word of superblock m is 1, so the superblock has a free block of order j
 abbrev pub HasBit : List StoredSuperblock → ℕ → ℕ → Type 0
 HasBit superblocks m j = bit_at (slice_index (superblock_of m superblocks).tree.words 0) j ≡ 1
 
--- the superblock in one of the slots has a free block of order j
+-- the superblock in some slot has a free block of order j
 abbrev pub HasOrder : List StoredSuperblock → List (Option ℕ) → ℕ → Type 0
 HasOrder superblocks slots j = (u m : ℕ) × (slice_index_or slots u None ≡ Some m) × HasBit superblocks m j
 
@@ -38,7 +38,8 @@ IsThere superblocks slots = (u m : ℕ) → slice_index_or slots u None ≡ Some
 abbrev pub IsWithoutOrder : List StoredSuperblock → List (Option ℕ) → ℕ → Type 0
 IsWithoutOrder superblocks slots k = (j u m : ℕ) → k ≤ j → slice_index_or slots u None ≡ Some m → HasBit superblocks m j → ⊥
 
--- `p.order` is the least order of at least k that has a free block, and `p.slot` is the first slot with a free block of that order
+-- `p.order` is the least order, of those from k on, that has a free block. `p.slot` is the first slot with a free block of this
+-- order, and `p.superblock` is the superblock in this slot.
 pub record IsSource (superblocks : List StoredSuperblock) (slots : List (Option ℕ)) (k : ℕ) (p : Source) : Type 0 where
   pub at : slice_index_or slots p.slot None ≡ Some p.superblock
   pub enough : k ≤ p.order

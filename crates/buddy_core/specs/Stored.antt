@@ -1,16 +1,16 @@
--- What is stored for each superblock and for each tenant, and what the tenant holds according to it.
+-- What is stored for each superblock and each tenant, and what the tenant holds according to this.
 use Rattle.std.specs.Prelude.{◌≡◌, ℕ, ◌+◌, ◌-◌, ◌*◌, ◌/◌, ◌%◌, ◌^◌, ◌≤◌, Bool, Option, Some, None, is_some, List, [], length, map, replicate, slice_index_or}
 use Rattle.std.specs.List.{range_with_len}
 use Rattle.model_core.specs.declared.limits.TheConstants.{MOST_ORDER}
 use Rattle.model_core.specs.Blocks.{Taken}
 use Rattle.buddy_core.specs.Content.{Holding, Content}
 
--- the tree of orders of a superblock of 2 ^ order frames, a word for each node
+-- the tree of orders of a superblock of 2 ^ order frames, with a word for each node
 pub record StoredTree : Type 0 where
   pub order : ℕ
   pub words : List ℕ
 
--- a tree has as many words as nodes
+-- the order of a tree is at most MOST_ORDER, and the tree has 2 ^ (order + 1) - 1 words, one for each node
 pub record IsTree (order : ℕ) (words : List ℕ) : Type 0 where
   pub small : order ≤ MOST_ORDER
   pub size : length words + 1 ≡ 2 ^ (order + 1)
@@ -26,11 +26,11 @@ pub record StoredTenant : Type 0 where
   pub free : List ℕ
   pub taken : List ℕ
 
--- no frame is available
+-- the tree of a superblock that has no available frame
 abbrev pub bare_tree : ℕ → StoredTree
 bare_tree order = record { order = order; words = replicate (2 ^ (order + 1) - 1) 0 }
 
--- a superblock in no slot
+-- what is stored for a superblock that is in no slot
 abbrev pub bare_superblock : ℕ → StoredSuperblock
 bare_superblock top = record { tree = bare_tree top; orders = replicate (2 ^ top) None }
 
@@ -44,7 +44,7 @@ superblock_of m superblocks = slice_index_or superblocks m (record { tree = reco
 abbrev pub stored_tenant : ℕ → List StoredTenant → StoredTenant
 stored_tenant t tenants = slice_index_or tenants t (record { slots = []; free = []; taken = [] })
 
--- the superblock in a slot
+-- the superblock in slot u
 abbrev pub superblock_at : StoredTenant → ℕ → Option ℕ
 superblock_at tenant u = slice_index_or tenant.slots u None
 
@@ -56,7 +56,7 @@ abbrev pub order_under : List StoredSuperblock → Option ℕ → ℕ → Option
 order_under superblocks None x = None
 order_under superblocks (Some m) x = slice_index_or (superblock_of m superblocks).orders x None
 
--- the order of the taken block that begins at a frame of the tenant
+-- the order of the taken block that begins at frame f of the tenant
 abbrev pub taken_by : ℕ → List StoredSuperblock → StoredTenant → Taken
 taken_by top superblocks tenant f = order_under superblocks (superblock_at tenant (f / 2 ^ top)) (f % 2 ^ top)
 

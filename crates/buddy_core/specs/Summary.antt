@@ -1,4 +1,5 @@
--- Which groups of a tenant's slots may have free blocks of an order: a word for each order, a bit for each group.
+-- A tenant's summary has a word for each order, and each word has a bit for each group of slots. A bit is 1 if the group may have
+-- a free block of the order.
 use Rattle.std.specs.Prelude.{◌≡◌, ℕ, ◌/◌, Option, Some, None, List, [], length, slice_index, slice_index_or}
 use Rattle.std.specs.Int.{bit_at}
 use Rattle.buddy_core.specs.declared.summaries.TheConstants.{GROUP_SLOTS}

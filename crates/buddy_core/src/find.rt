@@ -1,5 +1,4 @@
-//! Finds the slot and the order of the free block that an allocation takes, from the tenant's counts and the root words of the
-//! trees.
+//! The search for the free block from which an allocation is taken. It uses the tenant's counts and the root words of the trees.
 
 ghost use Rattle.std.specs.Prelude.{◌≡◌, ℕ, ◌/◌, ◌<◌, ◌≤◌, Some, None, length, slice_index_or, MatchOption};
 ghost use Rattle.model_core.specs.declared.limits.TheConstants.{MOST_SUPERBLOCKS};
@@ -21,8 +20,8 @@ pub struct Source {
 }
 
 /// Finds the least order of at least `k` in which the tenant has a free block, and returns the first slot with a free block of
-/// that order. Returns `None` if no block of order `k` or more is free. Removes from `summaries` the groups that it searched in
-/// vain.
+/// that order. Returns `None` if no block of order `k` or more is free. Clears in `summaries` the bit of each group that it
+/// searched in vain.
 pub fn find(
     superblocks: &[Superblock],
     tenant: &Tenant,

@@ -108,8 +108,8 @@ impl Buddy {
         })
     }
 
-    /// A law: the sizes are within the limits, each tenant's taken blocks are aligned, lie in held
-    /// slots and share no frame, and no superblock is in two slots. The call does nothing.
+    /// A law: the sizes are within the limits, each tenant's taken blocks are aligned, lie in held slots and share no frame, and
+    /// no superblock is in two slots. This function itself does nothing.
     pub fn laws(&self)
         ensures { BuddyLaws self.now }
     {

@@ -1,4 +1,4 @@
-//! The groups of a tenant's slots that a search may skip.
+//! A tenant's summary: the groups of its slots in which a search may find a free block.
 
 ghost use Rattle.std.specs.Prelude.{◌≡◌, ◌≢◌, ℕ, ◌/◌, ◌<◌, ◌≤◌, replicate, slice_index, MatchOption};
 ghost use Rattle.std.specs.Int.{bit_at};
@@ -9,10 +9,10 @@ use std::marker::Model;
 /// The number of consecutive slots in a group.
 pub const GROUP_SLOTS: usize = 8;
 
-/// The number of groups of a tenant's slots. Each has one bit of a word.
+/// The number of groups of a tenant's slots. Each group has one bit in a word.
 pub const GROUPS: usize = 32;
 
-/// Orders are below this number.
+/// The number of words in a summary, one for each order. Every order is below this number.
 pub const ORDERS: usize = 16;
 
 /// For each order, one bit for each group of a tenant's slots: 1 if the group may have a free block of this order. After the

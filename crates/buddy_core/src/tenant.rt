@@ -48,7 +48,7 @@ impl Tenant {
         })
     }
 
-    /// Returns the superblock in each slot, or `None`. No slot after the end of the slice is held.
+    /// Returns an entry for each slot: its superblock, or `None`. No slot beyond the end of the slice is held.
     pub fn held(&self) -> &[Option<u16>]
         ensures same { (u : ℕ) → slice_index_or result.now u None ≡ slice_index_or self.now.slots u None }
         ensures few { length result.now ≤ MOST_SUPERBLOCKS }
@@ -100,7 +100,7 @@ impl Tenant {
         self.slots.iter().filter(|slot| slot.is_some()).count() as u32
     }
 
-    /// Puts a superblock whose frames are all free into an empty slot.
+    /// Puts a superblock whose frames are all free into an empty slot, and counts it as a free block of `order`.
     pub fn add_slot(&mut self, slot: u16, superblock: u16, order: u8)
         requires slot { slot < length self.old.slots }
         requires order { order < length self.old.free }
@@ -123,7 +123,7 @@ impl Tenant {
         self.slots[slot as usize] = Some(superblock);
     }
 
-    /// Takes a superblock whose frames are all free out of its slot.
+    /// Takes a superblock whose frames are all free out of its slot, and counts one free block of `order` less.
     pub fn drop_slot(&mut self, slot: u16, order: u8)
         requires slot { slot < length self.old.slots }
         requires order { order < length self.old.free }

@@ -31,7 +31,7 @@ impl Model for Tree {
     ghost invariant = { λ a. IsTree a.order a.words.items };
 }
 
-/// Returns true if a node with this word contains a free block of `order`, which is at most 15.
+/// Returns true if the block of a node with this word contains a free block of `order`. `order` must be at most 15.
 pub fn has(word: u16, order: u8) -> bool
     requires { order < 16 }
     ensures { IsTrue result ↔ (bit_at word order ≡ 1) }
@@ -106,8 +106,8 @@ impl Tree {
             → (number_at order result * 2 ^ order ≡ result) × IsLeast ok self.now.order order (number_at order result) }
     {
         let words = self.words.as_slice();
-        // Nodes 1 to `inner` have blocks of larger orders. The loop tests the node, so it needs no counter. Only its invariant
-        // uses `level`.
+        // Nodes 1 to `inner` have blocks of larger orders. The loop tests the node, so it needs no counter. Only the loop's
+        // invariant uses `level`.
         let inner = words.len() >> (order + 1);
         let mut level = order;
         let mut node = 1;
