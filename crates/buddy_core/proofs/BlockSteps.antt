@@ -1,4 +1,4 @@
--- One taken block is added or removed at frame x of superblock m, which is in slot u of tenant t.
+-- If one taken block is added or removed, its tenant's invariants still hold, and contracts see this change and no other.
 use Rattle.std.proofs.Common.{◌≡◌, ◌⊎◌, inl, inr, refl, sym, ◌∙◌, ap, ap₂, subst, ℕ, ◌+◌, ◌*◌, ◌/◌, ◌%◌, ◌^◌, ◌<◌, ◌≤◌, Bool, Option, Some, None, List, length, get_or, set, map, arith, length-set}
 use Rattle.std.specs.Prelude.{if◌then◌else◌, ◌==◌, is_some, slice_index, count_by}
 use Rattle.std.specs.List.{range_with_len}
@@ -17,7 +17,7 @@ use Rattle.buddy_core.proofs.ContentShown.{bare_of}
 use Rattle.buddy_core.proofs.TenantChanged.{IsChange}
 use Rattle.buddy_core.proofs.TreeSlots.{shows_same}
 
--- the taken blocks, with another entry at frame f
+-- the taken blocks, with the entry at frame f replaced by o
 abbrev pub changed : Taken → ℕ → Option ℕ → Taken
 changed taken f o g = if g == f then o else taken g
 
@@ -27,7 +27,7 @@ changed_here taken f o g e = cond-true (g == f) o (taken g) (eq-eqb g f e)
 pub changed_other : (taken : Taken) (f : ℕ) (o : Option ℕ) (g : ℕ) → (g ≡ f → ⊥) → changed taken f o g ≡ taken g
 changed_other taken f o g ne = cond-false (g == f) o (taken g) (ne_eqb g f ne)
 
--- the table of the first n frames of the changed taken blocks is the old table with entry f replaced
+-- after this change, the table of taken blocks at the first n frames is the old table with entry f replaced by o
 pub map_changed : (taken : Taken) (n f : ℕ) (o : Option ℕ) → map (changed taken f o) (range_with_len 0 n) ≡ set (map taken (range_with_len 0 n)) f o
 map_changed taken n f o = same_lists _ _
     (length-map-range_with_len (changed taken f o) 0 n ∙ sym (length-map-range_with_len taken 0 n) ∙ sym (length-set (map taken (range_with_len 0 n)) f o))
@@ -45,7 +45,7 @@ map_changed taken n f o = same_lists _ _
         ∙ sym (get_or-set_other (map taken (range_with_len 0 n)) f g o d ne ∙ get_or-map-range_with_len taken 0 n g g d lt (omega arith))
 
 module _ (top : ℕ) (superblocks : List StoredSuperblock) (tenants : List StoredTenant) (t u m x : ℕ) (s : StoredSuperblock) (tenant : StoredTenant) (o : Option ℕ) where
-  -- the tenant's number of frame x of slot u
+  -- the number that the tenant uses for frame x of slot u
   abbrev pub frame : ℕ
   frame = u * 2 ^ top + x
 
@@ -58,7 +58,7 @@ module _ (top : ℕ) (superblocks : List StoredSuperblock) (tenants : List Store
   abbrev pub held : ℕ → Bool
   held = held_by (stored_tenant t tenants)
 
-  -- `s` and `tenant` are superblock m and tenant t after the entry at frame x becomes o
+  -- `s` and `tenant` are superblock m and tenant t after o replaces the entry at frame x of the superblock
   pub record IsStep : Type 0 where
     pub listed : t < length tenants
     pub at : superblock_at (stored_tenant t tenants) u ≡ Some m
@@ -97,7 +97,7 @@ module _ (top : ℕ) (superblocks : List StoredSuperblock) (tenants : List Store
     held_same : held_by tenant ≡ held_by (stored_tenant t tenants)
     held_same = λ i v. ap is_some (slot_same v) i
 
-    -- afterwards, the stored state has at frame g the entry of `new_taken`
+    -- afterwards, the stored entry at frame g is the entry of `new_taken` at g
     found : (g : ℕ) (a : Option ℕ) → superblock_at (stored_tenant t tenants) (g / 2 ^ top) ≡ a → taken_by top (set superblocks m s) tenant g ≡ new_taken g
     found g None e =
         ap (λ a. order_under (set superblocks m s) a (g % 2 ^ top)) (slot_same (g / 2 ^ top) ∙ e)
@@ -137,7 +137,7 @@ module _ (top : ℕ) (superblocks : List StoredSuperblock) (tenants : List Store
     taken_now : taken_by top (set superblocks m s) tenant ≡ new_taken
     taken_now = λ i g. found g (superblock_at (stored_tenant t tenants) (g / 2 ^ top)) refl i
 
-    -- afterwards the tenant holds what it held, with the entry at the frame replaced by o
+    -- afterwards, the tenant holds what it held before, except that its entry at `frame` is o
     pub holding_now : holding_shown top (set superblocks m s) tenant ≡ record (holding_shown top superblocks (stored_tenant t tenants)) { taken = set (holding_shown top superblocks (stored_tenant t tenants)).taken frame o }
     holding_now =
         ap (λ (taken : Taken). held_from tenant.slots (map taken (range_with_len 0 (length tenant.slots * 2 ^ top)))) taken_now

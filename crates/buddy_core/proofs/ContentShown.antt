@@ -1,4 +1,4 @@
--- What the stored superblocks and tenants show, frame by frame and slot by slot.
+-- What contracts see of the stored superblocks and tenants, frame by frame and slot by slot.
 use Rattle.std.proofs.Common.{◌≡◌, ◌⊎◌, inl, inr, refl, sym, ◌∙◌, ap, ap₂, subst, ℕ, ◌*◌, ◌/◌, ◌%◌, ◌^◌, ◌<◌, ◌≤◌, Bool, Option, Some, None, List, [], length, get_or, set, map, arith, length-set}
 use Rattle.std.specs.Prelude.{is_some}
 use Rattle.std.proofs.lemmas.List.{get_or-set_same, get_or-set_other, get_or-map, get_or_past, same_lists, length-map, get_or_read}
@@ -17,12 +17,13 @@ blank_of = record { slots = []; free = []; taken = [] }
 abbrev pub bare_of : StoredSuperblock
 bare_of = record { tree = record { order = 0; words = [] }; orders = [] }
 
--- `tenant'` holds the same slots as `tenant`; the superblock in each has the same stored state, perhaps at another index
+-- `tenant'` holds the same slots as `tenant`. What is stored for the superblock in each slot is the same, but the number of the
+-- superblock may differ.
 pub record StandsAsBefore (superblocks superblocks' : List StoredSuperblock) (tenant tenant' : StoredTenant) : Type 0 where
   pub held : held_by tenant' ≡ held_by tenant
   pub same : (u m : ℕ) → superblock_at tenant' u ≡ Some m → (i : ℕ) × (superblock_at tenant u ≡ Some i) × (superblock_of m superblocks' ≡ superblock_of i superblocks)
 
--- then the taken blocks are the same
+-- then `tenant'` has the same taken blocks as `tenant`
 pub taken_as_before : (top : ℕ) (superblocks superblocks' : List StoredSuperblock) (tenant tenant' : StoredTenant) → StandsAsBefore superblocks superblocks' tenant tenant' → taken_by top superblocks' tenant' ≡ taken_by top superblocks tenant
 taken_as_before top superblocks superblocks' tenant tenant' stands = λ i f. go (f / 2 ^ top) (f % 2 ^ top) (superblock_at tenant' (f / 2 ^ top)) (superblock_at tenant (f / 2 ^ top)) refl refl i
   where
@@ -46,7 +47,7 @@ module _ (top : ℕ) (superblocks : List StoredSuperblock) where
           get_or_past (holding_shown top superblocks tenant).taken f None (subst (λ n. n ≤ f) (sym (length-map-range_with_len (taken_by top superblocks tenant) 0 (length tenant.slots * 2 ^ top))) ge)
           ∙ sym (ap (λ o. order_under superblocks o (f % 2 ^ top)) (get_or_past tenant.slots (f / 2 ^ top) None (le-div (length tenant.slots) f (2 ^ top) (pow_pos top) ge)))
 
-  -- if a superblock in no slot of a tenant changes, the tenant's taken blocks stay
+  -- if a superblock changes that is in no slot of a tenant, the tenant's taken blocks stay the same
   pub taken_stays : (m : ℕ) (s : StoredSuperblock) (tenant : StoredTenant) → ((w : ℕ) → superblock_at tenant w ≡ Some m → ⊥) → taken_by top (set superblocks m s) tenant ≡ taken_by top superblocks tenant
   taken_stays m s tenant other = taken_as_before top superblocks (set superblocks m s) tenant tenant
       (record { held = refl; same = λ u i at. (i, at, get_or-set_other superblocks m i s _ (λ e. other u (at ∙ ap Some e))) })
@@ -73,8 +74,8 @@ module _ (top : ℕ) (superblocks : List StoredSuperblock) (tenants : List Store
       same : (f : ℕ) → taken_of (holding_of t (content_shown top superblocks tenants)) f ≡ taken_by top superblocks (stored_tenant t tenants) f
       same f = ap (λ h. taken_of h f) (holding_at t lt) ∙ taken_shown top superblocks (stored_tenant t tenants) f
 
-  -- if one tenant's entry is replaced by one that shows h, and the taken blocks of the other tenants stay, this tenant holds h
-  -- and nothing else changes
+  -- If the entry of tenant t is replaced by an entry that shows h, and the taken blocks of all other tenants stay the same,
+  -- contracts see that t holds h and that nothing else changed.
   pub content_replaced : (t : ℕ) (superblocks' : List StoredSuperblock) (tenant' : StoredTenant) (h : Holding) → length superblocks' ≡ length superblocks
       → ((v : ℕ) → (v ≡ t → ⊥) → v < length tenants → taken_by top superblocks' (stored_tenant v tenants) ≡ taken_by top superblocks (stored_tenant v tenants))
       → holding_shown top superblocks' tenant' ≡ h → content_shown top superblocks' (set tenants t tenant') ≡ with_holding t h (content_shown top superblocks tenants)
@@ -86,7 +87,7 @@ module _ (top : ℕ) (superblocks : List StoredSuperblock) (tenants : List Store
       holding_from : StoredTenant → Taken → Holding
       holding_from tenant taken = record { slots = tenant.slots; taken = map taken (range_with_len 0 (length tenant.slots * 2 ^ top)) }
 
-      -- entry v of the mapped list is what tenant v shows
+      -- entry v of the list of holdings is what is shown of tenant v
       here : (v : ℕ) (d : Holding) → v < length tenants → get_or (map (holding_shown top superblocks') (set tenants t tenant')) v d ≡ holding_shown top superblocks' (stored_tenant v (set tenants t tenant'))
       here v d lt = get_or-map (holding_shown top superblocks') (set tenants t tenant') v blank_of d (subst (λ n. v < n) (sym (length-set tenants t tenant')) lt)
 
@@ -111,7 +112,7 @@ module _ (top : ℕ) (superblocks : List StoredSuperblock) (tenants : List Store
           (length-map (set tenants t tenant') (holding_shown top superblocks') ∙ length-set tenants t tenant' ∙ sym (length-map tenants (holding_shown top superblocks)) ∙ sym (length-set (map (holding_shown top superblocks) tenants) t h))
           (λ v d lt. each v d (subst (λ n. v < n) (length-map (set tenants t tenant') (holding_shown top superblocks') ∙ length-set tenants t tenant') lt))
 
--- what contracts see of tenant t, in terms of what is stored
+-- c is what contracts see, and in c tenant t holds what is stored for it
 pub record IsShown (top : ℕ) (superblocks : List StoredSuperblock) (tenants : List StoredTenant) (t : ℕ) (c : Content) : Type 0 where
   pub order : c.top ≡ top
   pub count : c.superblocks ≡ length superblocks
@@ -134,7 +135,7 @@ pub shown_is : (top : ℕ) (superblocks : List StoredSuperblock) (tenants : List
 shown_is top superblocks tenants t c e lt = shown_within top superblocks tenants t c e
     (subst (λ n. t < n) (length-map tenants (holding_shown top superblocks)) (subst (λ (x : Content). t < length x.tenants) (sym e) lt))
 
--- a tenant that has a slot is in the list
+-- if slot u of tenant t has a superblock, t is below the number of tenants
 pub tenant_within : (tenants : List StoredTenant) (t u m : ℕ) → superblock_at (stored_tenant t tenants) u ≡ Some m → t < length tenants
 tenant_within tenants t u m at = go (cases_lt t (length tenants))
   where
@@ -153,11 +154,11 @@ by_shown P top superblocks tenants t c s p =
 pub slot_at : (top : ℕ) (superblocks : List StoredSuperblock) (tenants : List StoredTenant) (c : Content) → content_shown top superblocks tenants ≡ c → (t u : ℕ) → held_at (holding_of t c) u ≡ superblock_at (stored_tenant t tenants) u
 slot_at top superblocks tenants c e t u = ap (λ x. held_at (holding_of t x) u) (sym e) ∙ slot_shown top superblocks tenants t u
 
--- if `tenant` is the stored entry of tenant t, the superblock that is read in slot u of it is in slot u of t
+-- if `tenant` is the stored entry of tenant t, the superblock that is read from slot u of `tenant` is in slot u of t
 pub slot_read : (tenants : List StoredTenant) (t : ℕ) (tenant : StoredTenant) → t < length tenants → tenant ≡ get_or tenants t tenant → (u : ℕ) (o : Option ℕ) → o ≡ superblock_at tenant u → superblock_at (stored_tenant t tenants) u ≡ o
 slot_read tenants t tenant lt e u o at = ap (λ r. superblock_at r u) (sym (get_or_read tenants t tenant lt e blank_of)) ∙ sym at
 
--- `1 << top` in the code is 2 ^ top
+-- if top is at most 8, `1 << top` in the code is 2 ^ top
 pub size_is : (top : ℕ) → top ≤ 8 → 1 * 2 ^ top % 2 ^ 32 ≡ 2 ^ top
 size_is top le = one_shl top 32 (omega arith)
 

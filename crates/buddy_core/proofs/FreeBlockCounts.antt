@@ -76,7 +76,7 @@ module _ (top : ℕ) (held held' : ℕ → Bool) (taken taken' : Taken) (f k j s
       go (inl (is_open, _)) = open_is_free top held taken (block g i) free.0.1 is_open
       go (inr (le, lt, half)) = absurd (off le lt half)
 
-  -- a free block stays free, unless the block is taken out of it
+  -- a free block stays free, unless it is the free block of order j out of which the block is taken
   kept_on : (i g : ℕ) → (i ≡ j → number_at i g ≡ number_at i f → ⊥) → IsFree top held taken (block g i) → IsFree top held' taken' (block g i)
   kept_on i g off free = open_is_free top held' taken' (block g i) free.0.1 (open_stays (is_available top held taken) (is_available top held' taken') top f k j out i g (free_is_open top held taken (block g i) free) off)
 
@@ -88,7 +88,7 @@ module _ (top : ℕ) (held held' : ℕ → Bool) (taken taken' : Taken) (f k j s
   same_place : (i x : ℕ) → i ≤ top → number_at i x ≡ number_at i f → x < slots * 2 ^ top
   same_place i x le same = frame_below top slots x (subst (λ n. n < slots) (sym (same_slot top i x f le same)) within)
 
-  -- the number of free blocks of an order below k or above j stays
+  -- the number of free blocks of an order below k or above j stays the same
   pub count_kept : (i : ℕ) → (i < k) ⊎ (j < i) → count_below (small i) (slots * 2 ^ top) ≡ count_below (large i) (slots * 2 ^ top)
   count_kept i apart = count_same (small i) (large i) (slots * 2 ^ top) (λ g lt. agree i g (λ le below half. not_between apart le below) (λ e same. not_at apart e))
     where
@@ -131,7 +131,7 @@ module _ (top : ℕ) (held held' : ℕ → Bool) (taken taken' : Taken) (f k j s
   pub whole_counts : 0 < count_below (large j) (slots * 2 ^ top)
   whole_counts = omega (arith, count_split)
 
-  -- each order from k to j - 1 has one more free block: the buddy of the block of that order around frame f
+  -- there is one more free block of each order i from k to j - 1: the buddy of the block of order i around frame f
   pub count_half : (i : ℕ) → k ≤ i → i < j → count_below (small i) (slots * 2 ^ top) ≡ count_below (large i) (slots * 2 ^ top) + 1
   count_half i up lt = count_one (large i) (small i) (slots * 2 ^ top) x x_within
       (false_from_ne_true (large i x) (λ e. not_large ((free_is_tested top held taken (block x i)).0 e)))
@@ -170,7 +170,8 @@ module _ (top : ℕ) (held held' : ℕ → Bool) (taken taken' : Taken) (f k j s
   pub half_counts : (i : ℕ) → k ≤ i → i < j → 0 < count_below (small i) (slots * 2 ^ top)
   half_counts i up lt = omega (arith, count_half i up lt)
 
-  -- if a tenant's counts change as in `IsTakenOut`, they change as the numbers of its free blocks do
+  -- if a tenant's counts change as `IsTakenOut` says, each count of free blocks changes as the number of free blocks of its order
+  -- does
   pub free_balance : (whole part : StoredTenant) → IsTakenOut k j whole part → (i : ℕ)
       → slice_index part.free i + count_below (large i) (slots * 2 ^ top) ≡ slice_index whole.free i + count_below (small i) (slots * 2 ^ top)
   free_balance whole part counts i = go (cases_order i j) (cases_lt i k)

@@ -1,4 +1,4 @@
--- What tenants hold after a change of one holding, for the crates above.
+-- What each tenant holds after the holding of one tenant changes.
 use Rattle.std.proofs.Common.{◌≡◌, ◌≢◌, ◌⊎◌, inl, inr, sym, ◌∙◌, ap, ℕ, ◌<◌, ◌≤◌, Option, Some, None, List, length, get_or, set}
 use Rattle.std.proofs.lemmas.List.{get_or-set_same, get_or-set_other, get_or_past, set_past}
 use Rattle.std.proofs.lemmas.Bool.{cases_eq, cases_lt}
@@ -12,7 +12,7 @@ own_holding t h c here = get_or-set_same c.tenants t h _ here
 pub other_holding : (t u : ℕ) (h : Holding) (c : Content) → u ≢ t → holding_of u (with_holding t h c) ≡ holding_of u c
 other_holding t u h c other = get_or-set_other c.tenants t u h _ other
 
--- after a block is added or removed, the taken blocks are those of `with_taken` or `without_taken`
+-- adding a block to a holding changes its taken blocks as `with_taken` does, and removing a block as `without_taken` does
 module _ (h : Holding) (f : ℕ) where
   pub taken-with_block : (k : ℕ) → f < length h.taken → taken_of (with_block f k h) ≡ with_taken (taken_of h) f k
   taken-with_block k lt = λ i g. go g (cases_eq g f) i

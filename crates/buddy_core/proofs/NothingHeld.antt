@@ -25,7 +25,7 @@ module _ (top : ℕ) (superblocks : List StoredSuperblock) where
   begins_none : (n f : ℕ) → taken_by top superblocks (bare_tenant top n) f ≡ None
   begins_none n f = ap (λ o. order_under superblocks o (f % 2 ^ top)) (no_slot n (f / 2 ^ top))
 
-  -- the table of its taken blocks has only None
+  -- the table of the taken blocks of a tenant that holds nothing has only None
   table_blank : (n size : ℕ) → map (taken_by top superblocks (bare_tenant top n)) (range_with_len 0 size) ≡ replicate {A = Option ℕ} size None
   table_blank n size = same_lists _ _
       (length-map-range_with_len (taken_by top superblocks (bare_tenant top n)) 0 size ∙ sym (length-replicate {A = Option ℕ} size None))
@@ -63,7 +63,7 @@ module _ (top : ℕ) (superblocks : List StoredSuperblock) where
       none_counted : (k n : ℕ) → count_by (has_order k) (replicate n None) ≡ 0
       none_counted k n = sum_by-replicate (λ x. cond (has_order k x) 1 0) n None ∙ (let e : n * 0 ≡ 0 = omega arith in e)
 
--- a buddy system in which no tenant holds anything has the invariants and is shown as `empty_buddy`
+-- a buddy system in which no tenant holds anything has the invariants, and contracts see it as `empty_buddy`
 module _ (top superblocks tenants : ℕ) where
   size : length (replicate superblocks (bare_superblock top)) ≡ superblocks
   size = length-replicate superblocks (bare_superblock top)

@@ -1,4 +1,4 @@
--- The superblock and the tenant after a release.
+-- A release removes one taken block from its superblock and its tenant, as `IsStep` says.
 use Rattle.std.specs.Int.{bit_at}
 use Rattle.std.proofs.Common.{◌≡◌, ◌⊎◌, Option, refl, sym, ◌∙◌, ap, subst, ℕ, ◌+◌, ◌-◌, ◌*◌, ◌/◌, ◌%◌, ◌^◌, ◌<◌, ◌≤◌, Bool, Some, None, List, length, get_or, set, arith}
 use Rattle.std.specs.Prelude.{slice_index}
@@ -23,7 +23,7 @@ use Rattle.buddy_core.proofs.TreeSlots.{less_in_slot, same_elsewhere, open_in_sl
 use Rattle.buddy_core.proofs.RootOrders.{word_before}
 use Rattle.buddy_core.proofs.BlockSteps.{IsStep, changed}
 
--- s' and tenant' are s and tenant after the block of order k at frame x is released and joined to a block of order j
+-- s' and tenant' are s and tenant after the block of order k at frame x is released and becomes part of a free block of order j
 pub record Released (j k x : ℕ) (s : StoredSuperblock) (tenant : StoredTenant) (s' : StoredSuperblock) (tenant' : StoredTenant) : Type 0 where
   pub order : s'.tree.order ≡ s.tree.order
   pub stored : x < length s.orders
@@ -31,7 +31,7 @@ pub record Released (j k x : ℕ) (s : StoredSuperblock) (tenant : StoredTenant)
   pub words : (small large : ℕ → Bool) → Shows s.tree.order small s.tree.words → IsLess small large k x → Shows s.tree.order large s'.tree.words
   pub counts : IsTakenOut k j tenant' tenant
 
--- a taken block of order k begins at this frame of the tenant, which is frame x of superblock m
+-- a taken block of order k begins at `frame` of tenant t, which is frame x of superblock m
 pub record IsAt (top : ℕ) (superblocks : List StoredSuperblock) (tenants : List StoredTenant) (t frame k m x : ℕ) : Type 0 where
   pub listed : t < length tenants
   pub slot : superblock_at (stored_tenant t tenants) (frame / 2 ^ top) ≡ Some m
@@ -39,7 +39,7 @@ pub record IsAt (top : ℕ) (superblocks : List StoredSuperblock) (tenants : Lis
   pub here : taken_by top superblocks (stored_tenant t tenants) (frame / 2 ^ top * 2 ^ top + x) ≡ Some k
   pub whole : frame / 2 ^ top * 2 ^ top + x ≡ frame
 
--- the order of the taken block that begins at a frame of the tenant is the one that is stored in the superblock of its slot
+-- the order of the taken block that begins at `frame` is stored in the superblock of the frame's slot
 pub begins_at : (top : ℕ) (superblocks : List StoredSuperblock) (tenants : List StoredTenant) → top ≤ 8 → (t : ℕ) (now : Content) → IsShown top superblocks tenants t now → (frame : ℕ)
     → (o : Option ℕ) → superblock_at (stored_tenant t tenants) (frame / 2 ^ top) ≡ o → order_under superblocks o (frame % (1 * 2 ^ top % 2 ^ 32)) ≡ taken_of (holding_of t now) frame
 begins_at top superblocks tenants small t now s frame o slot =
@@ -85,7 +85,7 @@ module _ {top : ℕ} {superblocks : List StoredSuperblock} {tenants : List Store
   out_of : (j : ℕ) × TakesOut (is_available top (held_by (stored_tenant t tenants)) (changed (taken_by top superblocks (stored_tenant t tenants)) (frame / 2 ^ top * 2 ^ top + x) None)) (is_available top (held_by (stored_tenant t tenants)) (taken_by top superblocks (stored_tenant t tenants))) top (frame / 2 ^ top * 2 ^ top + x) k j
   out_of = releasing top (held_by (stored_tenant t tenants)) (taken_by top superblocks (stored_tenant t tenants)) (frame / 2 ^ top * 2 ^ top + x) k mine.sound at.here
 
-  -- the order of the free block to which the released block is joined
+  -- the order of the free block that contains the released block after the release
   pub joined_order : ℕ
   joined_order = out_of.0
 
@@ -113,7 +113,7 @@ module _ {top : ℕ} {superblocks : List StoredSuperblock} {tenants : List Store
   entry : get_or (holding_shown top superblocks (stored_tenant t tenants)).taken (frame / 2 ^ top * 2 ^ top + x) None ≡ Some k
   entry = taken_shown top superblocks (stored_tenant t tenants) (frame / 2 ^ top * 2 ^ top + x) ∙ at.here
 
-  -- the joined block is free in its superblock
+  -- after the release, the joined block is free in its superblock
   joined_open : IsOpen (λ y. is_available top (held_by (stored_tenant t tenants)) (changed (taken_by top superblocks (stored_tenant t tenants)) (frame / 2 ^ top * 2 ^ top + x) None) (frame / 2 ^ top * 2 ^ top + y)) top joined_order (number_at joined_order x)
   joined_open =
       let le = joined_le in
@@ -125,7 +125,7 @@ module _ {top : ℕ} {superblocks : List StoredSuperblock} {tenants : List Store
   shown_after words change = change _ _ (mine.shows (frame / 2 ^ top) m at.slot)
       (less_in_slot (is_available top held freed) (is_available top held taken) top (frame / 2 ^ top) x k joined_order out)
 
-  -- the order that the tree returns is that of the joined block
+  -- if j has the properties that `release_at` ensures of its result, j is the order of the joined block
   pub joined_is : (j : ℕ) (s : StoredSuperblock) → s ≡ superblock_of m superblocks
       → ((small large : ℕ → Bool) → Shows s.tree.order small s.tree.words → IsLess small large k x → (k ≤ j) × IsOpen large s.tree.order j (number_at j x)) → j ≡ joined_order
   joined_is j s e answer =
@@ -174,7 +174,7 @@ module _ {top : ℕ} {superblocks : List StoredSuperblock} {tenants : List Store
         omega arith;
   }
 
-  -- each order of a free block that the superblock has afterwards is that of the joined block, or one from before
+  -- if the root word's bit for order i is 1 after the release, i is the order of the joined block, or the bit was 1 before
   pub released_orders : (s : StoredSuperblock) (after : StoredTenant) → Released joined_order k x (superblock_of m superblocks) (stored_tenant t tenants) s after
       → (i : ℕ) → bit_at (slice_index s.tree.words 0) i ≡ 1 → (i ≡ joined_order) ⊎ (bit_at (slice_index (superblock_of m superblocks).tree.words 0) i ≡ 1)
   released_orders s after r =

@@ -38,7 +38,7 @@ pub record Reserved (j k x : ℕ) (s : StoredSuperblock) (tenant : StoredTenant)
       → Shows s.tree.order small s'.tree.words
   pub counts : IsTakenOut k j tenant tenant'
 
--- a source in some superblocks and slots is a source in equal ones
+-- a source in some superblocks and slots is a source in equal superblocks and slots
 pub source_at : (superblocks' superblocks : List StoredSuperblock) (slots' slots : List (Option ℕ)) (k : ℕ) (p : Source) → superblocks' ≡ superblocks → slots' ≡ slots → IsSource superblocks' slots' k p → IsSource superblocks slots k p
 source_at superblocks' superblocks slots' slots k p e d source = subst (λ ss. IsSource superblocks ss k p) d (subst (λ ss. IsSource ss slots' k p) e source)
 
@@ -51,7 +51,7 @@ module _ (top : ℕ) (superblocks : List StoredSuperblock) (tenants : List Store
   bit_of c m free at =
       (root_tells top (held_by (stored_tenant t tenants)) (taken_by top superblocks (stored_tenant t tenants)) (c.first / 2 ^ top) (superblock_of m superblocks).tree.words (kept_tenant.shows (c.first / 2 ^ top) m at) c.order).1 (c.first, free, refl)
 
-  -- the tenant counts free blocks of exactly the orders whose bits are 1 in a root word of its superblocks
+  -- the tenant's count of free blocks of an order is above 0 if and only if one of its superblocks has a free block of that order
   pub counted : IsCounted superblocks (stored_tenant t tenants)
   counted j = (λ some. forth (cases_lt top j) some, back)
     where
@@ -83,7 +83,7 @@ module _ (top : ℕ) (superblocks : List StoredSuperblock) (tenants : List Store
         let found = (root_tells top (held_by (stored_tenant t tenants)) (taken_by top superblocks (stored_tenant t tenants)) p.slot (superblock_of p.superblock superblocks).tree.words (kept_tenant.shows p.slot p.superblock source.at) p.order).0 source.bit in
         found.1.0.0
 
--- the first free block of the order `p.order` in the slot of the source begins at frame x of its superblock
+-- the first free block of order `p.order` in the slot of the source begins at frame x of the slot's superblock
 pub record IsFound (top : ℕ) (superblocks : List StoredSuperblock) (tenants : List StoredTenant) (t k : ℕ) (p : Source) (x : ℕ) : Type 0 where
   pub listed : t < length tenants
   pub source : IsSource superblocks (stored_tenant t tenants).slots k p
@@ -95,7 +95,7 @@ pub record IsFound (top : ℕ) (superblocks : List StoredSuperblock) (tenants : 
 abbrev pub Answers : Source → ℕ → ℕ → List ℕ → Type 0
 Answers p x n words = (x < 2 ^ n) × ((ok : ℕ → Bool) → Shows n ok words → bit_at (slice_index words 0) p.order ≡ 1 → (number_at p.order x * 2 ^ p.order ≡ x) × IsLeast ok n p.order (number_at p.order x))
 
--- what the search of the source's superblock returns is this first free block
+-- the search of the source's superblock returns the frame at which the first free block of order `p.order` begins
 pub found_at : (top : ℕ) (superblocks : List StoredSuperblock) (tenants : List StoredTenant) → IsKept top superblocks tenants → (t : ℕ) → t < length tenants → (k : ℕ) (p : Source) → IsSource superblocks (stored_tenant t tenants).slots k p
     → (tree : StoredTree) → tree ≡ (superblock_of p.superblock superblocks).tree → (x : ℕ) → Answers p x tree.order tree.words → IsFound top superblocks tenants t k p x
 found_at top superblocks tenants kept t listed k p source tree read x answers = record { listed = listed; source = source; inside = here.0; aligned = first.0; least = first.1 }
@@ -206,7 +206,7 @@ module _ {top : ℕ} {superblocks : List StoredSuperblock} {tenants : List Store
       words = subst (λ n. (large small : ℕ → Bool) → Shows n large (superblock_of p.superblock superblocks).tree.words → IsOpen large n p.order (number_at p.order x) → IsLess small large k x → Shows n small s.tree.words)
           (kept.order p.superblock superblock_lt) r.words
 
-  -- each order of a free block that the superblock has afterwards is one from before, or that of a half
+  -- if the root word's bit for order i is 1 after the reservation, it was 1 before, or a half of order i was split off
   pub reserved_orders : (s : StoredSuperblock) (after : StoredTenant) → Reserved p.order k x (superblock_of p.superblock superblocks) (stored_tenant t tenants) s after
       → (i : ℕ) → bit_at (slice_index s.tree.words 0) i ≡ 1 → (bit_at (slice_index (superblock_of p.superblock superblocks).tree.words 0) i ≡ 1) ⊎ ((k ≤ i) × (i < p.order))
   reserved_orders s after r =

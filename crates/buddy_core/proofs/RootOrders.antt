@@ -1,4 +1,4 @@
--- The orders in the first word of a tree before and after a block is taken out of a free one.
+-- The root word of a tree before and after a block is taken out of a free block.
 use Rattle.std.proofs.Common.{◌≡◌, ◌⊎◌, inl, inr, sym, subst, ℕ, ◌*◌, ◌^◌, ◌<◌, ◌≤◌, Bool, List, arith}
 use Rattle.std.specs.Prelude.{slice_index}
 use Rattle.std.specs.Int.{bit_at}
@@ -13,7 +13,7 @@ module _ (top k j f : ℕ) (large small : ℕ → Bool) (le : k ≤ j) (free : I
   out : TakesOut large small top f k j
   out = record { order = le; open_block = free; inside = less.gone; outside = less.kept }
 
-  -- each order in the root word afterwards was there before, or is that of a half
+  -- if the root word's bit for order i is 1 afterwards, it was 1 before, or a half of order i was split off
   pub word_after : (i : ℕ) → bit_at (slice_index after 0) i ≡ 1 → (bit_at (slice_index before 0) i ≡ 1) ⊎ ((k ≤ i) × (i < j))
   word_after i bit = go ((node_tells small top 0 top 0 i after shows' (omega arith) (omega arith)).0 bit)
     where
@@ -25,7 +25,7 @@ module _ (top k j f : ℕ) (large small : ℕ → Bool) (le : k ≤ j) (free : I
             | inr half ↦ inr (half.0, half.1)
           ]
 
-  -- each order in the root word before is that of the free block, or is still there afterwards
+  -- if the root word's bit for order i was 1 before, it is 1 afterwards, or the block was taken out of a free block of order i
   pub word_before : (i : ℕ) → bit_at (slice_index before 0) i ≡ 1 → (i ≡ j) ⊎ (bit_at (slice_index after 0) i ≡ 1)
   word_before i bit = go ((node_tells large top 0 top 0 i before shows (omega arith) (omega arith)).0 bit)
     where

@@ -22,7 +22,7 @@ use Rattle.buddy_core.proofs.SlotSteps.{IsOneMore, IsSlotStep, slot_out, availab
 module _ (top : ℕ) (superblocks : List StoredSuperblock) (tenants : List StoredTenant) (kept : IsKept top superblocks tenants) (t : ℕ) (listed : t < length tenants) (slot m : ℕ)
     (slot_lt : slot < length superblocks) (m_lt : m < length superblocks) (empty : superblock_at (stored_tenant t tenants) slot ≡ None) (unused : (v w : ℕ) → superblock_at (stored_tenant v tenants) w ≡ Some m → ⊥)
     (s : StoredSuperblock) (s_order : s.tree.order ≡ (superblock_of m superblocks).tree.order) (s_orders : s.orders ≡ (superblock_of m superblocks).orders) (s_words : Shows top (λ _. true) s.tree.words) where
-  -- tenant t with superblock m in the slot
+  -- tenant t with superblock m in the slot, and with one more free block of order `top` in its counts
   abbrev pub granted : StoredTenant
   granted = record (stored_tenant t tenants) { slots = set (stored_tenant t tenants).slots slot (Some m); free = set (stored_tenant t tenants).free top (slice_index (stored_tenant t tenants).free top + 1) }
 
@@ -66,7 +66,7 @@ module _ (top : ℕ) (superblocks : List StoredSuperblock) (tenants : List Store
     untaken = λ x e is. both_ways (held_by (stored_tenant t tenants) slot) (ap is_some empty) ((begins_in top (held_by (stored_tenant t tenants)) (taken_by top superblocks (stored_tenant t tenants)) mine.sound x slot e is).4);
   }
 
-  -- the new count of order k is the number of free blocks of order k, if the taken blocks are those of before
+  -- if the taken blocks stay the same, the new count for order k is the new number of free blocks of order k
   counted : (k : ℕ) → k ≤ top → (k ≡ top) ⊎ (k ≡ top → ⊥)
       → slice_index (set (stored_tenant t tenants).free top (slice_index (stored_tenant t tenants).free top + 1)) k ≡ count_below (λ f. is_free top (held_by granted) (taken_by top superblocks (stored_tenant t tenants)) (block f k)) (length superblocks * 2 ^ top)
   counted k le (inl e) =

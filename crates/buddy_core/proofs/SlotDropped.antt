@@ -28,7 +28,7 @@ module _ (top : ℕ) (held : ℕ → Bool) (taken : Taken) (u : ℕ) (words : Li
   in_slot : (x : ℕ) → HasFrame (slot_block top u) x → x / 2 ^ top ≡ u
   in_slot x has = sym (number_is top x) ∙ number_of_frame (u * 2 ^ top) top x (aligned_first u top) has ∙ number_first u top
 
-  -- if the root word is that of one free block, no frame of the slot is taken
+  -- if the root word is 2 ^ top, no frame of the slot is taken
   pub quiet : slice_index words 0 ≡ 2 ^ top → HasTaken taken (slot_block top u) → ⊥
   quiet root (x, has, is) =
       let clear = orders_whole (λ y. is_available top held taken (u * 2 ^ top + y)) top 0 (sym (first_word _ top words shows) ∙ root) in
@@ -38,7 +38,7 @@ module _ (top : ℕ) (held : ℕ → Bool) (taken : Taken) (u : ℕ) (words : Li
       let passes = clear_at (λ y. is_available top held taken (u * 2 ^ top + y)) top y (ap (is_clear (λ y. is_available top held taken (u * 2 ^ top + y)) top) (number_whole top y small) ∙ clear) in
       (available_tells top held taken x (ap (is_available top held taken) (sym at) ∙ passes)).1 is
 
-  -- if the root word is any other word, some frame of the slot is taken
+  -- if the slot is held and its root word is not 2 ^ top, some frame of the slot is taken
   pub busy : held u ≡ true → (slice_index words 0 ≡ 2 ^ top → ⊥) → HasTaken taken (slot_block top u)
   busy on off = go (cases_Bool (is_clear (λ y. is_available top held taken (u * 2 ^ top + y)) top 0))
     where
@@ -57,7 +57,7 @@ module _ (top : ℕ) (held : ℕ → Bool) (taken : Taken) (u : ℕ) (words : Li
 
 module _ (top : ℕ) (superblocks : List StoredSuperblock) (tenants : List StoredTenant) (kept : IsKept top superblocks tenants) (t : ℕ) (listed : t < length tenants) (slot m : ℕ)
     (here : superblock_at (stored_tenant t tenants) slot ≡ Some m) (none_taken : HasTaken (taken_by top superblocks (stored_tenant t tenants)) (slot_block top slot) → ⊥) where
-  -- tenant t without the slot
+  -- tenant t without the slot, and with one free block of order `top` less in its counts
   abbrev pub dropped : StoredTenant
   dropped = record (stored_tenant t tenants) { slots = set (stored_tenant t tenants).slots slot None; free = set (stored_tenant t tenants).free top (slice_index (stored_tenant t tenants).free top - 1) }
 

@@ -39,7 +39,7 @@ module _ (top : ℕ) (superblocks : List StoredSuperblock) (tenants : List Store
   superblock_other : (i : ℕ) → (i ≡ from → ⊥) → (i ≡ m → ⊥) → superblock_of i after ≡ superblock_of i superblocks
   superblock_other i a b = swapped.2 i bare_of a b
 
-  -- the superblocks in all other slots stay
+  -- what is stored for the superblock in any other slot stays the same
   other_slot : (v u i : ℕ) → ((v ≡ t) × (u ≡ slot) → ⊥) → superblock_at (stored_tenant v tenants) u ≡ Some i → superblock_of i after ≡ superblock_of i superblocks
   other_slot v u i ne at = superblock_other i (λ e. ne (kept.apart v u t slot from (at ∙ ap Some e) here)) (λ e. unused v u (at ∙ ap Some e))
 
@@ -70,7 +70,7 @@ module _ (top : ℕ) (superblocks : List StoredSuperblock) (tenants : List Store
   each_kept v lt (inr ne) = subst (IsTenantKept top after) (sym (tenant_other v ne))
       (tenant_stays top superblocks after (stored_tenant v tenants) size (λ u i at. other_slot v u i (λ both. ne both.0) at) (kept.each v (subst (λ n. v < n) (length-set tenants t moved) lt)))
 
-  -- afterwards a slot is the moved one, or has the superblock that it had
+  -- afterwards, a held slot is the moved slot and has superblock m, or it has the superblock that it had before
   was : (v u i : ℕ) → superblock_at (stored_tenant v (set tenants t moved)) u ≡ Some i → (v ≡ t) ⊎ (v ≡ t → ⊥) → (u ≡ slot) ⊎ (u ≡ slot → ⊥)
       → ((v ≡ t) × (u ≡ slot) × (i ≡ m)) ⊎ (superblock_at (stored_tenant v tenants) u ≡ Some i)
   was v u i at (inr ne) _ = inr (ap (λ r. superblock_at r u) (sym (tenant_other v ne)) ∙ at)
@@ -88,7 +88,8 @@ module _ (top : ℕ) (superblocks : List StoredSuperblock) (tenants : List Store
   order_now i lt (inr _) (inl e) = ap (λ (z : StoredSuperblock). z.tree.order) (ap (λ n. superblock_of n after) e ∙ swapped.1 bare_of) ∙ kept.order from (mine.within slot from here)
   order_now i lt (inr a) (inr b) = ap (λ (z : StoredSuperblock). z.tree.order) (superblock_other i a b) ∙ kept.order i lt
 
-  -- A superblock in no slot is blank. The old superblock is blank because it is now stored as the new one was.
+  -- Every superblock that is in no slot is blank. The old superblock is blank because it now has what was stored for the new
+  -- superblock.
   bare_now : (i : ℕ) → i < length superblocks → ((v u : ℕ) → superblock_at (stored_tenant v (set tenants t moved)) u ≡ Some i → ⊥) → (i ≡ from) ⊎ (i ≡ from → ⊥) → superblock_of i after ≡ bare_superblock top
   bare_now i lt none (inl e) = ap (λ n. superblock_of n after) e ∙ swapped.0 bare_of ∙ kept.bare m m_lt unused
   bare_now i lt none (inr ne) =
@@ -120,7 +121,7 @@ module _ (top : ℕ) (superblocks : List StoredSuperblock) (tenants : List Store
       shows : Taken → ℕ → Holding
       shows taken n = record { slots = set (stored_tenant t tenants).slots slot (Some m); taken = map taken (range_with_len 0 (n * 2 ^ top)) }
 
-  -- the superblock in each slot has the orders that it had, so the summaries still bound the free blocks
+  -- the superblock in each slot has the same free blocks as before, so the summaries still bound the free blocks
   pub move_bounded : (summaries : List (List ℕ)) → AreBounded superblocks tenants summaries → AreBounded after (set tenants t moved) summaries
   move_bounded summaries bounded = bounded_still bounded after (set tenants t moved) (length-set tenants t moved) (λ v u i j at bit. go v u i j at bit (cases_eq v t))
     where

@@ -1,4 +1,4 @@
--- A slot without a taken frame is added or removed.
+-- If a slot without a taken frame is added or removed, the taken blocks and all other slots stay the same.
 use Rattle.std.proofs.Common.{◌≡◌, ◌⊎◌, inl, inr, refl, sym, ◌∙◌, ap, subst, ℕ, ◌+◌, ◌*◌, ◌/◌, ◌%◌, ◌^◌, ◌<◌, Bool, true, false, Option, Some, None, List, length, get_or, set, map, arith}
 use Rattle.std.specs.List.{range_with_len}
 use Rattle.std.proofs.lemmas.List.{get_or-set_other}
@@ -18,7 +18,7 @@ use Rattle.buddy_core.specs.Kept.{available_in}
 use Rattle.buddy_core.proofs.ContentShown.{bare_of}
 use Rattle.buddy_core.proofs.TreeSlots.{shows_same}
 
--- `more` holds slot u too, and nothing is taken there
+-- `more` holds slot u and the slots that `fewer` holds, and no frame of slot u is taken
 pub record IsOneMore (top : ℕ) (more fewer : ℕ → Bool) (taken : Taken) (u : ℕ) : Type 0 where
   pub on : more u ≡ true
   pub off : fewer u ≡ false
@@ -45,7 +45,7 @@ module _ (top : ℕ) (more fewer : ℕ → Bool) (taken : Taken) (u : ℕ) (one 
     outside = λ x ne. available_elsewhere x (λ e. ne (number_is top x ∙ e ∙ sym (number_first u top)));
   }
 
--- the slots of one tenant, with superblock m in slot u and without it
+-- `tenant` and `tenant'` differ only in slot u. One of them may have superblock m in it, and m is in no other slot.
 pub record IsSlotStep (top : ℕ) (superblocks : List StoredSuperblock) (tenant : StoredTenant) (m u : ℕ) (s : StoredSuperblock) (tenant' : StoredTenant) : Type 0 where
   pub inside : u < length tenant.slots
   pub size : length tenant'.slots ≡ length tenant.slots
@@ -67,7 +67,7 @@ module _ (top : ℕ) (superblocks : List StoredSuperblock) (tenant : StoredTenan
           ∙ ap (λ (z : StoredSuperblock). get_or z.orders (g % 2 ^ top) None) (get_or-set_other superblocks m i s bare_of (λ same. step.apart (g / 2 ^ top) ne (e ∙ ap Some same)))
           ∙ sym (ap (λ o. order_under superblocks o (g % 2 ^ top)) e)
 
-  -- the taken blocks stay the same
+  -- the tenant's taken blocks stay the same
   pub taken_same : taken_by top (set superblocks m s) tenant' ≡ taken_by top superblocks tenant
   taken_same = λ i g. found g (cases_eq (g / 2 ^ top) u) i
 
@@ -102,7 +102,7 @@ module _ (top : ℕ) (superblocks : List StoredSuperblock) (tenant : StoredTenan
             (λ e. let both = available_tells top (held_by tenant') (taken_by top superblocks tenant) (v * 2 ^ top + y) e in
             available_is top (held_by tenant) (taken_by top superblocks tenant) (v * 2 ^ top + y) (ap (held_by tenant) slot ∙ sym held_same ∙ ap (held_by tenant') (sym slot) ∙ both.0) both.1)
 
--- a taken block of a sound tenant with a frame in a slot begins there
+-- if a frame of slot u is taken, the taken block that contains it begins in slot u, and slot u is held
 pub begins_in : (top : ℕ) (held : ℕ → Bool) (taken : Taken) → IsSound top held taken → (x u : ℕ) → x / 2 ^ top ≡ u → IsTaken taken x → (g k : ℕ) × (g / 2 ^ top ≡ u) × (taken g ≡ Some k) × (held u ≡ true)
 begins_in top held taken sound x u e (g, k, at, has) =
     let placed = sound.placed g k at in

@@ -14,7 +14,7 @@ use Rattle.buddy_core.proofs.ContentShown.{blank_of, bare_of}
 use Rattle.buddy_core.proofs.NothingHeld.{any_slot}
 
 module _ {superblocks : List StoredSuperblock} {tenants : List StoredTenant} {summaries : List (List ℕ)} (bounded : AreBounded superblocks tenants summaries) where
-  -- the summaries still bound the free blocks if each slot has only orders that it had before
+  -- if each slot has free blocks only of orders of which it had free blocks before, the summaries still bound the free blocks
   pub bounded_still : (superblocks' : List StoredSuperblock) (tenants' : List StoredTenant) → length tenants' ≡ length tenants
       → ((v u i j : ℕ) → superblock_at (stored_tenant v tenants') u ≡ Some i → HasBit superblocks' i j → (was : ℕ) × (superblock_at (stored_tenant v tenants) u ≡ Some was) × HasBit superblocks was j)
       → AreBounded superblocks' tenants' summaries
@@ -23,7 +23,8 @@ module _ {superblocks : List StoredSuperblock} {tenants : List StoredTenant} {su
     each = λ v j u i at bit. let was = before v u i j at bit in bounded.each v j u was.0 was.1 was.2;
   }
 
-  -- if one tenant's words are replaced by words that bound its free blocks, the summaries still bound those of all tenants
+  -- if one tenant's words are replaced by words that bound its free blocks, the summaries still bound the free blocks of all
+  -- tenants
   pub bounded_by : (t : ℕ) (words : List ℕ) → t < length tenants → IsBounded superblocks (stored_tenant t tenants).slots words → AreBounded superblocks tenants (set summaries t words)
   bounded_by t words lt told = record { size = length-set summaries t words ∙ bounded.size; each = λ v j u i at bit. each v j u i at bit (cases_eq v t) }
     where
@@ -36,7 +37,7 @@ module _ {superblocks : List StoredSuperblock} {tenants : List StoredTenant} {su
           ∙ told j u i (ap (λ n. superblock_at (stored_tenant n tenants) u) (sym e) ∙ at) bit
       each v j u i at bit (inr ne) = ap (λ (ws : List ℕ). bit_at (get_or ws j 0) (u / 8)) (get_or-set_other summaries t v words [] ne) ∙ bounded.each v j u i at bit
 
-  -- one superblock changes, and its orders are noted
+  -- superblock m changes, and the tenant's words note the orders of the free blocks that it then has
   module _ (top m t slot : ℕ) (s : StoredSuperblock) (tenant : StoredTenant) (words : List ℕ) (listed : t < length tenants) (m_lt : m < length superblocks)
       (kept : IsKept top (set superblocks m s) (set tenants t tenant)) (here : superblock_at tenant slot ≡ Some m)
       (others : (u : ℕ) → (u ≡ slot → ⊥) → superblock_at tenant u ≡ superblock_at (stored_tenant t tenants) u)
@@ -73,7 +74,7 @@ module _ {superblocks : List StoredSuperblock} {tenants : List StoredTenant} {su
       each = λ v j u i at bit. each v j u i at bit (cases_eq i m) (cases_eq v t);
     }
 
-  -- a blank superblock is taken out of a slot
+  -- a slot loses its superblock, and the root word of superblock m becomes 0
   module _ (top m t slot : ℕ) (s : StoredSuperblock) (tenant : StoredTenant) (listed : t < length tenants) (m_lt : m < length superblocks) (blank : slice_index s.tree.words 0 ≡ 0)
       (slot_lt : slot < length (stored_tenant t tenants).slots) (slots : tenant.slots ≡ set (stored_tenant t tenants).slots slot None) where
     pub bounded_dropped : AreBounded (set superblocks m s) (set tenants t tenant) summaries

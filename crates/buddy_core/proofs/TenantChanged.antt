@@ -1,4 +1,4 @@
--- If one tenant and one superblock change, what is always true still is.
+-- If one tenant and one superblock change as `IsChange` says, all that is always true stays true.
 use Rattle.std.proofs.Common.{◌≡◌, ◌⊎◌, inl, inr, refl, sym, ◌∙◌, ap, ap₂, subst, Bool, Option, ℕ, ◌+◌, ◌*◌, ◌^◌, ◌<◌, ◌≤◌, Some, List, length, set, map, length-set}
 use Rattle.std.proofs.lemmas.List.{get_or-set_same, get_or-set_other}
 use Rattle.std.proofs.lemmas.Bool.{cases_eq}
@@ -12,7 +12,7 @@ use Rattle.buddy_core.specs.Stored.{StoredSuperblock, StoredTenant, bare_superbl
 use Rattle.buddy_core.specs.Kept.{IsKept, IsTenantKept, available_in}
 use Rattle.buddy_core.proofs.ContentShown.{StandsAsBefore, taken_as_before, blank_of, bare_of, taken_stays, content_replaced}
 
--- what always holds of a tenant still holds if its slots have the superblocks that they had
+-- what is always true of a tenant stays true if each slot has the same stored superblock, perhaps under another number
 pub tenant_kept_as_before : (top : ℕ) (superblocks superblocks' : List StoredSuperblock) (tenant : StoredTenant) (slots : List (Option ℕ)) → length superblocks' ≡ length superblocks → length slots ≡ length tenant.slots
     → StandsAsBefore superblocks superblocks' tenant (record tenant { slots = slots }) → ((u m : ℕ) → superblock_at (record tenant { slots = slots }) u ≡ Some m → m < length superblocks)
     → IsTenantKept top superblocks tenant → IsTenantKept top superblocks' (record tenant { slots = slots })
@@ -40,7 +40,7 @@ tenant_kept_as_before top superblocks superblocks' tenant slots size count stand
     number : (ℕ → Bool) → Taken → ℕ → ℕ → ℕ
     number h T n k = count_below (λ f. is_free top h T (block f k)) (n * 2 ^ top)
 
--- it also still holds of a tenant whose superblocks stay
+-- what is always true of a tenant stays true if none of its superblocks changes
 pub tenant_stays : (top : ℕ) (superblocks superblocks' : List StoredSuperblock) (tenant : StoredTenant) → length superblocks' ≡ length superblocks
     → ((u m : ℕ) → superblock_at tenant u ≡ Some m → superblock_of m superblocks' ≡ superblock_of m superblocks) → IsTenantKept top superblocks tenant → IsTenantKept top superblocks' tenant
 tenant_stays top superblocks superblocks' tenant size stays kept = tenant_kept_as_before top superblocks superblocks' tenant tenant.slots size refl (record { held = refl; same = λ u m at. (m, at, stays u m at) }) kept.within kept
@@ -70,7 +70,7 @@ module _ (top : ℕ) (superblocks : List StoredSuperblock) (tenants : List Store
   superblock_other : (i : ℕ) → (i ≡ m → ⊥) → superblock_of i (set superblocks m s) ≡ superblock_of i superblocks
   superblock_other i ne = get_or-set_other superblocks m i s bare_of ne
 
-  -- the taken blocks of the other tenants stay
+  -- the taken blocks of all other tenants stay the same
   pub others_stay : (v : ℕ) → (v ≡ t → ⊥) → v < length tenants → taken_by top (set superblocks m s) (stored_tenant v tenants) ≡ taken_by top superblocks (stored_tenant v tenants)
   others_stay v ne lt = taken_stays top superblocks m s (stored_tenant v tenants) (λ w at. change.others v w ne at)
 

@@ -56,11 +56,11 @@ module _ (top : ℕ) (superblocks : List StoredSuperblock) (tenants : List Store
             let few = few_frames in
             omega arith
 
-    -- each count can grow by 1 within its type
+    -- each count can rise by 1 without an overflow
     pub room : CanCountMore (stored_tenant t tenants)
     room i = (free_room i, taken_room i)
 
--- if an entry of the table of taken blocks is set, the count of an order loses the old entry and gains the new one
+-- if o replaces entry f of the table of taken blocks, the count for order i no longer has the old entry, and has the new one
 pub count_set : (xs : List (Option ℕ)) (f i : ℕ) (o : Option ℕ) → f < length xs → count_by (has_order i) (set xs f o) + bit (has_order i (get_or xs f None)) ≡ count_by (has_order i) xs + bit (has_order i o)
 count_set xs f i o lt = sum_by-set (λ x. cond (has_order i x) 1 0) xs f o None lt
 
@@ -70,7 +70,8 @@ order_here k i e = ap bit (eq-eqb k i (sym e))
 pub order_other : (k i : ℕ) → (i ≡ k → ⊥) → bit (has_order i (Some k)) ≡ 0
 order_other k i ne = ap bit (ne_eqb k i (λ e. ne (sym e)))
 
--- when a block of order k is taken, the tenant's count of taken blocks of order k grows by 1, and no other changes
+-- when a block of order k is taken, the tenant's count of taken blocks of order k rises by 1, and no other count of taken blocks
+-- changes
 pub taken_bit : (k j : ℕ) (whole part : StoredTenant) → IsTakenOut k j whole part → (i : ℕ) → slice_index part.taken i ≡ slice_index whole.taken i + bit (has_order i (Some k))
 taken_bit k j whole part out i = go (cases_eq i k)
   where

@@ -1,4 +1,4 @@
--- If one tenant loses all that it holds, what is always true still is.
+-- If one tenant loses all that it holds, all that is always true stays true.
 use Rattle.std.proofs.Common.{◌≡◌, ◌⊎◌, inl, inr, refl, sym, ◌∙◌, ap, subst, ℕ, zero, suc, ◌+◌, ◌<◌, ◌≤◌, Option, Some, None, List, length, get_or, set, arith, length-set}
 use Rattle.std.specs.Int.{bit_at}
 use Rattle.std.proofs.lemmas.List.{get_or-set_same, get_or-set_other}
@@ -16,7 +16,7 @@ use Rattle.buddy_core.proofs.SummaryBounds.{bounded_still}
 use Rattle.buddy_core.proofs.TenantChanged.{tenant_stays}
 use Rattle.buddy_core.proofs.NothingHeld.{blank_kept, blank_holding}
 
--- the superblocks in the first n slots of the tenant are cleared, and no others
+-- in `after`, the superblocks in the first n slots of the tenant are blank, and all others are as in `before`
 pub record Cleared (top : ℕ) (before after : List StoredSuperblock) (tenant : StoredTenant) (n : ℕ) : Type 0 where
   pub size : length after ≡ length before
   pub gone : (w m : ℕ) → w < n → superblock_at tenant w ≡ Some m → superblock_of m after ≡ bare_superblock top
@@ -54,7 +54,7 @@ cleared_more top before after tenant n m s at lt blank apart c = record {
             let last : w ≡ n = omega arith in
             absurd (ne (same_Some i m (sym there ∙ ap (superblock_at tenant) last ∙ at)))
 
--- the superblock that is cleared next still has the order of a superblock
+-- the superblock in slot n, which is cleared next, still has order `top`
 pub next_order : (top : ℕ) (before after : List StoredSuperblock) (tenant : StoredTenant) (n m : ℕ) → superblock_at tenant n ≡ Some m → (superblock_of m before).tree.order ≡ top
     → ((w v i : ℕ) → superblock_at tenant w ≡ Some i → superblock_at tenant v ≡ Some i → w ≡ v) → Cleared top before after tenant n → (superblock_of m after).tree.order ≡ top
 next_order top before after tenant n m at order apart c = ap (λ (z : StoredSuperblock). z.tree.order) (c.stays m (λ w lt there. let e = apart w n m there at in omega arith)) ∙ order
@@ -101,7 +101,7 @@ module _ (top : ℕ) (superblocks : List StoredSuperblock) (tenants : List Store
   tenant_other : (v : ℕ) → (v ≡ t → ⊥) → stored_tenant v (set tenants t (bare_tenant top (length superblocks))) ≡ stored_tenant v tenants
   tenant_other v ne = get_or-set_other tenants t v (bare_tenant top (length superblocks)) blank_of ne
 
-  -- the tenant has no slot afterwards
+  -- afterwards, tenant t has no superblock in any slot
   none_here : (v u i : ℕ) → v ≡ t → superblock_at (stored_tenant v (set tenants t (bare_tenant top (length superblocks)))) u ≡ Some i → ⊥
   none_here v u i e at = none-some i (sym (everywhere None (length superblocks) u) ∙ sym (ap (λ r. superblock_at r u) (tenant_here v e)) ∙ at)
 
@@ -147,7 +147,7 @@ module _ (top : ℕ) (superblocks : List StoredSuperblock) (tenants : List Store
   reset_shown = content_replaced top superblocks tenants t after (bare_tenant top (length superblocks)) (nothing_held top (length superblocks)) c.size
       (λ v ne lt. other_taken v ne) (blank_holding top after (length superblocks))
 
-  -- after the reset, no slot has an order that it did not have, so the summaries still bound the free blocks
+  -- after the reset, no slot has a free block of an order of which it had none, so the summaries still bound the free blocks
   pub reset_bounded : (summaries : List (List ℕ)) → AreBounded superblocks tenants summaries → AreBounded after (set tenants t (bare_tenant top (length superblocks))) summaries
   reset_bounded summaries bounded = bounded_still bounded after (set tenants t (bare_tenant top (length superblocks))) (length-set tenants t (bare_tenant top (length superblocks))) (λ v u i j at bit. go v u i j at bit (cases_eq v t))
     where

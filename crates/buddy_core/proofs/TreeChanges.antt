@@ -1,4 +1,4 @@
--- The first write of a reserve or a release, and each step up from there.
+-- The words of a tree after the first write of a reserve or a release, and after each step up from there.
 use Rattle.std.proofs.Common.{◌≡◌, ℕ, zero, suc, ◌+◌, ◌-◌, ◌*◌, ◌/◌, ◌^◌, ◌<◌, ◌≤◌, Bool, true, false, cond, List, length, get_or, set, length-set, ◌⊎◌, inl, inr, refl, sym, ap, ap₂, subst, ◌∙◌, arith}
 use Rattle.std.specs.Prelude.{bit_or}
 use Rattle.std.proofs.lemmas.Bool.{and_from, both_ways, cases_eq, cond-true, cond-false, false_from_ne_true}
@@ -18,7 +18,7 @@ use Rattle.buddy_core.proofs.TreeClimb.{inside_with, around_with, away, climbs, 
 pub bare_size : (top : ℕ) → length (bare_tree top).words + 1 ≡ 2 ^ (top + 1)
 bare_size top = let size = length-replicate {A = ℕ} (2 ^ (top + 1) - 1) 0 in let some = pow_pos (top + 1) in omega arith
 
--- inside a block that is taken whole, or strictly inside one that is free whole, all words are 0
+-- inside a block with no available frame, or strictly inside a block whose frames are all available, all words are 0
 zero_either : (b : Bool) (n : ℕ) → n ≡ 0 → cond b 0 n ≡ 0
 zero_either true n e = refl
 zero_either false n e = e
@@ -30,7 +30,7 @@ word_free : (ok : ℕ → Bool) (top k f i e q : ℕ) → ((x : ℕ) → IsWith 
 word_free ok top k f i e q all small s a =
     word_inside ok top i q small ∙ cond-true _ 0 (orders ok i q) (clear_from ok (suc i) (q / 2) (λ x h. all x (around_with k f i e q x s a h)))
 
--- the first write is the word of the changed block; then all words inside this block are those of a separate tree under `new`
+-- after the first write, of the changed block's word, all words inside this block are those of a separate tree of it under `new`
 start_within : (top k d f v : ℕ) (old new : ℕ → Bool) (words : List ℕ) → d + k ≡ top → f < 2 ^ top → Shows top old words
     → v ≡ orders new k (number_at k f)
     → ((i e q : ℕ) → i + suc e ≡ k → number_at (suc e) q ≡ number_at k f → word old top i q ≡ word new k i q)
@@ -78,11 +78,11 @@ start_release top k d f small large words s b shows less =
     (sym (orders_clear large k (number_at k f) (clear_from large k (number_at k f) (λ x h. less.was x h))))
     (λ i e q t a. word_taken small top k f i (suc e) q less.gone t a ∙ sym (word_free large k k f i e q less.was (omega arith) t a))
 
--- tests that agree outside a block agree outside a larger one around it
+-- two tests that agree outside a block agree outside every larger block around it
 agree_above : (a b : ℕ → Bool) (k n m f : ℕ) → k + n ≡ m → ((x : ℕ) → (IsWith k f x → ⊥) → a x ≡ b x) → (x : ℕ) → (IsWith m f x → ⊥) → a x ≡ b x
 agree_above a b k n m f s same x off = same x (λ w. off (sym (number_above n k m x s) ∙ ap (λ i. number_at n i) w ∙ number_above n k m f s))
 
--- if the larger block around the changed one was not free, both its halves have the words of separate trees
+-- if the block around the changed block was not clear, each of its halves has its word of a separate tree under `new`
 halves_stand : (top k f d : ℕ) (old new : ℕ → Bool) (words : List ℕ) → d + suc k ≡ top → ((x : ℕ) → (IsWith k f x → ⊥) → old x ≡ new x)
     → Mended top k f old new words → is_clear old (suc k) (number_at (suc k) f) ≡ false
     → (q : ℕ) → q / 2 ≡ number_at (suc k) f → q < 2 ^ suc d → word_at words (suc d) q ≡ orders new k q
@@ -109,8 +109,8 @@ confined_up top k f old new c = record {
   after = λ i le lt. c.after i (omega arith) lt;
 }
 
--- If the larger block is not free before or after, a step up writes v, the bitwise or of the words of its halves. Here s is the
--- number of the other half.
+-- Let the block of order k + 1 around frame f not be clear, before or after. Then a step up writes v, the bitwise or of the words
+-- of its halves. Here s is the number of the half that does not contain f.
 pub climb_step : (top k f d : ℕ) (old new : ℕ → Bool) (words : List ℕ) → f < 2 ^ top → length words + 1 ≡ 2 ^ (top + 1) → d + suc k ≡ top
     → IsConfined top k f old new → Mended top k f old new words → (n s v : ℕ) → n ≡ 2 ^ d + number_at (suc k) f → s + number_at k f ≡ 4 * number_at (suc k) f + 1
     → v ≡ bit_or (word_at words (suc d) (number_at k f)) (word_at words (suc d) s) → Mended top (suc k) f old new (set words (n - 1) v)
@@ -124,7 +124,7 @@ climb_step top k f d old new words b size t c m n s v node pair e =
     (climbs_split d k p (number_at k f) s n v new words node small (omega arith) refl pair each (c.after k (omega arith) (omega arith))
     (e ∙ ap₂ (λ i j. bit_or i j) (each (number_at k f) refl) (each s (omega arith))))
 
--- a step up through a block that was free: its other half is now a free block alone
+-- if the block of order k + 1 around frame f was clear and is not clear now, a step up makes its half without f one free block
 up_split : (top k f d : ℕ) (old new : ℕ → Bool) (words : List ℕ) → f < 2 ^ top → length words + 1 ≡ 2 ^ (top + 1) → d + suc k ≡ top
     → ((x : ℕ) → (IsWith k f x → ⊥) → old x ≡ new x) → Mended top k f old new words → is_clear old (suc k) (number_at (suc k) f) ≡ true
     → is_clear new (suc k) (number_at (suc k) f) ≡ false → (n r : ℕ) → n ≡ 2 ^ d + number_at (suc k) f → r + number_at k f ≡ 4 * number_at (suc k) f + 1
@@ -154,7 +154,7 @@ up_split top k f d old new words b size s agree m free off n r node pair i v pla
           ∙ word_at-set_other words i (2 ^ k) e2 q (λ x. far_half d p r (i + 1) e2 q place (omega arith) small h a1 x);
     })
 
--- each block around the frame up to the free block of order `from` is clear, and no larger one is
+-- each block around frame f with an order up to `from` is clear, and no larger block is
 free_up : (ok : ℕ → Bool) (top from k f : ℕ) → IsOpen ok top from (number_at from f) → k < from → is_clear ok (suc k) (number_at (suc k) f) ≡ true
 free_up ok top from k f (small, clear, around) h =
     let n = from - suc k in
@@ -181,7 +181,7 @@ reserve_split top order from k f d large small words b size s le less free lt m 
     (agree_above large small order (k - order) k f (omega arith) (λ x off. sym (less.kept x off))) m (free_up large top from k f free lt)
     (frame_not_clear small (suc k) f (less.gone f refl))
 
--- a reserve and a release change only their block, and no larger block around it is clear before or after
+-- a reserve or a release changes only frames of one block, and no larger block around it is clear before or after
 pub reserve_confined : (top order from f : ℕ) (large small : ℕ → Bool) → order ≤ from → IsLess small large order f → IsOpen large top from (number_at from f)
     → IsConfined top from f large small
 reserve_confined top order from f large small le less free = record {
@@ -206,7 +206,8 @@ changed_clear top k f d small large words b size s n node m =
     orders_whole large k (number_at k f) (sym (word_changed top k f d small large _ b s m)
     ∙ word_at-set_same words (n - 1) (2 ^ k) d (number_at k f) (omega (arith, pow_pos d)) (omega (arith, pow_pos d)))
 
--- one step up from node m of the block of order k, which is made available; r is the number of its other half, whose word is at i
+-- One step up from node m, whose block of order k is made available. Its buddy has the number r, and the buddy's word is at index
+-- i.
 module _ (top order k f d : ℕ) (small large : ℕ → Bool) (words : List ℕ) (b : f < 2 ^ top) (size : length words + 1 ≡ 2 ^ (top + 1)) (s : d + suc k ≡ top)
     (le : order ≤ k) (less : IsLess small large order f) (m r : ℕ) (there : m ≡ 2 ^ suc d + number_at k f) (pair : r + number_at k f ≡ 4 * number_at (suc k) f + 1)
     (mended : Mended top k f small large (set words (m - 1) (2 ^ k))) (i : ℕ) (here : i + 1 ≡ 2 ^ suc d + r) where
@@ -216,7 +217,7 @@ module _ (top order k f d : ℕ) (small large : ℕ → Bool) (words : List ℕ)
   agree : (x : ℕ) → (IsWith k f x → ⊥) → small x ≡ large x
   agree = agree_above small large order (k - order) k f (omega arith) less.kept
 
-  -- the stored word of the other half has the orders of that half
+  -- the stored word of the buddy has the orders of the free blocks inside the buddy
   other_word : get_or words i 0 ≡ orders large k r
   other_word =
       let lt = below in
@@ -227,7 +228,7 @@ module _ (top order k f d : ℕ) (small large : ℕ → Bool) (words : List ℕ)
   clear_here : is_clear large k (number_at k f) ≡ true
   clear_here = changed_clear top k f (suc d) small large words b size (omega arith) m there mended
 
-  -- if the buddy is one free block, the two together are one free block, and the words inside it are 0
+  -- if the buddy is one free block, the step makes the block and its buddy one free block, whose halves have the word 0
   pub release_join : (n : ℕ) → get_or words i 0 ≡ 2 ^ k → n ≡ 2 ^ d + number_at (suc k) f
       → Mended top (suc k) f small large (set (set (set words i 0) (m - 1) 0) (n - 1) (2 ^ suc k))
   release_join n free node =
@@ -243,7 +244,7 @@ module _ (top order k f d : ℕ) (small large : ℕ → Bool) (words : List ℕ)
       both (inl low) a c = and_from _ _ (subst (λ j. is_clear large k j ≡ true) low a) (subst (λ j. is_clear large k j ≡ true) (let e : r ≡ 2 * number_at (suc k) f + 1 = omega arith in e) c)
       both (inr high) a c = and_from _ _ (subst (λ j. is_clear large k j ≡ true) (let e : r ≡ 2 * number_at (suc k) f = omega arith in e) c) (subst (λ j. is_clear large k j ≡ true) high a)
 
-  -- if the buddy is not one free block, the block is a free block alone
+  -- if the buddy is not one free block, the block of order k is a free block
   pub release_open : (get_or words i 0 ≡ 2 ^ k → ⊥) → IsOpen large top k (number_at k f)
   release_open ne =
       (omega arith, clear_here, inr (false_from_ne_true _ (λ t. ne (other_word ∙ orders_clear large k r (half_clear large k (number_at (suc k) f) r t (omega arith))))))
@@ -266,7 +267,7 @@ shows_none top = record {
     size : length (bare_tree top).words + 1 ≡ 2 ^ (top + 1)
     size = bare_size top
 
--- with 2 ^ top as the root word they show a superblock in which every frame is available
+-- with 2 ^ top as the root word, the words of a bare tree show a superblock in which every frame is available
 pub shows_all : (top : ℕ) (words : List ℕ) (n : ℕ) → words ≡ (bare_tree top).words → n ≡ 2 ^ top → Shows top (λ _. true) (set words 0 n)
 shows_all top words n bare e =
     let some = pow_pos top in

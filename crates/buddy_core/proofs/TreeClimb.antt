@@ -1,5 +1,5 @@
--- The words while a change is carried up: the part inside one block already shows the new availability, as a tree of
--- its own; all other words are as before.
+-- The words while a change is carried up the tree. The words inside one block are already those of a separate tree of the block,
+-- for the new availability. All other words are as before.
 use Rattle.std.proofs.Common.{◌≡◌, ℕ, zero, suc, ◌+◌, ◌-◌, ◌*◌, ◌/◌, ◌^◌, ◌<◌, ◌≤◌, Bool, true, false, ◌⊎◌, cond, List, length, set, length-set, inl, inr, sym, ap, ap₂, subst, ◌∙◌, arith}
 use Rattle.std.specs.Prelude.{bit_or}
 use Rattle.std.proofs.lemmas.Bool.{cases_eq, cond-true, cond-false}
@@ -12,7 +12,7 @@ use Rattle.buddy_core.proofs.TreeNumbers.{halves, number_above, number_whole}
 use Rattle.buddy_core.proofs.TreeOrders.{orders_clear, orders_halves, orders_same, word_whole, word_inside}
 use Rattle.buddy_core.proofs.TreeNodes.{word_at-set_same, word_at-set_other, far_whole, far_half}
 
--- A frame of a block inside the changed block lies in the changed block. A frame of a block outside it does not.
+-- A frame of a block inside the changed block lies in the changed block. A frame of a block outside the changed block does not.
 pub inside_with : (k f i e q x : ℕ) → i + e ≡ k → number_at e q ≡ number_at k f → number_at i x ≡ q → IsWith k f x
 inside_with k f i e q x s a h = sym (number_above e i k x s) ∙ ap (λ n. number_at e n) h ∙ a
 
@@ -26,7 +26,7 @@ away_around : (k f i e q x : ℕ) → i + suc e ≡ k → (number_at (suc e) q �
 away_around k f i e q x s off h w =
     off (sym (number_above e 1 (suc e) q (omega arith)) ∙ ap (λ n. number_at e n) (sym h) ∙ number_above e (suc i) k x (omega arith) ∙ w)
 
--- a block outside the changed one has the word that it had
+-- a block outside the changed block has the same word for `a` in the whole tree as for `b` in a tree of order k + 1
 only_place : (k f i e q : ℕ) → i + e ≡ k → (number_at e q ≡ number_at k f → ⊥) → (n : ℕ) → i + n ≡ k → number_at n q ≡ number_at k f → ⊥
 only_place k f i e q s off n t r = off (subst (λ j. number_at j q ≡ number_at k f) (let same : n ≡ e = omega arith in same) r)
 
@@ -42,7 +42,7 @@ word_same a b top k f i e q agree small s off =
 word_part : (ok : ℕ → Bool) (k i q : ℕ) → i < k → word ok k i q ≡ word ok (suc k) i q
 word_part ok k i q h = word_inside ok k i q h ∙ sym (word_inside ok (suc k) i q (omega arith))
 
--- `after` has the words after one step up to block p of order k + 1
+-- `before` and `after` are the words before and after one step up to block p of order k + 1
 pub record Climbs (d k p : ℕ) (new : ℕ → Bool) (before after : List ℕ) : Type 0 where
   pub half : (q : ℕ) → q / 2 ≡ p → word_at after (suc d) q ≡ cond (is_clear new (suc k) p) 0 (orders new k q)
   pub whole : word_at after d p ≡ orders new (suc k) p
@@ -97,7 +97,8 @@ shows_mended top f old new words h size m = record {
 either_half : (p r s q : ℕ) → r / 2 ≡ p → s + r ≡ 4 * p + 1 → q / 2 ≡ p → (q ≡ r) ⊎ (q ≡ s)
 either_half p r s q a b e = elim (cases_eq q r) [ inl h ↦ inl h | inr h ↦ inr (omega (arith, h)) ]
 
--- if the halves r and s have the words of separate trees and are not both clear, the step up writes the orders of both
+-- if the halves r and s have the words of separate trees and block p is not clear, a step up writes the bitwise or of the two
+-- words
 pub climbs_split : (d k p r s n v : ℕ) (new : ℕ → Bool) (words : List ℕ) → n ≡ 2 ^ d + p → p < 2 ^ d → n ≤ length words → r / 2 ≡ p → s + r ≡ 4 * p + 1
     → ((q : ℕ) → q / 2 ≡ p → word_at words (suc d) q ≡ orders new k q) → is_clear new (suc k) p ≡ false
     → v ≡ bit_or (orders new k r) (orders new k s) → Climbs d k p new words (set words (n - 1) v)
@@ -113,7 +114,7 @@ climbs_split d k p r s n v new words node small stored a b each off e =
     both (inl low) = ap₂ (λ i j. bit_or (orders new k i) (orders new k j)) low (let high : s ≡ 2 * p + 1 = omega arith in high)
     both (inr high) = or_comm (orders new k r) (orders new k s) ∙ ap₂ (λ i j. bit_or (orders new k i) (orders new k j)) (let low : s ≡ 2 * p = omega arith in low) high
 
--- if both halves are free, the step up makes the whole one free block
+-- if block p is clear, a step up writes 0 for both halves and makes p one free block
 pub climbs_join : (d k p r s n i j v : ℕ) (new : ℕ → Bool) (words : List ℕ) → n ≡ 2 ^ d + p → p < 2 ^ d → 2 * n < length words → r / 2 ≡ p → s + r ≡ 4 * p + 1
     → i + 1 ≡ 2 ^ suc d + s → j + 1 ≡ 2 ^ suc d + r → is_clear new (suc k) p ≡ true
     → Climbs d k p new (set words j v) (set (set (set words i 0) j 0) (n - 1) (2 ^ suc k))

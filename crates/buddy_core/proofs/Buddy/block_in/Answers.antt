@@ -12,7 +12,7 @@ use Rattle.buddy_core.proofs.BlocksAround.{begins_around, no_wrap, same_slot}
 use Rattle.buddy_core.proofs.Buddy.block_in.Goals as goal
 use Rattle.buddy_core.proofs.Buddy.block_in.Goals.{After-self, After-order_at}
 
--- what is stored is what contracts see of tenant t, and superblock m is in the slot of the frame
+-- what contracts see of tenant t is what is stored for it, and superblock m is in the slot of the frame
 shown : (c : After-self) → IsShown c.self.inside.order c.self.inside.superblocks.items c.self.inside.tenants.items c.args.t c.args.self.now
 shown c = shown_is c.self.inside.order c.self.inside.superblocks.items c.self.inside.tenants.items c.args.t c.args.self.now c.self.view_is c.requires.tenant
 
@@ -27,7 +27,7 @@ within c = (c.self.invariant.0.each c.args.t (shown c).listed).within _ _ (under
 read : (c : After-self) (z : StoredSuperblock) → z ≡ get_or c.self.inside.superblocks.items c.args.m z → z ≡ superblock_of c.args.m c.self.inside.superblocks.items
 read c z e = get_or_read c.self.inside.superblocks.items c.args.m z (within c) e bare_of
 
--- the entry that is read is that of the tenant's taken blocks
+-- `order_at` returns the tenant's entry at the first frame of the aligned block of order k around `frame`
 entry : (c : After-order_at) → IsShown c.self.inside.order c.self.inside.superblocks.items c.self.inside.tenants.items c.args.t c.args.self.now
     → superblock_at (stored_tenant c.args.t c.self.inside.tenants.items) (c.args.frame / 2 ^ c.self.inside.order) ≡ Some c.args.m
     → c.index-superblock.result.now ≡ superblock_of c.args.m c.self.inside.superblocks.items
@@ -65,7 +65,7 @@ returns-then-eq c =
     let rest = mod_below c.args.frame (2 ^ c.loop-k.k) (pow_pos c.loop-k.k) in
     (ap (taken_of (holding_of c.args.t c.args.self.now)) whole ∙ found, (omega arith, omega arith))
 
--- no taken block of an order up to k begins where the aligned block of that order around the frame begins
+-- for each order j up to k, no taken block of order j begins where the aligned block of order j around the frame begins
 pub loop-k-preserved : goal.loop-k-preserved
 loop-k-preserved c =
     let g = goal.at.loop-k-preserved c in

@@ -13,7 +13,7 @@ use Rattle.buddy_core.proofs.SummaryBounds.{bounded_dropped}
 use Rattle.buddy_core.proofs.Buddy.drop_slot.Goals as goal
 use Rattle.buddy_core.proofs.Buddy.drop_slot.Goals.{After-unwrap-m, After-root, Else-root-order, After-drop_slot}
 
--- what is stored is what contracts see of tenant t, and the superblock that is read is the one in the slot
+-- what contracts see of tenant t is what is stored for it, and m is the superblock in the slot
 shown : (c : After-unwrap-m) → IsShown c.self.inside.order c.self.inside.superblocks.items c.self.inside.tenants.items c.args.t c.args.self.now
 shown c = shown_is c.self.inside.order c.self.inside.superblocks.items c.self.inside.tenants.items c.args.t c.args.self.now c.self.view_is c.requires.tenant
 
@@ -22,7 +22,7 @@ under c =
     ap (superblock_at (stored_tenant c.args.t c.self.inside.tenants.items)) (sym c.from.ensures)
     ∙ slot_read c.self.inside.tenants.items c.args.t c.index.result.now (shown c).listed c.index.ensures c.from.result (Some c.unwrap-m.result) (sym c.unwrap-m.ensures ∙ c.superblock_at.ensures)
 
--- the word that is read is the root word of that superblock
+-- the word that `root` returns is the root word of superblock m
 first_word : (c : After-root) → c.unwrap-m.result < length c.self.inside.superblocks.items → c.root.result ≡ slice_index (superblock_of c.unwrap-m.result c.self.inside.superblocks.items).tree.words 0
 first_word c lt =
     c.root.ensures ∙ ap (λ (t : StoredTree). slice_index t.words 0) c.tree.ensures ∙ ap (λ (z : StoredSuperblock). slice_index z.tree.words 0) (get_or_read c.self.inside.superblocks.items c.unwrap-m.result c.index-2.result.now lt c.index-2.ensures bare_of)
@@ -44,7 +44,7 @@ returns-then-root-order-clause-busy c =
       refl,
     )
 
--- if the root word is that of one free block, no frame of the slot is taken
+-- if the root word is 2 ^ order, no frame of the slot is taken
 none_taken : (c : Else-root-order) → c.args.t < length c.self.inside.tenants.items → superblock_at (stored_tenant c.args.t c.self.inside.tenants.items) c.args.slot ≡ Some c.unwrap-m.result
     → c.root.result ≡ slice_index (superblock_of c.unwrap-m.result c.self.inside.superblocks.items).tree.words 0
     → HasTaken (taken_by c.self.inside.order c.self.inside.superblocks.items (stored_tenant c.args.t c.self.inside.tenants.items)) (slot_block c.self.inside.order c.args.slot) → ⊥
@@ -74,7 +74,7 @@ drop_slot-requires-clause-some c =
     subst (λ (r : StoredTenant). 0 < slice_index r.free a.order) (sym tenant)
     (some_free a.order a.superblocks.items a.tenants.items c.self.invariant.0 c.args.t s.listed c.args.slot c.unwrap-m.result at none)
 
--- what is written: a blank superblock, and the tenant without the slot
+-- the code writes a blank superblock, and tenant t without the slot
 blank : (c : After-drop_slot) → c.unwrap-m.result < length c.self.inside.superblocks.items → c.clear.new.self ≡ bare_superblock c.self.inside.order
 blank c lt =
     let a = c.self.inside in

@@ -5,7 +5,7 @@ use Rattle.buddy_core.specs.Stored.{StoredSuperblock, StoredTenant, superblock_o
 use Rattle.buddy_core.proofs.ContentShown.{shown_is, slot_read, size_is, bare_of}
 use Rattle.buddy_core.proofs.Buddy.live_order.Goals as goal
 
--- the taken block that begins at a frame is the one that the superblock in the frame's slot has there
+-- the entry of the taken blocks at frame f is stored in the superblock of the frame's slot, at the frame's offset in the slot
 by_slot : (top : ℕ) (superblocks : List StoredSuperblock) (tenant : StoredTenant) (f : ℕ) (o : Option ℕ) → superblock_at tenant (f / 2 ^ top) ≡ o → taken_by top superblocks tenant f ≡ order_under superblocks o (f % 2 ^ top)
 by_slot top superblocks tenant f o e = ap (λ o. order_under superblocks o (f % 2 ^ top)) e
 

@@ -16,8 +16,8 @@ use Rattle.buddy_core.proofs.SummaryBounds.{bounded_noted}
 use Rattle.buddy_core.proofs.Buddy.release_in.Goals as goal
 use Rattle.buddy_core.proofs.Buddy.release_in.Goals.{After-self, In_ok-k, After-release_at-joined, After-index_mut-2, After-count_released}
 
--- What is stored is what contracts see of tenant t. Superblock m is in the slot of the frame, and has the order of the taken
--- block that begins there.
+-- What contracts see of tenant t is what is stored for it. Superblock m is in the slot of the frame, and stores the order of the
+-- taken block that begins at the frame.
 shown : (c : After-self) → IsShown c.self.inside.order c.self.inside.superblocks.items c.self.inside.tenants.items c.args.t c.args.self.now
 shown c = shown_is c.self.inside.order c.self.inside.superblocks.items c.self.inside.tenants.items c.args.t c.args.self.now c.self.view_is c.requires.tenant
 
@@ -64,7 +64,7 @@ returns-in_err-k-clause-answer c =
 pub returns-clause-answer : goal.returns-clause-answer
 returns-clause-answer c = c.in_ok-k.ensures ∙ begins (goal.at.returns-clause-answer c).After-self c.index.result.now c.index.ensures
 
--- the block that is released is a taken block of order k at this frame
+-- a taken block of order k begins at the frame
 block_at : (c : In_ok-k) → IsShown c.self.inside.order c.self.inside.superblocks.items c.self.inside.tenants.items c.args.t c.args.self.now
     → superblock_at (stored_tenant c.args.t c.self.inside.tenants.items) (c.args.frame / 2 ^ c.self.inside.order) ≡ Some c.args.m
     → Some c.in_ok-k.k ≡ taken_of (holding_of c.args.t c.args.self.now) c.args.frame
@@ -87,7 +87,7 @@ release_at-joined-requires-clause-first c =
     let at = block_at g.In_ok-k (shown g.After-self) (under g.After-self) (c.in_ok-k.ensures ∙ begins g.After-self c.index.result.now c.index.ensures) in
     subst (λ n. c.args.frame % (1 * 2 ^ c.self.inside.order % 4294967296) < 2 ^ n) (sym (superblock_read g.After-self c.index_mut.result.now c.index_mut.ensures.value).1) at.inside
 
--- the order that is returned is that of the joined block
+-- `release_at` returns the order of the joined block
 joined : (c : After-release_at-joined)
     → (at : IsAt c.self.inside.order c.self.inside.superblocks.items c.self.inside.tenants.items c.args.t c.args.frame c.in_ok-k.k c.args.m (c.args.frame % (1 * 2 ^ c.self.inside.order % 4294967296)))
     → c.release_at-joined.result ≡ joined_order c.self.invariant.0 at
@@ -96,7 +96,7 @@ joined c at =
     (get_or_read c.self.inside.superblocks.items c.args.m c.index_mut.result.now (superblock_lt c.self.invariant.0 at) c.index_mut.ensures.value bare_of)
     c.release_at-joined.ensures.joined
 
--- the tenant that is read is tenant t as it was before the call
+-- the tenant that is read for the counts is tenant t as it was before the call
 tenant_read : (c : After-index_mut-2) → c.args.t < length c.self.inside.tenants.items → c.index_mut-2.result.now ≡ stored_tenant c.args.t c.self.inside.tenants.items
 tenant_read c lt = get_or_read c.self.inside.tenants.items c.args.t c.index_mut-2.result.now lt c.index_mut-2.ensures.value blank_of
 
@@ -137,7 +137,7 @@ count_released-requires-clause-room c =
     let at = block_at g.In_ok-k (shown g.After-self) (under g.After-self) (c.in_ok-k.ensures ∙ begins g.After-self c.index.result.now c.index.ensures) in
     subst CanCountMore (sym (tenant_read g.After-index_mut-2 at.listed)) (room a.order a.superblocks.items a.tenants.items c.self.invariant.0 c.args.t at.listed)
 
--- what is written is the release of that block
+-- superblock m and tenant t are written as they are after the release of the block
 release : (c : After-count_released)
     → (at : IsAt c.self.inside.order c.self.inside.superblocks.items c.self.inside.tenants.items c.args.t c.args.frame c.in_ok-k.k c.args.m (c.args.frame % (1 * 2 ^ c.self.inside.order % 4294967296)))
     → c.release_at-joined.result ≡ joined_order c.self.invariant.0 at → c.index_mut-2.result.now ≡ stored_tenant c.args.t c.self.inside.tenants.items

@@ -19,7 +19,7 @@ use Rattle.buddy_core.proofs.SummaryBounds.{bounded_by, bounded_noted}
 use Rattle.buddy_core.proofs.Buddy.reserve_block.Goals as goal
 use Rattle.buddy_core.proofs.Buddy.reserve_block.Goals.{After-find, After-index, After-index_mut-superblock, After-search-first, After-index_mut, After-count_reserved}
 
--- what is stored is what contracts see of tenant t, and the tenant that is read is t
+-- what contracts see of tenant t is what is stored for it, and the tenant that is read is tenant t
 shown : (c : After-index) → IsShown c.self.inside.order c.self.inside.superblocks.items c.self.inside.tenants.items c.args.t c.args.self.now
 shown c = shown_is c.self.inside.order c.self.inside.superblocks.items c.self.inside.tenants.items c.args.t c.args.self.now c.self.view_is c.requires.tenant
 
@@ -59,14 +59,14 @@ returns-in_err-source-clause-refused c =
     if_none None P p = p
     if_none (Some x) P p = tt
 
--- what `find` returned is a source in the stored superblocks
+-- `find` returned a source in the stored superblocks and in the slots of tenant t
 source : (c : After-index_mut-superblock) → c.index.result.now ≡ stored_tenant c.args.t c.self.inside.tenants.items
     → IsSource c.self.inside.superblocks.items (stored_tenant c.args.t c.self.inside.tenants.items).slots c.args.k c.in_ok-source.source
 source c tenant =
     source_at c.deref.result.now c.self.inside.superblocks.items c.index.result.now.slots (stored_tenant c.args.t c.self.inside.tenants.items).slots c.args.k c.in_ok-source.source
     c.deref.ensures.value (ap (λ (r : StoredTenant). r.slots) tenant) c.in_ok-source.ensures.found
 
--- the superblock that is read is that of the source, and its tree has the order of a superblock
+-- the superblock that is read is the superblock of the source, and its tree has the order of the machine's superblocks
 superblock_read : (c : After-index_mut-superblock) → (source : IsSource c.self.inside.superblocks.items (stored_tenant c.args.t c.self.inside.tenants.items).slots c.args.k c.in_ok-source.source)
     → c.args.t < length c.self.inside.tenants.items → c.index_mut-superblock.result.now ≡ superblock_of c.in_ok-source.source.superblock c.self.inside.superblocks.items
 superblock_read c source listed =
@@ -102,7 +102,7 @@ reserve_at-requires-clause-from c =
 pub reserve_at-requires-clause-first : goal.reserve_at-requires-clause-first
 reserve_at-requires-clause-first c = subst (λ (t : StoredTree). c.search-first.result < 2 ^ t.order) c.tree.ensures c.search-first.ensures.within
 
--- what `search` returned is the first free block of the order
+-- `search` returned the first frame of the first free block of the source's order
 found : (c : After-search-first) → c.args.t < length c.self.inside.tenants.items
     → IsSource c.self.inside.superblocks.items (stored_tenant c.args.t c.self.inside.tenants.items).slots c.args.k c.in_ok-source.source
     → IsFound c.self.inside.order c.self.inside.superblocks.items c.self.inside.tenants.items c.args.t c.args.k c.in_ok-source.source c.search-first.result
@@ -139,7 +139,7 @@ count_reserved-requires-clause-room c =
     let listed = (shown g.After-index).listed in
     subst CanCountMore (sym (tenant_before g.After-index_mut listed)) (room a.order a.superblocks.items a.tenants.items c.self.invariant.0 c.args.t listed)
 
--- what is written is the reservation of that block
+-- the source's superblock and tenant t are written as they are after the reservation of the block
 reservation : (c : After-count_reserved)
     → (found : IsFound c.self.inside.order c.self.inside.superblocks.items c.self.inside.tenants.items c.args.t c.args.k c.in_ok-source.source c.search-first.result)
     → c.index_mut.result.now ≡ stored_tenant c.args.t c.self.inside.tenants.items

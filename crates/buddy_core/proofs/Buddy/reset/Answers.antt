@@ -50,7 +50,7 @@ loop-slot-preserved c =
           )
     ]
 
--- the code leaves a tenant that holds nothing
+-- if the slots and counts of tenant t are cleared, the tenant holds nothing
 tenant_cleared : (top n : ℕ) (now tenants : List StoredTenant) (t : ℕ) (old new : StoredTenant) → now ≡ tenants → t < length tenants → old ≡ get_or now t old → HasTenantSizes top n (stored_tenant t tenants)
     → new.slots ≡ replicate (length old.slots) None → new.free ≡ replicate (length old.free) 0 → new.taken ≡ replicate (length old.taken) 0 → new ≡ bare_tenant top n
 tenant_cleared top n now tenants t old new same lt read sizes slots free taken =
