@@ -1,4 +1,4 @@
--- A slot without a taken frame loses its superblock.
+-- After a slot without a taken frame loses its superblock, its tenant's invariants hold, and contracts see the slot as empty.
 use Rattle.std.proofs.Common.{◌≡◌, ◌⊎◌, inl, inr, refl, sym, ◌∙◌, ap, subst, ℕ, ◌+◌, ◌-◌, ◌*◌, ◌/◌, ◌%◌, ◌^◌, ◌<◌, ◌≤◌, Bool, true, false, Option, Some, None, List, length, get_or, set, arith, length-set}
 use Rattle.std.specs.Prelude.{slice_index, is_some}
 use Rattle.std.proofs.lemmas.List.{get_or-set_same, get_or-set_other}

@@ -1,4 +1,5 @@
--- A slot gets a superblock that was in no slot: the two superblocks are stored in each other's place.
+-- After a slot moves to a superblock that was in no slot, all invariants hold. What is stored for the old and the new superblock
+-- is swapped.
 use Rattle.std.proofs.Common.{◌≡◌, ◌⊎◌, inl, inr, refl, sym, ◌∙◌, ap, ap₂, subst, ℕ, ◌*◌, ◌^◌, ◌<◌, ◌≤◌, Some, List, length, get_or, set, map, length-set}
 use Rattle.std.specs.Int.{bit_at}
 use Rattle.std.specs.Prelude.{is_some}

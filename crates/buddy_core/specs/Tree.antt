@@ -4,7 +4,7 @@
 use Rattle.std.specs.Prelude.{◌≡◌, ℕ, zero, suc, ◌+◌, ◌-◌, ◌*◌, ◌/◌, ◌^◌, ◌<◌, ◌≤◌, nat_lt, Bool, true, false, ◌&&◌, cond, List, length, slice_index, bit_or}
 use Rattle.model_core.specs.Numbered.{number_at, is_clear, IsOpen}
 
--- bit j is 1 if and only if block q of order k, taken as a whole superblock, has a free block of order j
+-- bit j is 1 if and only if block q of order k, seen as a superblock of its own, contains a free block of order j
 abbrev pub orders : (ℕ → Bool) → ℕ → ℕ → ℕ
 orders ok zero q = cond (ok q) 1 0
 orders ok (suc k) q =

@@ -8,8 +8,8 @@ use Rattle.std.specs.Global.{Vec}
 use Rattle.space_core.specs.Content.{Content, IsSpace, owner_at}
 use Rattle.space_core.specs.Windows.{put_within}
 
--- if x satisfies P when k is i, and the old entry k satisfies P when k is not i, entry k satisfies P after x is written at index
--- i
+-- Let x be written at index i of a list. If k is i and x satisfies P, or k is not i and the old entry k satisfies P, then the new
+-- entry k satisfies P.
 pub after-set : {A : Type 0} (P : A → Type 0) (xs : List A) (i : ℕ) (x : A) (k : ℕ) (d : A) → i < length xs → (k ≡ i → P x) → (k ≢ i → P (get_or xs k d)) → P (get_or (set xs i x) k d)
 after-set P xs i x k d within here other =
     elim (cases_eq k i) [

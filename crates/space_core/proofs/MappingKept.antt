@@ -68,8 +68,8 @@ same_owner first second = λ i. owned_by (first i) (second i)
 pub count_by-set : {A : Type 0} (p : A → Bool) (xs : List A) (i : ℕ) (x d : A) → i < length xs → count_by p (set xs i x) + cond (p (get_or xs i d)) 1 0 ≡ count_by p xs + cond (p x) 1 0
 count_by-set p xs i x d lt = sum_by-set (λ y. cond (p y) 1 0) xs i x d lt
 
--- Slot u of tenant t gets entry x, and superblock m gets owner o. If, before and after, t holds the slot exactly when it owns m,
--- and no other tenant owns m, then each tenant still holds as many slots as it owns superblocks.
+-- Slot u of tenant t gets entry x, and superblock m gets owner o. Suppose that, before and after, t holds the slot exactly when
+-- it owns m, and no other tenant owns m. Then each tenant still holds as many slots as it owns superblocks.
 pub counted-set : {s : Content} → IsSpace s → (t u m : ℕ) (x : Option ℕ) (o : Option Owner) → t < length s.slots → u < length s.owners → m < length s.owners
     → is_some (superblock_at s.slots t u) ≡ is_of t (owner_at s.owners m) → is_some x ≡ is_of t o
     → ((k : ℕ) → k ≢ t → is_of k (owner_at s.owners m) ≡ false) → ((k : ℕ) → k ≢ t → is_of k o ≡ false)

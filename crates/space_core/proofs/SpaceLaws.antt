@@ -1,4 +1,4 @@
--- The laws follow from what is true of every space. This stays true when a range of a slot is written.
+-- The laws follow from `IsSpace`, which stays true when a range of a slot is written.
 use Rattle.std.proofs.Common.{◌≡◌, ℕ, ◌/◌, ◌%◌, Option, Some, None, List, length, ◌∙◌, refl, arith}
 use Rattle.std.specs.Prelude.{IsSome}
 use Rattle.space_core.specs.Content.{Content, IsSpace, bank}

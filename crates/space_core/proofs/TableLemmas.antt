@@ -11,11 +11,11 @@ use Rattle.space_core.specs.Tables.{stored_bytes}
 abbrev pub lists_of : {X : Type 0} → List (Vec X) → List (List X)
 lists_of rows = map (λ row. row.items) rows
 
--- the vector that is read at index i has the items of row i of the lists
+-- the vector that is read at index i has the items of row i of `lists_of rows`
 pub get_or-lists_of : {X : Type 0} (rows : List (Vec X)) (i : ℕ) (read : Vec X) → i < length rows → read ≡ get_or rows i read → get_or (lists_of rows) i [] ≡ read.items
 get_or-lists_of {X} rows i read lt is = get_or-map (λ (row : Vec X). row.items) rows i read [] lt ∙ ap (λ (row : Vec X). row.items) (sym is)
 
--- if a row of the vectors is replaced, the same row of the lists is replaced by the items of the new row
+-- if a row of the vectors is replaced, the items of the new row replace the same row of `lists_of rows`
 pub lists_of-set : {X : Type 0} (rows : List (Vec X)) (i : ℕ) (row : Vec X) → lists_of (set rows i row) ≡ set (lists_of rows) i row.items
 lists_of-set {X} rows i row = map-set (λ (r : Vec X). r.items) rows i row
 
@@ -35,7 +35,7 @@ front_written xs front back i x whole lt = sym (set-append_left front back i x l
 pub back_written : {A : Type 0} (xs front back : List A) (i : ℕ) (x : A) → xs ≡ front ++ back → length front ≡ i → front ++ set back 0 x ≡ set xs i x
 back_written xs front back i x whole size = ap (λ n. front ++ set back n x) (omega arith) ∙ (sym (set-append_right front back i i x size (omega arith)) ∙ ap (λ ys. set ys i x) (sym whole))
 
--- if row `to` of the vectors gets the items of row `from`, row `to` of the stored bytes becomes row `from`
+-- if row `to` of the vectors gets the items of row `from`, the stored bytes of superblock `to` become those of superblock `from`
 pub bytes_of-copied : (v : Vec (Vec ℕ)) (all : List (Vec ℕ)) (from to : ℕ) (source row : Vec ℕ) → all ≡ set v.items to row → from < length v.items → source ≡ get_or v.items from source → row.items ≡ source.items → stored_bytes (with_items v all) ≡ set (stored_bytes v) to (get_or (stored_bytes v) from [])
 bytes_of-copied v all from to source row written within read same =
     ap lists_of (with_items_is v all (ap length written ∙ omega (arith, length-set v.items to row, v.ok.0)) ∙ written)

@@ -1,4 +1,4 @@
--- The laws of a space: what each call does to its tenant's slots and bytes, and that it changes no other tenant's.
+-- The laws of a space: what a call for one tenant does to the slots and bytes of this tenant and of all others.
 use Rattle.std.specs.Prelude.{◌≡◌, ◌≢◌, ℕ, ◌+◌, ◌-◌, ◌/◌, ◌<◌, ◌==◌, ◌&&◌, nat_lt, nat_le, if◌then◌else◌, List, Some, None, IsSome, length, slice_index}
 use Rattle.model_core.specs.Owners.{owned_by}
 use Rattle.space_core.specs.Content.{Content, IsSpace, bank, superblock_at, owner_at}
@@ -23,8 +23,8 @@ pub record ReadsSame (t : ℕ) (s s' : Content) : Type 0 where
   pub bytes : (place : ℕ) → byte_at s' t place ≡ byte_at s t place
   pub windows : (place len : ℕ) → window_of s' t place len ≡ window_of s t place len
 
--- A write, a grant, a take-back or a move for tenant t changes no slot and no byte of another tenant. The superblock that is
--- granted, or to which a slot moves, has to be without an owner.
+-- A write, a grant, a take-back or a move for tenant t changes no slot and no byte of another tenant. A superblock that is
+-- granted, or to which a slot moves, must have no owner before the call.
 pub record OthersStay (s : Content) : Type 0 where
   pub window : (t place len : ℕ) (w : List ℕ) (other : ℕ) → other ≢ t → IsSameFor other s (with_window s t place len w)
   pub byte : (t place b other : ℕ) → other ≢ t → IsSameFor other s (with_byte s t place b)

@@ -5,12 +5,11 @@ use Rattle.space_core.specs.Content.{Content, bank}
 use Rattle.space_core.specs.Windows.{with_window, put_within}
 use Rattle.space_core.specs.contracts.Space.{the_row}
 
--- when the borrow r ends, the `len` bytes of tenant t from `place` on are the last value written through r, and all else is as in
--- s
+-- When the borrow r ends, the `len` bytes of tenant t from `place` on are the last value written through r. All else is as in s.
 abbrev pub LendsWindow : MutBor Content → ℕ → ℕ → ℕ → MutBor (List ℕ) → Fml
 LendsWindow s t place len r = Lends the_row (Array u8 0) s r (with_window s.now t place len)
 
--- when the borrow r ends, superblock m has the last value written through r from offset i on, and all else is as in s
+-- When the borrow r ends, superblock m has the last value written through r from offset i on. All else is as in s.
 abbrev pub LendsPart : MutBor Content → ℕ → ℕ → MutBor (List ℕ) → Fml
 LendsPart s m i r = Lends the_row (Array u8 0) s r
     (λ w. record s.now { banks = slice_set s.now.banks m (put_within (bank s.now.banks m) i w) })

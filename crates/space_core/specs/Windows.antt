@@ -30,7 +30,7 @@ abbrev pub banks_with : List (List ℕ) → ℕ → List ℕ → Option ℕ → 
 banks_with banks from w None = banks
 banks_with banks from w (Some m) = slice_set banks m (put_within (bank banks m) from w)
 
--- s with w written from `place` of tenant t on; if the range of `len` bytes there has no home, s itself
+-- s with w written from `place` of tenant t on; s itself if the range has no home (`home_of`)
 abbrev pub with_window : Content → ℕ → ℕ → ℕ → List ℕ → Content
 with_window s t place len w = record s { banks = banks_with s.banks (place % s.unit) w (home_of s t place len) }
 
@@ -46,6 +46,6 @@ abbrev pub banks_with_byte : List (List ℕ) → ℕ → ℕ → Option ℕ → 
 banks_with_byte banks i b None = banks
 banks_with_byte banks i b (Some m) = slice_set banks m (slice_set (bank banks m) i b)
 
--- s with byte b at a place of tenant t; if t does not hold the slot of the place, s itself
+-- s with byte b at a place of tenant t; s itself if t does not hold the slot of the place
 abbrev pub with_byte : Content → ℕ → ℕ → ℕ → Content
 with_byte s t place b = record s { banks = banks_with_byte s.banks (place % s.unit) b (superblock_at s.slots t (place / s.unit)) }

@@ -162,8 +162,8 @@ impl Space {
         Some(m as u16)
     }
 
-    /// Returns the least slot that tenant `t` does not hold. Some superblock must have no owner, so that the tenant has an empty
-    /// slot.
+    /// Returns the least slot that tenant `t` does not hold. Some superblock must have no owner, which ensures that the tenant
+    /// has an empty slot.
     fn least_slot(&self, t: u8) -> u16
         requires tenant { t < length self.now.slots }
         requires pool { IsSome (position is_none self.now.owners) }

@@ -32,8 +32,7 @@ found c =
     let items = ap (λ (bs : List (List ℕ)). get_or bs c.args.m []) (sym stored.whole) ∙ shown-read s.unit banks c.args.m read listed c.index_mut-bank.ensures.value stored.full in
     record { whole = stored.whole; listed = listed; items = items; size = read.ok.0 ∙ length-shown_read facts banks (sym stored.whole) c.args.m read owned items }
 
--- after w is written into the vector of superblock m from i on, the vectors show m with w there, and all other superblocks as
--- before
+-- if w is written into the vector of superblock m from i on, the vectors show w there, and all other bytes as before
 shown-written : {s : Content} {banks : List (Vec ℕ)} {m : ℕ} {read : Vec ℕ} → IsSpace s → IsRead s banks m read → (i : ℕ) (w : List ℕ) → i ≤ s.unit
     → shown_banks s.unit (lists_of (set banks m (with_items_from read i w))) ≡ set s.banks m (put_within read.items i w)
 shown-written {s} {banks} {m} {read} facts r i w within =
