@@ -45,7 +45,7 @@ module _ (top : ℕ) (more fewer : ℕ → Bool) (taken : Taken) (u : ℕ) (one 
     outside = λ x ne. available_elsewhere x (λ e. ne (number_is top x ∙ e ∙ sym (number_first u top)));
   }
 
--- `tenant` and `tenant'` differ only in slot u. One of them may have superblock m in it, and m is in no other slot.
+-- `tenant` and `tenant'` differ only in slot u, and no other slot of theirs has superblock m
 pub record IsSlotStep (top : ℕ) (superblocks : List StoredSuperblock) (tenant : StoredTenant) (m u : ℕ) (s : StoredSuperblock) (tenant' : StoredTenant) : Type 0 where
   pub inside : u < length tenant.slots
   pub size : length tenant'.slots ≡ length tenant.slots

@@ -60,7 +60,8 @@ module _ (top : ℕ) (superblocks : List StoredSuperblock) (tenants : List Store
     pub room : CanCountMore (stored_tenant t tenants)
     room i = (free_room i, taken_room i)
 
--- if o replaces entry f of the table of taken blocks, the count for order i no longer has the old entry, and has the new one
+-- if o replaces entry f of the table of taken blocks, the count for order i falls by 1 if the entry was i, and rises by 1 if o is
+-- i
 pub count_set : (xs : List (Option ℕ)) (f i : ℕ) (o : Option ℕ) → f < length xs → count_by (has_order i) (set xs f o) + bit (has_order i (get_or xs f None)) ≡ count_by (has_order i) xs + bit (has_order i o)
 count_set xs f i o lt = sum_by-set (λ x. cond (has_order i x) 1 0) xs f o None lt
 
@@ -70,8 +71,7 @@ order_here k i e = ap bit (eq-eqb k i (sym e))
 pub order_other : (k i : ℕ) → (i ≡ k → ⊥) → bit (has_order i (Some k)) ≡ 0
 order_other k i ne = ap bit (ne_eqb k i (λ e. ne (sym e)))
 
--- when a block of order k is taken, the tenant's count of taken blocks of order k rises by 1, and no other count of taken blocks
--- changes
+-- when a block of order k is taken, the count of taken blocks rises by 1 for order k and stays the same for every other order
 pub taken_bit : (k j : ℕ) (whole part : StoredTenant) → IsTakenOut k j whole part → (i : ℕ) → slice_index part.taken i ≡ slice_index whole.taken i + bit (has_order i (Some k))
 taken_bit k j whole part out i = go (cases_eq i k)
   where

@@ -30,7 +30,7 @@ word_free : (ok : ℕ → Bool) (top k f i e q : ℕ) → ((x : ℕ) → IsWith 
 word_free ok top k f i e q all small s a =
     word_inside ok top i q small ∙ cond-true _ 0 (orders ok i q) (clear_from ok (suc i) (q / 2) (λ x h. all x (around_with k f i e q x s a h)))
 
--- after the first write, of the changed block's word, all words inside this block are those of a separate tree of it under `new`
+-- after the word of the changed block is written, all words inside this block are the words of a separate tree of it under `new`
 start_within : (top k d f v : ℕ) (old new : ℕ → Bool) (words : List ℕ) → d + k ≡ top → f < 2 ^ top → Shows top old words
     → v ≡ orders new k (number_at k f)
     → ((i e q : ℕ) → i + suc e ≡ k → number_at (suc e) q ≡ number_at k f → word old top i q ≡ word new k i q)
@@ -82,7 +82,7 @@ start_release top k d f small large words s b shows less =
 agree_above : (a b : ℕ → Bool) (k n m f : ℕ) → k + n ≡ m → ((x : ℕ) → (IsWith k f x → ⊥) → a x ≡ b x) → (x : ℕ) → (IsWith m f x → ⊥) → a x ≡ b x
 agree_above a b k n m f s same x off = same x (λ w. off (sym (number_above n k m x s) ∙ ap (λ i. number_at n i) w ∙ number_above n k m f s))
 
--- if the block around the changed block was not clear, each of its halves has its word of a separate tree under `new`
+-- if the block around the changed block was not clear, the word of each of its halves is the word of a separate tree under `new`
 halves_stand : (top k f d : ℕ) (old new : ℕ → Bool) (words : List ℕ) → d + suc k ≡ top → ((x : ℕ) → (IsWith k f x → ⊥) → old x ≡ new x)
     → Mended top k f old new words → is_clear old (suc k) (number_at (suc k) f) ≡ false
     → (q : ℕ) → q / 2 ≡ number_at (suc k) f → q < 2 ^ suc d → word_at words (suc d) q ≡ orders new k q
@@ -154,7 +154,7 @@ up_split top k f d old new words b size s agree m free off n r node pair i v pla
           ∙ word_at-set_other words i (2 ^ k) e2 q (λ x. far_half d p r (i + 1) e2 q place (omega arith) small h a1 x);
     })
 
--- each block around frame f with an order up to `from` is clear, and no larger block is
+-- if the block of order `from` around frame f is free, every block around f up to this order is clear, and no larger block is
 free_up : (ok : ℕ → Bool) (top from k f : ℕ) → IsOpen ok top from (number_at from f) → k < from → is_clear ok (suc k) (number_at (suc k) f) ≡ true
 free_up ok top from k f (small, clear, around) h =
     let n = from - suc k in
@@ -206,8 +206,7 @@ changed_clear top k f d small large words b size s n node m =
     orders_whole large k (number_at k f) (sym (word_changed top k f d small large _ b s m)
     ∙ word_at-set_same words (n - 1) (2 ^ k) d (number_at k f) (omega (arith, pow_pos d)) (omega (arith, pow_pos d)))
 
--- One step up from node m, whose block of order k is made available. Its buddy has the number r, and the buddy's word is at index
--- i.
+-- One step up from node m, whose block of order k is made available. The buddy has number r, and its word is at index i.
 module _ (top order k f d : ℕ) (small large : ℕ → Bool) (words : List ℕ) (b : f < 2 ^ top) (size : length words + 1 ≡ 2 ^ (top + 1)) (s : d + suc k ≡ top)
     (le : order ≤ k) (less : IsLess small large order f) (m r : ℕ) (there : m ≡ 2 ^ suc d + number_at k f) (pair : r + number_at k f ≡ 4 * number_at (suc k) f + 1)
     (mended : Mended top k f small large (set words (m - 1) (2 ^ k))) (i : ℕ) (here : i + 1 ≡ 2 ^ suc d + r) where

@@ -97,8 +97,7 @@ shows_mended top f old new words h size m = record {
 either_half : (p r s q : ℕ) → r / 2 ≡ p → s + r ≡ 4 * p + 1 → q / 2 ≡ p → (q ≡ r) ⊎ (q ≡ s)
 either_half p r s q a b e = elim (cases_eq q r) [ inl h ↦ inl h | inr h ↦ inr (omega (arith, h)) ]
 
--- if the halves r and s have the words of separate trees and block p is not clear, a step up writes the bitwise or of the two
--- words
+-- if halves r and s have the words of separate trees and block p is not clear, a step up writes the bitwise or of these words
 pub climbs_split : (d k p r s n v : ℕ) (new : ℕ → Bool) (words : List ℕ) → n ≡ 2 ^ d + p → p < 2 ^ d → n ≤ length words → r / 2 ≡ p → s + r ≡ 4 * p + 1
     → ((q : ℕ) → q / 2 ≡ p → word_at words (suc d) q ≡ orders new k q) → is_clear new (suc k) p ≡ false
     → v ≡ bit_or (orders new k r) (orders new k s) → Climbs d k p new words (set words (n - 1) v)

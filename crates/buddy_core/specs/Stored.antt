@@ -51,7 +51,7 @@ superblock_at tenant u = slice_index_or tenant.slots u None
 abbrev pub held_by : StoredTenant → ℕ → Bool
 held_by tenant u = is_some (superblock_at tenant u)
 
--- the order of the taken block that begins at frame x of the superblock in a slot
+-- the entry for frame x of the superblock in a slot: the order of the taken block that begins there, or None
 abbrev pub order_under : List StoredSuperblock → Option ℕ → ℕ → Option ℕ
 order_under superblocks None x = None
 order_under superblocks (Some m) x = slice_index_or (superblock_of m superblocks).orders x None

@@ -1,6 +1,6 @@
--- The table of one superblock, as callers see it: a word for each node of a tree. Node 1 is the whole superblock, nodes 2i and 2i
--- + 1 are the halves of node i, and node i is at index i - 1. So if q is below 2 ^ d, node 2 ^ d + q is block q of order top - d
--- of the superblock.
+-- The table of one superblock, as callers see it: a word for each node of a tree. Node 1 is the whole superblock, the halves of
+-- node i are nodes 2i and 2i + 1, and node i is at index i - 1. So if q is below 2 ^ d, node 2 ^ d + q is block q of order top -
+-- d of the superblock.
 use Rattle.std.specs.Prelude.{◌≡◌, ℕ, ◌+◌, ◌-◌, ◌*◌, ◌^◌, ◌<◌, ◌≤◌, ◌↔◌, Some, List, All, length, slice_index}
 use Rattle.std.specs.Int.{bit_at}
 use Rattle.model_core.specs.Blocks.{Block, block, IsFree}

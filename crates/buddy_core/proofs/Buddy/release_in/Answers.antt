@@ -137,7 +137,7 @@ count_released-requires-clause-room c =
     let at = block_at g.In_ok-k (shown g.After-self) (under g.After-self) (c.in_ok-k.ensures ∙ begins g.After-self c.index.result.now c.index.ensures) in
     subst CanCountMore (sym (tenant_read g.After-index_mut-2 at.listed)) (room a.order a.superblocks.items a.tenants.items c.self.invariant.0 c.args.t at.listed)
 
--- superblock m and tenant t are written as they are after the release of the block
+-- what is written for superblock m and for tenant t is their state after the release of the block
 release : (c : After-count_released)
     → (at : IsAt c.self.inside.order c.self.inside.superblocks.items c.self.inside.tenants.items c.args.t c.args.frame c.in_ok-k.k c.args.m (c.args.frame % (1 * 2 ^ c.self.inside.order % 4294967296)))
     → c.release_at-joined.result ≡ joined_order c.self.invariant.0 at → c.index_mut-2.result.now ≡ stored_tenant c.args.t c.self.inside.tenants.items

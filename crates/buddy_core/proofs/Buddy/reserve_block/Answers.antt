@@ -139,7 +139,7 @@ count_reserved-requires-clause-room c =
     let listed = (shown g.After-index).listed in
     subst CanCountMore (sym (tenant_before g.After-index_mut listed)) (room a.order a.superblocks.items a.tenants.items c.self.invariant.0 c.args.t listed)
 
--- the source's superblock and tenant t are written as they are after the reservation of the block
+-- what is written for the source's superblock and for tenant t is their state after the reservation of the block
 reservation : (c : After-count_reserved)
     → (found : IsFound c.self.inside.order c.self.inside.superblocks.items c.self.inside.tenants.items c.args.t c.args.k c.in_ok-source.source c.search-first.result)
     → c.index_mut.result.now ≡ stored_tenant c.args.t c.self.inside.tenants.items
