@@ -1,5 +1,4 @@
--- After a slot moves to a superblock that was in no slot, all invariants hold. What is stored for the old and the new superblock
--- is swapped.
+-- After a slot moves to a superblock that was in no slot, all invariants hold. The two superblocks swap their stored states.
 use Rattle.std.proofs.Common.{◌≡◌, ◌⊎◌, inl, inr, refl, sym, ◌∙◌, ap, ap₂, subst, ℕ, ◌*◌, ◌^◌, ◌<◌, ◌≤◌, Some, List, length, get_or, set, map, length-set}
 use Rattle.std.specs.Int.{bit_at}
 use Rattle.std.specs.Prelude.{is_some}
@@ -89,8 +88,7 @@ module _ (top : ℕ) (superblocks : List StoredSuperblock) (tenants : List Store
   order_now i lt (inr _) (inl e) = ap (λ (z : StoredSuperblock). z.tree.order) (ap (λ n. superblock_of n after) e ∙ swapped.1 bare_of) ∙ kept.order from (mine.within slot from here)
   order_now i lt (inr a) (inr b) = ap (λ (z : StoredSuperblock). z.tree.order) (superblock_other i a b) ∙ kept.order i lt
 
-  -- Every superblock that is in no slot is blank. The old superblock is blank because it now has what was stored for the new
-  -- superblock.
+  -- Every superblock that is in no slot is blank. The old superblock is blank because it now has the new one's old stored state.
   bare_now : (i : ℕ) → i < length superblocks → ((v u : ℕ) → superblock_at (stored_tenant v (set tenants t moved)) u ≡ Some i → ⊥) → (i ≡ from) ⊎ (i ≡ from → ⊥) → superblock_of i after ≡ bare_superblock top
   bare_now i lt none (inl e) = ap (λ n. superblock_of n after) e ∙ swapped.0 bare_of ∙ kept.bare m m_lt unused
   bare_now i lt none (inr ne) =

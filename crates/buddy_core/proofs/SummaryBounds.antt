@@ -23,8 +23,7 @@ module _ {superblocks : List StoredSuperblock} {tenants : List StoredTenant} {su
     each = λ v j u i at bit. let was = before v u i j at bit in bounded.each v j u was.0 was.1 was.2;
   }
 
-  -- if one tenant's words are replaced by words that bound its free blocks, the summaries still bound the free blocks of all
-  -- tenants
+  -- if words that bound the free blocks of one tenant replace its words, the summaries still bound the free blocks of all tenants
   pub bounded_by : (t : ℕ) (words : List ℕ) → t < length tenants → IsBounded superblocks (stored_tenant t tenants).slots words → AreBounded superblocks tenants (set summaries t words)
   bounded_by t words lt told = record { size = length-set summaries t words ∙ bounded.size; each = λ v j u i at bit. each v j u i at bit (cases_eq v t) }
     where

@@ -20,8 +20,7 @@ pub record HasTenantSizes (top superblocks : ℕ) (tenant : StoredTenant) : Type
   pub free : length tenant.free ≡ top + 1
   pub taken : length tenant.taken ≡ top + 1
 
--- The tenant's taken blocks are sound (`IsSound`). Its counts, and the words of its superblocks, agree with its slots and taken
--- blocks.
+-- The tenant's taken blocks are sound (`IsSound`). Its slots and taken blocks agree with its counts and its superblocks' words.
 pub record IsTenantKept (top : ℕ) (superblocks : List StoredSuperblock) (tenant : StoredTenant) : Type 0 where
   pub sizes : HasTenantSizes top (length superblocks) tenant
   pub within : (u m : ℕ) → superblock_at tenant u ≡ Some m → m < length superblocks

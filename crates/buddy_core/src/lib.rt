@@ -204,9 +204,9 @@ impl Buddy {
         self.tenants[t as usize].clear();
     }
 
-    /// Takes a block of order `k` for tenant `t` and returns its first frame. The block is the beginning of a free block of order
-    /// `k` or more: of those with the least order, the one with the least first frame. Returns `None` and changes nothing if no
-    /// block of order `k` or more is free.
+    /// Takes a block of order `k` for tenant `t` and returns its first frame. Of the orders from `k` on, it chooses the least
+    /// that has a free block. The block is the beginning of the first free block of this order. Returns `None` and changes
+    /// nothing if no block of order `k` or more is free.
     ///
     /// A free block that is too large is split, and the upper half of each split stays free.
     pub fn reserve(&mut self, t: u8, k: u8) -> Option<u32>
