@@ -60,7 +60,8 @@ module _ (top : ℕ) (superblocks : List StoredSuperblock) (tenants : List Store
     pub room : CanCountMore (stored_tenant t tenants)
     room i = (free_room i, taken_room i)
 
--- if o replaces entry f of the table of taken blocks, the old entry no longer counts for its order, and o counts for its order
+-- Let o replace entry f of the table of taken blocks. The count for order i falls by 1 if the old entry was i, and rises by 1
+-- if o is i.
 pub count_set : (xs : List (Option ℕ)) (f i : ℕ) (o : Option ℕ) → f < length xs → count_by (has_order i) (set xs f o) + bit (has_order i (get_or xs f None)) ≡ count_by (has_order i) xs + bit (has_order i o)
 count_set xs f i o lt = sum_by-set (λ x. cond (has_order i x) 1 0) xs f o None lt
 
