@@ -23,7 +23,7 @@ stays_inside : (u m f r place j : ℕ) → u * (m * 4096) ≤ place → place - 
     → (u * m ≤ f) × (f < (u + 1) * m)
 stays_inside u m f r place j low inside is few = (omega arith, omega arith)
 
--- if the offset of place + j is below the slot's number of places too, place + j is in the same slot
+-- if the offset of `place` plus j is below the slot's number of places, place + j is in the same slot
 pub inside_behind : (order place u j : ℕ) → slot_of order place ≡ u → place - u * slot_places order + j < slot_places order
     → slot_of order (place + j) ≡ u
 inside_behind order place u j e lt =
