@@ -1,4 +1,4 @@
--- After changes of page blocks, slots and whole caches the machine stays well formed.
+-- A well formed machine stays well formed when page blocks, slots or whole caches change, and when empty slabs are freed.
 use Rattle.std.proofs.Common.{◌≡◌, ◌≢◌, ℕ, ◌+◌, ◌*◌, ◌/◌, ◌^◌, ◌<◌, ◌≤◌, true, false, not, eqb, ltb, List, [], ◌∷◌, ◌++◌, map, Some, refl, sym, ap, ◌∙◌, subst, arith}
 use Rattle.std.specs.Prelude.{filter}
 use Rattle.std.specs.List.{list_any, AllByRecursion as Each}
@@ -34,7 +34,7 @@ empty_kept order = well_formed order empty_machine tt tt tt tt tt (record {
   mapped = λ place. refl;
 })
 
--- Empty slabs are freed
+-- Freeing empty slabs
 
 without_empty_is : (c : Cache) → IsCache c → IsCache (without_empty c)
 without_empty_is c h = record {
@@ -112,7 +112,7 @@ in_slot_overlaps order slot b same = and_from (ltb (slot * 2 ^ order) (b.first +
 not_in_slot : (order slot : ℕ) (b : Block) → overlaps (slot_block order slot) b ≡ false → b.first / 2 ^ order ≢ slot
 not_in_slot order slot b e same = false≢true (sym e ∙ in_slot_overlaps order slot b same)
 
--- no taken block lies in a slot that is not busy
+-- if a slot is not busy, no taken block begins in it
 pub not_busy : (order slot : ℕ) (m : Machine) → is_busy order m slot ≡ false → Each (λ b. b.first / 2 ^ order ≢ slot) (m.blocks ++ map laid_block (all_laid m.caches))
 unfolding is_busy
 not_busy order slot m e = subst (Each (λ b. b.first / 2 ^ order ≢ slot)) (taken_laid m)
@@ -129,7 +129,7 @@ slot_gone_kept order slot m w e =
     (slot_gone order m.slots slot m.blocks (all_laid m.caches) m.bytes (each_left (λ b. b.first / 2 ^ order ≢ slot) m.blocks slabs apart)
     (each_unmap (λ b. b.first / 2 ^ order ≢ slot) laid_block (all_laid m.caches) (each_right (λ b. b.first / 2 ^ order ≢ slot) m.blocks slabs apart)) (laid_out order m w))
 
--- Caches made and destroyed
+-- Creating and destroying caches
 
 pub created_laid : (number size align : ℕ) (pattern : List ℕ) (m : Machine) → all_laid (created number size align pattern m).caches ≡ all_laid m.caches
 created_laid number size align pattern m =
@@ -152,7 +152,7 @@ new_kept {limit} order size align pattern m w sized aligned below patterned =
     (subst (Each IsCache) (sym p.is) (each_put IsCache p.before p.later c (subst (Each IsCache) p.was w.caches) is))
     (subst (λ ls. IsLaidOut order m.slots m.blocks ls m.bytes) (ap all_laid p.was ∙ (sym (laid_without p.before p.later c refl) ∙ ap all_laid (sym p.is))) (laid_out order m w))
 
--- after the slabs of one cache are freed and the cache is removed, the machine is well formed
+-- a well formed machine stays well formed when one of its caches is destroyed, which frees the slabs of the cache
 pub gone_kept : {limit : ℕ} (order : ℕ) (c : Cache) (m : Machine) → IsWellFormed limit order m → IsIn c m.caches → IsWellFormed limit order (destroyed c m)
 unfolding destroyed
 gone_kept {limit} order c m w i =

@@ -8,7 +8,7 @@ use Rattle.model_core.specs.Operations.{alloc_step}
 use Rattle.model_core.specs.CacheOperations.{take_step}
 use Rattle.model_core.specs.Laws.{AllocReaps, TakeReaps}
 
--- what is true both of the machine and of the reaped machine is true of the machine that serves the request
+-- what is true both of machine m and of m after a reap is true of the machine that serves the request
 pub by_need_keeps : (P : Machine → Type 0) (order k : ℕ) (m : Machine) → P m → P (reaped m) → P (by_need order k m)
 unfolding by_need
 by_need_keeps P order k m p q = go _
@@ -29,7 +29,7 @@ pub by_need_stays : (order k : ℕ) (m : Machine) → choice order m k ≡ None 
 unfolding by_need
 by_need_stays order k m none still = simp (none, still)
 
--- a request that gets nothing leaves the machine unchanged
+-- if a request finds no block, even after a reap, no slab is freed, and `by_need` returns m itself
 pub by_need_none : (order k : ℕ) (m : Machine) → choice_by_need order k m ≡ None → by_need order k m ≡ m
 by_need_none order k m none = go (choice order m k) refl (choice order (reaped m) k) refl
   where
@@ -39,7 +39,7 @@ by_need_none order k m none = go (choice order m k) refl (choice order (reaped m
     go None is (Some first) found = let reaps : by_need order k m ≡ reaped m = by_need_reaps order k first m is found in
         let both : None ≡ Some first = sym none ∙ (ap (λ n. choice order n k) reaps ∙ found) in absurd (cc)
 
--- The steps
+-- Allocs and takes
 
 pub alloc_reaps : AllocReaps
 unfolding alloc_step

@@ -12,7 +12,7 @@ use Rattle.model_core.specs.Runs.{Operation, Alloc, Create, Take, Give, Reap, Gr
 use Rattle.model_core.proofs.ReapingByNeed.{alloc_reaps}
 use Rattle.model_core.proofs.RowAnswers.{number_of, numbers, machine_after}
 
--- a page block is refused while an object is live in its frames, and is allocated once the object is given back
+-- an alloc is refused while an object is live in the frames that it needs, and succeeds after the object is given back
 abbrev object_in_the_way : List Operation
 object_in_the_way = Grant ∷ Create 64 8 (0 ∷ []) ∷ Take 0 ∷ Alloc 3 ∷ Give 0 0 ∷ Alloc 3 ∷ []
 
@@ -20,7 +20,7 @@ reaped_for_a_block : numbers object_in_the_way ≡ Some 0 ∷ Some 0 ∷ Some 0 
 unfolding number_of layout_of alloc_step cache_step create_step next_number take_step give_step grown_cache grown slab_to_use fresh_byte choice by_need reaped taken_blocks empty_machine next_slot after_grant
 reaped_for_a_block = refl
 
--- the cache then has no slab, and the place of the control record reads as zero
+-- after these operations the cache has no slab, and the first two bytes of the former control record read as zero
 no_slab : map (λ c. c.slabs) (machine_after object_in_the_way).caches ≡ [] ∷ []
 unfolding layout_of alloc_step cache_step create_step next_number take_step give_step grown_cache grown slab_to_use fresh_byte choice by_need reaped taken_blocks empty_machine next_slot after_grant
 no_slab = refl
@@ -29,7 +29,7 @@ record_reads_zero : (read_step 4064 2 (machine_after object_in_the_way)).answer 
 unfolding layout_of alloc_step cache_step create_step next_number take_step give_step read_step in_reach grown_cache grown slab_to_use fresh_byte choice by_need reaped taken_blocks empty_machine next_slot after_grant
 record_reads_zero = refl
 
--- if the block is not free even without the empty slab, the slab is not freed
+-- if no block of the requested order would be free even without the empty slab, the alloc is refused and the slab stays
 abbrev block_in_the_way : List Operation
 block_in_the_way = Grant ∷ Alloc 0 ∷ Create 64 8 (0 ∷ []) ∷ Take 0 ∷ Give 0 4096 ∷ []
 
@@ -41,12 +41,12 @@ slab_stays : numbers (block_in_the_way ++ (Alloc 3 ∷ Reap ∷ [])) ≡ Some 0 
 unfolding number_of layout_of alloc_step cache_step create_step next_number take_step give_step reap_step grown_cache grown slab_to_use fresh_byte choice by_need reaped taken_blocks empty_machine next_slot after_grant
 slab_stays = refl
 
--- if a block is free anyway, the empty slab is not freed either
+-- if a block of the requested order is free without a reap, it is allocated, and the empty slab stays
 block_beside : numbers (Grant ∷ Create 64 8 (0 ∷ []) ∷ Take 0 ∷ Give 0 0 ∷ Alloc 2 ∷ Reap ∷ []) ≡ Some 0 ∷ Some 0 ∷ Some 0 ∷ Some 0 ∷ Some 4 ∷ Some 1 ∷ []
 unfolding number_of layout_of alloc_step cache_step create_step next_number take_step give_step reap_step grown_cache grown slab_to_use fresh_byte choice by_need reaped taken_blocks empty_machine next_slot after_grant
 block_beside = refl
 
--- the empty slabs of one cache are freed for a slab of another
+-- the eight empty slabs of one cache are freed, so that another cache can make a slab of four frames
 abbrev eight_given : List Operation
 eight_given = Grant ∷ Create 4096 8 (17 ∷ []) ∷ replicate 8 (Take 0)
     ++ (Give 0 0 ∷ Give 0 4096 ∷ Give 0 8192 ∷ Give 0 12288 ∷ Give 0 16384 ∷ Give 0 20480 ∷ Give 0 24576 ∷ Give 0 28672 ∷ Create 3000 8 (34 ∷ []) ∷ Take 1 ∷ [])
@@ -65,7 +65,7 @@ constructed_anew : (read_step 0 1 (machine_after eight_given)).answer ≡ Ok (34
 unfolding layout_of cache_step create_step next_number take_step give_step read_step in_reach grown_cache grown slab_to_use fresh_byte choice by_need reaped taken_blocks empty_machine next_slot after_grant
 constructed_anew = refl
 
--- the new slab is at frame 0, below the only block that was free before, which is too small
+-- The new slab is at frame 0, on frames of freed slabs. The only block that was free before, at frame 6, is too small for it.
 abbrev four_given : List Operation
 four_given = Grant ∷ Create 4096 8 (17 ∷ []) ∷ replicate 4 (Take 0) ++ (Alloc 1 ∷ Give 0 0 ∷ Give 0 4096 ∷ Give 0 8192 ∷ Give 0 12288 ∷ Create 3000 8 (34 ∷ []) ∷ [])
 

@@ -1,5 +1,5 @@
--- Lists that rise by key, and look-ups in a list of blocks after a block is added. Two lists that rise by key and have the same
--- members are the same.
+-- Two lists that rise by key and have the same members are equal. After a block is added to a list, a look-up of its first frame
+-- finds it.
 use Rattle.std.proofs.Common.{◌≡◌, ◌≢◌, ℕ, ◌+◌, ◌<◌, Bool, true, false, ◌||◌, eqb, List, [], ◌∷◌, ◌++◌, map, Option, Some, None, refl, sym, ap, ◌∙◌, subst, ◌⊎◌, inl, inr, arith}
 use Rattle.std.specs.Prelude.{if◌then◌else◌}
 use Rattle.std.specs.List.{list_any, AllByRecursion as Each}
@@ -11,11 +11,11 @@ use Rattle.model_core.specs.WellFormed.{RisesFrom}
 use Rattle.model_core.specs.Elements.{IsIn}
 use Rattle.model_core.proofs.Lists.{some_any, any_in, key_above}
 
--- u is in the list
+-- u is a number of the list
 abbrev pub has : ℕ → List ℕ → Bool
 has u xs = list_any (λ v. eqb v u) xs
 
--- a list that rises from n has no lower number
+-- a list that rises from n has no number below n
 pub none_below : (n u : ℕ) (xs : List ℕ) → RisesFrom n xs → u < n → has u xs ≡ false
 none_below n u [] rises below = refl
 none_below n u (x ∷ xs) (low, rises) below =
@@ -27,7 +27,7 @@ in_has u xs i = any_in (λ v. eqb v u) u xs i (eq-eqb u u refl)
 has_in : (u : ℕ) (xs : List ℕ) → has u xs ≡ true → IsIn u xs
 has_in u xs e = let r : (v : ℕ) × IsIn v xs × (eqb v u ≡ true) = some_any (λ v. eqb v u) xs e in subst (λ v. IsIn v xs) (eqb-true r.0 u r.2) r.1
 
--- two lists that rise by key are the same if they have the same members
+-- two lists that rise by key are equal if they have the same members
 pub same_keyed : {X : Type 0} (key : X → ℕ) (n : ℕ) (xs ys : List X) → RisesFrom n (map key xs) → RisesFrom n (map key ys)
     → ((x : X) → IsIn x xs → IsIn x ys) → ((x : X) → IsIn x ys → IsIn x xs) → xs ≡ ys
 same_keyed key n [] [] r s f g = refl
@@ -49,7 +49,8 @@ same_keyed {X} key n (x ∷ xs) (y ∷ ys) (lx, r) (ly, s) f g = same (f x (inl 
     same (inr i) (inl e) more = tails (sym e) more
     same (inr i) (inr j) more = absurd (let u = key_above key (key y + 1) x ys s i in let v = key_above key (key x + 1) y xs r j in omega arith)
 
--- .. and so are two rising lists of numbers with the same members, or for which `has` gives the same answers
+-- .. and two rising lists of numbers are equal if they have the same members, or if `has` returns the same from both for each
+-- number
 pub same_members : (n : ℕ) (xs ys : List ℕ) → RisesFrom n xs → RisesFrom n ys → ((u : ℕ) → IsIn u xs → IsIn u ys) → ((u : ℕ) → IsIn u ys → IsIn u xs) → xs ≡ ys
 same_members n xs ys r q there back =
     same_keyed (λ u. u) n xs ys (subst (λ us. RisesFrom n us) (sym (map-id xs)) r) (subst (λ us. RisesFrom n us) (sym (map-id ys)) q) there back
@@ -60,7 +61,8 @@ same_rising n xs ys r q same =
 
 -- Blocks
 
--- if no block before b begins at its first frame, adding b to a list adds it to the look-ups
+-- If no block in front of b in the list begins at b's first frame, a look-up of this frame returns the order of b. A look-up of
+-- any other frame returns what it returns without b.
 pub order_in-middle : (xs ys : List Block) (b : Block) → Each (λ x. x.first ≢ b.first) xs → (f : ℕ) → order_in (xs ++ b ∷ ys) f ≡ with_taken (order_in (xs ++ ys)) b.first b.order f
 order_in-middle [] ys b e f = turned b.first f (Some b.order) (order_in ys f)
   where
@@ -76,12 +78,12 @@ order_in-middle (x ∷ xs) ys b (ne, e) f = go (eqb x.first f) refl (order_in-mi
     go true is ih = sym (ap (λ t. if t then Some b.order else Some x.order) (ne_eqb f b.first (λ same. ne (eqb-true x.first f is ∙ same))))
     go false is ih = ih
 
--- if no block begins at f, a look-up finds nothing ..
+-- if no block of the list begins at frame f, a look-up of f returns None ..
 pub none_found : (f : ℕ) (bs : List Block) → Each (λ b. b.first ≢ f) bs → order_in bs f ≡ None
 none_found f [] others = refl
 none_found f (b ∷ bs) (other, others) = ap (λ t. if t then Some b.order else order_in bs f) (ne_eqb b.first f other) ∙ none_found f bs others
 
--- .. and if it finds nothing, no block begins there
+-- .. and if a look-up of f returns None, no block of the list begins at frame f
 none_begins : (f : ℕ) (bs : List Block) → order_in bs f ≡ None → Each (λ b. b.first ≢ f) bs
 none_begins f [] none = tt
 none_begins f (b ∷ bs) none = go (eqb b.first f) refl none (none_begins f bs)

@@ -1,5 +1,5 @@
--- Space: if the taken blocks have fewer frames than the held slots have aligned blocks of some order, one of these blocks is
--- vacant.
+-- Space for a block of order k: if the taken blocks have fewer frames than the held slots have aligned blocks of order k, one of
+-- these aligned blocks is vacant.
 use Rattle.std.proofs.Common.{◌≡◌, ℕ, zero, suc, ◌+◌, ◌-◌, ◌*◌, ◌/◌, ◌^◌, ◌<◌, ◌≤◌, Bool, true, false, not, cond, eqb, List, [], ◌∷◌, ◌++◌, map, length, Option, Some, None, Ok, refl, sym, ap, ◌∙◌, subst, inl, inr, ⊎_elim, arith}
 use Rattle.std.specs.Prelude.{if◌then◌else◌, option_map, is_some, filter, find, flat_map}
 use Rattle.std.specs.List.{list_any, range_with_len}
@@ -42,7 +42,7 @@ rises_in n x [] r i = elim i [ ]
 rises_in n x (y ∷ ys) (l, r) (inl same) = omega arith
 rises_in n x (y ∷ ys) (l, r) (inr i) = let above : y + 1 ≤ x = rises_in (y + 1) x ys r i in omega arith
 
--- a list without the numbers equal to x
+-- the list without the numbers equal to x
 others : ℕ → List ℕ → List ℕ
 others x ys = filter (λ y. not (eqb y x)) ys
 
@@ -66,7 +66,7 @@ others_fewer x (y ∷ ys) i = go (eqb y x) refl i (others_most x ys) (others_few
     go false is (inl same) le more = absurd (false≢true (sym is ∙ eq-eqb y x same))
     go false is (inr j) le more = let less = more j in omega arith
 
--- a list that rises is no longer than a list that has all its numbers
+-- a rising list has at most as many numbers as any list that contains all of them
 no_longer : (n : ℕ) (xs ys : List ℕ) → RisesFrom n xs → ((x : ℕ) → IsIn x xs → IsIn x ys) → length xs ≤ length ys
 unfolding others
 no_longer n [] ys r all = omega arith
@@ -76,7 +76,7 @@ no_longer n (x ∷ xs) ys (l, r) all =
     in_filter (λ y. not (eqb y x)) z ys (all z (inr i)) (ap not (ne_eqb z x (λ same. let above : x + 1 ≤ z = rises_in (x + 1) z xs r i in absurd (omega arith))))) in
     omega arith
 
--- The numbers of the aligned blocks of one order in these slots. Each slot has w of these blocks.
+-- The numbers of the aligned blocks of one order in the listed slots. Slot u has w of them, from number u * w on.
 
 blocks_in : ℕ → List ℕ → List ℕ
 blocks_in w slots = flat_map (λ u. range_with_len (u * w) w) slots
@@ -103,7 +103,7 @@ blocks_rise w n (u ∷ us) (l, r) =
     let next : (u + 1) * w ≡ u * w + w = omega arith in
     range_rises (n * w) (u * w) w (blocks_in w us) (mul-le-mul_right w l) (subst (λ z. RisesFrom z (blocks_in w us)) next (blocks_rise w (u + 1) us r))
 
--- block q is one of the w blocks of a slot in the list
+-- block q is one of the w blocks of a listed slot
 record IsOfSlot (w q : ℕ) (slots : List ℕ) : Type 0 where
   slot : ℕ
   listed : IsIn slot slots
@@ -119,7 +119,7 @@ slot_of_block w q (u ∷ us) i =
     (λ later. let is = slot_of_block w q us later in record { slot = is.slot; listed = inr is.listed; low = is.low; high = is.high })
     (in_append q (range_with_len (u * w) w) (blocks_in w us) i)
 
--- The frames of these blocks
+-- The frames of the listed blocks
 
 frames_in : List Block → List ℕ
 frames_in bs = flat_map (λ b. range_with_len b.first (2 ^ b.order)) bs
@@ -131,7 +131,7 @@ count_frames (b ∷ bs) =
     length-append (range_with_len b.first (2 ^ b.order)) (frames_in bs)
     ∙ (ap (λ n. n + length (frames_in bs)) (length-range_with_len b.first (2 ^ b.order)) ∙ ap (λ n. 2 ^ b.order + n) (count_frames bs))
 
--- if a look-up finds a block of order k at f, each frame of that block is in the list
+-- if a look-up of frame f returns order k, each frame of the block of order k at f is in `frames_in bs`
 found_in : (bs : List Block) (f k x : ℕ) → order_in bs f ≡ Some k → HasFrame (block f k) x → IsIn x (frames_in bs)
 unfolding frames_in
 found_in [] f k x e has = absurd (cc)
@@ -149,11 +149,11 @@ found_in (b ∷ bs) f k x e has = go (eqb b.first f) refl e (λ later. found_in 
 
 module _ (order k : ℕ) (slots : List ℕ) (bs : List Block) (rises : RisesFrom 0 slots) (of_slot : k ≤ order)
     (fewer : frames_of bs < length slots * 2 ^ (order - k)) where
-  -- the number of blocks of order k in a slot
+  -- the number of aligned blocks of order k in a slot
   abbrev share : ℕ
   share = 2 ^ (order - k)
 
-  -- the numbers of the blocks that have a taken frame
+  -- for each taken frame, the number of the aligned block of order k that has the frame
   abbrev met : List ℕ
   met = map (λ x. x / 2 ^ k) (frames_in bs)
 
@@ -184,7 +184,7 @@ module _ (order k : ℕ) (slots : List ℕ) (bs : List Block) (rises : RisesFrom
         false≢true (sym (not-true (is_met q) unmet) ∙ any_in (λ p. eqb p q) (x / 2 ^ k) met listed (eq-eqb (x / 2 ^ k) q number));
   }
 
-  -- not every block in the slots has a taken frame
+  -- not every aligned block of order k in the slots has a taken frame
   all_met : list_any (λ q. not (is_met q)) (blocks_in share slots) ≡ false → ⊥
   all_met none =
       let within : length (blocks_in share slots) ≤ length met = no_longer (0 * share) (blocks_in share slots) met (blocks_rise share 0 slots rises) (λ q i.
@@ -208,7 +208,7 @@ some_first : (o : Option Block) → is_some o ≡ true → (first : ℕ) × (opt
 some_first None e = absurd (false≢true e)
 some_first (Some b) e = (b.first, refl)
 
--- if the taken blocks have fewer frames than the slots have blocks of order k, a request for this order gets a block
+-- if the taken blocks have fewer frames than the held slots have aligned blocks of order k, `choice` finds a block of order k
 room_chosen : (order k : ℕ) (m : Machine) → RisesFrom 0 m.slots → k ≤ order → frames_of (taken_blocks m) < length m.slots * 2 ^ (order - k)
     → (first : ℕ) × (choice order m k ≡ Some first)
 unfolding choice

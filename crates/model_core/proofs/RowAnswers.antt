@@ -1,4 +1,4 @@
--- What the worked examples compare: the number in each operation's answer, or None if it is refused.
+-- What the worked examples compare: a number for each operation that succeeds, and None for each operation that is refused.
 use Rattle.std.specs.Prelude.{ℕ, List, [], ◌∷◌, length, Option, Some}
 use Rattle.std.specs.Result.{result_ok}
 use Rattle.model_core.specs.declared.limits.TheConstants.{MOST_CACHES}
@@ -25,7 +25,7 @@ abbrev pub numbers_from : Machine → List Operation → List (Option ℕ)
 numbers_from m [] = []
 numbers_from m (operation ∷ operations) = number_of operation m ∷ numbers_from (after MOST_CACHES 3 operation m) operations
 
--- the numbers of these operations, run on the empty machine with slots of order 3
+-- the numbers of these operations, which run in order from the empty machine; slots have order 3
 abbrev pub numbers : List Operation → List (Option ℕ)
 numbers operations = numbers_from empty_machine operations
 

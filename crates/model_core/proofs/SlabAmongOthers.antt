@@ -1,4 +1,4 @@
--- Where a slab is among all slabs of a machine, and which slabs are left when some are freed.
+-- The list of the slabs of all caches: which slabs belong to one cache, and which are left when some are freed.
 use Rattle.std.proofs.Common.{◌≡◌, ℕ, Bool, true, false, not, cond, eqb, List, [], ◌∷◌, ◌++◌, map, refl, sym, ap, ◌∙◌, append_assoc, inl, inr}
 use Rattle.std.specs.Prelude.{flat_map, filter}
 use Rattle.std.specs.List.{list_any, AllByRecursion as Each}
@@ -16,7 +16,7 @@ pub in_middle : {X : Type 0} (xs ys : List X) (x : X) → IsIn x (xs ++ x ∷ ys
 in_middle [] ys x = inl refl
 in_middle (y ∷ xs) ys x = inr (in_middle xs ys x)
 
--- if the slabs of one cache are split into two lists, the list of all slabs is split there too
+-- if the slabs of cache c are `ss` followed by `ts`, the list of all slabs is split between `ss` and `ts` too
 pub laid_parts : (before later : List Cache) (c : Cache) (ss ts : List Slab) → c.slabs ≡ ss ++ ts
     → all_laid (before ++ c ∷ later) ≡ (all_laid before ++ map (laid c) ss) ++ (map (laid c) ts ++ all_laid later)
 laid_parts before later c ss ts e =
@@ -39,7 +39,7 @@ filter_laid_in p c ss = go (p c.number) refl ss
     go false e [] = refl
     go false e (s ∷ ss) = ap (λ b. cond b (laid c s ∷ filter (λ l. p l.number) (map (laid c) ss)) (filter (λ l. p l.number) (map (laid c) ss))) e ∙ go false e ss
 
--- the slabs whose cache number passes are the slabs of the caches whose numbers pass
+-- filtering the list of all slabs by their caches' numbers leaves the slabs of the caches whose numbers pass
 pub filter_laid : (p : ℕ → Bool) (cs : List Cache) → filter (λ l. p l.number) (all_laid cs) ≡ all_laid (filter (λ c. p c.number) cs)
 filter_laid p [] = refl
 filter_laid p (c ∷ cs) = filter-append (λ l. p l.number) (laid_in c) (all_laid cs)
@@ -54,7 +54,7 @@ filter_none : (n : ℕ) (cs : List Cache) → Each (λ c. eqb c.number n ≡ fal
 filter_none n [] h = refl
 filter_none n (c ∷ cs) (e, h) = ap (λ b. cond b (c ∷ filter (λ c. eqb c.number n) cs) (filter (λ c. eqb c.number n) cs)) e ∙ filter_none n cs h
 
--- only one cache has this number
+-- cache c is the only cache of the list with its number
 pub filter_found : (c : Cache) (cs : List Cache) → Found (λ c. c.number) c cs → filter (λ x. eqb x.number c.number) cs ≡ c ∷ []
 filter_found c cs f = ap (λ xs. filter (λ x. eqb x.number c.number) xs) f.is
     ∙ (filter-append (λ x. eqb x.number c.number) f.before (c ∷ f.later)
@@ -62,7 +62,7 @@ filter_found c cs f = ap (λ xs. filter (λ x. eqb x.number c.number) xs) f.is
     ∙ (ap (λ b. cond b (c ∷ filter (λ x. eqb x.number c.number) f.later) (filter (λ x. eqb x.number c.number) f.later)) (eq-eqb c.number c.number refl)
     ∙ ap (λ xs. c ∷ xs) (filter_none c.number f.later f.others_later))))
 
--- the slabs with the number of cache c are the slabs of c
+-- in the list of all slabs, the slabs with the number of cache c are the slabs of c
 pub laid_of : (c : Cache) (cs : List Cache) → Found (λ c. c.number) c cs → filter (λ l. eqb l.number c.number) (all_laid cs) ≡ laid_in c
 laid_of c cs f = filter_laid (λ n. eqb n c.number) cs ∙ (ap all_laid (filter_found c cs f) ∙ append-nil (laid_in c))
 

@@ -1,4 +1,4 @@
--- The taken blocks of a machine: a new slab adds its block, and empty slabs that are freed remove theirs.
+-- The taken blocks of a machine: a new slab adds its block, and a reap removes the blocks of the empty slabs.
 use Rattle.std.proofs.Common.{◌≡◌, ◌≢◌, ℕ, Bool, true, false, not, cond, eqb, List, [], ◌∷◌, ◌++◌, map, Option, Some, None, append_assoc, refl, sym, ap, ◌∙◌, subst}
 use Rattle.std.specs.Prelude.{if◌then◌else◌, is_some, filter, flat_map}
 use Rattle.std.specs.List.{AllByRecursion as Each}
@@ -38,11 +38,11 @@ growth_takes limit order first c m w in_c e f =
     (subst (Each (λ x. x.first ≢ first)) was (apart_firsts b (taken_blocks m) (chosen_apart order (layout c).order first m w.apart e))) in
     ap (λ bs. order_in bs f) is ∙ (order_in-middle before later b others f ∙ ap (λ bs. with_taken (order_in bs) first b.order f) (sym was))
 
--- what a look-up among all blocks finds, or None if a look-up among the removed blocks finds one
+-- None if `gone`, the look-up among the removed blocks, finds a block; otherwise `all`, the look-up among all blocks
 abbrev unless_gone : Option ℕ → Option ℕ → Option ℕ
 unless_gone gone all = if is_some gone then None else all
 
--- no slab begins at the first frame of a block that is apart from all slabs
+-- if a block is apart from all slabs, no slab begins at the block's first frame
 elsewhere : (b : Block) (f : ℕ) (p : Laid → Bool) (ls : List Laid) → b.first ≡ f → Each (IsApart b) (map laid_block ls) → order_in (map laid_block (filter p ls)) f ≡ None
 elsewhere b f p ls here apart =
     let some : List Block = map laid_block (filter p ls) in

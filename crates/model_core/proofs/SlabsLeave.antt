@@ -1,4 +1,4 @@
--- After a slab is freed, its places read as zero.
+-- After an operation frees a slab, the slab's places read as zero if their slot is still held.
 use Rattle.std.proofs.Common.{◌≡◌, ℕ, Bool, true, false, not, ◌||◌, eqb, List, ◌∷◌, ◌++◌, map, Option, Some, refl, sym, ap, ◌∙◌}
 use Rattle.std.specs.Prelude.{if◌then◌else◌, filter, slice_set}
 use Rattle.std.specs.List.{list_any}
@@ -21,11 +21,11 @@ use Rattle.model_core.proofs.CacheSteps.{IsFlagged, flagged, IsGrown, grown_is, 
 use Rattle.model_core.proofs.Objects.{live_is}
 use Rattle.model_core.proofs.ConstructedObjects.{grown_byte}
 
--- the place is still in a slab
+-- the place is in a slab of the machine
 abbrev Still : ℕ → Machine → Type 0
 Still place m = in_slab m place ≡ true
 
--- the place is still in a slab, or it reads as zero
+-- the place is in a slab of the machine, or it reads as zero
 abbrev Left : ℕ → Machine → Type 0
 Left place m = in_slab m place ≡ false → m.bytes place ≡ Some 0
 
@@ -46,7 +46,7 @@ left_flagged : {limit : ℕ} (order place : ℕ) (c : Cache) (s : Slab) (i : ℕ
     → Left place m → Left place (with_cache (with_slab (with_live i b s) c) m)
 left_flagged order place c s i b m w in_c in_s h e = h (sym (flagged_same order place c s i b m w in_c in_s) ∙ e)
 
--- if a place is in a slab or reads as zero, the same is true of it after growth
+-- if a place is in a slab or reads as zero, it is in a slab or reads as zero after growth too
 left_grown : {limit : ℕ} (order place first : ℕ) (c : Cache) (m : Machine) → IsWellFormed limit order m → IsIn c m.caches → Left place m → Left place (grown first c m)
 left_grown order place first c m w in_c h e =
     let g : IsGrown first c m = grown_is order first c m w in_c in
@@ -55,7 +55,7 @@ left_grown order place first c m w in_c h e =
     (sym (any_put (in_laid place) g.xs g.ys new) ∙ (ap (λ ls. list_any (in_laid place) ls) (sym g.is) ∙ (sym (in_slab_laid (grown first c m) place) ∙ e))) in
     grown_byte first c m place false parts.0 ∙ h (in_slab_laid m place ∙ (ap (λ ls. list_any (in_laid place) ls) g.was ∙ parts.1))
 
--- a place that was in a slab, and is in none after slabs are freed, reads as zero
+-- if a place was in a slab, and is in no slab after the slabs that pass q are freed, it reads as zero
 left_kept : (place : ℕ) (q : Laid → Bool) (ls : List Laid) (bytes : ℕ → Option ℕ) → list_any (in_laid place) ls ≡ true → list_any (in_laid place) (filter (λ l. not (q l)) ls) ≡ false
     → zeroed (map laid_block (filter q ls)) bytes place ≡ Some 0
 left_kept place q ls bytes h e = ap (λ b. if b then Some 0 else bytes place) (any_map (in_block place) laid_block (filter q ls)

@@ -1,4 +1,4 @@
--- The taken blocks of a machine are sound, and a page block that is allocated or freed adds or removes one.
+-- The taken blocks of a well formed machine are sound. An alloc adds its page block to them, and a free removes its page block.
 use Rattle.std.proofs.Common.{◌≡◌, ◌≢◌, ℕ, Bool, true, false, not, cond, eqb, List, [], ◌∷◌, ◌++◌, map, Option, Some, None, Ok, append_assoc, refl, sym, ap, ◌∙◌, subst, ◌⊎◌, inl, inr}
 use Rattle.std.specs.Prelude.{if◌then◌else◌, filter}
 use Rattle.std.specs.List.{AllByRecursion as Each}
@@ -22,7 +22,7 @@ use Rattle.model_core.proofs.PageSteps.{by_need_kept}
 pub same_block : (b : Block) (f k : ℕ) → b.first ≡ f → b.order ≡ k → b ≡ block f k
 same_block b f k p q = λ i. block (p i) (q i)
 
--- if a look-up finds order k at frame f, the block of order k at f is in the list
+-- if a look-up of frame f returns order k, the block of order k at f is in the list
 pub order_in_is : (bs : List Block) (f k : ℕ) → order_in bs f ≡ Some k → IsIn (block f k) bs
 order_in_is [] f k e = absurd (cc)
 order_in_is (b ∷ bs) f k e = go (eqb b.first f) refl e (order_in_is bs f k)
@@ -38,7 +38,7 @@ taken_sound limit order m w = record {
       (subst AreApart (sym (map-id (taken_blocks m))) w.apart) (order_in_is (taken_blocks m) f k e) (order_in_is (taken_blocks m) g j d) in_f in_g);
 }
 
--- One is added
+-- A block is added
 
 pub apart_firsts : (b : Block) (bs : List Block) → Each (IsApart b) bs → Each (λ x. x.first ≢ b.first) bs
 apart_firsts b bs h = each_weaker (IsApart b) (λ x. x.first ≢ b.first) (λ x a same. apart_first b x a (sym same)) bs h
@@ -64,7 +64,7 @@ alloc_takes limit order k first m w e = alloc_outcome order k m (λ step. step.a
     slabs : List Block
     slabs = map laid_block (all_laid n.caches)
 
--- One is removed
+-- A block is removed
 
 order_in_filter : (first : ℕ) (xs ys : List Block) → Each (λ y. y.first ≢ first) ys → (f : ℕ) → order_in (filter (λ x. not (eqb x.first first)) xs ++ ys) f ≡ without_taken (order_in (xs ++ ys)) first f
 order_in_filter first [] ys h f = go (cases_eq f first)

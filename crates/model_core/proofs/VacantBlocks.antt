@@ -1,4 +1,5 @@
--- Vacant blocks: if an aligned block of a held slot has no taken frame, a request for its order is served.
+-- Vacant blocks: `choose` finds a block for order k if and only if some aligned block of order k in a held slot has no taken
+-- frame.
 use Rattle.std.proofs.Common.{◌≡◌, ℕ, ◌+◌, ◌/◌, ◌^◌, ◌<◌, ◌≤◌, Bool, true, Option, Some, None, refl, sym, ◌∙◌, ◌⊎◌, inl, inr, ⊎_elim, arith}
 use Rattle.std.specs.Prelude.{is_some, MatchOption}
 use Rattle.std.proofs.lemmas.Bool.{cases_lt, false≢true}
@@ -17,7 +18,7 @@ pub record IsVacant (top : ℕ) (held : ℕ → Bool) (taken : Taken) (f k : ℕ
   pub untaken : (x : ℕ) → HasFrame (block f k) x → IsTaken taken x → ⊥
 
 module _ (top : ℕ) (held : ℕ → Bool) (taken : Taken) (slots : ℕ) (below : (u : ℕ) → held u ≡ true → u < slots) where
-  -- a free block that has the first frame of a vacant block is at least as large as it
+  -- a free block that has the first frame of a vacant block is at least as large as the vacant block
   as_large : (f k : ℕ) → IsVacant top held taken f k → (z : Block) → IsFree top held taken z → HasFrame z f → k ≤ z.order
   as_large f k v z free has = ⊎_elim (λ less. absurd (by less free.3)) (λ large. large) (cases_lt z.order k)
     where
@@ -31,7 +32,7 @@ module _ (top : ℕ) (held : ℕ → Bool) (taken : Taken) (slots : ℕ) (below 
           same_above f z.first z.order next (omega arith) (number_of_frame z.first z.order f free.0.1 has) in
           v.untaken x (frame_of_number f k x v.aligned.1 (same_above x f next k (omega arith) (x_number ∙ sym f_number))) is
 
-  -- if a block is vacant, there is a choice ..
+  -- if a block of order k is vacant, `choose` finds a block for order k ..
   pub some_choice : (f k : ℕ) → IsVacant top held taken f k → is_some (choose top held taken slots k) ≡ true
   some_choice f k v = go (choose top held taken slots k) (choice_is_found top held taken slots k below)
     where
@@ -41,7 +42,7 @@ module _ (top : ℕ) (held : ℕ → Bool) (taken : Taken) (slots : ℕ) (below 
           absurd (none there.0 there.1 (as_large f k v there.0 there.1 there.2))
       go (Some z) is = refl
 
-  -- .. and if there is a choice, a block is vacant
+  -- .. and if `choose` finds a block for order k, some block of order k is vacant
   pub choice_vacant : (k : ℕ) → is_some (choose top held taken slots k) ≡ true → (f : ℕ) × IsVacant top held taken f k
   choice_vacant k some = go (choose top held taken slots k) (choice_is_found top held taken slots k below) some
     where

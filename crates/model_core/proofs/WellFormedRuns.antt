@@ -1,4 +1,4 @@
--- Every machine that a list of operations leaves is well formed.
+-- The machine after any list of operations that can be requested, run on the empty machine, is well formed.
 use Rattle.std.proofs.Common.{ℕ, true, false, List, [], ◌∷◌}
 use Rattle.model_core.specs.Machine.{Machine, empty_machine}
 use Rattle.model_core.specs.Slabs.{new_slab, grown_cache, next_object, by_need}

@@ -1,5 +1,5 @@
--- One instance of each law of the machine: a machine after a few operations meets its premises. All slots have order 3, which is
--- 8 frames.
+-- One instance of each law of the machine: a machine after a few operations meets the law's premises. All slots have order 3,
+-- which is 8 frames.
 use Rattle.std.proofs.Common.{◌≡◌, ℕ, ◌<◌, ◌/◌, Bool, true, List, [], ◌∷◌, ◌++◌, Some, None, Ok, refl, arith}
 use Rattle.std.specs.Prelude.{◌==◌, if◌then◌else◌}
 use Rattle.std.proofs.lemmas.Bool.{eqb-true}
@@ -24,7 +24,7 @@ use Rattle.model_core.proofs.RowAnswers.{machine_after}
 pub well_formed_left : (operations : List Operation) → ArePossible operations → IsWellFormed MOST_CACHES 3 (machine_after operations)
 well_formed_left operations can = runs_well_formed MOST_CACHES 3 operations can
 
--- Frame 0 is a slab with a live object, frame 1 a page block.
+-- In `machine`, frame 0 is a slab with a live object, and frame 1 is a page block.
 
 abbrev pub slab_and_page : List Operation
 slab_and_page = Grant ∷ Create 100 8 (90 ∷ []) ∷ Take 0 ∷ Alloc 0 ∷ []
@@ -35,7 +35,7 @@ machine = machine_after slab_and_page
 pub is_well_formed : IsWellFormed MOST_CACHES 3 machine
 is_well_formed = well_formed_left slab_and_page (tt, (refl, (tt, (tt, tt))))
 
--- Frame 0 is an empty slab. Two more caches have no slabs yet; their slabs will have order 3 and order 2.
+-- In `emptied`, frame 0 is an empty slab of cache 0. Caches 1 and 2 have no slabs yet; their slabs will have order 3 and order 2.
 
 abbrev pub slab_given_back : List Operation
 slab_given_back = Grant ∷ Create 100 8 (90 ∷ []) ∷ Take 0 ∷ Give 0 0 ∷ Create 2736 8 (7 ∷ []) ∷ Create 3000 8 (8 ∷ []) ∷ []
@@ -46,7 +46,7 @@ emptied = machine_after slab_given_back
 pub emptied_well_formed : IsWellFormed MOST_CACHES 3 emptied
 emptied_well_formed = well_formed_left slab_given_back (tt, (refl, (tt, (tt, (refl, (refl, tt))))))
 
--- the same machine with an object of the slab live
+-- the machine `emptied` after a take from cache 0, which makes an object of the slab live
 abbrev pub crowded : Machine
 crowded = machine_after (slab_given_back ++ Take 0 ∷ [])
 
@@ -128,7 +128,7 @@ KeepsWellFormed-met law = law MOST_CACHES 3 (Create 64 16 (1 ∷ 2 ∷ [])) mach
 RunsWellFormed-met : RunsWellFormed → IsWellFormed MOST_CACHES 3 machine
 RunsWellFormed-met law = law MOST_CACHES 3 slab_and_page (tt, (refl, (tt, (tt, tt))))
 
--- Taken blocks: the page block at frame 1, the slab at frame 0
+-- Taken blocks: the page block at frame 1 and the slab at frame 0
 
 TakenApart-met : TakenApart → IsApart (block 1 0) (block 0 0)
 unfolding layout_of alloc_step cache_step create_step next_number take_step grown_cache grown slab_to_use by_need reaped choice taken_blocks empty_machine next_slot after_grant
@@ -137,7 +137,8 @@ TakenApart-met law = law MOST_CACHES 3 machine is_well_formed 0 1 (block 0 0) (o
 TakenSound-met : TakenSound → IsSound 3 (holds machine) (taken_in machine)
 TakenSound-met law = law MOST_CACHES 3 machine is_well_formed
 
--- one block is found at once, the other only after the empty slab is freed
+-- In `machine`, an alloc of order 1 finds a block at once. In `emptied`, an alloc of order 3 finds one after the empty slab is
+-- freed.
 AllocTakes-met : AllocTakes → (taken_in (alloc_step 3 1 machine).machine 2 ≡ Some 1) × (taken_in (alloc_step 3 3 emptied).machine 0 ≡ Some 3)
 unfolding layout_of alloc_step cache_step create_step next_number take_step give_step grown_cache grown slab_to_use by_need reaped choice taken_blocks empty_machine next_slot after_grant
 AllocTakes-met law = (law MOST_CACHES 3 1 2 machine is_well_formed refl 2, law MOST_CACHES 3 3 0 emptied emptied_well_formed refl 0)
@@ -164,7 +165,7 @@ BlockIsPromised-met : BlockIsPromised → (first : ℕ) × (choice_by_need 3 1 m
 unfolding layout_of alloc_step cache_step create_step next_number take_step grown_cache grown slab_to_use by_need reaped choice taken_blocks empty_machine next_slot after_grant
 BlockIsPromised-met law = law MOST_CACHES 3 1 machine is_well_formed (record { of_slot = omega arith; fewer = omega arith })
 
--- the frame of an empty slab is not counted
+-- the frame of the empty slab does not count as taken, so there is space for a block of order 3
 all_of_slot : IsAmple 3 3 emptied
 unfolding layout_of cache_step create_step next_number take_step give_step grown_cache grown slab_to_use by_need reaped choice taken_blocks empty_machine next_slot after_grant
 all_of_slot = record { of_slot = omega arith; fewer = omega arith }

@@ -17,7 +17,8 @@ use Rattle.model_core.proofs.TakenSteps.{taken_sound}
 use Rattle.model_core.proofs.Witnesses.{well_formed_left, machine, is_well_formed}
 use Rattle.model_core.proofs.RowAnswers.{machine_after}
 
--- In slot 0, frame 0 is a slab and frame 1 a page block. Blocks of order 1 at frame 2 and of order 2 at frame 4 are free.
+-- In slot 0, frame 0 is a slab and frame 1 is a page block. The free blocks are one of order 1 at frame 2 and one of order 2 at
+-- frame 4.
 
 abbrev held : ℕ → Bool
 held = holds machine
@@ -48,14 +49,15 @@ OneChoice-met : OneChoice → (b : Block) → IsChoice 3 held taken 0 b → b �
 unfolding layout_of alloc_step cache_step create_step next_number take_step grown_cache grown slab_to_use by_need reaped choice taken_blocks empty_machine next_slot after_grant
 OneChoice-met law b is = law 3 held taken 0 b (block 2 1) is (choice_is_found 3 held taken 1 0 slot_0_below)
 
--- frame 5 lies only in the free block at frame 4
+-- the free block of order 2 at frame 4 is the only free block that has frame 5
 EachFrameInOne-met : EachFrameInOne → (b : Block) → IsFree 3 held taken b → HasFrame b 5 → b ≡ block 4 2
 unfolding layout_of alloc_step cache_step create_step next_number take_step grown_cache grown slab_to_use by_need reaped choice taken_blocks empty_machine next_slot after_grant
 EachFrameInOne-met law b free has =
     let only = law 3 held taken 5 refl ((choice_is_untaken 3 2 4 machine refl).1 5 (omega arith, omega arith)).1 in
     only.3 b free has ∙ sym (only.3 (block 4 2) upper_half_free (omega arith, omega arith))
 
--- after frame 4 is reserved, the upper halves of both splits are free
+-- Frame 4 is reserved: the free block of order 2 at frame 4 is split twice. The upper half of each split is then free, the block
+-- of order 1 at frame 6 and the block of order 0 at frame 5.
 Splits-met : Splits → IsFree 3 held (with_taken taken 4 0) (block 5 0) × IsFree 3 held (with_taken taken 4 0) (block 6 1)
 Splits-met law = (
   (law 3 held taken 4 2 0 upper_half_free (omega arith) (block 5 0)).1 (inr (0, omega arith, omega arith, refl)),
@@ -75,7 +77,7 @@ ReleaseStaysSound-met law = law 3 held taken 1 sound
 GrantStaysSound-met : GrantStaysSound → IsSound 3 (λ u. (u == 1) || held u) taken
 GrantStaysSound-met law = law 3 held (λ u. (u == 1) || held u) taken sound (λ u is. or_right (u == 1) (held u) is)
 
--- Slots 0 and 1 are held, and only frame 0 is taken.
+-- In `one_frame`, slots 0 and 1 are held, and only frame 0 is taken.
 
 abbrev one_frame : Machine
 one_frame = machine_after (Grant ∷ Grant ∷ Alloc 0 ∷ [])
@@ -83,7 +85,7 @@ one_frame = machine_after (Grant ∷ Grant ∷ Alloc 0 ∷ [])
 one_sound : IsSound 3 (holds one_frame) (taken_in one_frame)
 one_sound = taken_sound MOST_CACHES 3 one_frame (well_formed_left (Grant ∷ Grant ∷ Alloc 0 ∷ []) (tt, (tt, (tt, tt))))
 
--- at each order below 3, the buddy of the block around frame 0 is free
+-- at each order below 3, the block around frame 0 has a free buddy
 up_to_the_slot : (j : ℕ) → j ≤ 3 → (j ≡ 3) ⊎ (IsFree 3 (holds one_frame) (taken_in one_frame) (buddy (around 0 j)) → ⊥) → j ≡ 3
 unfolding layout_of alloc_step cache_step create_step next_number take_step grown_cache grown slab_to_use by_need reaped choice taken_blocks empty_machine next_slot after_grant
 up_to_the_slot j within (inl whole) = whole
@@ -92,7 +94,7 @@ up_to_the_slot (suc zero) within (inr taken) = absurd (taken ((free_is_tested 3 
 up_to_the_slot (suc (suc zero)) within (inr taken) = absurd (taken ((free_is_tested 3 (holds one_frame) (taken_in one_frame) (block 4 2)).0 refl))
 up_to_the_slot (suc (suc (suc j))) within (inr taken) = omega arith
 
--- so a release of frame 0 joins it with all these buddies
+-- so a release of frame 0 joins it with all these buddies, and the whole of slot 0 is free
 Joins-met : Joins → IsFree 3 (holds one_frame) (without_taken (taken_in one_frame) 0) (block 0 3)
 unfolding layout_of alloc_step cache_step create_step next_number take_step grown_cache grown slab_to_use by_need reaped choice taken_blocks empty_machine next_slot after_grant
 Joins-met law =
@@ -100,7 +102,7 @@ Joins-met law =
     let whole : joined.0 ≡ 3 = up_to_the_slot joined.0 joined.1.within joined.1.stops in
     (joined.2 (block 0 3)).1 (inl (ap (λ j. around 0 j) (sym whole)))
 
--- no frame of another slot is taken
+-- no frame of a slot other than slot 0 is taken
 untaken_elsewhere : (u : ℕ) → 0 == u ≡ false → HasTaken (taken_in one_frame) (slot_block 3 u) → ⊥
 unfolding layout_of alloc_step cache_step create_step next_number take_step grown_cache grown slab_to_use by_need reaped choice taken_blocks empty_machine next_slot after_grant
 untaken_elsewhere u other (x, in_slot, (f, k, at, in_block)) = go (0 == f) refl at
@@ -112,7 +114,7 @@ untaken_elsewhere u other (x, in_slot, (f, k, at, in_block)) = go (0 == f) refl 
         eqb-false 0 u other (omega (arith, in_slot.0, in_block.1))
     go false is e = absurd (cc)
 
--- so slot 1 can be taken back
+-- so the taken blocks are still sound after slot 1 is taken back
 TakeBackStaysSound-met : TakeBackStaysSound → IsSound 3 (λ u. 0 == u) (taken_in one_frame)
 TakeBackStaysSound-met law = law 3 (holds one_frame) (λ u. 0 == u) (taken_in one_frame) one_sound (λ u is. kept u (0 == u) refl)
   where

@@ -1,5 +1,5 @@
--- One instance of each law of objects and bytes: a machine after a few operations meets its premises. All slots have order 3,
--- which is 8 frames.
+-- One instance of each law of objects and bytes: a machine after a few operations meets the law's premises. All slots have order
+-- 3, which is 8 frames.
 use Rattle.std.proofs.Common.{◌≡◌, ℕ, ◌+◌, ◌*◌, ◌<◌, ◌≤◌, Bool, true, false, List, [], ◌∷◌, ◌++◌, map, Some, replicate, refl, sym, ap, ◌∙◌, arith}
 use Rattle.model_core.specs.declared.limits.TheConstants.{MOST_CACHES}
 use Rattle.model_core.specs.Layouts.{layout_of}
@@ -53,8 +53,8 @@ RecordsFree-met : RecordsFree → (0 ≤ 203) × (203 < 4064)
 unfolding layout_of
 RecordsFree-met law = law MOST_CACHES 3 machine is_well_formed second_object second_is_there refl 203 its_byte
 
--- A slab is made on the frame of an empty slab, which is freed on demand in the same step. All objects of the first cache are
--- handed out, one of them is written, and all are given back before the second cache makes a slab.
+-- Cache 0 has eight slabs, on all frames of slot 0. All their objects are handed out, one of them is written, and all are given
+-- back. Then a take from cache 1 frees these slabs on demand and makes its slab at frame 0.
 
 abbrev sixteen : List ℕ
 sixteen = 0 ∷ 1 ∷ 2 ∷ 3 ∷ 4 ∷ 5 ∷ 6 ∷ 7 ∷ 8 ∷ 9 ∷ 10 ∷ 11 ∷ 12 ∷ 13 ∷ 14 ∷ 15 ∷ []
@@ -81,7 +81,7 @@ can_be_requested = (
 abbrev anew : Machine
 anew = machine_after eight_slabs
 
--- the slab of the second cache, with its first object live; `second` says whether its second object is live
+-- the slab of cache 1, with its first object live; `second` says whether its second object is live
 abbrev new_slab_with : Bool → Slab
 new_slab_with second = record { first = 0; colour = 0; live = true ∷ second ∷ [] }
 
@@ -101,13 +101,13 @@ written_before : anew.bytes 2048 ≡ Some 99
 unfolding layout_of cache_step create_step next_number take_step give_step write_step in_reach grown_cache grown slab_to_use fresh_byte by_need reaped choice taken_blocks empty_machine next_slot after_grant
 written_before = refl
 
--- after the new slab is made, the object at place 2048 is not handed out yet and reads as the new pattern
+-- after the new slab is made, the object at place 2048 has not been handed out yet, and its first byte is that of the new pattern
 ConstructedFirst-met : ConstructedFirst → (machine_after (eight_slabs ++ Take 1 ∷ [])).bytes (2048 + 0) ≡ Some 22
 unfolding layout_of cache_step create_step next_number take_step give_step write_step in_reach grown_cache grown slab_to_use fresh_byte by_need reaped choice taken_blocks empty_machine next_slot after_grant
 ConstructedFirst-met law = law MOST_CACHES 3 (eight_slabs ++ Take 1 ∷ []) (object_anew false 1) 0 (each_append IsPossible eight_slabs (Take 1 ∷ []) can_be_requested (tt, tt))
     (record { cache_in = (1, omega arith, refl); slab_in = (0, omega arith, refl); index_in = omega arith }) (omega arith) refl
 
--- the object of the take that makes the slab reads as the new pattern, and so does the object of the next take
+-- The object of the first take, which makes the slab, reads as the new pattern. So does the object of the next take.
 ConstructedWhenTaken-met : ConstructedWhenTaken
     → ((take_step 3 1 anew).machine.bytes (0 + 5) ≡ Some 22) × ((take_step 3 1 (machine_after (eight_slabs ++ Take 1 ∷ []))).machine.bytes (2048 + 0) ≡ Some 22)
 unfolding layout_of cache_step create_step next_number take_step give_step write_step in_reach grown_cache grown slab_to_use fresh_byte by_need reaped choice taken_blocks empty_machine next_slot after_grant
@@ -127,7 +127,7 @@ AllocKeeps-met law = law 3 1 2 machine refl
 FreeKeeps-met : FreeKeeps → (free_step 1 machine).machine.bytes ≡ machine.bytes
 FreeKeeps-met law = law 1 machine
 
--- the first cache has a slab with an object that is not live
+-- cache 0 has a slab with an object that is not live, so a take from it makes no slab
 TakeKeeps-met : TakeKeeps → (take_step 3 0 machine).machine.bytes ≡ machine.bytes
 unfolding layout_of alloc_step cache_step create_step next_number take_step grown_cache grown slab_to_use by_need reaped choice taken_blocks empty_machine next_slot after_grant
 TakeKeeps-met law = law 3 0 machine refl
@@ -135,19 +135,20 @@ TakeKeeps-met law = law 3 0 machine refl
 GiveKeeps-met : GiveKeeps → (give_step 0 0 machine).machine.bytes ≡ machine.bytes
 GiveKeeps-met law = law 0 0 machine
 
--- a place of a held slot is left alone if it is in a slab both before and after, or in none both before and after
+-- Let an operation neither write a place nor make a slab there, and let the slot of the place be held before and after it. If the
+-- place is in a slab both before and after, or in none both times, the operation leaves it alone.
 left_alone : (operation : Operation) (m : Machine) (place : ℕ) (slab : Bool) → writes operation place ≡ false → makes_slab_at 3 operation m place ≡ false
     → in_slab m place ≡ slab → in_slab (after MOST_CACHES 3 operation m) place ≡ slab
     → holds m (slot_of 3 place) ≡ true → holds (after MOST_CACHES 3 operation m) (slot_of 3 place) ≡ true → IsLeftAlone MOST_CACHES 3 operation m place
 left_alone operation m place slab unwritten unmade before later held_before held_later =
     record { unwritten = unwritten; unmade = unmade; same_slab = later ∙ sym before; same_slot = held_later ∙ sym held_before }
 
--- a slab is made at frame 4, and the empty one at frame 0 keeps its bytes
+-- a take makes a slab at frame 4, and the byte at place 3, in the empty slab at frame 0, does not change
 BytesStay-met : BytesStay → (after MOST_CACHES 3 (Take 2) emptied).bytes 3 ≡ emptied.bytes 3
 unfolding layout_of cache_step create_step next_number take_step give_step grown_cache grown slab_to_use fresh_byte by_need reaped choice taken_blocks empty_machine next_slot after_grant
 BytesStay-met law = law MOST_CACHES 3 (Take 2) emptied 3 emptied_well_formed (left_alone (Take 2) emptied 3 true refl refl refl refl refl refl)
 
--- a byte of a live object and one of a page block are written
+-- a byte of a live object and a byte of a page block are written
 abbrev both_written : List Operation
 both_written = slab_and_page ++ (Write 3 (77 ∷ []) ∷ Write 4099 (78 ∷ []) ∷ [])
 
@@ -201,7 +202,7 @@ RunsKeepBytes-met law = (
   law MOST_CACHES 3 back_and_forth written 4099 (tt, (tt, (tt, (tt, tt)))) written_well_formed page_left_alone ∙ written_4099,
 )
 
--- a slab of another cache is made, and the first object, which is live, keeps its bytes
+-- a take makes a slab of another cache, and the byte at place 3, in the live object at place 0, does not change
 WritesAlone-met : WritesAlone → (after MOST_CACHES 3 (Take 2) crowded).bytes 3 ≡ crowded.bytes 3
 unfolding layout_of cache_step create_step next_number take_step give_step in_reach grown_cache grown slab_to_use fresh_byte by_need reaped choice taken_blocks empty_machine next_slot after_grant
 WritesAlone-met law = law MOST_CACHES 3 (Take 2) crowded 3 crowded_well_formed refl refl refl

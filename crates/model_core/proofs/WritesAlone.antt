@@ -26,7 +26,7 @@ use Rattle.model_core.proofs.Objects.{byte_is_of, IsPageByte, IsLiveByte, reache
 use Rattle.model_core.proofs.ConstructedObjects.{grown_byte, not_gone, next_unheld}
 use Rattle.model_core.proofs.ObjectsApart.{one_key}
 
--- What is in reach lies in a taken block
+-- A place in reach lies in a taken block
 
 abbrev Reached : Machine → ℕ → Type 0
 Reached m place = IsPageByte m place ⊎ IsLiveByte m place
@@ -61,7 +61,7 @@ reached_grown order first c m place w e r =
     let apart : IsApart b h.holder = each_in (IsApart b) h.holder (m.blocks ++ map laid_block (all_laid m.caches)) (subst (Each (IsApart b)) (taken_laid m) (chosen_apart order (layout c).order first m w.apart e)) h.holder_in in
     grown_byte first c m place false (apart_place place h.holder b (λ x p q. apart x q p) h.here)
 
--- a place in a page block, or in a live object of a slab that stays, is in no freed slab
+-- Let the slabs that pass q be freed. A place in a page block, or in a live object of a slab that stays, is in no freed slab.
 reached_kept : {limit : ℕ} (order : ℕ) (q : Laid → Bool) (m : Machine) (place : ℕ) → IsWellFormed limit order m → (r : Reached m place)
     → ((h : IsLiveByte m place) → q (laid h.cache h.slab) ≡ false) → list_any (in_block place) (map laid_block (filter q (all_laid m.caches))) ≡ false
 reached_kept order q m place w (inl h) kept =
@@ -80,7 +80,7 @@ some_live (flag ∷ flags) (suc i) lt live = or_right flag (list_any (λ live. l
 live_not_empty : (m : Machine) (place : ℕ) (h : IsLiveByte m place) → is_empty h.slab ≡ false
 live_not_empty m place h = ap not (some_live h.slab.live h.index h.index_in h.live)
 
--- What is in reach stays
+-- A place in reach keeps its byte
 
 abbrev Same : ℕ → Machine → Machine → Type 0
 Same place m n = n.bytes place ≡ m.bytes place
@@ -93,7 +93,7 @@ same_reaped order place m w r = ap (λ b. if b then Some 0 else m.bytes place) (
 same_by_need : {limit : ℕ} (order k place : ℕ) (m : Machine) → IsWellFormed limit order m → Reached m place → Same place m (by_need order k m)
 same_by_need order k place m w r = by_need_keeps (Same place m) order k m refl (same_reaped order place m w r)
 
--- a place in reach stays in reach of the reaped machine
+-- a place in reach is still in reach after a reap
 reached_reaped : (m : Machine) (place : ℕ) → Reached m place → Reached (reaped m) place
 unfolding reaped
 reached_reaped m place (inl h) = inl (record { page = h.page; page_in = h.page_in; in_page = h.in_page })
