@@ -1,4 +1,4 @@
--- Where a line ends.
+-- The bytes before the first LF are one line. If there is no LF, all bytes are one line.
 use Rattle.std.proofs.Common.{◌≡◌, ℕ, cond, zero, suc, ◌+◌, ◌<◌, ◌≤◌, ◌==◌, Bool, true, false, not, nat_lt, if◌then◌else◌, List, [], ◌∷◌, ◌++◌, Option, Some, None, length, take, drop, get_or, position, refl, ap, sym, ◌∙◌, arith, add-one}
 use Rattle.std.specs.List.{position_from}
 use Rattle.std.proofs.lemmas.Bool.{eqb-true, lt-ltb, le-ltb}
@@ -48,15 +48,15 @@ fails : (test : Bool) → ¬ (test ≡ true) → not test ≡ true
 fails true none = absurd (none refl)
 fails false none = refl
 
--- if no byte before index n passes the test, and the byte at n passes if there is one, the first position is n, or None at the
--- end
+-- Let no byte before index n pass the test, and let the byte at n pass it unless n is the end. Then `position` returns n, or None
+-- if n is the end.
 first_at : (p : ℕ → Bool) (bytes : List ℕ) (n : ℕ) → n ≤ length bytes → ((k : ℕ) → k < n → ¬ (p (get_or bytes k 0) ≡ true))
     → (n < length bytes → p (get_or bytes n 0) ≡ true) → position p bytes ≡ (if nat_lt n (length bytes) then Some n else None)
 first_at p bytes n within before at =
     ap (λ m. if nat_lt m (length bytes) then Some m else None)
     (prefix_len_is (λ b. not (p b)) bytes n 0 within (λ k below. fails (p (get_or bytes k 0)) (before k below)) (λ some. ap not (at some)))
 
--- a result that `IsFirstByte` describes is the first position whose byte passes the test
+-- a result that meets `IsFirstByte` is the result of `position`: the index of the first byte that passes the test, or None
 pub first_byte : (p : ℕ → Bool) (bytes : List ℕ) (found : Option ℕ) → IsFirstByte p bytes found → found ≡ position p bytes
 first_byte p bytes (Some n) is =
     sym (first_at p bytes n (omega (arith, is.0.high)) (λ k below. is.0.before k (omega arith) below) (λ _. is.1)

@@ -1,4 +1,4 @@
--- Lines end with an LF, byte 10.
+-- The bytes of one line, without the LF (byte 10) that ends the line.
 use Rattle.std.specs.Prelude.{◌≡◌, ℕ, ◌==◌, false, List, [], ◌∷◌}
 
 -- none of the bytes is an LF

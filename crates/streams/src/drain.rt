@@ -10,8 +10,8 @@ pub const TEXT_BYTES: usize = 160;
 pub trait Text {
     ghost bytes: { Self → List ℕ };
 
-    /// Writes the text to the front of the buffer and returns the length of the text in bytes. The buffer needs `TEXT_BYTES`
-    /// bytes. Its bytes after the text may change.
+    /// Writes the text to the front of the buffer and returns the length of the text in bytes. The buffer has to have at least
+    /// `TEXT_BYTES` bytes. Its bytes after the text may change.
     fn write(self, buffer: &mut [u8]) -> usize
         requires space { TEXT_BYTES ≤ length buffer.old }
         ensures text { take result buffer.new ≡ bytes self }
@@ -23,7 +23,7 @@ pub trait Drain {
     // The bytes that the drain has taken, if they are known.
     ghost contents: { Self → Option (List ℕ) } = { λ _. None };
 
-    // The last of these bytes: those that the drain has not passed on yet.
+    // The bytes that the drain has taken and not passed on yet. They are the last bytes of its contents.
     ghost held_back: { Self → List ℕ } = { λ _. [] };
 
     // True if a push has failed.

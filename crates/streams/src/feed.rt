@@ -2,7 +2,7 @@ ghost use Rattle.std.specs.Prelude.{◌≡◌, ℕ, ◌+◌, ◌<◌, ◌≤◌,
 ghost use Rattle.std.specs.Io.KnownBytes.{ReadConsumes};
 ghost use Rattle.streams.specs.Moves.{moved_count};
 
-/// The error of a feed or a drain that has failed. It gave or took no byte in this call.
+/// The error of a feed or a drain that has failed. In the call that returns it, the feed gave no byte, or the drain took none.
 #[derive(Clone, Copy, Debug, PartialEq, Eq)]
 pub struct Stopped;
 

@@ -58,7 +58,7 @@ impl Held {
         self.bytes.len() - self.len >= TEXT_BYTES
     }
 
-    /// Appends a text and returns its length in bytes.
+    /// Appends a text and returns its length in bytes. At least `TEXT_BYTES` bytes have to be free, also for a shorter text.
     #[inline(always)]
     pub fn append_text<T: Text>(&mut self, text: T) -> usize
         requires { TEXT_BYTES ≤ self.old.free }
@@ -73,28 +73,28 @@ impl Held {
         len
     }
 
-    /// Returns the bytes.
+    /// Returns the held bytes.
     pub fn as_slice(&self) -> &[u8]
         ensures { result.now ≡ self.now.bytes }
     {
         &self.bytes[..self.len]
     }
 
-    /// Returns the number of bytes.
+    /// Returns the number of held bytes.
     pub fn len(&self) -> usize
         ensures { result ≡ length self.now.bytes }
     {
         self.len
     }
 
-    /// Returns true if it holds no bytes.
+    /// Returns true if no bytes are held.
     pub fn is_empty(&self) -> bool
         ensures { result ≡ (length self.now.bytes == 0) }
     {
         self.len == 0
     }
 
-    /// Removes the first `count` bytes and moves the others to the front.
+    /// Removes the first `count` bytes and moves the others to the front. At least `count` bytes have to be held.
     pub fn remove_front(&mut self, count: usize)
         requires { count ≤ length self.old.bytes }
         ensures bytes { self.new.bytes ≡ drop count self.old.bytes }

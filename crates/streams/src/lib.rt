@@ -1,5 +1,5 @@
-//! The source that gives a trace in pieces, and the sink that takes its replies in pieces. A [`Feed`] is a source: [`ReaderFeed`]
-//! reads from one of std's readers, and [`LineLimit`] limits the line feeds of another feed. A [`Drain`] is a sink:
+//! Feeds, which give a trace in pieces, and drains, which take its replies in pieces. A [`Feed`] is a source: [`ReaderFeed`]
+//! reads from one of std's readers, and [`LineLimit`] limits how many line feeds an inner feed gives. A [`Drain`] is a sink:
 //! [`WriterDrain`] writes to one of std's writers. Only line feeds have a meaning here; other bytes are not interpreted.
 #![tactic(auto)]
 

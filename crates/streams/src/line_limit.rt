@@ -1,4 +1,4 @@
-//! A limit on the lines of a trace.
+//! A limit on the number of lines of a trace.
 
 ghost use Rattle.std.specs.Prelude.{◌≡◌, ◌+◌, ◌-◌, ◌<◌, ◌≤◌, true, false, ◌==◌, count_by, length, take, IfOk, OnErr, is_err};
 ghost use Rattle.std.specs.Io.KnownBytes.{ReadConsumes};
@@ -7,8 +7,8 @@ ghost use Rattle.streams.specs.Moves.{moved_count};
 use crate::feed::{Feed, Stopped};
 use std::simd::prelude::*;
 
-/// A feed with a limit on its line feeds. Once the limit is reached or exceeded, the next pull fails unless the inner feed has
-/// ended.
+/// A feed that gives what an inner feed gives, with a limit on the number of line feeds. Once the limit is reached or exceeded,
+/// the next pull fails unless the inner feed has ended.
 #[derive(Debug, Drop)]
 pub struct LineLimit<F: Feed> {
     feed: F,
@@ -19,7 +19,8 @@ pub struct LineLimit<F: Feed> {
 }
 
 impl<F: Feed> LineLimit<F> {
-    /// Makes a feed that gives what the inner feed gives, up to and including the pull that reaches `limit` line feeds.
+    /// Makes a feed that gives what `feed` gives, up to and including the pull that reaches or exceeds `limit` line feeds. No
+    /// pull of `feed` may have failed.
     pub fn new(feed: F, limit: u64) -> Self
         requires { F.has_failed feed ≡ false }
         ensures remaining { ⟦<LineLimit<F> as Feed>⟧.remaining result ≡ F.remaining feed }
@@ -88,7 +89,7 @@ impl<F: Feed> Feed for LineLimit<F> {
     }
 }
 
-/// Returns the number of line feeds.
+/// Returns the number of line feeds among the bytes.
 fn line_feeds(bytes: &[u8]) -> usize
     ensures { result ≡ count_by (λ b. b == 10) bytes.now }
 {

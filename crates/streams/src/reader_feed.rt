@@ -9,8 +9,8 @@ const MOST_TRACE_BYTES: u64 = 1 << 30;
 
 /// A feed over one of std's readers, with a limit on the number of its bytes: 1 GiB by default.
 ///
-/// An interrupted read also counts as a failure. When the limit is used up, a pull returns 0 if the reader is at its end, and
-/// fails otherwise.
+/// A failed read makes the pull fail, and so does an interrupted read. When the limit is used up, a pull returns 0 if the reader
+/// is at its end, and fails otherwise.
 #[derive(Debug, Drop)]
 pub struct ReaderFeed<R: Read> {
     reader: R,
@@ -24,7 +24,7 @@ pub struct ReaderFeed<R: Read> {
 }
 
 impl<R: Read> ReaderFeed<R> {
-    /// Makes a feed over this reader, of at most 1 GiB.
+    /// Makes a feed that gives at most 1 GiB from this reader.
     pub fn new(reader: R) -> Self
         ensures remaining { ⟦<ReaderFeed<R> as Feed>⟧.remaining result ≡ R.remaining reader }
         ensures room { ⟦<ReaderFeed<R> as Feed>⟧.room_left result ≡ 2 ^ 30 }
@@ -34,7 +34,7 @@ impl<R: Read> ReaderFeed<R> {
         ReaderFeed::with_room(reader, MOST_TRACE_BYTES)
     }
 
-    /// Makes a feed over this reader, of at most `room` bytes.
+    /// Makes a feed that gives at most `room` bytes from this reader.
     pub fn with_room(reader: R, room: u64) -> Self
         ensures remaining { ⟦<ReaderFeed<R> as Feed>⟧.remaining result ≡ R.remaining reader }
         ensures room { ⟦<ReaderFeed<R> as Feed>⟧.room_left result ≡ room }

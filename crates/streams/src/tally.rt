@@ -1,4 +1,4 @@
-//! What a replay returns when it ends.
+//! The counts of a replay, and the error of a replay that failed.
 
 use thiserror::Error;
 
@@ -21,7 +21,7 @@ pub enum ReplayError {
     /// The feed failed. All lines that ended in LF were run, and all their replies were pushed. An unfinished line was not run.
     #[error("the trace could not be read")]
     Feed(Tally),
-    /// The drain failed. A prefix of the replies was pushed. The last line that was run is the one whose reply was cut.
+    /// The drain failed. A prefix of the replies was pushed. The reply that was cut is the reply to the last line that was run.
     #[error("the replies could not be written")]
     Drain(Tally),
 }

@@ -43,7 +43,7 @@ impl<W: Write> WriterDrain<W> {
         }
     }
 
-    /// Makes a drain into this writer that buffers as many bytes as the capacity of `buffer`, which has to be empty.
+    /// Makes a drain into this writer that buffers up to `buffer.capacity()` bytes. `buffer` has to be empty.
     pub fn holding(writer: W, buffer: Vec<u8>) -> Self
         requires { vec_len buffer ≡ 0 }
         ensures contents { ⟦<WriterDrain<W> as Drain>⟧.contents result ≡ W.contents writer }
@@ -61,7 +61,8 @@ impl<W: Write> WriterDrain<W> {
         }
     }
 
-    /// Writes the buffered bytes and flushes the writer. Returns `Stopped` if a write or the flush fails, or if a send has failed.
+    /// Writes the buffered bytes and flushes the writer. Returns `Stopped` if a send failed before, or if a write or the flush
+    /// fails. No push or flush may have failed before.
     pub fn flush(&mut self) -> Result<(), Stopped>
         requires { ⟦<WriterDrain<W> as Drain>⟧.has_failed self.old ≡ false }
         ensures bytes { Keeps (⟦<WriterDrain<W> as Drain>⟧.contents self.old) (⟦<WriterDrain<W> as Drain>⟧.contents self.new) }
@@ -98,7 +99,8 @@ impl<W: Write> WriterDrain<W> {
         self.send_failed
     }
 
-    /// Writes the buffered bytes, and then takes these bytes, which did not fit. Fails at once if a send has failed.
+    /// Writes the buffered bytes, and then takes a prefix of `bytes`, which did not fit beside them. Fails at once if a send has
+    /// failed.
     #[cold]
     #[inline(never)]
     fn push_beyond(&mut self, bytes: &[u8]) -> Result<usize, Stopped>
@@ -123,7 +125,7 @@ impl<W: Write> WriterDrain<W> {
         self.write_through(bytes)
     }
 
-    /// Writes bytes straight to the writer. The buffer has to be empty.
+    /// Writes a prefix of these bytes straight to the writer and returns the length of the prefix. The buffer has to be empty.
     fn write_through(&mut self, bytes: &[u8]) -> Result<usize, Stopped>
         requires empty { held_bytes self.old.held ≡ [] }
         requires fine { ⟦<WriterDrain<W> as Drain>⟧.has_failed self.old ≡ false }
