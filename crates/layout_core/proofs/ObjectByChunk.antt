@@ -1,11 +1,11 @@
--- An object is found by the number of its chunk.
+-- The object at an offset of a slab is found by dividing the offset, less the colour offset, by the chunk size.
 use Rattle.std.proofs.Common.{◌≡◌, ℕ, ◌+◌, ◌-◌, ◌*◌, ◌/◌, ◌%◌, ◌<◌, ◌≤◌, refl, ap, sym, ◌∙◌, arith}
 use Rattle.std.proofs.lemmas.Nat.{div-mul-add, mod-mul-add}
 use Rattle.std.proofs.Math.Nat.{div-mul-le_self}
 use Rattle.layout_core.specs.Cut.{Cut, numbers_of}
 use Rattle.layout_core.specs.Objects.{Begins, Holds, IsOnly}
 
--- what a division gives for an offset that lies `inside` bytes after the beginning of chunk i
+-- dividing offset - colour, which is at least 0, by the chunk size gives i and leaves the remainder `inside`
 pub record IsAt (colour offset chunk i inside : ℕ) : Type 0 where
   pub behind : colour ≤ offset
   pub chunk_of : (offset - colour) / chunk ≡ i
@@ -27,20 +27,21 @@ begins_at l chunk colour offset i same some b =
     let begins : colour + i * (numbers_of l).chunk ≡ offset = b.begins in
     is_at colour offset chunk i 0 (omega arith) some
 
--- chunk i, in which byte `from` is, begins at that byte or before it
+-- if byte `from` is in chunk i, chunk i begins at this byte or before it
 chunk_begins : (l : Cut) (chunk from i : ℕ) → chunk ≡ (numbers_of l).chunk → i ≡ from / (numbers_of l).chunk → i * chunk ≤ from
 chunk_begins l chunk from i same is =
     let at : i * chunk ≡ from / (numbers_of l).chunk * (numbers_of l).chunk = ap (λ n. i * n) same ∙ ap (λ n. n * (numbers_of l).chunk) is in
     let least : from / (numbers_of l).chunk * (numbers_of l).chunk ≤ from = div-mul-le_self from (numbers_of l).chunk in
     omega arith
 
--- two equal chunk sizes find the same chunk for a byte
+-- if `chunk` equals the layout's chunk size, dividing by either of them finds the same chunk for a byte
 same_chunk : (l : Cut) (chunk colour offset from i j : ℕ) → chunk ≡ (numbers_of l).chunk → i ≡ from / (numbers_of l).chunk → from ≡ offset - colour
     → (offset - colour) / chunk ≡ j → j ≡ i
 same_chunk l chunk colour offset from i j same is from_is at =
     sym at ∙ sym (ap (λ n. n / chunk) from_is) ∙ ap (λ n. from / n) same ∙ sym is
 
--- if an equal chunk size finds chunk j for a byte, and the slab has a chunk j, the byte is in a chunk of the slab
+-- if `chunk` equals the layout's chunk size, and dividing by `chunk` finds a chunk of the slab for a byte, so does dividing by
+-- the layout's chunk size
 pub chunk_below : (l : Cut) (chunk colour offset from j : ℕ) → chunk ≡ (numbers_of l).chunk → from ≡ offset - colour → (offset - colour) / chunk ≡ j
     → j < (numbers_of l).count → from / (numbers_of l).chunk < (numbers_of l).count
 chunk_below l chunk colour offset from j same from_is at below =
@@ -87,7 +88,7 @@ holds_only l chunk colour offset len from i same sized below is behind from_is s
       only = λ j h. same_chunk l chunk colour offset from i j same is from_is (holds_at l chunk colour offset len j same sized h).1.chunk_of;
     }
 
--- if an object holds the range, the range ends within `size` bytes of its chunk
+-- if an object contains a range, the range ends at most `size` bytes after the beginning of the chunk that has byte `from`
 pub holds_within : (l : Cut) (chunk colour offset len from i j : ℕ) → chunk ≡ (numbers_of l).chunk → l.size ≤ chunk → i ≡ from / (numbers_of l).chunk
     → from ≡ offset - colour → Holds l colour offset len j → from - i * chunk + len ≤ l.size
 holds_within l chunk colour offset len from i j same sized is from_is h =

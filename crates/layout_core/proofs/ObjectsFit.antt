@@ -11,7 +11,7 @@ pub colour_fits : (l : Cut) (colour : ℕ) → is_size l.size ≡ true → is_al
 colour_fits l colour sized aligned is =
     subst (λ x. IsFit (numbers_of l) x) (sym is.1) ((layouts_fit l.size l.align sized aligned).fits is.0)
 
--- in any slab, each object ends within the first 32768 bytes
+-- in any slab, the chunk of each object ends within the first 32768 bytes
 pub ends_within : (l : Cut) (colour chunk i : ℕ) → is_size l.size ≡ true → is_alignment l.align ≡ true → IsColour l colour
     → chunk ≡ (numbers_of l).chunk → i < (numbers_of l).count → colour + (i + 1) * chunk ≤ 32768
 ends_within l colour chunk i sized aligned is same object =
@@ -22,7 +22,7 @@ ends_within l colour chunk i sized aligned is same object =
     let at : (i + 1) * chunk ≡ (i + 1) * (numbers_of l).chunk = ap (λ n. (i + 1) * n) same in
     omega arith
 
--- the fields of a layout are the numbers of its size and alignment
+-- the fields that `Layout::of` computes are the numbers that follow from the size and the alignment
 pub is_cut : (size align chunk order usable : ℕ) → is_size size ≡ true → is_alignment align ≡ true
     → chunk ≡ chunk_of size align → order ≡ slab_order chunk → usable ≡ usable_bytes chunk
     → AreLayoutFields size align chunk order (usable / chunk) ((usable - usable / chunk * chunk) / align + 1) (reciprocal_of chunk)

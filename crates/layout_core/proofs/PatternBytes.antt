@@ -5,7 +5,7 @@ use Rattle.std.proofs.lemmas.List.{take-replicate, drop-replicate}
 use Rattle.std.proofs.Math.Seq.{take-append_seam, take-append-add}
 use Rattle.layout_core.specs.Inside.{IsHeld}
 
--- 1 to 16 bytes, padded with zeros to 16, are the bytes of a pattern
+-- any 1 to 16 bytes, padded with zeros to 16 bytes, are valid fields of a `Pattern`
 pub is_held : (xs : List ℕ) → 0 < length xs → length xs ≤ 16 → IsHeld (xs ++ drop (length xs) (replicate 16 0)) (length xs)
 is_held xs some few =
     let n = length xs in

@@ -1,4 +1,4 @@
--- Multiplying by the reciprocal finds the same chunk as dividing.
+-- Multiplying by the reciprocal of the chunk size finds the same chunk as dividing by the chunk size.
 use Rattle.std.proofs.Common.{◌≡◌, ℕ, ◌+◌, ◌-◌, ◌*◌, ◌/◌, ◌%◌, ◌^◌, ◌<◌, ◌≤◌, arith, ap, ◌∙◌, inl, inr}
 use Rattle.std.proofs.lemmas.Bool.{cases_lt}
 use Rattle.std.proofs.lemmas.Nat.{div-add-mod', le-div}
@@ -7,7 +7,7 @@ use Rattle.model_core.proofs.Layouts.{layouts_fit}
 use Rattle.model_core.specs.Layouts.{layout_of}
 use Rattle.layout_core.specs.Inside.{AreLayoutFields, reciprocal_of}
 
--- a reciprocal that is not too small finds no chunk before the right one
+-- if m * chunk is at least `whole`, multiplying by m finds no chunk before the right one
 product_reaches : (whole chunk m from : ℕ) → whole ≤ m * chunk → from / chunk * whole ≤ from * m
 product_reaches whole chunk m from over =
     let split : from / chunk * chunk + from % chunk ≡ from = div-add-mod' from chunk in
@@ -15,7 +15,7 @@ product_reaches whole chunk m from over =
     let columns : from / chunk * chunk * m ≤ from * m = mul-le-mul_right m (omega arith) in
     omega arith
 
--- .. and it finds no chunk after the right one if (from / chunk + 1) * more is less than the reciprocal m
+-- .. and if m * chunk is `whole + more`, and (from / chunk + 1) * more is below m, it finds no chunk after the right one
 product_stays : (whole chunk m more from : ℕ) → 0 < chunk → m * chunk ≡ whole + more → (from / chunk + 1) * more < m
     → from * m < (from / chunk + 1) * whole
 product_stays whole chunk m more from some is few =
@@ -25,7 +25,7 @@ product_stays whole chunk m more from some is few =
     let rest : (from % chunk + 1) * m ≤ chunk * m = mul-le-mul_right m (omega (arith, mod-lt from some)) in
     omega arith
 
--- m * chunk is above 2 ^ 32 by `more`, which is at most `chunk`
+-- m * chunk is 2 ^ 32 + `more`, and `more` is at most `chunk`
 record IsNear (chunk m : ℕ) : Type 0 where
   pub more : ℕ
   pub is : m * chunk ≡ 2 ^ 32 + more
@@ -37,7 +37,8 @@ is_near chunk some =
     let below : 2 ^ 32 % chunk < chunk = mod-lt (2 ^ 32) some in
     record { more = chunk - 2 ^ 32 % chunk; is = omega arith; few = omega arith }
 
--- for a byte of a slab the product gives the quotient
+-- for a byte `from` below 32768 and a chunk of 1 to 32768 bytes, multiplying by the reciprocal and dividing by 2 ^ 32 gives from
+-- / chunk
 exact : (chunk from : ℕ) → 0 < chunk → chunk ≤ 32768 → from < 32768 → from * reciprocal_of chunk / 2 ^ 32 ≡ from / chunk
 exact chunk from some few below =
     let near = is_near chunk some in
@@ -48,7 +49,7 @@ exact chunk from some few below =
     (product_reaches (2 ^ 32) chunk (reciprocal_of chunk) from (omega (arith, near.is)))
     (product_stays (2 ^ 32) chunk (reciprocal_of chunk) near.more from some near.is (omega arith))
 
--- one chunk has at most 32768 bytes, and so have all chunks of the slab together
+-- each chunk has at most 32768 bytes, and all chunks of the slab together have at most 32768 bytes
 record IsWithin (chunk count : ℕ) : Type 0 where
   pub one : chunk ≤ 32768
   pub all : count * chunk ≤ 32768
@@ -63,7 +64,7 @@ is_within size align chunk order count colours reciprocal fields =
     let some : 1 * chunk ≤ count * chunk = mul-le-mul_right chunk (omega (arith, fit.some, fields.count_is)) in
     record { one = omega arith; all = omega arith }
 
--- if the product finds a chunk of the slab, it is the right chunk
+-- if multiplying finds a chunk of the slab for a byte, dividing finds the same chunk
 found : (chunk count from : ℕ) → 0 < chunk → IsWithin chunk count → from * reciprocal_of chunk / 2 ^ 32 < count
     → from * reciprocal_of chunk / 2 ^ 32 ≡ from / chunk
 found chunk count from some within below =
@@ -74,7 +75,7 @@ found chunk count from some within below =
     let rows : (from / chunk + 1) * chunk ≤ count * chunk = mul-le-mul_right chunk (omega arith) in
     exact chunk from some within.one (omega (arith, mod-lt from some, within.all))
 
--- if the product finds no chunk of the slab, the byte is after the last chunk
+-- if multiplying finds no chunk of the slab for a byte, the byte is after the last chunk
 missed : (chunk count from : ℕ) → 0 < chunk → IsWithin chunk count → count ≤ from * reciprocal_of chunk / 2 ^ 32 → count ≤ from / chunk
 missed chunk count from some within above = elim (cases_lt (from / chunk) count) [
   | inl below ↦
@@ -85,7 +86,7 @@ missed chunk count from some within above = elim (cases_lt (from / chunk) count)
   | inr least ↦ least
 ]
 
--- a product with the reciprocal that a layout keeps is a product with the reciprocal of its chunk
+-- a product with the reciprocal that a layout stores is a product with `reciprocal_of` its chunk
 product_is : (from reciprocal chunk a b : ℕ) → a ≡ from → b ≡ reciprocal → reciprocal ≡ reciprocal_of chunk
     → a * b / 2 ^ 32 ≡ from * reciprocal_of chunk / 2 ^ 32
 product_is from reciprocal chunk a b a_is b_is is =

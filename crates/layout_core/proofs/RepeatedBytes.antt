@@ -18,7 +18,7 @@ twice done period whole =
     let e : done * 2 ≡ done + done = omega arith in
     ap (λ n. n % period) e ∙ round done period done whole ∙ whole
 
--- if the filled part repeats the old bytes, it still does after it is copied to the bytes behind it
+-- if the filled part repeats the first `period` old bytes, the part that is filled after one more copy repeats them too
 pub copied_on : (old front rest : List ℕ) (more done period : ℕ) → length front ≡ done → more ≤ done → ((i : ℕ) → i < done → i < length rest → i < more)
     → done % period ≡ 0 → ((j : ℕ) → j < done → slice_index front j ≡ slice_index old (j % period))
     → (j : ℕ) → j < done * 2 → j < done + length rest → slice_index (front ++ (take more front ++ drop more rest)) j ≡ slice_index old (j % period)

@@ -1,4 +1,4 @@
--- The order of a slab is the least that leaves at most an eighth unused, and few objects fit into a slab.
+-- The laws of layouts: every accepted size has a slab order, a slab has few objects, and its objects share no byte.
 use Rattle.std.proofs.Common.{◌≡◌, ℕ, ◌/◌, ◌%◌, ◌<◌, ◌≤◌, Bool, true, false, refl, sym, ◌∙◌, subst, arith, below_more}
 use Rattle.std.proofs.lemmas.Bool.{and_parts, false≢true, ltb-false, leb-true, leb-false, le-leb}
 use Rattle.std.proofs.lemmas.Nat.{mod_below}
@@ -16,7 +16,7 @@ size_least size is = leb-true 1 size (and_parts _ _ is).0
 size_most : (size : ℕ) → is_size size ≡ true → size ≤ 4096
 size_most size is = leb-true size 4096 (and_parts _ _ is).1
 
--- if chunks leave more than an eighth of the bytes unused, a chunk is larger than an eighth
+-- if chunks leave more than an eighth of the bytes unused, a chunk is larger than an eighth of the bytes
 large_chunk : (bytes chunk : ℕ) → 0 < chunk → nat_le (bytes % chunk) (bytes / 8) ≡ false → bytes / 8 < chunk
 large_chunk bytes chunk some left =
     let below = mod_below bytes chunk some in

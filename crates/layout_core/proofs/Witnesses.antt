@@ -1,4 +1,4 @@
--- One instance of each law: numbers that meet its premises, and what the law says of them.
+-- One instance of each law of layouts: numbers that meet the law's premises, and what the law says of them.
 use Rattle.std.proofs.Common.{◌≡◌, ℕ, ◌≤◌, refl, arith}
 use Rattle.model_core.specs.Layouts.{LayoutsFit, IsLayout, layout_of}
 use Rattle.layout_core.specs.Cut.{cut}
@@ -8,7 +8,7 @@ use Rattle.layout_core.specs.Laws.{IsLeastOrder, EverySizeHasAnOrder, OffsetsApa
 LayoutsFit-met : LayoutsFit → IsLayout 200 8 (layout_of 200 8)
 LayoutsFit-met law = law 200 8 refl refl
 
--- for chunks of 3000 bytes, four frames leave at most an eighth unused; one frame and two frames leave more
+-- for chunks of 3000 bytes, a slab of four frames leaves at most an eighth unused, and slabs of one or two frames leave more
 EverySizeHasAnOrder-met : EverySizeHasAnOrder → IsLeastOrder 3000 2
 unfolding layout_of
 EverySizeHasAnOrder-met law = law 3000 8 refl refl

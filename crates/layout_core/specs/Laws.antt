@@ -4,7 +4,8 @@ use Rattle.model_core.specs.Layouts.{layout_of, is_size, is_alignment, is_small,
 use Rattle.layout_core.specs.Cut.{cut}
 use Rattle.layout_core.specs.Objects.{Holds}
 
--- the order of a slab: 0 for small chunks, else the least order that leaves at most an eighth of the slab unused
+-- The order of a slab is at most 3. It is 0 for small chunks, else the least order that leaves at most an eighth of the slab
+-- unused.
 pub record IsLeastOrder (chunk order : ℕ) : Type 0 where
   pub few : order ≤ 3
   pub small : is_small chunk ≡ true → order ≡ 0
@@ -15,7 +16,7 @@ abbrev pub EverySizeHasAnOrder : Type 0
 EverySizeHasAnOrder = (size align : ℕ) → is_size size ≡ true → is_alignment align ≡ true
     → IsLeastOrder (layout_of size align).chunk (layout_of size align).order
 
--- two objects that hold the same byte are the same
+-- two objects of a slab that contain the same byte are the same
 abbrev pub OffsetsApart : Type 0
 OffsetsApart = (size align colour offset i j : ℕ) → is_size size ≡ true → is_alignment align ≡ true
     → Holds (cut size align) colour offset 1 i → Holds (cut size align) colour offset 1 j → i ≡ j

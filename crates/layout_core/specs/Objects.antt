@@ -6,19 +6,19 @@ use Rattle.layout_core.specs.Cut.{Cut, numbers_of}
 abbrev pub IsColour : Cut → ℕ → Type 0
 IsColour l colour = (made : ℕ) × (colour ≡ colour_offset l.align made (numbers_of l))
 
--- object i begins at this offset of the slab
+-- a slab with this layout has an object i, which begins at this offset
 pub record Begins (l : Cut) (colour offset i : ℕ) : Type 0 where
   pub object : i < (numbers_of l).count
   pub begins : object_offset (numbers_of l) colour i ≡ offset
 
--- object i contains the `len` bytes from this offset on, and `len` is not 0
+-- a slab with this layout has an object i, which contains the `len` bytes from this offset on; `len` is not 0
 pub record Holds (l : Cut) (colour offset len i : ℕ) : Type 0 where
   pub object : i < (numbers_of l).count
   pub some : 0 < len
   pub from : object_offset (numbers_of l) colour i ≤ offset
   pub to : offset + len ≤ object_offset (numbers_of l) colour i + l.size
 
--- i is the only number for which P holds
+-- P is true of i, and of no other number
 pub record IsOnly (P : ℕ → Type 0) (i : ℕ) : Type 0 where
   pub is : P i
   pub only : (j : ℕ) → P j → j ≡ i

@@ -14,7 +14,7 @@ pub fn every_size_has_an_order()
     ensures { EverySizeHasAnOrder }
 {}
 
-/// The objects of a slab share no byte.
+/// No two objects of a slab share a byte.
 pub fn objects_apart()
     ensures { OffsetsApart }
 {}

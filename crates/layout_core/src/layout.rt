@@ -117,7 +117,8 @@ impl Layout {
         self.colours
     }
 
-    /// Returns true if the objects are small: a slab is one frame, and its control record is in the last 32 bytes.
+    /// Returns true if the chunks are small: less than 512 bytes. A slab is then one frame, with its control record in the last
+    /// 32 bytes.
     pub fn in_page(&self) -> bool
         ensures { result ≡ is_small (numbers_of self.now).chunk }
     {
@@ -144,7 +145,8 @@ impl Layout {
         colour + i * self.chunk
     }
 
-    /// Returns the index of the object that begins at this offset of a slab, or `None` if no object begins there.
+    /// Returns the index of the object that begins at this offset of a slab with this colour offset. Returns `None` if no object
+    /// begins there. Offsets are in bytes.
     pub fn index_of(&self, colour: u32, offset: u32) -> Option<u32>
         ensures { MatchOption result ((i : ℕ) → ¬ Begins self.now colour offset i) (IsOnly (Begins self.now colour offset)) }
     {
@@ -158,8 +160,8 @@ impl Layout {
         }
     }
 
-    /// Returns the index of the object that holds the `len` bytes from this offset on, or `None` if no object does. No object
-    /// holds a range of 0 bytes.
+    /// Returns the index of the object that contains the `len` bytes from this offset on, in a slab with this colour offset.
+    /// Returns `None` if no object does. No object contains a range of 0 bytes.
     pub fn holder(&self, colour: u32, offset: u32, len: u32) -> Option<u32>
         ensures { MatchOption result ((i : ℕ) → ¬ Holds self.now colour offset len i) (IsOnly (Holds self.now colour offset len)) }
     {
@@ -174,9 +176,9 @@ impl Layout {
         }
     }
 
-    /// Returns the index of the chunk that holds byte `from`, or `None` if the byte is after the last chunk. Chunks and bytes are
-    /// counted from the beginning of the slab's first object. A slab has at most 32,768 bytes, so the multiplication finds the
-    /// same chunk as a division would.
+    /// Returns the index of the chunk that contains byte `from`, or `None` if the byte is after the last chunk. Chunks and bytes
+    /// are counted from the beginning of the slab's first object. A slab has at most 32,768 bytes, so multiplying by the
+    /// reciprocal finds the same chunk as dividing.
     #[inline(always)]
     fn chunk_at(&self, from: u32) -> Option<u32>
         ensures { MatchOption result ((numbers_of self.now).count ≤ from / (numbers_of self.now).chunk)
@@ -208,7 +210,7 @@ fn reciprocal_of(chunk: u32) -> u32
     ((1 << 32) / u64::from(chunk) + 1) as u32
 }
 
-/// Returns true if chunks leave at most an eighth of a slab of `2^order` frames unused.
+/// Returns true if chunks of this size leave at most an eighth of a slab of `2^order` frames unused.
 fn is_thrifty(chunk: u32, order: u8) -> bool
     requires chunk { 0 < chunk }
     requires order { order ≤ 3 }
@@ -218,7 +220,7 @@ fn is_thrifty(chunk: u32, order: u8) -> bool
     bytes % chunk <= bytes / 8
 }
 
-/// Returns the order of a slab: 0 for small objects, else the least order that leaves at most an eighth of the slab unused.
+/// Returns the order of a slab: 0 for small chunks, else the least order that leaves at most an eighth of the slab unused.
 fn slab_order(chunk: u32) -> u8
     requires { 0 < chunk }
     ensures order { result ≡ model_slab_order chunk }
