@@ -1,4 +1,4 @@
--- A chain of links, in one direction, after an insertion and after a removal.
+-- The links of a table in one direction are still a chain after an insertion and after a removal.
 use Rattle.std.proofs.Common.{◌≡◌, ℕ, ◌+◌, ◌<◌, ◌≤◌, Option, Some, None, refl, ap, sym, ◌∙◌, subst, ◌⊎◌, inl, inr, arith}
 use Rattle.std.specs.Prelude.{◌≢◌}
 use Rattle.std.proofs.lemmas.Bool.{cases_lt, cases_eq}
@@ -6,19 +6,21 @@ use Rattle.klist_core.specs.Links.{IsNearest, IsAfter, IsChain}
 use Rattle.klist_core.proofs.Directions.{IsDirection, IsKeyed, IsGreatest, IsLastBelow}
 use Rattle.klist_core.proofs.NearestChanged.{IsPut, IsBetween, same_list, same_key, others_kept_large, others_kept_small, kept_large, kept_small, joined_large, joined_small}
 
--- the link after `before` in list h is now `to`, and no other link has changed except that of node n
+-- In one direction, `to` is now the link of node `before`, or the end of list h if `before` is None. Nothing else has changed,
+-- except perhaps the link of node n.
 pub record IsRelinked (ends links ends' links' : ℕ → Option ℕ) (h n : ℕ) (before to : Option ℕ) : Type 0 where
   pub begin : before ≡ None → ends' h ≡ to
   pub other_begin : (g : ℕ) → (g ≡ h → before ≢ None) → ends' g ≡ ends g
   pub link : (i : ℕ) → before ≡ Some i → links' i ≡ to
   pub other_link : (i : ℕ) → i ≢ n → before ≢ Some i → links' i ≡ links i
 
--- no two nodes of list h have the same key, and its keys are below the limit
+-- no two nodes of list h have the same key, and all keys of list h are below the limit
 pub record IsApart (limit : ℕ) (place : ℕ → Option (ℕ × ℕ)) (h : ℕ) : Type 0 where
   pub keyed : IsKeyed limit place h
   pub apart : (i j k : ℕ) → place i ≡ Some (h, k) → place j ≡ Some (h, k) → i ≡ j
 
--- What an insertion and a removal have in common. `old` becomes `new`, and `small` is the one of them without node n.
+-- What an insertion and a removal have in common: `old` becomes `new`. For an insertion `small` is `old`, and for a removal it is
+-- `new`: the places without node n.
 record IsChange (rank : ℕ → ℕ) (old new small : ℕ → Option (ℕ × ℕ)) (h n r : ℕ) (to : Option ℕ) : Type 0 where
   others : (g b : ℕ) (o : Option ℕ) → g ≢ h → IsNearest rank old g b o → IsNearest rank new g b o
   kept : (b : ℕ) (o : Option ℕ) → (r < b) ⊎ IsBetween rank small h b r → IsNearest rank old h b o → IsNearest rank new h b o
@@ -34,14 +36,14 @@ module _ (limit : ℕ) (rank back : ℕ → ℕ) (d : IsDirection limit rank bac
       subst (λ o. IsNearest rank new h 0 o) (sym (x.other_begin h (λ e q. cc)))
       (c.kept 0 (ends h) (inr (record { node = p; key = l.is.0; here = g.here; from = omega arith; below = g.below })) (chain.begins h lt))
 
-  -- after the change, the end of list g is its first node
+  -- after the change, the end of list g is the first node of list g in this direction
   begins_at : (before : Option ℕ) → IsRelinked ends links ends' links' h n before to → IsLastBelow rank small h r before → (g : ℕ) → g < heads → IsNearest rank new g 0 (ends' g)
   begins_at before x l g lt = elim (cases_eq g h) [
     | inl e ↦ subst (λ f. IsNearest rank new f 0 (ends' f)) (sym e) (begins before x l (subst (λ f. f < heads) e lt))
     | inr ne ↦ subst (λ o. IsNearest rank new g 0 o) (sym (x.other_begin g (λ e. absurd (ne e)))) (c.others g 0 (ends g) ne (chain.begins g lt))
   ]
 
-  -- after the change, the link of node i of list h, which is not n, is the node after it
+  -- after the change, the link of node i of list h is the node after i, unless i is n
   goes_on : (before : Option ℕ) → IsRelinked ends links ends' links' h n before to → IsLastBelow rank small h r before
       → (i k : ℕ) → i ≢ n → old i ≡ Some (h, k) → small i ≡ Some (h, k) → IsNearest rank new h (rank k + 1) (links' i)
   goes_on None x l i k ne was there =
@@ -93,7 +95,7 @@ module _ (limit : ℕ) (rank back : ℕ → ℕ) (d : IsDirection limit rank bac
         ]
       ]
 
--- if node n is linked after `before`, in the place of its rank, the links are still a chain
+-- if node n is linked after `before`, the last node below its rank, the links are still a chain
 pub chain_inserted : (limit : ℕ) (rank back : ℕ → ℕ) → IsDirection limit rank back → (small large : ℕ → Option (ℕ × ℕ)) (heads h n k : ℕ) → IsPut small large h n k → IsApart limit small h
     → (ends links ends' links' : ℕ → Option ℕ) (before : Option ℕ) → IsRelinked ends links ends' links' h n before (Some n)
     → IsLastBelow rank small h (rank k) before → IsNearest rank small h (rank k + 1) (links' n)
@@ -115,7 +117,7 @@ chain_inserted limit rank back d small large heads h n k p a ends links ends' li
         subst (λ f. IsNearest rank large f (rank k' + 1) (links' n)) list
         (subst (λ y. IsNearest rank large h (rank y + 1) (links' n)) key (kept_large rank small large h n k p (rank k + 1) (links' n) (inl (omega arith)) after))
 
--- if node n, which is between `before` and `after`, is removed, the links are still a chain
+-- if node n is removed, and the node before it is linked to the node after it, the links are still a chain
 pub chain_removed : (limit : ℕ) (rank back : ℕ → ℕ) → IsDirection limit rank back → (small large : ℕ → Option (ℕ × ℕ)) (heads h n k : ℕ) → k < limit → IsPut small large h n k → IsApart limit small h
     → (ends links ends' links' : ℕ → Option ℕ) (before after : Option ℕ) → IsRelinked ends links ends' links' h n before after
     → IsLastBelow rank small h (rank k) before → IsNearest rank large h (rank k + 1) after

@@ -1,11 +1,11 @@
--- The two directions of a list: nearest nodes in one direction, found from the other.
+-- The two directions of a list: how the nearest node in one direction follows from links in the other direction.
 use Rattle.std.proofs.Common.{◌≡◌, ℕ, ◌+◌, ◌<◌, ◌≤◌, Option, Some, None, ap, ◌∙◌, inl, inr, arith}
 use Rattle.std.specs.Prelude.{MatchOption, ◌≢◌}
 use Rattle.std.proofs.lemmas.Bool.{cases_lt, cases_eq}
 use Rattle.klist_core.specs.Places.{IsByKey}
 use Rattle.klist_core.specs.Links.{NoneFrom, IsLeastFrom, IsNearest, IsFollowing, up, back_from}
 
--- for keys below the limit, `rank` rises if and only if `back` falls
+-- for keys below the limit, different keys have different ranks, and `rank` rises if and only if `back` falls
 pub record IsDirection (limit : ℕ) (rank back : ℕ → ℕ) : Type 0 where
   pub same : (x y : ℕ) → x < limit → y < limit → rank x ≡ rank y → x ≡ y
   pub turned : (x y : ℕ) → x < limit → y < limit → rank x < rank y → back y < back x
@@ -17,13 +17,13 @@ upwards limit = record { same = λ x y a b e. e; turned = λ x y a b lt. omega a
 pub downwards : (limit : ℕ) → IsDirection limit (back_from limit) up
 downwards limit = record { same = λ x y a b e. omega arith; turned = λ x y a b lt. omega arith; returned = λ x y a b lt. omega arith }
 
--- node j has the greatest rank below r in list h, which is that of the key k
+-- node j is in list h under the key k, and its rank is the greatest rank in list h that is below r
 pub record IsGreatest (rank : ℕ → ℕ) (place : ℕ → Option (ℕ × ℕ)) (h r j k : ℕ) : Type 0 where
   pub here : place j ≡ Some (h, k)
   pub below : rank k < r
   pub greatest : (i k' : ℕ) → place i ≡ Some (h, k') → rank k' < r → rank k' ≤ rank k
 
--- o is the last node of list h with a rank below r
+-- o is the last node of list h with a rank below r, or None if there is none
 pub record IsLastBelow (rank : ℕ → ℕ) (place : ℕ → Option (ℕ × ℕ)) (h r : ℕ) (o : Option ℕ) : Type 0 where
   pub is : MatchOption o ((i k : ℕ) → place i ≡ Some (h, k) → r ≤ rank k) (λ j. (k : ℕ) × IsGreatest rank place h r j k)
 
@@ -31,7 +31,7 @@ pub record IsLastBelow (rank : ℕ → ℕ) (place : ℕ → Option (ℕ × ℕ)
 pub record IsKeyed (limit : ℕ) (place : ℕ → Option (ℕ × ℕ)) (h : ℕ) : Type 0 where
   pub below : (i k : ℕ) → place i ≡ Some (h, k) → k < limit
 
--- the nearest node in the other direction from a key is the last node below the key
+-- in the direction of `back`, the nearest node of list h from the key k on is the last node with a rank below the rank of k
 pub last_below : {limit : ℕ} (rank back : ℕ → ℕ) (place : ℕ → Option (ℕ × ℕ)) (h k : ℕ) (o : Option ℕ) → IsDirection limit rank back → IsKeyed limit place h → k < limit
     → IsNearest back place h (back k + 1) o → IsLastBelow rank place h (rank k) o
 last_below {limit} rank back place h k None d keyed small v = record { is = above }
@@ -61,7 +61,7 @@ last_below {limit} rank back place h k (Some j) d keyed small v = record { is = 
       | inr le ↦ le
     ]
 
--- the node before a new key is the node before the next node, or the last node if there is no next node
+-- the node before a new key is the node before the first node above the key, or the last node if no node is above the key
 across_none : {limit : ℕ} (rank back : ℕ → ℕ) (place : ℕ → Option (ℕ × ℕ)) (h k : ℕ) (o : Option ℕ) → IsDirection limit rank back → IsKeyed limit place h → k < limit → ((i : ℕ) → place i ≢ Some (h, k))
     → NoneFrom rank place h (rank k + 1) → IsNearest back place h 0 o → IsNearest back place h (back k + 1) o
 across_none {limit} rank back place h k None d keyed small fresh after v = record { is = λ i k' e. let v' = v.is i k' e in absurd (omega arith) }

@@ -1,4 +1,4 @@
--- A table whose lists are all empty is linked, and callers see that no node is in a list.
+-- A table of empty heads and free nodes is linked, and contracts see that no node is in a list.
 use Rattle.std.proofs.Common.{◌≡◌, ℕ, zero, suc, ◌^◌, ◌<◌, cond, List, ◌∷◌, Option, Some, None, length, replicate, refl, ap, sym, ◌∙◌, subst, arith}
 use Rattle.std.specs.Prelude.{count_by}
 use Rattle.std.proofs.Math.ListN.{length-replicate}

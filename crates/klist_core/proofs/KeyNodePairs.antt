@@ -17,7 +17,7 @@ put_is : (p : ℕ × ℕ) (qs : List (ℕ × ℕ)) → put_by_key p qs ≡ put_r
 put_is p [] = refl
 put_is p (q ∷ qs) = ap (λ (zs : List (ℕ × ℕ)). if ltb p.0 q.0 then p ∷ (q ∷ qs) else q ∷ zs) (put_is p qs)
 
--- an element of a list to which p is added is p or was in the list
+-- an element of a list with p added is p or an element of the old list
 pub among_put : (x p : ℕ × ℕ) (qs : List (ℕ × ℕ)) → IsIn x (put_by_key p qs) → (p ≡ x) ⊎ IsIn x qs
 among_put x p qs a = in_put (λ (q : ℕ × ℕ). q.0) p x qs (subst (λ (zs : List (ℕ × ℕ)). IsIn x zs) (put_is p qs) a)
 
@@ -29,7 +29,7 @@ rises_put n p qs le f r =
     subst (λ (zs : List (ℕ × ℕ)). RisesFrom n (map (λ q. q.0) zs)) (sym (put_is p qs))
     (put_rises (λ (q : ℕ × ℕ). q.0) n p qs r le (each_from (λ (q : ℕ × ℕ). q.0 ≢ p.0) qs f))
 
--- if (k, j) is in list h, node j has the place (h, k); the nodes are numbered from i on
+-- if list h has the pair (k, j), node j has the place (h, k); the nodes are numbered from i on
 pub among_places : (h i : ℕ) (places : List (Option (ℕ × ℕ))) (k j : ℕ) → IsIn (k, j) (list_from h i places) → (d : ℕ) × ((j ≡ i + d) × (place_at places d ≡ Some (h, k)))
 among_places h i [] k j a = absurd a
 among_places h i (place ∷ places) k j a = go place (among_places h (i + 1) places k j) a
@@ -96,7 +96,7 @@ list_rises h i (place ∷ places) d = go place (λ j k. d.apart 0 (suc j) k) (li
             let w = among_places h (i + 1) places x.0 x.1 a in
             let u = f w.0 k' (ap (λ (y : ℕ). Some (y, k')) (eqb-true g h e)) (w.1.1 ∙ ap (λ (y : ℕ). Some (h, y)) q) in omega arith) r
 
--- a list to which a pair is added has one element more
+-- a list with a pair added is longer by one
 length_put : (p : ℕ × ℕ) (qs : List (ℕ × ℕ)) → length (put_by_key p qs) ≡ suc (length qs)
 length_put p [] = refl
 length_put p (q ∷ qs) = go (ltb p.0 q.0) (length_put p qs)
@@ -123,7 +123,7 @@ first_of_rising n k j [] r a f = absurd a
 first_of_rising n k j (q ∷ qs) (le, r) (inl e) f = ap Some e
 first_of_rising n k j (q ∷ qs) (le, r) (inr a) f = absurd (let u : q.0 + 1 ≤ k = key_above (λ (p : ℕ × ℕ). p.0) (q.0 + 1) (k, j) qs r a in let v = f q (inl refl) in omega arith)
 
--- an element of a list without node i was in the list, and is not the pair of node i
+-- an element of a list without the pair of node i is an element of the old list, and it is not a pair of node i
 pub among_without : (i : ℕ) (x : ℕ × ℕ) (qs : List (ℕ × ℕ)) → IsIn x (without_node i qs) → IsIn x qs × (x.1 ≢ i)
 among_without i x qs a = let w = filter_in (λ (q : ℕ × ℕ). not (eqb q.1 i)) x qs a in (w.0, eqb-false x.1 i (not-true (eqb x.1 i) w.1))
 

@@ -1,4 +1,4 @@
--- What holds in an insertion and in a removal before their writes.
+-- What is known before an insertion or a removal writes to the tables, and what follows for the new tables.
 use Rattle.std.proofs.Common.{◌≡◌, ℕ, ◌+◌, ◌-◌, ◌%◌, ◌^◌, ◌<◌, ◌≤◌, List, [], Option, Some, None, ◌++◌, take, length, get_or, set, refl, ap, ap₂, sym, ◌∙◌, subst, inl, inr, arith}
 use Rattle.std.specs.Prelude.{◌≢◌, MatchOption}
 use Rattle.std.proofs.Math.ListN.{get_or-map}
@@ -18,7 +18,7 @@ use Rattle.klist_core.proofs.TableWrites.{IsWithin, IsRewired, rewired, length_a
 use Rattle.klist_core.proofs.LinksKept.{nearest_within, ranked_before, shown_rewired, linked_inserted, linked_removed, linked_replaced}
 use Rattle.klist_core.proofs.Ranks.{rank_in, by_time, by_key, ranked_there, nearest_ranked, nearest_limit, next_limit, rank_is_new}
 
--- node n, which was read as x, is in list h
+-- node n, which was read as x, is in list h and can be taken out
 pub record IsRemoval (heads : List Head) (nodes : List Node) (n : ℕ) (x : Node) (h : ℕ) : Type 0 where
   pub linked : IsLinked heads nodes
   pub read : x ≡ node_at nodes n
@@ -62,7 +62,7 @@ removal_known heads nodes n x h t within got is = record {
     fitting : (o : Option ℕ) → IsWithin o (length (places_of nodes)) → IsWithin o (length nodes)
     fitting o w = record { below = λ i e. omega (arith, w.below i e, length-map nodes place_in) }
 
--- a new node with the key k belongs between these two nodes of list h: in the gap, or at the end of a loose list
+-- g has the two nodes between which a new node with the key k belongs in list h: the gap, or the end of a loose list
 pub record IsLinkPlace (heads : List Head) (nodes : List Node) (h k : ℕ) (t : IsLinked heads nodes) (g : Option ℕ × Option ℕ) : Type 0 where
   pub before : IsNearest (back_from (t.now + 1)) (ranks t.came (places_of nodes)) h (back_from (t.now + 1) (rank_in h t.now k) + 1) g.0
   pub after : IsNearest up (ranks t.came (places_of nodes)) h (up (rank_in h t.now k) + 1) g.1
@@ -89,7 +89,7 @@ pub link_place : (heads : List Head) (nodes : List Node) (h k : ℕ) (t : IsLink
 link_place heads nodes h k t None g lt fits loose is = subst (λ x. IsLinkPlace heads nodes h k t x) (sym is) (at_end heads nodes h k t lt loose)
 link_place heads nodes h k t (Some x) g lt fits gap is = subst (λ y. IsLinkPlace heads nodes h k t y) (sym is) (in_gap heads nodes h k t x fits gap)
 
--- node n is in no list, and will be inserted into list h under the key k between these two nodes
+-- node n is in no list, and can be inserted into list h under the key k between the two nodes of g
 pub record IsInsertion (heads : List Head) (nodes : List Node) (h n k : ℕ) (g : Option ℕ × Option ℕ) : Type 0 where
   pub linked : IsLinked heads nodes
   pub in_heads : h < length heads
@@ -129,7 +129,7 @@ insertion_known heads nodes h n k o g t in_heads within fits free fresh gap is =
     fitting : (o : Option ℕ) → IsWithin o (length (places_of nodes)) → IsWithin o (length nodes)
     fitting o w = record { below = λ i e. omega (arith, w.below i e, same_length) }
 
--- after node n is linked into list h, the tables are linked
+-- the tables are still linked after node n is linked into list h
 pub linked_in : (heads : List Head) (nodes : List Node) (h n k : ℕ) (g : Option ℕ × Option ℕ) → IsInsertion heads nodes h n k g
     → IsLinked (heads_linked heads h n g.0 g.1) (nodes_linked nodes h n k g.0 g.1)
 linked_in heads nodes h n k g x =
@@ -143,7 +143,7 @@ shown_in heads nodes h n k g x =
     shown_rewired heads _ nodes _ h n (linked_node h k g.0 g.1) g.0 g.1 (Some n) (Some n) ((head_at heads h).len + 1)
     (rewired heads nodes h n (linked_node h k g.0 g.1) g.0 g.1 (Some n) (Some n) ((head_at heads h).len + 1) x.in_heads x.in_nodes x.left x.right)
 
--- .. and the tables without node n, which was read as x, are rewired
+-- taking out node n, which was read as x, links its neighbours `x.previous` and `x.next` to each other
 without : (heads : List Head) (nodes : List Node) (n : ℕ) (x : Node) (h : ℕ) → IsRemoval heads nodes n x h
     → IsRewired heads (heads_unlinked heads h x.previous x.next) nodes (nodes_unlinked nodes n x.previous x.next) h n free_node x.previous x.next x.next x.previous ((head_at heads h).len - 1)
 without heads nodes n x h r = rewired heads nodes h n free_node x.previous x.next x.next x.previous ((head_at heads h).len - 1) r.in_heads r.in_nodes r.left r.right
@@ -156,7 +156,7 @@ pub shown_out : (heads : List Head) (nodes : List Node) (n : ℕ) (x : Node) (h 
     → shown (heads_unlinked heads h x.previous x.next) (nodes_unlinked nodes n x.previous x.next) ≡ removed (shown heads nodes) n
 shown_out heads nodes n x h r = shown_rewired heads _ nodes _ h n free_node x.previous x.next x.next x.previous _ (without heads nodes n x h r)
 
--- the tables after node n, which was read as x, is replaced by node j
+-- the tables with node n, which was read as x, replaced by node j
 abbrev pub heads_replaced : List Head → (h j : ℕ) → Node → List Head
 heads_replaced heads h j x = heads_linked (heads_unlinked heads h x.previous x.next) h j x.previous x.next
 
@@ -201,10 +201,10 @@ shown_over heads nodes n j x h r within =
     w : IsRewired heads (heads_unlinked heads h x.previous x.next) nodes (nodes_unlinked nodes n x.previous x.next) h n free_node x.previous x.next x.next x.previous ((head_at heads h).len - 1)
     w = without heads nodes n x h r
 
--- xs with a rest after it, cut at the length of xs, is xs
+-- if `len` is the length of xs, the first `len` elements of `xs ++ rest` are xs
 pub seam : {A : Type 0} (xs rest : List A) (len : ℕ) → len ≡ length xs → take len (xs ++ rest) ≡ xs
 seam xs rest len e = ap (λ n. take n (xs ++ rest)) e ∙ take-append_seam xs rest
 
--- .. so linked tables are still linked after the borrow of their slices
+-- .. so tables are still linked when the borrow of their slices ends, since they are equal to linked tables
 pub linked_back : (heads heads' : List Head) (nodes nodes' : List Node) → heads' ≡ heads → nodes' ≡ nodes → IsLinked heads nodes → IsLinked heads' nodes'
 linked_back heads heads' nodes nodes' e f t = rw (e, f) t

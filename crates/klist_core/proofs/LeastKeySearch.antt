@@ -1,11 +1,12 @@
--- The least key of a list, from a search over all nodes.
+-- A search over all nodes of a table finds the node with the least key of a list.
 use Rattle.std.proofs.Common.{◌≡◌, ℕ, ◌+◌, ◌^◌, ◌<◌, ◌≤◌, Option, Some, None, sym, ap, ◌∙◌, inl, inr, arith}
 use Rattle.std.specs.Prelude.{MatchOption}
 use Rattle.std.proofs.lemmas.Bool.{cases_eq}
 use Rattle.klist_core.specs.Links.{up, IsNearest}
 use Rattle.klist_core.proofs.NearestChanged.{same_key}
 
--- o has the least key of the nodes of list h that are below n, and the bound is this key, or 2 ^ 32 if there is none
+-- Of the nodes 0 to n - 1, o is the one with the least key in list h, and `bound` is this key. If none of these nodes is in list
+-- h, o is None and `bound` is 2 ^ 32.
 pub record IsLeastUntil (place : ℕ → Option (ℕ × ℕ)) (h n bound : ℕ) (o : Option ℕ) : Type 0 where
   pub found : MatchOption o (bound ≡ 2 ^ 32) (λ j. place j ≡ Some (h, bound))
   pub least : (i k : ℕ) → i < n → place i ≡ Some (h, k) → bound ≤ k

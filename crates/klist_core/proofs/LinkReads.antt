@@ -8,7 +8,7 @@ use Rattle.klist_core.specs.declared.Head.{Head}
 use Rattle.klist_core.specs.declared.Node.{Node}
 use Rattle.klist_core.proofs.Ranks.{unranked, ranked_there, ranked_by_key, nearest_by_key, start_limit, next_limit}
 
--- the first linked node of a list is a node of the list, and if there is none, the list is empty
+-- the first node of a list in the order of links is in the list; if there is no first node, the list is empty
 some_ranked : (came : ℕ → ℕ) (places : List (Option (ℕ × ℕ))) (h : ℕ) (o : Option ℕ) → IsNearest up (ranks came places) h 0 o → MatchOption o (IsEmpty places h) (λ n. is_in h (place_at places n) ≡ true)
 some_ranked came places h None v = λ i k e. let u = v.is i _ (ranked_there (came i) h k (place_at places i) e) in omega (arith, u)
 some_ranked came places h (Some j) v =

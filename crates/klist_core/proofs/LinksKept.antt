@@ -1,4 +1,4 @@
--- After an insertion, a removal or a replacement the tables are linked.
+-- The tables are still linked after an insertion, a removal or a replacement.
 use Rattle.std.proofs.Common.{◌≡◌, ℕ, ◌+◌, ◌%◌, ◌^◌, ◌<◌, ◌≤◌, List, Option, Some, None, length, set, ap, sym, ◌∙◌, subst, inl, inr, arith}
 use Rattle.std.specs.Prelude.{◌≢◌, count_by}
 use Rattle.std.proofs.lemmas.Bool.{cases_eq}
@@ -15,7 +15,7 @@ use Rattle.klist_core.proofs.Chains.{IsApart, chain_inserted, chain_removed}
 use Rattle.klist_core.proofs.PlacesChanged.{placed_within, put_by_insertion, put_by_removal, apart_large, table_inserted, table_removed, count_inserted, count_inserted_elsewhere, count_removed, count_removed_elsewhere}
 use Rattle.klist_core.proofs.TableWrites.{IsWithin, IsRewired}
 
--- a nearest node is in the list
+-- if node i is a nearest node of list h, node i is in list h
 pub nearest_placed : (rank : ℕ → ℕ) (place : ℕ → Option (ℕ × ℕ)) (h b : ℕ) (o : Option ℕ) → IsNearest rank place h b o → (i : ℕ) → o ≡ Some i → (k : ℕ) × (place i ≡ Some (h, k))
 nearest_placed rank place h b None v i e = absurd (let f : ◌≡◌ {A = Option ℕ} None (Some i) = e in cc)
 nearest_placed rank place h b (Some j) v i e =
@@ -29,7 +29,7 @@ nearest_within rank came places h b o v = record {
       let u = unranked (came i) h w.0 (place_at places i) w.1 in placed_within places i (h, u.0) u.1;
 }
 
--- the last node below the rank of node n in the list with node n is also the last one below it in the list without node n
+-- removing node n from its list does not change which node is the last one below the rank of n
 pub last_below_small : (rank : ℕ → ℕ) (small large : ℕ → Option (ℕ × ℕ)) (h n k : ℕ) (o : Option ℕ) → IsPut small large h n k → IsLastBelow rank large h (rank k) o → IsLastBelow rank small h (rank k) o
 last_below_small rank small large h n k None p l = record { is = λ i k' e. l.is i k' (raised p i (h, k') e) }
 last_below_small rank small large h n k (Some j) p l =
@@ -47,7 +47,7 @@ last_below_small rank small large h n k (Some j) p l =
 table_of : ℕ → List (Option (ℕ × ℕ)) → Placed
 table_of heads places = record { heads = heads; places = places }
 
--- in rewired tables, callers see that only the place of node n has changed
+-- when tables are rewired, contracts see that only the place of node n changes
 pub shown_rewired : (heads heads' : List Head) (nodes nodes' : List Node) (h n : ℕ) (own : Node) (previous next a b : Option ℕ) (m : ℕ)
     → IsRewired heads heads' nodes nodes' h n own previous next a b m → shown heads' nodes' ≡ record { heads = length heads; places = set (places_of nodes) n (place_in own) }
 unfolding table_of
@@ -64,12 +64,12 @@ chain_rewired rank came places places' heads heads' ends links e f v =
 abbrev AreApart : (ℕ → ℕ) → List (Option (ℕ × ℕ)) → Type 0
 AreApart came places = (i j h r : ℕ) → ranks came places i ≡ Some (h, r) → ranks came places j ≡ Some (h, r) → i ≡ j
 
--- ranks are below the present time
+-- all ranks in linked tables are below `now`
 pub ranked_before : (heads : List Head) (nodes : List Node) (t : IsLinked heads nodes) (i h r : ℕ) → ranks t.came (places_of nodes) i ≡ Some (h, r) → r < t.now
 ranked_before heads nodes t = rank_below t.came t.now (places_of nodes) t.before (λ i h k e. omega (arith, t.wide, t.table.keyed i h k e))
 
--- If node n is inserted into list h between the nodes where its rank belongs, the tables are linked. In a loose list the rank is
--- the time.
+-- If node n is linked into list h between the nodes between which its rank belongs, the tables are still linked. In a loose list
+-- the rank of n is its time.
 pub linked_inserted : (heads heads' : List Head) (nodes nodes' : List Node) (h n k time : ℕ) (previous next : Option ℕ) (m : ℕ) (t : IsLinked heads nodes)
     → IsRewired heads heads' nodes nodes' h n (linked_node h k previous next) previous next (Some n) (Some n) m → m ≡ (head_at heads h).len + 1
     → h < length heads → n < length nodes → k < 2 ^ 32 → time ≤ t.now → place_at (places_of nodes) n ≡ None → ((i : ℕ) → place_at (places_of nodes) i ≢ Some (h, k))
@@ -216,7 +216,7 @@ linked_removed heads heads' nodes nodes' h n k x m t read w less e = record {
       | inr ne ↦ w.other_len g ne ∙ (t.counted g lt ∙ sym (count_removed_elsewhere (places_of nodes) g h n k ne within e))
     ]
 
--- if node n is removed from list h and node j is put in its place, the tables are linked
+-- if node n is removed from list h and node j is linked in its place, the tables are still linked
 pub linked_replaced : (heads heads1 heads2 : List Head) (nodes nodes1 nodes2 : List Node) (h n j k : ℕ) (x : Node) (m m' : ℕ) → IsLinked heads nodes → x ≡ node_at nodes n
     → IsRewired heads heads1 nodes nodes1 h n free_node x.previous x.next x.next x.previous m → m + 1 ≡ (head_at heads h).len
     → place_at (places_of nodes) n ≡ Some (h, k) → j < length nodes1 → place_at (places_of nodes1) j ≡ None

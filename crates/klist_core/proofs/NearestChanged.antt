@@ -47,7 +47,7 @@ nearest_same rank old new g b (Some j) to back v =
     record { is = (v.is.0, record { here = to j v.is.0 l.here; from = l.from; least = λ i k e le. l.least i k (back i k e) le }) }
 
 module _ (rank : ℕ → ℕ) (small large : ℕ → Option (ℕ × ℕ)) (h n k : ℕ) (p : IsPut small large h n k) where
-  -- the nodes of every list but h are the same in `small` and `large`, and so are its nearest nodes
+  -- every list but h has the same nodes and the same nearest nodes in `small` and `large`
   pub others_lowered : (g i k' : ℕ) → g ≢ h → large i ≡ Some (g, k') → small i ≡ Some (g, k')
   others_lowered g i k' ne e = elim (lowered p i g k' e) [ inl s ↦ s | inr w ↦ absurd (ne w.1) ]
 
@@ -57,7 +57,8 @@ module _ (rank : ℕ → ℕ) (small large : ℕ → Option (ℕ × ℕ)) (h n k
   pub others_kept_small : (g b : ℕ) (o : Option ℕ) → g ≢ h → IsNearest rank large g b o → IsNearest rank small g b o
   others_kept_small g b o ne v = nearest_same rank large small g b o (λ i k' e. others_lowered g i k' ne e) (λ i k' e. raised p i (g, k') e) v
 
-  -- the nearest node of list h from a bound is the same in both, if node n is below the bound or another node is between them
+  -- Let the rank of node n be below a bound, or let another node of list h have a rank from the bound on that is below the rank
+  -- of n. Then the nearest node of list h from the bound on is the same in `small` and `large`.
   pub kept_large : (b : ℕ) (o : Option ℕ) → (rank k < b) ⊎ IsBetween rank small h b (rank k) → IsNearest rank small h b o → IsNearest rank large h b o
   kept_large b None (inl lt) v = record { is = λ i k' e. elim (lowered p i h k' e) [ inl s ↦ v.is i k' s | inr w ↦ let r = ap rank w.2 in omega arith ] }
   kept_large b None (inr w) v = let u = v.is w.node w.key w.here in absurd (omega (arith, w.from))
@@ -84,7 +85,8 @@ module _ (rank : ℕ → ℕ) (small large : ℕ → Option (ℕ × ℕ)) (h n k
       elsewhere (inl lt) r = omega (arith, l.from)
       elsewhere (inr x) r = let u = l.least x.node x.key (raised p x.node (h, x.key) x.here) x.from in omega (arith, x.below)
 
-  -- if no other node is between a bound and node n, the nearest node from the bound is n, and in `small` it is the node after n
+  -- Let the rank of node n be at least a bound, and let no other node of list h have a rank between the two. Then the nearest
+  -- node of list h from the bound on is n in `large`. In `small` it is the node after n.
   pub joined_large : (b : ℕ) → b ≤ rank k → ((i k' : ℕ) → small i ≡ Some (h, k') → b ≤ rank k' → rank k ≤ rank k') → IsNearest rank large h b (Some n)
   joined_large b le above = record { is = (k, record { here = p.here; from = le; least = least }) }
     where

@@ -1,4 +1,4 @@
--- An insertion and a removal change one list by exactly one pair.
+-- An insertion adds one pair to one list, and a removal takes one pair out of one list. No other pair changes.
 use Rattle.std.proofs.Common.{◌≡◌, ℕ, eqb, List, Option, Some, None, ap, sym, ◌∙◌, inl, inr, arith}
 use Rattle.std.specs.Prelude.{◌≢◌, not}
 use Rattle.model_core.specs.Elements.{IsIn}
@@ -11,7 +11,7 @@ use Rattle.klist_core.proofs.NearestChanged.{IsPut, raised, lowered, others_lowe
 use Rattle.klist_core.proofs.PlacesChanged.{put_by_insertion, put_by_removal, apart_large}
 use Rattle.klist_core.proofs.KeyNodePairs.{IsDistinct, among_put, put_among, rises_put, in_list, listed, list_rises, among_without, without_among}
 
--- two lists are equal if they have the same nodes under the same keys
+-- list g is the same in two tables if it has the same nodes under the same keys in both
 same_nodes : (old new : List (Option (ℕ × ℕ))) (g : ℕ) → IsDistinct g old → IsDistinct g new
     → ((i k : ℕ) → place_at old i ≡ Some (g, k) → place_at new i ≡ Some (g, k)) → ((i k : ℕ) → place_at new i ≡ Some (g, k) → place_at old i ≡ Some (g, k))
     → list_of new g ≡ list_of old g

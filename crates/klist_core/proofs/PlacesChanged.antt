@@ -1,4 +1,5 @@
--- After an insertion and after a removal the places have the invariants of every table, and one list has one node more or fewer.
+-- The places still have the invariants of every table after an insertion or a removal. One list then has one node more or one
+-- fewer.
 use Rattle.std.proofs.Common.{◌≡◌, ℕ, zero, suc, ◌+◌, ◌^◌, ◌<◌, Bool, cond, List, Option, Some, None, length, set, refl, ap, sym, ◌∙◌, inl, inr, arith}
 use Rattle.std.specs.Prelude.{◌≢◌, count_by, IsSome, is_some}
 use Rattle.std.proofs.lemmas.Bool.{cases_eq, eq-eqb, ne_eqb, cases_lt, false≢true}
@@ -35,7 +36,7 @@ put_by_removal s h n k t e = record { free = gone; here = e; others = λ i ne. s
       | inr ne ↦ ne (t.apart i n h k (sym (kept i ne) ∙ q) e)
     ]
 
--- if no two nodes of a list have the same key without node n, the same is true with it
+-- if no two nodes of a list have the same key in `small`, no two nodes of a list have the same key in `large`
 pub apart_large : {small large : ℕ → Option (ℕ × ℕ)} {h n k : ℕ} → IsPut small large h n k → ((i j g k' : ℕ) → small i ≡ Some (g, k') → small j ≡ Some (g, k') → i ≡ j)
     → (i j g k' : ℕ) → large i ≡ Some (g, k') → large j ≡ Some (g, k') → i ≡ j
 apart_large {small} {large} {h} {n} {k} p apart i j g k' e f = elim (lowered p i g k' e) [
@@ -64,7 +65,7 @@ table_removed s h n k t p = record {
   apart = λ i j g k' e f. t.apart i j g k' (raised p i (g, k') e) (raised p j (g, k') f);
 }
 
--- an insertion or a removal gives list h one node more or fewer, and leaves the lengths of the other lists
+-- An insertion gives list h one node more, and a removal gives it one node fewer. The lengths of the other lists stay the same.
 abbrev one : Bool → ℕ
 one b = cond b 1 0
 

@@ -1,4 +1,4 @@
--- The ranks by which nodes are linked, and their keys.
+-- The rank of a node, by which it is linked: its key, or in a loose list the time of its insertion.
 use Rattle.std.proofs.Common.{◌≡◌, ℕ, ◌+◌, ◌-◌, ◌%◌, ◌<◌, ◌≤◌, Bool, true, false, cond, eqb, List, Option, Some, None, set, refl, ap, sym, ◌∙◌, inl, inr, arith}
 use Rattle.std.proofs.lemmas.Bool.{cases_lt, cases_eq, eq-eqb, ne_eqb}
 use Rattle.std.specs.Prelude.{◌≢◌}
@@ -6,7 +6,7 @@ use Rattle.klist_core.specs.Places.{IsByKey, place_at}
 use Rattle.klist_core.specs.Links.{IsLeastFrom, IsNearest, IsChain, back_from, ranked, ranks}
 use Rattle.klist_core.proofs.NearestChanged.{IsPut, same_list, same_key, nearest_same}
 
--- the rank of a node that is now inserted into list h under the key k
+-- the rank of a node that is inserted into list h under the key k at the time `now`
 abbrev pub rank_in : ℕ → ℕ → ℕ → ℕ
 rank_in h now k = cond (eqb (h % 3) 0) now k
 
@@ -41,7 +41,7 @@ pub nearest_ranked : (rank came : ℕ → ℕ) (places : List (Option (ℕ × �
 nearest_ranked rank came places h b o lt v =
     nearest_same rank (place_at places) (ranks came places) h b o (λ i k e. ranked_by_key (came i) h k (place_at places i) lt e) (λ i k e. key_ranked (came i) h k (place_at places i) lt e) v
 
--- if all keys and times of insertion are below the present time, so are all ranks
+-- if all keys and times of insertion are below `now`, all ranks are below `now`
 pub rank_below : (came : ℕ → ℕ) (now : ℕ) (places : List (Option (ℕ × ℕ))) → ((i : ℕ) → came i < now) → ((i h k : ℕ) → place_at places i ≡ Some (h, k) → k < now)
     → (i h r : ℕ) → ranks came places i ≡ Some (h, r) → r < now
 rank_below came now places before keyed i h r e =
@@ -52,7 +52,7 @@ rank_below came now places before keyed i h r e =
       | inr other ↦ omega (arith, is, by_key h (came i) w.0 (omega (arith, other)), keyed i h w.0 w.1)
     ]
 
--- a nearest node by ranks down from one limit is also nearest by ranks down from another
+-- if all ranks of list h are below two limits, the nearest node downwards is the same with each of the limits
 pub nearest_limit : (l l' : ℕ) (place : ℕ → Option (ℕ × ℕ)) (h b b' : ℕ) (o : Option ℕ) → ((i r : ℕ) → place i ≡ Some (h, r) → (r < l) × (r < l'))
     → ((r : ℕ) → r < l → r < l' → b ≤ l - r → b' ≤ l' - r) → ((r : ℕ) → r < l → r < l' → b' ≤ l' - r → b ≤ l - r)
     → IsNearest (back_from l) place h b o → IsNearest (back_from l') place h b' o
@@ -93,7 +93,7 @@ chain_limit l l' place heads ends links below c = record {
   goes_on = λ i h k e. let w = below i h k e in next_limit l l' place h k (links i) w.0 w.1 (λ j r. below j h r) (c.goes_on i h k e);
 }
 
--- the times of all nodes, with this time for node n
+-- the times `came`, with `time` for node n
 abbrev pub come : (ℕ → ℕ) → ℕ → ℕ → ℕ → ℕ
 come came time n i = cond (eqb i n) time (came i)
 
@@ -104,7 +104,7 @@ come_before came now time n i le lt = go (eqb i n)
     go true = omega (arith, le)
     go false = omega (arith, lt)
 
--- if no node of list h has the key k, none has the rank of a node that is now inserted under this key
+-- if no node of list h has the key k, no node of list h has the rank that a node inserted now under this key gets
 pub rank_is_new : (came : ℕ → ℕ) (now : ℕ) (places : List (Option (ℕ × ℕ))) → ((i h r : ℕ) → ranks came places i ≡ Some (h, r) → r < now) → (h k : ℕ) → ((i : ℕ) → place_at places i ≢ Some (h, k))
     → (i : ℕ) → ranks came places i ≢ Some (h, rank_in h now k)
 rank_is_new came now places below h k fresh i e = elim (cases_eq (h % 3) 0) [
@@ -112,7 +112,7 @@ rank_is_new came now places below h k fresh i e = elim (cases_eq (h % 3) 0) [
   | inr other ↦ fresh i (key_ranked (came i) h k (place_at places i) (omega (arith, other)) (e ∙ ap (λ (r : ℕ). Some (h, r)) (by_key h now k (omega (arith, other)))))
 ]
 
--- if list h does not have the rank of node n, inserting n under its key also inserts it under its rank
+-- if no node of list h has the new rank of node n, inserting n under its key also inserts it under its rank
 pub put_ranked : (came : ℕ → ℕ) (time : ℕ) (places : List (Option (ℕ × ℕ))) (h n k : ℕ) → IsPut (place_at places) (place_at (set places n (Some (h, k)))) h n k
     → ((i : ℕ) → ranks came places i ≢ Some (h, rank_in h time k)) → IsPut (ranks came places) (ranks (come came time n) (set places n (Some (h, k)))) h n (rank_in h time k)
 put_ranked came time places h n k p fresh = record {
@@ -122,7 +122,7 @@ put_ranked came time places h n k p fresh = record {
   fresh = fresh;
 }
 
--- removing node n from list h also removes its rank: the ranks before are those after, with n put under its rank
+-- removing node n from list h also removes its rank: with n put back under its rank, the new ranks are the old ranks
 pub put_unranked : (came : ℕ → ℕ) (places : List (Option (ℕ × ℕ))) (h n k : ℕ) → IsPut (place_at (set places n None)) (place_at places) h n k
     → ((i j g r : ℕ) → ranks came places i ≡ Some (g, r) → ranks came places j ≡ Some (g, r) → i ≡ j)
     → IsPut (ranks came (set places n None)) (ranks came places) h n (rank_in h (came n) k)

@@ -1,14 +1,15 @@
--- A walk along a list, in one direction, to the first node of at least a given rank.
+-- A walk along a list, in one direction, to the first node whose rank is at least a bound.
 use Rattle.std.proofs.Common.{◌≡◌, ℕ, ◌+◌, ◌-◌, ◌^◌, ◌<◌, ◌≤◌, Option, Some, None, IsSome, IfSome, is_some, ap, arith}
 use Rattle.std.specs.Prelude.{MatchOption}
 use Rattle.klist_core.specs.Links.{NoneFrom, IsLeastFrom, IsNearest}
 
--- node j has the key k in list h, and no node of at least the bound has a lesser rank
+-- node j is in list h under the key k, and no node of list h with a rank of at least `bound` has a lower rank than j
 pub record IsNotPast (rank : ℕ → ℕ) (place : ℕ → Option (ℕ × ℕ)) (h bound j k : ℕ) : Type 0 where
   pub here : place j ≡ Some (h, k)
   pub least : (i k' : ℕ) → place i ≡ Some (h, k') → bound ≤ rank k' → rank k ≤ rank k'
 
--- the walk has come to o, and not past the first node of at least the bound
+-- the walk has come to node o, which is not past the first node with a rank of at least `bound`, or o is None and there is no
+-- such node
 pub record IsOnWay (rank : ℕ → ℕ) (place : ℕ → Option (ℕ × ℕ)) (h bound : ℕ) (o : Option ℕ) : Type 0 where
   pub is : MatchOption o (NoneFrom rank place h bound) (λ j. (k : ℕ) × IsNotPast rank place h bound j k)
 
@@ -16,7 +17,7 @@ abbrev pub key_in : Option (ℕ × ℕ) → ℕ
 key_in None = 0
 key_in (Some p) = p.1
 
--- how far the walk may still go
+-- an upper limit for the number of steps that the walk still takes
 abbrev pub way_left : (ℕ → ℕ) → (ℕ → Option (ℕ × ℕ)) → Option ℕ → ℕ
 way_left rank place None = 0
 way_left rank place (Some j) = 2 ^ 32 + 1 - rank (key_in (place j))
@@ -25,7 +26,7 @@ module _ (rank : ℕ → ℕ) (place : ℕ → Option (ℕ × ℕ)) (h bound : �
   pub way_placed : (j : ℕ) → IsOnWay rank place h bound (Some j) → IsSome (place j)
   way_placed j v = let p : IsNotPast rank place h bound j v.is.0 = v.is.1 in ap is_some p.here
 
-  -- if the walk has come to node j, whose key was read as k, node j is not past the first node of at least the bound
+  -- if the walk has come to node j, whose key was read as k, node j is not past the first node with a rank of at least `bound`
   pub way_read : (o : Option ℕ) (j k : ℕ) → o ≡ Some j → IsOnWay rank place h bound o → IfSome (place j) (λ p. k ≡ p.1) → IsNotPast rank place h bound j k
   way_read o j k at v read =
       let w = rw at at v in

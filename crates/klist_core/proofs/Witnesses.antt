@@ -1,4 +1,4 @@
--- One instance of the premises of each law: two lists and three nodes. Node 1 is in no list.
+-- One instance of each law of ordered lists, for a table of two lists and three nodes. Node 1 is in no list.
 use Rattle.std.proofs.Common.{◌≡◌, ℕ, zero, suc, ◌+◌, ◌*◌, ◌<◌, [], ◌∷◌, Option, Some, None, length, refl, sym, ◌∙◌, ap, arith}
 use Rattle.std.specs.Prelude.{count_by}
 use Rattle.std.specs.List.{Contains}
@@ -18,7 +18,7 @@ key_in : Option (ℕ × ℕ) → ℕ
 key_in None = 0
 key_in (Some p) = p.1
 
--- node 0 is in list 0 under the key 5, and node 2 in list 1 under the key 7
+-- only two nodes are in a list: node 0 is in list 0 under the key 5, and node 2 is in list 1 under the key 7
 placed : (i h k : ℕ) → place_at table.places i ≡ Some (h, k) → (h < 2) × (k ≡ 5 + 2 * h) × (i ≡ 2 * h)
 unfolding list_in key_in
 placed zero h k e =
@@ -37,7 +37,7 @@ is_table = record {
   apart = λ i j h k here there. (placed i h k here).2 ∙ sym (placed j h k there).2;
 }
 
--- node 1 may be inserted into list 0 under the key 7, which list 1 has
+-- node 1 may be inserted into list 0 under the key 7, although list 1 has the key 7
 may_insert : MayInsert table 0 1 7
 may_insert = record {
   node = omega arith;

@@ -6,32 +6,32 @@ use Rattle.klist_core.specs.Raw.{raw_place}
 use Rattle.klist_core.specs.declared.Head.{Head}
 use Rattle.klist_core.specs.declared.Node.{Node}
 
--- a direction is given by a rank of keys that rises along it: the key itself ..
+-- a direction is given by the ranks of keys, which rise in this direction: for the way up, a key is its own rank ..
 abbrev pub up : ℕ → ℕ
 up key = key
 
--- .. or, for the opposite direction, a limit minus the rank; ranks are below the limit
+-- .. and for the opposite direction, the rank is a limit minus the old rank; all ranks are below the limit
 abbrev pub back_from : ℕ → ℕ → ℕ
 back_from limit r = limit - r
 
 abbrev pub down : ℕ → ℕ
 down = back_from (2 ^ 32)
 
--- no node of list h has a rank of bound or more
+-- no node of list h has a rank of `bound` or more
 abbrev pub NoneFrom : (ℕ → ℕ) → (ℕ → Option (ℕ × ℕ)) → ℕ → ℕ → Type 0
 NoneFrom rank place h bound = (i k : ℕ) → place i ≡ Some (h, k) → rank k < bound
 
--- node j is in list h under the key k, whose rank is the lowest in the list that is not below bound
+-- node j is in list h under the key k, and its rank is the least rank in list h that is not below `bound`
 pub record IsLeastFrom (rank : ℕ → ℕ) (place : ℕ → Option (ℕ × ℕ)) (h bound j k : ℕ) : Type 0 where
   pub here : place j ≡ Some (h, k)
   pub from : bound ≤ rank k
   pub least : (i k' : ℕ) → place i ≡ Some (h, k') → bound ≤ rank k' → rank k ≤ rank k'
 
--- o is the first node of list h, in this direction, with a rank that is not below bound, or None if there is none
+-- o is the first node of list h, in this direction, with a rank that is not below `bound`, or None if there is none
 pub record IsNearest (rank : ℕ → ℕ) (place : ℕ → Option (ℕ × ℕ)) (h bound : ℕ) (o : Option ℕ) : Type 0 where
   pub is : MatchOption o (NoneFrom rank place h bound) (λ j. (k : ℕ) × IsLeastFrom rank place h bound j k)
 
--- list h is linked by key, and a new key belongs between these two of its nodes
+-- list h is linked by key; g has its last node with a key below `key` and its first node with a key above `key`
 pub record IsGap (place : ℕ → Option (ℕ × ℕ)) (h key : ℕ) (g : Option ℕ × Option ℕ) : Type 0 where
   pub by_key : IsByKey h
   pub previous : IsNearest down place h (down key + 1) g.0
@@ -57,21 +57,21 @@ pub record IsChain (rank : ℕ → ℕ) (place : ℕ → Option (ℕ × ℕ)) (h
 abbrev pub head_at : List Head → ℕ → Head
 head_at heads h = slice_index_or heads h (record { first = None; last = None; len = 0 })
 
--- a node in no list
+-- a node that is in no list
 abbrev pub free_node : Node
 free_node = record { list = None; key = 0; previous = None; next = None }
 
 abbrev pub node_at : List Node → ℕ → Node
 node_at nodes i = slice_index_or nodes i free_node
 
--- the list and the key of the node
+-- the list and the key of the node, or None if the node is in no list
 abbrev pub place_in : Node → Option (ℕ × ℕ)
 place_in n = raw_place n.list n.key
 
 abbrev pub places_of : List Node → List (Option (ℕ × ℕ))
 places_of nodes = map place_in nodes
 
--- what callers see of the table
+-- what contracts see of a table: the number of lists, and the list and key of each node
 abbrev pub shown : List Head → List Node → Placed
 shown heads nodes = record { heads = length heads; places = places_of nodes }
 
@@ -87,7 +87,8 @@ ranks came places i = ranked (came i) (place_at places i)
 -- the links and lengths that are stored in a table agree with its lists
 pub record IsLinked (heads : List Head) (nodes : List Node) : Type 0 where
   pub table : ArePlaces (shown heads nodes)
-  -- The time, before `now`, at which each node was inserted. Any numbers will do that agree with the links of the loose lists.
+  -- `came` is the time, before `now`, at which each node was inserted. These times are stored nowhere, so any numbers are allowed
+  -- that agree with the links of the loose lists.
   pub came : ℕ → ℕ
   pub now : ℕ
   pub wide : 2 ^ 32 ≤ now

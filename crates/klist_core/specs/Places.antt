@@ -1,7 +1,8 @@
 -- Ordered lists of nodes: for each node its list and its key there.
 use Rattle.std.specs.Prelude.{◌≡◌, ◌≢◌, ℕ, ◌%◌, ◌==◌, ◌^◌, ◌<◌, ◌≤◌, Bool, false, List, Option, Some, None, length, slice_index_or, slice_set}
 
--- `heads` is the number of lists, which are numbered from 0. `places` has each node's list and key.
+-- `heads` is the number of lists, which are numbered from 0. `places` has each node's list and key, or None if the node is in no
+-- list.
 pub record Placed : Type 0 where
   pub heads : ℕ
   pub places : List (Option (ℕ × ℕ))
@@ -9,7 +10,7 @@ pub record Placed : Type 0 where
 abbrev pub place_at : List (Option (ℕ × ℕ)) → ℕ → Option (ℕ × ℕ)
 place_at places i = slice_index_or places i None
 
--- the place is in list h
+-- a node with this place is in list h
 abbrev pub is_in : ℕ → Option (ℕ × ℕ) → Bool
 is_in h None = false
 is_in h (Some p) = p.0 == h
@@ -25,8 +26,8 @@ pub record IsPlacedByKey (places : List (Option (ℕ × ℕ))) (i : ℕ) : Type 
   pub here : place_at places i ≡ Some (list, key)
   pub by_key : IsByKey list
 
--- what is true of every table: its numbers fit into 32 bits, each node's list is one of its lists, and no two nodes of a list
--- have the same key
+-- what is true of every table: its numbers fit into 32 bits, the list of each node is a list of the table, and no two nodes of a
+-- list have the same key
 pub record ArePlaces (s : Placed) : Type 0 where
   pub few : s.heads < 2 ^ 32
   pub small : length s.places < 2 ^ 32

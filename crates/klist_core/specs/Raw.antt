@@ -1,4 +1,4 @@
--- The four bytes of a link: 2^32 - 1 means none.
+-- How a link is stored in four bytes: 2^32 - 1 means that there is none.
 use Rattle.std.specs.Prelude.{◌≡◌, ℕ, ◌-◌, ◌^◌, ◌==◌, Option, Some, None, if◌then◌else◌}
 use Rattle.std.proofs.Common.{sym, refl, inl, inr}
 use Rattle.std.proofs.lemmas.Bool.{cases_eq, eq-eqb, ne_eqb}
@@ -16,7 +16,7 @@ raw_stays raw = elim (cases_eq raw (2 ^ 32 - 1)) [
   | inr ne ↦ rw (ne_eqb raw (2 ^ 32 - 1) ne) refl
 ]
 
--- the list and key of a node with these fields
+-- the list and key of a node with these fields, or None if it is in no list
 abbrev pub raw_place : Option ℕ → ℕ → Option (ℕ × ℕ)
 raw_place None key = None
 raw_place (Some list) key = Some (list, key)

@@ -9,7 +9,7 @@ pub fn lists_rise()
     ensures { ListsRise }
 {}
 
-/// A list consists of exactly the pairs of its nodes.
+/// A list has a pair of key and node if and only if the node is in this list under this key.
 pub fn lists_hold_places()
     ensures { ListsHoldPlaces }
 {}

@@ -65,7 +65,7 @@ impl Link {
         }
     }
 
-    /// Returns true if the link is to this number. Takes one comparison.
+    /// Returns true if this is a link to `number`. Takes one comparison.
     #[inline(always)]
     fn is(self, number: u32) -> bool
         requires { number < 2 ^ 32 - 1 }
@@ -83,8 +83,8 @@ struct Head {
     len: u32,
 }
 
-/// The list and the key of a node, and its neighbours in the list: the nodes with the next smaller and the next greater
-/// key, or in a loose list those inserted before and after it. The key of a node that is in no list is 0 and means nothing.
+/// The list and the key of a node, and its neighbours in the list: the nodes with the next smaller and the next greater key, or
+/// in a loose list the nodes inserted just before and after it. The key of a node that is in no list is 0 and means nothing.
 #[derive(Clone, Copy, Debug)]
 struct Node {
     list: Link,
@@ -109,7 +109,7 @@ impl Node {
     }
 }
 
-/// Returns true if the list is loose.
+/// Returns true if the list is loose, which is true of every third list from list 0 on.
 #[inline(always)]
 pub fn is_loose(head: u32) -> bool
     ensures loose { IsTrue result → head % 3 ≡ 0 }
@@ -155,14 +155,14 @@ impl Lists {
         Ok(Lists { heads, nodes })
     }
 
-    /// A law: the invariants of every table. The call does nothing.
+    /// States the invariants of every table, and does nothing.
     pub fn laws(&self)
         ensures { ArePlaces self.now }
     {
         let _heads = &self.heads;
     }
 
-    /// Returns the number of nodes, in lists or not.
+    /// Returns the number of nodes of the table, whether or not they are in a list.
     pub fn nodes(&self) -> u32
         ensures { result ≡ length self.now.places }
     {
@@ -214,7 +214,7 @@ impl Lists {
         }
     }
 
-    /// Returns the same as [`Lists::first`] for a list that is not loose, in constant time.
+    /// Returns what [`Lists::first`] returns, in constant time. The list must not be loose.
     #[inline(always)]
     pub fn first_by_key(&self, head: u32) -> Option<(u32, u32)>
         requires head { head < self.now.heads }
@@ -225,8 +225,8 @@ impl Lists {
         self.first_at(head, self.first_of(head))
     }
 
-    /// Returns the key of node `least`, which has the least key of the list, and the node itself. Returns `None` if `least` is
-    /// `None`, which means that the list is empty.
+    /// Returns the least key of the list and its node, which the caller passes as `least`. Returns `None` if `least` is `None`,
+    /// which means that the list is empty.
     #[inline(always)]
     fn first_at(&self, head: u32, least: Option<u32>) -> Option<(u32, u32)>
         requires { IsNearest up (place_at self.now.places) head 0 least }
@@ -291,7 +291,7 @@ impl Lists {
         self.put(head, node, key, gap);
     }
 
-    /// Does the same as [`Lists::insert`] for a loose list.
+    /// Does what [`Lists::insert`] does. The list has to be loose.
     #[inline(always)]
     pub fn append(&mut self, head: u32, node: u32, key: u32)
         requires head { head < self.old.heads }
@@ -304,9 +304,9 @@ impl Lists {
         self.put(head, node, key, None);
     }
 
-    /// Does the same as [`Lists::insert`] for a list that is not loose, but the search begins at the node `near`, if `near` is in
-    /// the list. Otherwise it begins at the end of the list whose key is nearer. Takes constant time if `near` becomes a
-    /// neighbour of the new node. A bad hint only costs time.
+    /// Inserts a node like [`Lists::insert`], but the search begins at the node `near` if `near` is in the list. Otherwise the
+    /// search begins at the end of the list whose key is nearer to `key`. The list must not be loose. Takes constant time if
+    /// `near` becomes a neighbour of the new node. A bad hint only costs time.
     pub fn insert_near(&mut self, head: u32, node: u32, key: u32, near: u32)
         requires head { head < self.old.heads }
         requires by_key { IsByKey head }
@@ -325,7 +325,7 @@ impl Lists {
         }
     }
 
-    /// Does the same as [`Lists::insert_near`], for a caller that knows that `near` is in the list.
+    /// Does what [`Lists::insert_near`] does. `near` has to be in the list.
     #[inline(always)]
     pub fn insert_by(&mut self, head: u32, node: u32, key: u32, near: u32)
         requires head { head < self.old.heads }
@@ -600,7 +600,8 @@ impl Lists {
     }
 }
 
-/// Returns the two nodes of `gap`. If `gap` is `None`, returns the last linked node of the list, and `None`.
+/// Returns the two nodes of `gap`. If `gap` is `None`, returns the last node of the list in the order of links, and `None` for
+/// the node after it.
 #[inline(always)]
 fn link_place(
     heads: &[Head],

@@ -28,7 +28,7 @@ link_node-requires c =
       room = rw c.deref_mut-heads.ensures.value k.room;
     }
 
--- when the borrowed slices are given back, the tables are those after the node is linked
+-- when the borrow of the slices ends, the tables are the old tables with the node linked in
 heads_back : (c : After-link_node) (rest : List Head) → take c.self.inside.heads.len (c.link_node.new.heads ++ rest) ≡ heads_linked c.self.inside.heads.items c.args.head c.args.node c.link_place-previous.result.0 c.link_place-previous.result.1
 heads_back c rest =
     seam _ rest c.self.inside.heads.len (omega (arith, c.link_node.auto.heads, ap (λ (hs : List Head). length hs) c.deref_mut-heads.ensures.value, c.self.inside.heads.ok.0))

@@ -18,14 +18,14 @@ unlink_node-requires c =
     rw (c.deref_mut-heads.ensures.value, c.deref_mut-nodes.ensures.value, c.get-previous.ensures, c.get-next.ensures)
     (record { head = k.in_heads; node = k.in_nodes; nodes = k.small; previous = k.left.below; next = k.right.below; some = k.some })
 
--- after `unlink_node`, the tables are those without the node
+-- after `unlink_node`, the slices are the old tables with the node taken out
 heads_freed : (c : After-unlink_node) → c.unlink_node.new.heads ≡ heads_unlinked c.self.inside.heads.items c.in-Some.head c.index-nodes-node.result.previous c.index-nodes-node.result.next
 heads_freed c = cc
 
 nodes_freed : (c : After-unlink_node) → c.unlink_node.new.nodes ≡ nodes_unlinked c.self.inside.nodes.items c.args.node c.index-nodes-node.result.previous c.index-nodes-node.result.next
 nodes_freed c = cc
 
--- when the borrowed slices are given back, the tables are those without the node
+-- when the borrow of the slices ends, the tables are the old tables with the node taken out
 heads_back : (c : After-unlink_node) (rest : List Head) → take c.self.inside.heads.len (c.unlink_node.new.heads ++ rest) ≡ heads_unlinked c.self.inside.heads.items c.in-Some.head c.index-nodes-node.result.previous c.index-nodes-node.result.next
 heads_back c rest =
     seam _ rest c.self.inside.heads.len (omega (arith, c.unlink_node.auto.heads, ap (λ (hs : List Head). length hs) c.deref_mut-heads.ensures.value, c.self.inside.heads.ok.0))

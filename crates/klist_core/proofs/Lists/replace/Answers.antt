@@ -18,14 +18,14 @@ unlink_node-requires c =
     rw (c.deref_mut-heads.ensures.value, c.deref_mut-nodes.ensures.value, c.get-previous.ensures, c.get-next.ensures)
     (record { head = k.in_heads; node = k.in_nodes; nodes = k.small; previous = k.left.below; next = k.right.below; some = k.some })
 
--- after `unlink_node`, the tables are those without the node
+-- after `unlink_node`, the slices are the old tables with the node taken out
 heads_freed : (c : After-unlink_node) → c.unlink_node.new.heads ≡ heads_unlinked c.self.inside.heads.items c.in-Some.head c.index-nodes-node.result.previous c.index-nodes-node.result.next
 heads_freed c = cc
 
 nodes_freed : (c : After-unlink_node) → c.unlink_node.new.nodes ≡ nodes_unlinked c.self.inside.nodes.items c.args.node c.index-nodes-node.result.previous c.index-nodes-node.result.next
 nodes_freed c = cc
 
--- after `unlink_node`, the number of nodes is the same
+-- `unlink_node` does not change the number of nodes
 nodes_kept : (c : After-unlink_node) → length c.unlink_node.new.nodes ≡ length c.self.inside.nodes.items
 nodes_kept c = ap (λ (ns : List Node). length ns) (nodes_freed c) ∙ nodes_stay c.self.inside.nodes.items c.args.node c.index-nodes-node.result.previous c.index-nodes-node.result.next
 
@@ -39,7 +39,7 @@ link_node-requires-clause-next c = λ i e.
     let g = goal.at.link_node-requires-clause-next c in
     let k = known g.In-Some in omega (arith, nodes_kept g.After-unlink_node, k.right.below i (sym c.get-next.ensures ∙ e))
 
--- when the borrowed slices are given back, the tables are those after the replacement
+-- when the borrow of the slices ends, the tables are the old tables with the node replaced
 heads_back : (c : After-link_node) (rest : List Head) → c.unlink_node.new.heads ≡ heads_unlinked c.self.inside.heads.items c.in-Some.head c.index-nodes-node.result.previous c.index-nodes-node.result.next
     → take c.self.inside.heads.len (c.link_node.new.heads ++ rest) ≡ heads_replaced c.self.inside.heads.items c.in-Some.head c.args.by c.index-nodes-node.result
 heads_back c rest freed =
