@@ -1,4 +1,4 @@
--- The two directions of a list: how the nearest node in one direction follows from links in the other direction.
+-- The two directions of a list: how nearest nodes in one direction follow from nearest nodes in the other.
 use Rattle.std.proofs.Common.{◌≡◌, ℕ, ◌+◌, ◌<◌, ◌≤◌, Option, Some, None, ap, ◌∙◌, inl, inr, arith}
 use Rattle.std.specs.Prelude.{MatchOption, ◌≢◌}
 use Rattle.std.proofs.lemmas.Bool.{cases_lt, cases_eq}
@@ -31,7 +31,7 @@ pub record IsLastBelow (rank : ℕ → ℕ) (place : ℕ → Option (ℕ × ℕ)
 pub record IsKeyed (limit : ℕ) (place : ℕ → Option (ℕ × ℕ)) (h : ℕ) : Type 0 where
   pub below : (i k : ℕ) → place i ≡ Some (h, k) → k < limit
 
--- in the direction of `back`, the nearest node of list h from the key k on is the last node with a rank below the rank of k
+-- in the direction of `back`, the first node of list h after the key k is the last node with a rank below the rank of k
 pub last_below : {limit : ℕ} (rank back : ℕ → ℕ) (place : ℕ → Option (ℕ × ℕ)) (h k : ℕ) (o : Option ℕ) → IsDirection limit rank back → IsKeyed limit place h → k < limit
     → IsNearest back place h (back k + 1) o → IsLastBelow rank place h (rank k) o
 last_below {limit} rank back place h k None d keyed small v = record { is = above }

@@ -1,4 +1,4 @@
--- The `previous` link of a node is the node before it in its list, or shows that there is none.
+-- In a list that is linked by key, the `previous` link of a node is the node with the next lower key, or None if there is none.
 use Rattle.std.proofs.Common.{◌≡◌, ℕ, ◌+◌, ◌-◌, ◌^◌, ◌<◌, ◌≤◌, List, Option, Some, None, sym, subst, arith}
 use Rattle.std.specs.Prelude.{IfSome}
 use Rattle.klist_core.specs.Places.{IsByKey, IsPlacedByKey, place_at, NoneBelow, IsPrevious}

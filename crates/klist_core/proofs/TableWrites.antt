@@ -14,7 +14,7 @@ use Rattle.klist_core.proofs.Chains.{IsRelinked}
 pub record IsWithin (o : Option ℕ) (len : ℕ) : Type 0 where
   pub below : (i : ℕ) → o ≡ Some i → i < len
 
--- if y and element i have the same field f, writing y over element i changes the field f of no element
+-- if y and element i agree in field f, writing y over element i changes field f of no element
 unseen : {X Y : Type 0} (f : X → Y) (xs : List X) (i j : ℕ) (y d : X) → f y ≡ f (get_or xs i d) → f (get_or (set xs i y) j d) ≡ f (get_or xs j d)
 unseen {X} {Y} f xs i j y d e = sym (get_or-map f (set xs i y) j d) ∙ (ap (λ (zs : List Y). get_or zs j (f d)) (map-set_same f xs i y d e) ∙ get_or-map f xs j d)
 
@@ -68,7 +68,7 @@ len_before None h to heads g = unseen (λ (x : Head). x.len) heads h g (record (
 len_before (Some i) h to heads g = refl
 
 -- In one direction, f reads the end of a list and g reads the link of a node. Let no link but the link of node n have changed. If
--- list h gets the head x, whose end is `to`, only the end of list h and the link of node n change.
+-- list h then gets the head x, only the end of list h, which is now `to`, and the link of node n have changed.
 ends_relinked : (f : Head → Option ℕ) (g : Node → Option ℕ) (h n : ℕ) (to : Option ℕ) (ends links : ℕ → Option ℕ) (heads : List Head) (nodes : List Node) (x : Head) → h < length heads → f x ≡ to
     → ((i : ℕ) → f (head_at heads i) ≡ ends i) → ((i : ℕ) → i ≢ n → g (node_at nodes i) ≡ links i)
     → IsRelinked ends links (λ i. f (head_at (set heads h x) i)) (λ i. g (node_at nodes i)) h n None to
@@ -79,7 +79,7 @@ ends_relinked f g h n to ends links heads nodes x lt is e l = record {
   other_link = λ i ne _. l i ne;
 }
 
--- if instead node j becomes y, whose link is `to`, only the links of node j and node n change
+-- if instead node j becomes y, only the link of node j, which is now `to`, and the link of node n have changed
 links_relinked : (f : Head → Option ℕ) (g : Node → Option ℕ) (h n j : ℕ) (to : Option ℕ) (ends links : ℕ → Option ℕ) (heads : List Head) (nodes : List Node) (y : Node) → j < length nodes → g y ≡ to
     → ((i : ℕ) → f (head_at heads i) ≡ ends i) → ((i : ℕ) → i ≢ n → g (node_at nodes i) ≡ links i)
     → IsRelinked ends links (λ i. f (head_at heads i)) (λ i. g (node_at (set nodes j y) i)) h n (Some j) to
@@ -102,7 +102,7 @@ before_relinks : (o : Option ℕ) (h n : ℕ) (to : Option ℕ) (ends links : �
 before_relinks None h n to ends links heads nodes lt w e f = ends_relinked (λ (x : Head). x.last) (λ (x : Node). x.previous) h n to ends links heads nodes _ lt refl e f
 before_relinks (Some j) h n to ends links heads nodes lt w e f = links_relinked (λ (x : Head). x.last) (λ (x : Node). x.previous) h n j to ends links heads nodes _ (w.below j refl) refl e f
 
--- if other tables have the same ends and links, they are relinked too
+-- tables with the same ends and links as relinked tables are relinked too
 relinked_same : (ends links e e' l l' : ℕ → Option ℕ) (h n : ℕ) (o to : Option ℕ) → IsRelinked ends links e l h n o to → ((g : ℕ) → e' g ≡ e g) → ((i : ℕ) → l' i ≡ l i)
     → IsRelinked ends links e' l' h n o to
 relinked_same ends links e e' l l' h n o to r f g = record {

@@ -4,9 +4,9 @@
 //! list ascend, and no two of its nodes have the same key. Each node has links to the previous and the
 //! next node, and each list to its first and last node (Knuth, The Art of Computer Programming, 2.2.5).
 //!
-//! Every third list, from list 0 on, is loose. In contracts it is a list like any other, in ascending order of keys, but its nodes
-//! are linked in the order in which they were inserted. So an insertion takes constant time with any key, but a search for the
-//! first node visits all nodes of the table.
+//! Every third list, from list 0 on, is loose. In contracts it is a list like any other, in ascending order of keys, but its
+//! nodes are linked in the order in which they were inserted. So an insertion takes constant time with any key, but a search for
+//! the least key visits all nodes of the table.
 //!
 //! Only [`Lists::new`] allocates.
 #![tactic(auto)]
@@ -273,7 +273,7 @@ impl Lists {
 
     /// Inserts a node that is in no list, under a key that the list does not have.
     ///
-    /// Takes constant time in a loose list, and in any list if the key is below all its keys or above all of them. Otherwise it
+    /// Takes constant time in a loose list, and in any list if the key is below or above all keys of the list. Otherwise it
     /// searches from the first node on, so use [`Lists::insert_near`] for a long list.
     #[inline(always)]
     pub fn insert(&mut self, head: u32, node: u32, key: u32)
@@ -421,8 +421,8 @@ impl Lists {
         self.neighbours(head, key, Some(first))
     }
 
-    /// Returns the nodes between which a new key belongs; `None` means an end of the list. The search begins at `start`, a node of
-    /// the list, or `None` if the list is empty.
+    /// Returns the nodes between which a new key belongs; `None` means an end of the list. The search begins at `start`, which is
+    /// a node of the list, or `None` if the list is empty.
     fn neighbours(&self, head: u32, key: u32, start: Option<u32>) -> (Option<u32>, Option<u32>)
         requires head { head < self.now.heads }
         requires by_key { IsByKey head }

@@ -57,7 +57,7 @@ begins_only l chunk colour offset from i same some below is behind from_is whole
       only = λ j b. same_chunk l chunk colour offset from i j same is from_is (begins_at l chunk colour offset j same some b).chunk_of;
     }
 
--- if an object begins at a byte, so does the chunk that the byte is in
+-- if an object begins at a byte, the chunk that has the byte begins there too
 pub begins_whole : (l : Cut) (chunk colour offset from i j : ℕ) → chunk ≡ (numbers_of l).chunk → 0 < chunk → i ≡ from / (numbers_of l).chunk
     → from ≡ offset - colour → Begins l colour offset j → i * chunk ≡ from
 begins_whole l chunk colour offset from i j same some is from_is b =

@@ -3,13 +3,14 @@ ghost use Rattle.model_core.specs.Layouts.{LayoutsFit};
 ghost use Rattle.layout_core.specs.Laws.{EverySizeHasAnOrder, OffsetsApart, FewObjects};
 
 /// For each accepted size and alignment, at each colour offset, a slab has space for at least one object. All its objects begin
-/// at multiples of the alignment and end within the slab. The objects of a small slab end before the last 32 bytes of its frame.
+/// at multiples of the alignment and end within the slab. If the chunks are small, the objects end before the last 32 bytes of
+/// the frame.
 pub fn layouts_fit()
     ensures { LayoutsFit }
 {}
 
-/// Every accepted size and alignment has a slab order of 0 to 3. It is 0 for small objects, else the least order that leaves at
-/// most an eighth of the slab unused.
+/// For each accepted size and alignment, the order of a slab is 0 to 3. It is 0 for small chunks, else the least order that
+/// leaves at most an eighth of the slab unused.
 pub fn every_size_has_an_order()
     ensures { EverySizeHasAnOrder }
 {}
@@ -19,7 +20,7 @@ pub fn objects_apart()
     ensures { OffsetsApart }
 {}
 
-/// A small slab has at most 254 objects, and a large one at most 16.
+/// A slab has at most 254 objects if its chunks are small, which means less than 512 bytes. Otherwise it has at most 16.
 pub fn few_objects()
     ensures { FewObjects }
 {}

@@ -126,7 +126,7 @@ impl Layout {
     }
 
     /// States a law and does nothing. The size and the alignment of every layout are accepted. At each colour offset the objects
-    /// end within the slab, and the objects of a small slab end before its control record.
+    /// end within the slab, and if the chunks are small, before its control record.
     pub fn laws(&self)
         ensures fits { IsLayout self.now.size self.now.align (numbers_of self.now) }
         ensures size { is_size self.now.size ≡ true }

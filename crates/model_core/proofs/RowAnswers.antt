@@ -25,7 +25,7 @@ abbrev pub numbers_from : Machine → List Operation → List (Option ℕ)
 numbers_from m [] = []
 numbers_from m (operation ∷ operations) = number_of operation m ∷ numbers_from (after MOST_CACHES 3 operation m) operations
 
--- the numbers of these operations, which run in order from the empty machine; slots have order 3
+-- the numbers for these operations, run in order on the empty machine; slots have order 3
 abbrev pub numbers : List Operation → List (Option ℕ)
 numbers operations = numbers_from empty_machine operations
 

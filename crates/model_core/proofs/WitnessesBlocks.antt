@@ -56,8 +56,8 @@ EachFrameInOne-met law b free has =
     let only = law 3 held taken 5 refl ((choice_is_untaken 3 2 4 machine refl).1 5 (omega arith, omega arith)).1 in
     only.3 b free has ∙ sym (only.3 (block 4 2) upper_half_free (omega arith, omega arith))
 
--- Frame 4 is reserved: the free block of order 2 at frame 4 is split twice. The upper half of each split is then free, the block
--- of order 1 at frame 6 and the block of order 0 at frame 5.
+-- Frame 4 is reserved: the free block of order 2 at frame 4 is split twice. The upper half of each split is then free: the block
+-- of order 1 at frame 6, and the block of order 0 at frame 5.
 Splits-met : Splits → IsFree 3 held (with_taken taken 4 0) (block 5 0) × IsFree 3 held (with_taken taken 4 0) (block 6 1)
 Splits-met law = (
   (law 3 held taken 4 2 0 upper_half_free (omega arith) (block 5 0)).1 (inr (0, omega arith, omega arith, refl)),

@@ -101,7 +101,8 @@ written_before : anew.bytes 2048 ≡ Some 99
 unfolding layout_of cache_step create_step next_number take_step give_step write_step in_reach grown_cache grown slab_to_use fresh_byte by_need reaped choice taken_blocks empty_machine next_slot after_grant
 written_before = refl
 
--- after the new slab is made, the object at place 2048 has not been handed out yet, and its first byte is that of the new pattern
+-- after the new slab is made, the object at place 2048 has not been handed out yet, and its first byte is the first byte of the
+-- new pattern
 ConstructedFirst-met : ConstructedFirst → (machine_after (eight_slabs ++ Take 1 ∷ [])).bytes (2048 + 0) ≡ Some 22
 unfolding layout_of cache_step create_step next_number take_step give_step write_step in_reach grown_cache grown slab_to_use fresh_byte by_need reaped choice taken_blocks empty_machine next_slot after_grant
 ConstructedFirst-met law = law MOST_CACHES 3 (eight_slabs ++ Take 1 ∷ []) (object_anew false 1) 0 (each_append IsPossible eight_slabs (Take 1 ∷ []) can_be_requested (tt, tt))

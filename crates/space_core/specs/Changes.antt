@@ -12,7 +12,7 @@ pub record IsLeastSlot (slots : List (List (Option ℕ))) (t u : ℕ) : Type 0 w
 abbrev pub with_entry : List (List (Option ℕ)) → ℕ → ℕ → Option ℕ → List (List (Option ℕ))
 with_entry slots t u x = slice_set slots t (slice_set (slots_of slots t) u x)
 
--- superblock m becomes slot u of tenant t: it reads as zero and has no mark
+-- superblock m is put into slot u of tenant t, and then reads as zero and has no mark
 abbrev pub with_grant : Content → ℕ → ℕ → ℕ → Content
 with_grant s t u m = record s {
   owners = slice_set s.owners m (Some (owned_by t u));

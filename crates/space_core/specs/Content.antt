@@ -4,9 +4,9 @@ use Rattle.model_core.specs.declared.limits.TheConstants.{FRAME_BYTES, MOST_ORDE
 use Rattle.model_core.specs.declared.owner.Owner.{Owner}
 use Rattle.model_core.specs.Owners.{owned_by, is_of}
 
--- `unit` is the number of bytes of a superblock. `owners` has the tenant and the slot of each superblock, `slots` the superblock
--- of each tenant and slot, and `banks` the bytes of each superblock. `marks` is true for the superblocks that still have to be
--- scrubbed.
+-- `unit` is the number of bytes of a superblock. `owners` has the owner of each superblock, a tenant and a slot, or None. `slots`
+-- has, for each tenant, the superblock in each of its slots, or None. `banks` has the bytes of each superblock. `marks` is true
+-- for the superblocks that still have to be scrubbed.
 pub record Content : Type 0 where
   pub unit : ℕ
   pub owners : List (Option Owner)

@@ -99,8 +99,8 @@ impl<W: Write> WriterDrain<W> {
         self.send_failed
     }
 
-    /// Writes the buffered bytes, and then takes a prefix of `bytes`, which did not fit beside them. Fails at once if a send has
-    /// failed.
+    /// Writes the buffered bytes to free the buffer, and then takes a prefix of `bytes`, which did not fit. Fails at once if a
+    /// send has failed.
     #[cold]
     #[inline(never)]
     fn push_beyond(&mut self, bytes: &[u8]) -> Result<usize, Stopped>

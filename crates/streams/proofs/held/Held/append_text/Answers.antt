@@ -4,7 +4,7 @@ use Rattle.std.proofs.lemmas.List.{take-append-le, length-take-le, with_items_is
 use Rattle.streams.specs.Held.{HeldBytes}
 use Rattle.streams.proofs.held.Held.append_text.Goals as goal
 
--- after the text is written, the first len + n bytes of the buffer are the held bytes and the first n bytes of the text
+-- after the text is written, the first len + n bytes of the buffer are the held bytes, followed by the first n bytes of the text
 taken : (front text rest : List ℕ) (len n : ℕ) → length front ≡ len → n ≤ length text → take (len + n) (front ++ (text ++ rest)) ≡ front ++ take n text
 taken front text rest len n size fits =
     ap (λ k. take (k + n) (front ++ (text ++ rest))) (sym size)
