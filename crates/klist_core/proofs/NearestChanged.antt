@@ -4,7 +4,7 @@ use Rattle.std.specs.Prelude.{◌≢◌}
 use Rattle.std.proofs.lemmas.Bool.{cases_lt, cases_eq}
 use Rattle.klist_core.specs.Links.{IsLeastFrom, IsNearest}
 
--- `large` is `small` with node n in list h too, under a key k that list h of `small` does not have
+-- `large` is `small` with node n added to list h, under a key k that list h of `small` does not have
 pub record IsPut (small large : ℕ → Option (ℕ × ℕ)) (h n k : ℕ) : Type 0 where
   pub free : small n ≡ None
   pub here : large n ≡ Some (h, k)

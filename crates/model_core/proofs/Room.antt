@@ -26,7 +26,7 @@ use Rattle.model_core.proofs.VacantBlocks.{IsVacant, some_choice}
 
 -- Lists of numbers
 
--- a number x with a ≤ x < a + n is in the range of the n numbers from a on
+-- a number x with a ≤ x < a + n is one of the n numbers from a on
 pub in_range : (x a n : ℕ) → a ≤ x → x < a + n → IsIn x (range_with_len a n)
 in_range x a zero low high = absurd (omega arith)
 in_range x a (suc n) low high = ⊎_elim (λ same. inl same) (λ other. inr (in_range x (a + 1) n (omega arith) (omega arith))) (cases_eq a x)

@@ -35,7 +35,7 @@ consumes_kept (Some us) None c xs h k = absurd h
 consumes_kept (Some us) (Some vs) None xs h k = absurd k
 consumes_kept (Some us) (Some vs) (Some ws) xs h k = h ∙ ap (λ zs. xs ++ zs) (sym k)
 
--- a pull that gave no byte consumes nothing: what was consumed before it is all that is consumed after it
+-- if the bytes `xs` were consumed before a pull that gave no byte, exactly `xs` are consumed after the pull
 pub consumes_end : (a b c : Option (List ℕ)) (xs into : List ℕ) (count : ℕ) → count ≡ 0 → Consumes a b xs → Consumes b c (take count into) → Consumes a c xs
 consumes_end a b c xs into count none h k =
     subst (λ ys. Consumes a c ys) (ap (λ n. xs ++ take n into) none ∙ append-nil xs) (consumes_more a b c xs (take count into) h k)
