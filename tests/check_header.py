@@ -1,20 +1,20 @@
 """Compares crates/partmem_c/partmem.h, and two functions that memory.c declares, with the exports, structs and constants of the
-crate's source. All of both is compared.
+crate's source.
 
-A word of the header that is not compared is refused, and so is an export or a struct that was not read."""
+It fails if the header has a word that it does not compare, or if it did not read an export or a struct of the source."""
 import glob
 import re
 import sys
 
 LIMITS = "FRAME_BYTES LEAST_ORDER MOST_ORDER MOST_SUPERBLOCKS MOST_TENANTS MOST_CACHES MOST_PATTERN MOST_BYTES".split()
-# The types of C by those of Rust.
+# Maps types of Rust to types of C.
 TYPES = {"u32": "uint32_t", "usize": "size_t", "bool": "uint32_t", "*mut u8": "void *"}
-# Fields that have another name in Rust.
+# Maps names of fields in Rust to other names in C.
 FIELDS = {"usage": "use"}
-# A partmem_tenant is passed for a machine and a number.
+# A partmem_tenant of the header is these two parameters in the source.
 TENANT = [("machine", "partmem_machine *"), ("tenant", "uint32_t")]
 IN_C = ["partmem_" + name for name in "strerror version boot boot_in end superblock_address find_place".split()]
-# Exports that return a number and no status.
+# Exports that return a number instead of a status.
 NUMBERS = ["partmem_superblock_bytes"]
 ENUM = re.compile(r"(?:typedef )?enum (?:\w+ )?\{([^{}]*)\}(?: (\w+))?;")
 STRUCT = re.compile(r"typedef struct (\w+) \{([^{}]*)\} (\w+);")
@@ -45,14 +45,14 @@ def declared(text):
 
 
 def parts_of_header():
-    """Returns the macros, enums, structs and functions of the header. All else in it is preprocessor lines and inline
-    functions."""
+    """Returns the macros, enums, structs and functions of the header. Fails if it has anything else but preprocessor lines and
+    inline functions."""
     macros = re.findall(r"^#define PARTMEM_(\w+) (\w+?)u\b", header, re.M)
     text = " ".join(line for line in header.replace("\\\n", " ").splitlines() if not line.startswith("#"))
     text = INLINE.sub(" ", " ".join(text.split()))
     rest = " ".join(FUNCTION.sub("", STRUCT.sub("", ENUM.sub("", text))).split())
     if rest != 'extern "C" { }':
-        fail(f"beside what is compared it has: {rest}")
+        fail(f"it has text that is not compared: {rest}")
     return macros, ENUM.findall(text), STRUCT.findall(text), FUNCTION.findall(text)
 
 
@@ -60,7 +60,7 @@ def constants(text):
     return re.findall(r"PARTMEM_(\w+) = (\w+)", text)
 
 
-# What Rust calls a struct of the header. This comes from the exports, where both languages give a parameter the same name.
+# Maps names of structs in Rust to names in the header. It is filled from the exports, whose parameters are the same in both.
 names = {"MachineStorage": "partmem_machine"}
 
 
@@ -88,7 +88,7 @@ def exports_of_header(functions):
 
 
 def exports_of_source(in_header):
-    """Returns the exports of the source, in the types of C: a slice is a pointer, to bytes or to text, and a length."""
+    """Yields the exports of the source, with types of C. A slice becomes a pointer to bytes or text, and a length."""
     exports = re.findall(r'#\[unsafe\(no_mangle\)\]\s*pub extern "C" fn (\w+)\((.*?)\)\s*->\s*u32', source, re.S)
     marks = len(re.findall(r"no_mangle|export_name", source))
     if not marks == source.count("extern") == len(exports):
@@ -121,7 +121,7 @@ def structs_of_header(structs):
 
 
 def structs_of_source(in_header):
-    """Returns the structs of the source. C does not see the two that hold a machine."""
+    """Yields the structs of the source, except the two that hold a machine, which C does not see."""
     structs = re.findall(r"#\[repr\(C\)\]\s*(?:#\[[^\]]*\]\s*)*pub struct (\w+) \{(.*?)\n\}", source, re.S)
     if len(structs) != source.count("repr("):
         fail(f"the source has {source.count('repr(')} structs for C, of which {len(structs)} were read")
@@ -131,8 +131,8 @@ def structs_of_source(in_header):
         pairs = [line.split(": ", 1) for line in lines if line and not line.startswith("ghost")]
         read_of[name] = [(FIELDS.get(field, field), kind) for field, kind in pairs]
     if [read_of.pop("MachineStorage"), read_of.pop("Slot")] != [[("is_booted", "bool"), ("slot", "Slot")], [("at", "*mut u8")]]:
-        fail("a machine is held in another way")
-    # Rows have no parameter: their names are those of the fields that have them.
+        fail("MachineStorage or Slot has other fields than this test expects")
+    # No parameter is a struct of a table's rows. Its name in C comes from the field that is an array of rows.
     for name, fields in read_of.items():
         for field, kind in fields:
             row = re.fullmatch(r"\[([A-Z]\w+); \w+\]", kind)
@@ -143,14 +143,14 @@ def structs_of_source(in_header):
 
 
 def plain(structs, limits):
-    """Returns the structs with numbers as lengths of arrays, and with integers for enums."""
+    """Yields the structs with numbers as the lengths of arrays, and with integers instead of enums."""
     for name, fields in structs.items():
         kinds = [re.sub(r"\[(.*)\]", lambda found: f"[{length(found[1], limits)}]", kind) for _, kind in fields]
         yield name, [(field, kind.replace("partmem_use", "uint32_t")) for (field, _), kind in zip(fields, kinds)]
 
 
 def length(text, limits):
-    """Returns a length of an array: a limit, in C perhaps plus 1, or a constant of the source that is made of limits."""
+    """Returns the length of an array, which is a sum of numbers, limits, and constants of the source that follow from limits."""
     names = {"ORDERS": limits["MOST_ORDER"] + 1, "CACHES": limits["MOST_CACHES"], **limits}
     return sum(int(names.get(part.removeprefix("PARTMEM_"), part)) for part in text.split(" + "))
 
@@ -160,7 +160,7 @@ def snake(name):
 
 
 def numbers_of_source():
-    """Returns the numbers of the source: statuses, kinds and uses, and what bounds them."""
+    """Yields the names and values of the constants of the source: statuses, kinds, uses and limits."""
     for path, text in sources.items():
         for name, number in re.findall(r"pub const (\w+): u32 = (\d+|u32::MAX);", text):
             yield name, 2 ** 32 - 1 if number == "u32::MAX" else int(number)
@@ -175,10 +175,10 @@ def numbers_of_source():
 
 
 def by_name(what, pairs):
-    """Returns the pairs by their names, each of which occurs once."""
+    """Returns the pairs as a dictionary. Fails if a name occurs twice."""
     pairs = list(pairs)
     if len(pairs) != len(dict(pairs)):
-        fail(f"a {what} is there twice")
+        fail(f"the name of a {what} occurs twice")
     return dict(pairs)
 
 
@@ -206,7 +206,7 @@ in_header = by_name("struct", structs_of_header(structs))
 if in_header.pop("partmem_machine", None) != [("held", "void *[3]")] or \
         in_header.pop("partmem_tenant", None) != [("machine", "partmem_machine *"), ("number", "uint32_t")] or \
         in_header.pop("partmem_memory", None) != [("ram", "void *"), ("tables", "void *")]:
-    fail("a machine, a tenant or a memory is another struct")
+    fail("partmem_machine, partmem_tenant or partmem_memory has other fields than this test expects")
 in_source = by_name("struct", structs_of_source(in_header))
 found = [
     f"{compare('function', exports, exports_in_source)} functions",

@@ -41,13 +41,13 @@ class Browser:
             more = os.read(self.read_end, 1 << 20) if ready else b""
             if not more:
                 with open(self.log, encoding="utf-8", errors="replace") as log:
-                    raise EOFError(f"chromium says no more within {SECONDS} seconds: {log.read()[-1000:]}")
+                    raise EOFError(f"chromium ended, or sent nothing within {SECONDS} seconds: {log.read()[-1000:]}")
             self.rest += more
         message, _, self.rest = self.rest.partition(b"\0")
         return json.loads(message)
 
     def call(self, method, **parameters):
-        """Sends a command, and returns its result. Events until then are noted."""
+        """Sends a command, and returns its result. Notes the events that come before the result."""
         self.number += 1
         message = {"id": self.number, "method": method, "params": parameters}
         if self.session:
@@ -78,7 +78,7 @@ class Browser:
             time.sleep(0.05)
 
     def evaluate(self, expression):
-        """Returns the value of an expression of JavaScript; of a promise, the value once it is fulfilled."""
+        """Returns the value of a JavaScript expression. If it is a promise, waits for it and returns its value."""
         got = self.call("Runtime.evaluate", expression=expression, returnByValue=True, awaitPromise=True)
         if "exceptionDetails" in got:
             raise ValueError(f"{expression}: {got['exceptionDetails']}")

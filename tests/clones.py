@@ -1,4 +1,4 @@
-"""Makes fresh clones of the repository as it is here, for tests that paste the pages."""
+"""Makes fresh clones of the repository, with its uncommitted changes, for tests that paste the commands of the pages."""
 import os
 import shutil
 import subprocess
@@ -7,7 +7,7 @@ TOP = os.path.dirname(os.path.dirname(os.path.abspath(__file__)))
 PROGRAMS = ["partmem", "framemap", "partcheck"]
 ARCHIVES = [f"out/lib/libpartmem{kind}.a" for kind in ("", "_kernel", "_linux", "_watched")]
 BUILT = [*(f"crates/{name}/out/{name}" for name in PROGRAMS), *ARCHIVES]
-# Stands in for the command `rt` if the programs are there: it takes what would be proved once more as it is.
+# Stands in for the command `rt` if the programs are built: it uses them, and proves and builds nothing again.
 RT = r"""#!/bin/sh
 case $1 in
     run) shift; [ "${1-}" != --jobs ] || shift 2; [ "${1-}" != -- ] || shift; exec "out/$(basename "$PWD")" "$@" ;;
@@ -15,7 +15,7 @@ case $1 in
     *) exec REAL "$@" ;;
 esac
 """
-# Stands in for tools/unproved: a build without proofs is then the proved one.
+# Stands in for tools/unproved: instead of building without proofs, it copies what was built with proofs.
 UNPROVED = r"""#!/bin/sh
 cd "$(dirname "$0")/.." && mkdir -p out
 for name in "$@"; do
@@ -28,12 +28,12 @@ for name in "$@"; do
     esac
 done
 """
-# Stands in for tools/library if its archives are there.
+# Stands in for tools/library if its archives are built: it does nothing.
 LIBRARY = "#!/bin/sh\n"
 
 
 def changed_files(folder):
-    """Returns the files of a folder that git does not know, and those that differ from what was added."""
+    """Returns the files of a folder that git neither tracks nor ignores, and the tracked ones that differ from the index."""
     asked = ["git", "-C", folder, "ls-files", "-mo", "--exclude-standard"]
     return subprocess.run(asked, stdout=subprocess.PIPE, text=True, check=True).stdout.splitlines()
 
@@ -49,7 +49,7 @@ def put(path, folder):
 
 
 def fresh_clone(work):
-    """Makes a clone with the changes that are not committed, and nothing built."""
+    """Makes a clone that has the uncommitted changes and nothing built. Returns its folder."""
     folder = os.path.join(work, "partmem")
     subprocess.run(["git", "clone", "-q", TOP, folder], check=True)
     for path in changed_files(TOP):
@@ -65,8 +65,8 @@ def write_script(path, text):
 
 
 def with_stand_ins(work, folder):
-    """Makes `rt`, tools/unproved and tools/library take what is built in the folder as it is. Returns the environment for
-    that."""
+    """Replaces `rt`, tools/unproved and tools/library by stand-ins that use what is built in the folder. Returns the environment
+    in which `rt` is replaced."""
     write_script(os.path.join(folder, "tools/unproved"), UNPROVED)
     write_script(os.path.join(folder, "tools/library"), LIBRARY)
     subprocess.run(["git", "-C", folder, "add", "tools"], check=True)

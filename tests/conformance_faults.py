@@ -7,9 +7,9 @@ FEW, MANY = 14, 420
 class Fault(NamedTuple):
     kind: str
     name: str
-    promises: str                                               # any of these finds it, or `Failed`
-    changes: list                                               # a text that occurs once, and its replacement
-    most: int = FEW                                             # lines that the shortened load may have
+    promises: str                                               # one of these finds it; `Failed`: the program fails
+    changes: list                                               # texts that occur once, each with its replacement
+    most: int = FEW                                             # most lines that the shortened load may have
 
 
 LISTS = [

@@ -1,4 +1,4 @@
-"""Replies and traces that were changed: conformance/check finds something or says what is wrong, and never fails itself."""
+"""Tests conformance/check with changed replies and traces: it has to judge them or say what is wrong, and may never crash."""
 import os
 import random
 import resource
@@ -8,7 +8,7 @@ import sys
 from checking import judge, report, runs, talk, traces
 from checking.words import Sizes
 
-# The most KiB that this process may have had.
+# The most memory that this process may use, in KiB.
 MOST_MEMORY = 200_000
 SIZES = Sizes(3, 2, 2)
 TRACE = ['admin grant 0', 'admin grant 1', '0 cache 24 8 a5', '0 take 0', '0 alloc 1', '0 write 8192 a5', '0 read 8192 2',
@@ -17,7 +17,8 @@ TRACE = ['admin grant 0', 'admin grant 1', '0 cache 24 8 a5', '0 take 0', '0 all
 
 
 def mutated(rng, text):
-    """Returns the text with bits flipped, a part cut, doubled or moved, a long word, NUL, or bytes that are not UTF-8."""
+    """Returns the text after random changes: a bit is flipped, a part is cut or doubled, or something is inserted: a long word,
+    NUL, bytes that are not UTF-8, or a number or word of a trace."""
     text = bytearray(text)
     for _ in range(rng.choice([1, 1, 2, 5])):
         at = rng.randrange(len(text) + 1)
@@ -42,8 +43,7 @@ def mutated(rng, text):
 
 
 def shown(case, name):
-    """Checks what is printed of a case, which has to be ASCII without long lines, and what is saved of it, which has to be
-    readable."""
+    """Checks that the report of a case is ASCII without long lines, and that its saved trace can be read again."""
     said = '\n'.join(report.report_of(name, case))
     if not said.isascii() or max(map(len, said.split('\n'))) > 4000:
         sys.exit(f'conformance: fuzz: {said!r} is printed')
@@ -53,7 +53,7 @@ def shown(case, name):
 
 
 def fuzz_replies(work, options, rng, count):
-    """Tests programs that give changed replies."""
+    """Tests programs that give changed replies. Returns in how many of them something is found."""
     told = subprocess.run([options.partmem, *(f'--{name}={size}' for name, size in zip(SIZES._fields, SIZES))],
                           input='\n'.join(TRACE).encode(), capture_output=True).stdout
     name, found = os.path.join(work, 'turned replies'), 0
@@ -71,7 +71,7 @@ def fuzz_replies(work, options, rng, count):
 
 
 def fuzz_traces(work, options, rng, count):
-    """Reads kept traces that were changed, and runs some of them."""
+    """Reads saved traces that were changed, and runs some of them. Returns how many cannot be read."""
     name, wrong = os.path.join(work, 'turned trace'), 0
     lines = ''.join(f'{line}\n#> 0> frame {at}\n' for at, line in enumerate(TRACE))
     plain = f'# machine: --order 3 --superblocks 2 --tenants 2\n{lines}'
@@ -90,7 +90,7 @@ def fuzz_traces(work, options, rng, count):
 
 
 def fuzz(work, options, count):
-    """Returns how many of this number of changed inputs were found wrong."""
+    """Tests this number of changed inputs. Returns how many of them were found wrong."""
     rng = random.Random(5)
     found = fuzz_replies(work, options, rng, count // 2)
     wrong = fuzz_traces(work, options, rng, count // 2)

@@ -1,4 +1,4 @@
-/* A buddy allocator like that of Linux, behind conformance/adapter.h. tests/conformance makes wrong copies of it. A tenant has a
+/* A buddy allocator like Linux's, behind conformance/adapter.h. tests/conformance makes wrong copies of it. A tenant has a
  * list of free blocks for each order, last in first out, and blocks are joined when they are freed. There are no caches. */
 #include "adapter.h"
 #include <stdlib.h>
@@ -171,7 +171,7 @@ enum reply release(unsigned tenant, uint32_t frame, unsigned *order) {
     return DONE;
 }
 
-/* Returns the address of the first of the bytes, if one block has them all. */
+/* Returns the address of this place, or NULL if no block has all bytes of the range. */
 static uint8_t *reach(struct tenant *of, uint32_t place, uint32_t length) {
     uint32_t at = place / FRAME_BYTES, slot = at / frames;
     if (!holds(of, slot))

@@ -1,6 +1,6 @@
-/* A buddy allocator with caches behind conformance/adapter.h. tests/conformance makes wrong copies of it. Each slot has a tree
- * with the greatest free order below each node; a block is taken in the first slot that has one. A cache keeps its empty slabs
- * until frames are short. Their records are outside the frames. */
+/* A buddy allocator with caches, behind conformance/adapter.h. tests/conformance makes wrong copies of it. Each slot has a tree,
+ * whose nodes have the greatest free order in their blocks. A block is taken in the first slot that has one. A cache keeps its
+ * empty slabs until frames are short. The records of slabs are outside the frames. */
 #include "adapter.h"
 #include <stdlib.h>
 #include <string.h>
@@ -128,10 +128,10 @@ enum reply move(unsigned tenant, uint32_t slot, unsigned *superblock) {
     return DONE;
 }
 
-/* Returns the node of a block in its tree. */
+/* Returns the node of a block in the tree of its slot. */
 static unsigned node_of(uint32_t frame, unsigned order) { return (1u << (top - order)) + (frame % frames >> order); }
 
-/* Sets what is free in a block, and then in its parents. */
+/* Sets the value of a block's node, and updates the nodes above it. */
 static void set_free(uint8_t *tree, unsigned node, unsigned order, uint8_t free_order) {
     tree[node] = free_order;
     for (node /= 2; node > 0; node /= 2) {
@@ -190,7 +190,7 @@ static void drop_all_empty(unsigned tenant, unsigned *freed) {
         *freed += drop_empty(of, cache);
 }
 
-/* Returns whether there is a block of this order once all empty slabs are freed. */
+/* Returns whether there would be a block of this order if all empty slabs were freed. */
 static bool would_fit(struct tenant *of, unsigned order) {
     bool fits = false;
     uint8_t (*before)[NODES] = malloc(count * sizeof *before);
@@ -326,7 +326,7 @@ static enum reply destroy(unsigned tenant, uint32_t number, unsigned *freed) {
     return DONE;
 }
 
-/* Returns a partial slab, else an empty one, else a new one. */
+/* Returns a partial slab, or else an empty one, or else a new one, or NULL if there is no block for a new one. */
 static struct slab *slab_with_room(unsigned tenant, struct cache *cache) {
     struct slab *best = NULL;
     uint32_t first;

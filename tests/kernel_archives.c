@@ -1,13 +1,13 @@
-/* Runs the lines of a trace by an archive of the library, and prints their replies.
+/* Runs the lines of a trace with the library that it is linked with, and prints their replies.
  *
  *     kernel_archives TRACE [interrupted | unaligned]
  *
- * unaligned: the stack of each call is aligned to 8 bytes and not to 16, as kernels may have it.
+ * unaligned: the stack of each call is aligned only to 8 bytes, not to 16, as it may be in a kernel.
  *
- * interrupted: each instruction of a call is followed by what an interrupt on the same stack does in a kernel that saves
- * the general registers alone: it overwrites the 128 bytes below the stack pointer, and the vector registers. The processor traps
- * after each instruction while its trap flag is set, and the handler of that signal has a stack of its own. This program is
- * compiled without red zone and vector registers itself. It prints to standard error how many interrupts there were.
+ * interrupted: after each instruction of a call, the 128 bytes below the stack pointer and the vector registers are overwritten.
+ * An interrupt on the same stack does this in a kernel that saves only the general registers. The processor traps after each
+ * instruction while its trap flag is set, and the handler of that signal has a stack of its own. This program itself is compiled
+ * without red zone and vector registers. It prints the number of interrupts to standard error.
  */
 #define _GNU_SOURCE /* registers by name */
 #include <signal.h>
@@ -26,7 +26,7 @@ static partmem_machine machine;
 static char buffer[PARTMEM_MOST_TEXT_BYTES];
 static unsigned long interrupts;
 
-/* Replaces those of the C library, which use vector registers. */
+/* Replace the functions of the C library, which use vector registers. */
 __asm__(".globl memset, memcpy, memmove\n"
         "memset: mov %rdi, %r8; movzbl %sil, %eax; mov $0x0101010101010101, %rcx; imul %rcx, %rax\n"
         "  mov %rdx, %rcx; shr $3, %rcx; rep stosq; mov %edx, %ecx; and $7, %ecx; rep stosb; mov %r8, %rax; ret\n"
@@ -35,7 +35,7 @@ __asm__(".globl memset, memcpy, memmove\n"
         "1: mov %rdi, %rax; lea -1(%rdi,%rdx), %rdi; lea -1(%rsi,%rdx), %rsi; mov %rdx, %rcx; std; rep movsb; cld; ret\n");
 void *memset(void *to, int byte, size_t bytes);
 
-/* Calls partmem_line with a stack that is not aligned to 16 bytes. */
+/* Calls partmem_line with the stack aligned to 8 bytes and not to 16. */
 partmem_status unaligned_line(partmem_machine *, const char *, size_t, char *, size_t, size_t *);
 __asm__("unaligned_line: call partmem_line; ret\n");
 

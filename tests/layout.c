@@ -1,5 +1,5 @@
 /* Checks the layout of the structs of partmem.h and partmem_heap.h on x86-64, and the types of their fields and of the functions:
- * if one differs, this does not compile. Fields lie in the order of the header, each at the next multiple of its size. */
+ * if one differs, this does not compile. Fields lie in the order of the header, each at the next multiple of its alignment. */
 #include "partmem_heap.h"
 
 #define IS(expression, type) _Static_assert(_Generic((expression), type: 1, default: 0), #expression " is no " #type)
@@ -140,6 +140,7 @@ IS(PARTMEM_RAM_BYTES(8u, 256u), size_t);
 IS(PARTMEM_TABLE_BYTES(8u, 256u, 64u), size_t);
 _Static_assert(PARTMEM_RAM_BYTES(8, 256) == 256 << 20 && PARTMEM_TABLE_BYTES(8, 256, 64) < 5 << 20, "another size");
 
-/* Enums have 32 bits; a line has a row for each of 256 superblocks and one before them; and the most that a read returns. */
+/* Enums have 32 bits. The replies to a line are at most 257 rows, one for each superblock and one before them. A read returns at
+ * most 64 bytes. */
 _Static_assert(sizeof(partmem_status) == 4 && sizeof(partmem_use) == 4, "another enum");
 _Static_assert(PARTMEM_MOST_TEXT_BYTES == 257 * 256 && PARTMEM_MOST_BYTES == 64, "another buffer");

@@ -1,13 +1,14 @@
 /* Checks what the library for C does with memory. Link it with a program and the library, and with the linker's --wrap for each
- * function __wrap_NAME and OTHER(NAME, ..) below, so that calls of NAME go through it. A block is one of the C library, or one
- * that the kernel allocates in the RAM or the tables.
+ * function __wrap_NAME, OTHER(NAME, ..) and RETURNING(.., NAME, ..) below, so that calls of NAME go through it. A block is memory
+ * that the C library allocates, or that the kernel allocates in the RAM or the tables.
  *
  * It ends the process with status 70 if
  * - the library allocates or frees a block in a call other than a boot or an end;
- * - a boot that is not done keeps a block, or returns NO_MEMORY when none was refused;
+ * - a boot that is done takes no block, or a boot that is not done keeps one;
+ * - a boot returns NO_MEMORY although no allocation was refused, or something else although one was;
  * - an end frees more blocks or fewer than the boot of that machine took, or allocates one;
  * - a block is held when the program ends.
- * Otherwise it prints on standard error how many calls there were. What the program itself does with memory is not counted.
+ * Otherwise it prints the numbers of calls and blocks on standard error. What the program itself does with memory is not counted.
  */
 #include <stdbool.h>
 #include <stdint.h>
@@ -37,7 +38,7 @@ static void hold(bool holds, const char *what)
     _exit(70);
 }
 
-/* The blocks that the machine in this place took; a free entry has a NULL place. */
+/* Returns where the blocks of `machine` are counted, and makes this the count of `from_now_on`. NULL is no machine. */
 static long *blocks_of(const partmem_machine *machine, const partmem_machine *from_now_on)
 {
     int i = 0;
@@ -47,7 +48,7 @@ static long *blocks_of(const partmem_machine *machine, const partmem_machine *fr
     return &held[i].blocks;
 }
 
-/* Counts an allocation of the library before it is made. */
+/* Counts an allocation of the library before it is made. Returns whether it has to be refused. */
 static bool is_refused(void)
 {
     hold(place == IN_BOOT, "allocated outside of boot");
@@ -167,7 +168,7 @@ partmem_status __wrap_partmem_end(partmem_machine *machine)
     return status;
 }
 
-/* All other functions. One of them calls another. */
+/* All other functions. One of them may call another. */
 #define OTHER(name, parameters, arguments) RETURNING(partmem_status, name, parameters, arguments)
 #define RETURNING(type, name, parameters, arguments) \
     type __real_##name parameters;                   \

@@ -2,10 +2,10 @@
 #ifndef LIBRARY_MEMORY_H
 #define LIBRARY_MEMORY_H
 
-/* The number of the allocation that is refused, counted from now on; 0 for none. */
+/* The number of the allocation that is refused: 1 for the next one, 0 for none. */
 extern long refused_allocation;
 
-/* Returns how many blocks the library holds. */
+/* How many blocks the library holds. */
 extern long blocks_held;
 
 #endif

@@ -52,7 +52,8 @@ int main(int words, char **unused)
         return 4;
     free(passed);
 
-    /* Writes more than a window of the log, with no file and no folder left open, and with no end that could be logged. */
+    /* Writes more than a window of the log, after all files are closed and the folder has changed. The process is killed at last,
+     * so its end cannot be logged. */
     for (int file = 3; file < 1024; file++)
         close(file);
     if (chdir("/"))

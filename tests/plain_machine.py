@@ -135,7 +135,7 @@ class Tenant:
         raise Refused("NoFrames")
 
     def free_slabs(self, is_meant):
-        """Frees the empty slabs that are selected, whose bytes are then zero, and returns how many frames they had."""
+        """Frees the empty slabs for which `is_meant` is true, and zeroes their bytes. Returns how many frames they had."""
         frames = 0
         for first, slab in list(self.slabs.items()):
             if is_meant(slab) and not slab.live:
@@ -206,7 +206,7 @@ class Tenant:
         return f"destroyed {self.free_slabs(lambda slab: slab.number == number)}"
 
     def slab_with_free_object(self, number):
-        """Returns the partial slab with the least frame, else the empty one with the least frame, else a new one."""
+        """Returns the partial slab with the least frame, or else the empty one with the least frame, or else a new one."""
         cache = self.cache_of(number)
         for kind in "partial", "empty":
             its = [first for first, slab in self.slabs.items() if slab.number == number and slab.kind() == kind]
@@ -328,7 +328,7 @@ class Machine:
 
 
 def run(machine, trace):
-    """Returns what a trace writes, as bytes."""
+    """Returns the replies to a trace, as bytes."""
     lines = trace.split(b"\n")
     replies = [reply for line in (lines if lines[-1] else lines[:-1]) for reply in machine.answer(line)]
     return "".join(f"{reply}\n" for reply in replies).encode()

@@ -1,7 +1,8 @@
-/* A library to load before the C library. It counts the allocations of a process, and refuses the REFUSED-th of them.
+/* A library that is loaded before the C library. It counts the allocations of a process, and refuses the one whose number is in
+ * the environment's REFUSED.
  *
- * If COUNTED names a file, a line is added to it when the process ends: how many allocations there were before the first read,
- * and how many from then on, or `none` if nothing was read. A process that is ended by a signal adds no line.
+ * If COUNTED names a file, a line is added to it when the process ends: the number of allocations before the first read, and the
+ * number from then on, or `none` if nothing was read. A process that is ended by a signal adds no line.
  */
 #define _GNU_SOURCE
 #include <dlfcn.h>
@@ -42,7 +43,7 @@ void *malloc(size_t size)
     return is_refused() ? NULL : next(size);
 }
 
-/* Allocated by malloc, since dlsym may call this one. */
+/* Calls malloc and not the next calloc, since dlsym may call calloc. */
 void *calloc(size_t number, size_t size)
 {
     size_t bytes;

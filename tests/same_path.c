@@ -1,17 +1,18 @@
-/* Runs a trace through the library for C, and follows the commands that are marked instruction by instruction.
+/* Runs a trace through the library for C, and follows marked commands, instruction by instruction.
  *
  * same_path ORDER SUPERBLOCKS TENANTS talk         runs the lines of standard input; writes the reply to each, and a line "."
  * same_path ORDER SUPERBLOCKS TENANTS step [N]     runs a trace from standard input; writes a row for each marked command, or all
  *                                                  steps of marked command N
  *
- * A row of a trace begins with '.' for a line that is run at full speed, '+' for one that is followed, and '=' for an event that
- * is followed: its kind, tenant, first and second number and the hex of its bytes. '@' is the same as a direct call, with a lend
- * before it. With '*', '#' and '&' instead, the command is followed into the C library too. A row of the output has how many
- * steps a command took, a hash of the addresses of its instructions, one of what they read and wrote, and one of results.
+ * A row of a trace begins with '.' for a line that is run at full speed, with '+' for a line that is followed, and with '=' for
+ * an event that is followed: its kind, tenant, first and second number and the hex of its bytes. '@' makes this a direct call,
+ * with a lend before it if it frees, reads or gives back. With '*', '#' and '&' instead, the command is followed into the C
+ * library too. A row of the output has the number of steps of a command, a hash of the addresses of its instructions, a hash of
+ * what they read and wrote, and a hash of the results.
  *
  * The processor traps after each instruction while its trap flag is set, and the handler of that signal sees all registers.
- * So nothing of another process is read, which takes a fourth of the time of ptrace and no permission. The program runs with
- * address randomisation off. Link it statically, so that each instruction has the same address in every run.
+ * So no other process has to be traced: this takes a fourth of the time of ptrace, and no permission. The program turns address
+ * randomisation off. Link it statically, so that each instruction has the same address in every run.
  *
  * The file "operands", if there is one in the working folder, has the memory operand of each instruction (as tests/same-path reads
  * them from a disassembly). For an access to a block that boot took, the block's size (one more for a superblock) and the offset
@@ -58,7 +59,7 @@ static void add_block(void *start, size_t size, bool has_grown)
     blocks[block_count++] = (struct block){.start = (uint64_t)start, .size = size, .has_grown = has_grown};
 }
 
-/* The functions by which the kernel allocates, in memory.c. */
+/* The functions of memory.c by which the kernel allocates. */
 struct allocation {
     bool is_done;
     void *at;
@@ -107,7 +108,8 @@ static void boot(partmem_machine *machine, uint32_t order, uint32_t superblocks,
     hold(parts <= MOST_PARTS, "too many parts of blocks");
 }
 
-/* The memory operand of the instruction at each address of the program's text. Registers have their numbers in a signal frame. */
+/* The memory operand of the instruction at each address of the program's text. A register's number is its place in a signal
+ * frame. */
 struct operand {
     int32_t displacement;
     uint8_t base, index, scale, is_there;
@@ -170,7 +172,7 @@ static uint64_t told_of_address(uint64_t address)
     return mix(mix(block->size + block->is_superblock, met[part].number), offset % block->part_bytes);
 }
 
-/* Counts a step at an address, with the hash of what it read or wrote. */
+/* Counts a step at an address. `touched` is the hash of what it read or wrote, or 0. */
 static void count_step(uint64_t at, uint64_t touched)
 {
     now.path = mix(now.path, at);
@@ -209,8 +211,8 @@ static void catch_traps(void)
 #define FOLLOW() __asm__ volatile("pushfq\n\torq $0x100, (%%rsp)\n\tpopfq" ::: "memory", "cc")
 #define LET_GO() __asm__ volatile("pushfq\n\tandq $~0x100, (%%rsp)\n\tpopfq" ::: "memory", "cc")
 
-/* What the C library copies and clears is followed inside if the row says so. Otherwise its length is hashed, and where it begins
- * to write and to read: in 64 bytes, for the path, and in its block. */
+/* Whether memcpy, memmove and memset are not followed. Then the length is hashed, and where the call begins to write and to read:
+ * for the path the place within 64 bytes, and for the accesses the place in its block. */
 static bool is_apart;
 
 static void tell_apart(const void *to, const void *from, size_t count)
@@ -256,7 +258,7 @@ static size_t line_len, bytes_len, written;
 static partmem_request request;
 static partmem_reply reply;
 
-/* Each command is run from the same place in the code, and all its arguments lie at fixed places. */
+/* Each kind of command is run from one place in the code, and all its arguments lie at fixed addresses. */
 __attribute__((noinline)) static uint32_t follow_line(void)
 {
     FOLLOW();
@@ -273,7 +275,7 @@ __attribute__((noinline)) static uint32_t follow_event(void)
     return status;
 }
 
-/* The results of direct calls. Addresses are not compared: another world has another superblock there. */
+/* The results of direct calls. Addresses are not compared, since the tenant has other superblocks when it is alone. */
 static struct {
     partmem_status lent_as, status;
     partmem_lent lent, made;
@@ -282,7 +284,7 @@ static struct {
     uint32_t frames;
 } results;
 
-/* Lends what the call is about, and makes the call. */
+/* Makes the call. If it frees, reads or gives back, lends the bytes before. */
 static void call(partmem_tenant tenant, uint32_t first, uint32_t second)
 {
     switch (request.kind) {

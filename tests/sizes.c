@@ -1,7 +1,7 @@
 /* Boots machines of each order with each number of superblocks, with each number of tenants, and with every tenth number of
- * superblocks together with every third number of tenants. Sizes just outside of the ranges are refused. Checks what each machine
- * reports of itself, and every byte that a call may write and those around it. The partmem_machine is zeroes after its end. Also
- * refuses each allocation of a boot in turn, so it is linked with library_memory.c. */
+ * superblocks together with every third number of tenants. Sizes outside the ranges have to be refused. Checks what each machine
+ * reports about itself, and that a call writes no byte that it may not write. The partmem_machine has to be zeroes after its end.
+ * Also refuses each allocation of a boot in turn, so it is linked with library_memory.c. */
 #include <stdbool.h>
 #include <stdio.h>
 #include <stdlib.h>
@@ -59,7 +59,7 @@ static partmem_status boot(partmem_machine *machine, uint32_t order, uint32_t su
     return partmem_boot(machine, &config);
 }
 
-/* The six numbers of the reply to an event. */
+/* Returns the six numbers of the reply to an event. */
 static const uint32_t *reply_to(partmem_machine *machine, uint32_t kind, uint32_t tenant, uint32_t first, uint32_t second)
 {
     const partmem_request request = {kind, tenant, first, second};
@@ -79,7 +79,7 @@ static bool is_reply(const uint32_t *words, uint32_t kind, uint32_t first, uint3
     return words[0] == kind && words[1] == first && words[2] == second && words[3] == third;
 }
 
-/* Checks that the call is done, and returns that the superblock has no owner, or is slot 0 of this tenant. */
+/* Returns whether a lookup finds this superblock under slot 0 of this tenant, or without an owner, and writes nothing else. */
 static bool is_owner(partmem_machine *machine, uint32_t superblock, bool is_owned, uint32_t tenant)
 {
     memset(&fence, UNTOUCHED, sizeof fence);
@@ -88,7 +88,7 @@ static bool is_owner(partmem_machine *machine, uint32_t superblock, bool is_owne
            fence.inside.words[1] == tenant && fence.inside.words[2] == 0;
 }
 
-/* Checks that a machine that was booted has these sizes. */
+/* Checks that a booted machine has these sizes, and replies to the first commands of its last tenant. */
 static void look_at(partmem_machine *machine, uint32_t order, uint32_t superblocks, uint32_t tenants)
 {
     uint32_t last = tenants - 1;
@@ -171,7 +171,7 @@ static void boot_and_end(uint32_t order, uint32_t superblocks, uint32_t tenants)
     check(is_vacant, "what end leaves", order, superblocks, tenants);
 }
 
-/* Nothing is allocated if a number is out of its range. */
+/* Checks that a boot is refused and allocates nothing if a number is out of its range. */
 static void refuse_sizes(uint32_t order, uint32_t superblocks, uint32_t tenants)
 {
     partmem_machine *machine = vacant_place(), zeroes = {{0}};
@@ -200,7 +200,8 @@ static int try_edges(void)
     return refused;
 }
 
-/* Returns how many allocations a boot of these sizes has. If one is refused, it takes none and leaves the place as it was. */
+/* Returns how many allocations a boot of these sizes makes. Checks that a boot keeps no memory, and leaves the machine's place as
+ * it was, if one of them is refused. */
 static long refuse_each(uint32_t order, uint32_t superblocks, uint32_t tenants)
 {
     for (long number = 1;; number++) {

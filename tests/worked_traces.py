@@ -1,6 +1,10 @@
-"""worked_traces.py FOLDER [OTHERS]: writes each worked trace of crates/integration_tests that runs on the small machine with all
-lines to FOLDER/NAME-NN, and what it must write to FOLDER/NAME-NN.stdout. Writes those that show one tenant's lines, and those
-that are built, to OTHERS in the same way, with the words of their command line in OTHERS/NAME-NN.words."""
+"""Writes the worked traces of crates/integration_tests to files.
+
+    worked_traces.py FOLDER [OTHERS]
+
+Writes each trace that runs on the small machine and shows the replies to all tenants to FOLDER/NAME-NN, and its replies to
+FOLDER/NAME-NN.stdout. Writes the traces that show the replies to one tenant, and the traces that are built, to OTHERS in the same
+way, with their command lines in OTHERS/NAME-NN.words."""
 import codecs
 import os
 import re
@@ -13,7 +17,7 @@ LITERAL = r'b"((?:[^"\\]|\\.)*)"'
 
 
 def rows_of(name, table="ROWS"):
-    """Yields the traces of a table of crates/integration_tests/src/tables/NAME.rt, each with what it must write."""
+    """Yields the traces of a table of crates/integration_tests/src/tables/NAME.rt, each with its replies."""
     source = open(f"crates/integration_tests/src/tables/{name}.rt", encoding="utf-8").read()
     constants = dict(re.findall(rf'const (\w+): &\[u8\] =\s*{LITERAL};', source, re.S))
     number, body = re.search(rf"static {table}: \[Row; (\d+)\] = \[(.*?)\n?\}}?\];\n", source, re.S).groups()
@@ -25,8 +29,7 @@ def rows_of(name, table="ROWS"):
 
 
 def built():
-    """Yields the traces that crates/integration_tests/src/built_traces.rt builds, with the words of their command line and what
-    they must write."""
+    """Yields the traces that crates/integration_tests/src/built_traces.rt builds, each with its command line and its replies."""
     cache = "0> cache {} chunk 16 order 0 objects 254 colours 1\n"
     yield SMALL, ["admin grant 0\n0 cache 1 8 00\n" + 255 * "0 take 0\n",
                   "admin> granted 0 slot 0 superblock 0\n" + cache.format(0)

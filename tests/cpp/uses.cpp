@@ -1,4 +1,4 @@
-// Uses all of partmem.hpp, with exceptions and without. With the word "abort" it allocates without them until nothing is left.
+// Uses all of partmem.hpp, with exceptions and without. With the argument "abort" it makes a container too large for its heap.
 #include "partmem.hpp"
 
 #include <array>
@@ -66,7 +66,7 @@ void check_machine()
     alignas(4096) static unsigned char ram[PARTMEM_RAM_BYTES(3, 2)];
     alignas(16) static unsigned char tables[PARTMEM_TABLE_BYTES(3, 2, 1)];
     const partmem_memory memory = {ram, tables};
-    for (int i = 0; i < 2; i++) { // the destructor ends it, so it can be booted again in the same memory
+    for (int i = 0; i < 2; i++) { // the destructor ends the machine, so the next can boot in the same memory
         partmem::machine machine;
         MUST(machine.boot({3, 2, 65}, memory) == status::bad_config && machine.end() == status::no_machine);
         MUST(machine.boot({3, 2, 1}, memory) == status::done && machine.boot({3, 2, 1}) == status::has_machine);
@@ -86,7 +86,7 @@ void check_tenants()
     MUST(none.open(machine, 2, 33) == status::pool_empty && none.open(machine, 2, 32) == status::done);
     MUST(none.open(machine, 1) == status::has_machine && other.open(machine, 1, 1) == status::pool_empty);
     MUST(none.take_back(31) == status::done && none.move(99).code() == status::no_slot && none.move(0)->superblock == 31);
-    other = std::move(none); // the tenant is reset once, at the end of the last that has it
+    other = std::move(none); // the tenant is reset once, when the last object that has it ends
     MUST(none.reset() == status::no_machine && other.grant()->slot == 31 && other.grant().code() == status::pool_empty);
     {
         const partmem::tenant last(std::move(other));
@@ -107,7 +107,7 @@ void check_blocks()
         void *before = first->data();
         std::memcpy(before, "kept", 5);
         MUST(tenant.move(0) && first->data() != before && !std::strcmp(static_cast<char *>(first->data()), "kept"));
-        *second = std::move(*first); // frees nothing before its end
+        *second = std::move(*first); // swaps the blocks, and frees none
         MUST(second->place() == 0 && second->size() == 8192 && live_frames(tenant) == 6);
         const partmem::page_block taken(std::move(*second));
         MUST(taken.data() != before);
@@ -275,7 +275,7 @@ void check_exceptions()
 void check_exceptions() {}
 #endif
 
-/* Without exceptions a container ends the program if nothing is left. */
+/* Makes a container too large for its heap. If there are no exceptions, this ends the program. */
 void abort_at_exhaustion()
 {
     partmem::machine machine(sizes);

@@ -1,4 +1,4 @@
-/* cJSON: trees that grow, are printed, parsed again and compared. */
+/* cJSON: makes trees grow, prints them, parses the text, and compares the trees. */
 #include <cjson/cJSON.h>
 
 #include "guests.h"

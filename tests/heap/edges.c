@@ -1,5 +1,5 @@
-/* The edges of the heap, one after another: what an initialisation refuses, requests of no bytes and of too many, alignments,
- * runs, and direct calls that take caches away from the heap. */
+/* Tests the edge cases of the heap: what an initialisation refuses, requests for no bytes and for too many, alignments, runs, and
+ * direct calls that take caches from the heap. */
 #include "partmem_heap.h"
 #include "trial.h"
 
@@ -23,7 +23,7 @@ static partmem_status init(partmem_tenant tenant, const uint16_t *sizes, uint32_
     return partmem_heap_init(&heap, tenant, &config);
 }
 
-/* A heap that was not initialised refuses each call. */
+/* Checks that a heap whose initialisation was refused is all zeroes, and refuses to allocate and to free. */
 static void check_zeroes(void)
 {
     const char *bytes = (const char *)&heap;
@@ -62,7 +62,7 @@ static void check_init(void)
     MUST(partmem_heap_init(&heap, first, NULL) == PARTMEM_DONE && heap.classes == LEN(many) - 1 && !heap.slots);
 }
 
-/* Slots that do not lie in sequence: in the wrong order, with a gap, and with a slot that is not held. */
+/* Checks that runs are refused if the slots do not lie in sequence: in the wrong order, with a gap, or without slot 0. */
 static void check_sequence(void)
 {
     partmem_slot moved;
@@ -107,7 +107,7 @@ static void check_alignments(void)
         MUST(!at == !is_good && (!at || (uintptr_t)at % align == 0));
         MUST(partmem_heap_free(&heap, at) == PARTMEM_DONE);
     }
-    /* A power of two begins at a multiple of itself if there is a class of its size, as Linux promises of kmalloc. */
+    /* A piece whose size is a power of two is aligned to its size if there is a class of it, as Linux promises for kmalloc. */
     MUST(partmem_reset(first) == PARTMEM_DONE);
     grant(first, SLOTS);
     MUST(init(first, powers, LEN(powers), 0) == PARTMEM_DONE);
@@ -133,8 +133,8 @@ static void check_realloc(void)
     MUST(partmem_heap_free(&heap, at + 4096) == PARTMEM_NOT_A_BLOCK && partmem_heap_free(&heap, at) == PARTMEM_DONE);
 }
 
-/* A free inside of a run, also at the beginning of a superblock, is refused, and the run stays whole. Slots that are granted
- * later have no run. */
+/* Checks that a free inside a run is refused, even at the beginning of a superblock, and that the run stays whole. A slot that is
+ * granted after the initialisation is in no run. */
 static void check_runs(void)
 {
     unsigned char *at, *block, *other;
@@ -163,7 +163,7 @@ static void check_runs(void)
     MUST(partmem_heap_free(&heap, block) == PARTMEM_DONE);
 }
 
-/* Makes the heap's cache of a class again by direct calls, at an alignment of 8, and returns its number. */
+/* Destroys the heap's cache of a class by direct calls, makes one of this size and alignment 8 instead. Returns its number. */
 static uint32_t replace_cache(uint32_t class_size, uint32_t size)
 {
     partmem_cache made;
@@ -176,7 +176,7 @@ static uint32_t replace_cache(uint32_t class_size, uint32_t size)
     return made.cache;
 }
 
-/* Checks a cache of a class that direct calls made again, of another size, and of the same size at a smaller alignment. */
+/* Checks the heap after direct calls replaced a cache: by one of another size, and by one of its size with less alignment. */
 static void check_caches(void)
 {
     partmem_lent direct;
@@ -192,12 +192,13 @@ static void check_caches(void)
         pieces[i] = partmem_heap_malloc(&heap, 90);
         MUST(pieces[i] && (uintptr_t)pieces[i] % 32 == 0 && partmem_heap_usable_size(&heap, pieces[i]) == 96);
     }
-    MUST(partmem_destroy_cache(first, cache) == PARTMEM_CACHE_IN_USE); /* its first slab is aligned */
+    MUST(partmem_destroy_cache(first, cache) == PARTMEM_CACHE_IN_USE); /* by the heap: its first slab is aligned */
     for (size_t i = 0; i < LEN(pieces); i++) MUST(partmem_heap_free(&heap, pieces[i]) == PARTMEM_DONE);
     MUST(partmem_destroy_cache(first, cache) == PARTMEM_DONE);
 }
 
-/* Direct calls have 8 caches if each class has one; if they have all 32, requests get page blocks. */
+/* If each class has a cache, direct calls can make 8. If they have made 31, the heap has one cache, which also serves smaller
+ * requests, and larger requests get page blocks. */
 static void check_no_cache(void)
 {
     partmem_cache made;
@@ -219,7 +220,8 @@ static void check_no_cache(void)
     MUST(partmem_heap_free(&heap, at) == PARTMEM_DONE && partmem_heap_free(&heap, small) == PARTMEM_DONE);
 }
 
-/* A heap works from the first grant on. A slab of 32 KiB does not fit beside anything; then a request gets a frame. */
+/* A heap that was initialised without a slot allocates after the first grant. A slab of 32 KiB needs the whole superblock; if
+ * anything else is there, the request gets a frame. */
 static void check_few_frames(void)
 {
     unsigned char *at, *other;

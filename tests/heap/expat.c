@@ -1,4 +1,4 @@
-/* Expat: documents that arrive in pieces, whose elements are nested deeper and deeper. */
+/* Expat: parses documents that arrive in pieces, and whose elements are nested deeper and deeper. */
 #include <expat.h>
 
 #include "guests.h"
@@ -23,7 +23,7 @@ static XML_Parser new_parser(struct guest *guest)
     return parser;
 }
 
-/* Returns whether the parser can go on. */
+/* Parses a piece of a document. Returns false if the parser ran out of memory. */
 static bool parse(struct guest *guest, XML_Parser parser, const char *text, int count)
 {
     if (XML_Parse(parser, text, count, 0) == XML_STATUS_OK) return true;

@@ -1,10 +1,12 @@
-/* Interpreters, databases and parsers of others, each in the heap of its own tenant. All guests make their steps by turns. Half
- * of them are reset at random, and start again. Then each guest of the other half runs alone, on a machine where its superblocks
- * lie elsewhere. Its results, the place of each of its pieces, and its refusals have to be the same.
+/* Runs third-party libraries: an interpreter, a database, parsers and a compressor. Each guest has the heap of its own tenant.
+ * The guests of one half make their steps in turn. After each step, a random guest of the other half makes one, and is sometimes
+ * reset and starts again. Then each guest of the first half runs alone, on a machine where its superblocks lie elsewhere. Its
+ * results, the place of each of its pieces, and its refusals have to be the same.
  *
  *     guests STEPS [outsider | addresses]
  *
- * The second word plants a mistake, which the program has to find: others allocate in a guest's heap, or Lua shows addresses.
+ * The second word plants a mistake, which the program has to find: steps of the other half allocate in guest 0's heap (outsider),
+ * or Lua shows addresses (addresses).
  */
 #include "guests.h"
 
@@ -136,7 +138,8 @@ static void step(uint32_t number)
     current = &guests[LIBRARIES];
 }
 
-/* Makes a step of one of the other guests. Sometimes that one is then reset, which stops its program without cleaning up. */
+/* Makes a step of a random guest of the other half. Sometimes resets this guest then, which stops its program without cleaning
+ * up. Returns the number of resets. */
 static int disturb(void)
 {
     const uint32_t other = STABLE + any(STABLE);

@@ -1,5 +1,5 @@
-/* What the programs of guests.c share. Each uses a library of others. All its memory comes from the heap of a guest, which is a
- * tenant. */
+/* Declarations that the programs of guests.c share. Each program uses a third-party library, whose memory all comes from the heap
+ * of a guest. Each guest is a tenant. */
 #ifndef GUESTS_H
 #define GUESTS_H
 
@@ -13,7 +13,7 @@ struct guest {
     const struct program *program;
     uint64_t random;
     uint64_t results, places; /* hashes of all results, and of the places of all pieces */
-    unsigned long calls, refused, failed, steps; /* calls of the heap; the steps that ran out of memory, and all steps */
+    unsigned long calls, refused, failed, steps; /* calls of the heap; steps that ran out of memory, and all steps */
     void *state[STATES];                         /* of the program */
 };
 
@@ -22,19 +22,19 @@ struct program {
     const char *name;
     uint32_t slots;
     void (*step)(struct guest *guest);
-    void (*set_up)(void); /* the library's own state, in a tenant of its own; or NULL */
+    void (*set_up)(void); /* makes the library's own state, in a tenant of its own; or NULL */
     void (*tear_down)(void);
 };
 
 extern const struct program lua, sqlite, expat, zlib, cjson;
 
-/* Whether Lua shows its guests addresses, which others determine. */
+/* Whether Lua shows its guests addresses, which depend on other tenants. */
 extern bool shows_addresses;
 
 /* Returns a number below `below` that depends only on the guest's own history. */
 uint32_t any_of(struct guest *guest, uint32_t below);
 
-/* Adds to the results of a guest. */
+/* Adds these bytes to the hash of a guest's results. */
 void note(struct guest *guest, const void *bytes, size_t count);
 
 /* Call the heap of a guest. A wrong free ends the program. */
@@ -42,8 +42,8 @@ void *guest_malloc(struct guest *guest, size_t bytes);
 void *guest_realloc(struct guest *guest, void *old, size_t bytes);
 void guest_free(struct guest *guest, void *at);
 
-/* Call the heap of the guest that runs, for libraries that pass no argument. What is freed or grows belongs to its owner's
- * heap. */
+/* Call the heap of the guest that runs, for libraries that pass no argument to their allocator. A piece is freed or resized in
+ * the heap that it came from. */
 void *current_malloc(size_t bytes);
 void *current_realloc(void *old, size_t bytes);
 void current_free(void *at);

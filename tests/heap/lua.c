@@ -1,4 +1,4 @@
-/* Lua: tables, strings, coroutines, and lists that do not fit. */
+/* Lua: uses tables, strings, coroutines, and lists that do not fit into the heap. */
 #include <lua5.4/lua.h>
 #include <lua5.4/lauxlib.h>
 #include <lua5.4/lualib.h>

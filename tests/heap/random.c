@@ -1,13 +1,13 @@
-/* Random calls of heaps, beside a model. Four tenants each use a heap and direct calls. What a heap returns has the requested
- * bytes and alignment, shares no byte with anything else that is live, and keeps its bytes. A wrong free is refused, and runs
- * no command that changes something. A request is refused only if the tenant has no frames for it.
+/* Makes random calls of heaps, and compares what they return with a model. Four tenants each use a heap and direct calls. A piece
+ * that a heap returns has the requested bytes and alignment, shares no byte with anything else that is live, and keeps its bytes.
+ * A wrong free is refused, and no command changes anything. A request is refused only if the tenant has no frames for it.
  *
  * Two more tenants do the same, and are reset at random. Then each of the four runs alone, on another machine and on other
- * superblocks: its commands, with what they return, and all that its heap returns, have to be the same.
+ * superblocks. Its commands have to be the same then and return the same, and so does all that its heap returns.
  *
  *     random ORDER CALLS SEED
  *
- * It is linked with --wrap for each function __wrap_NAME below.
+ * It is linked with --wrap=NAME for each function __wrap_NAME below.
  */
 #include "partmem_heap.h"
 #include "trial.h"
@@ -21,7 +21,7 @@ struct piece {
     size_t bytes; /* as requested */
     size_t usable;
     uint32_t place, cache;
-    uint32_t stamp; /* from here on its bytes are those of `pattern` */
+    uint32_t stamp; /* its bytes are those of `pattern` from this index on */
 };
 
 struct user {
@@ -36,7 +36,7 @@ struct user {
 
 static const uint16_t few_sizes[] = {32, 48, 512, 2048}, many_sizes[] = {16, 64, 80, 272, 1008, 4096};
 static const uint32_t slots_of_order[] = {0, 0, 0, 18, 12, 8, 5, 4, 4};
-static uint32_t order, unit, slots; /* of superblocks; how many a tenant has */
+static uint32_t order, unit, slots; /* the order and the bytes of a superblock; a tenant's number of slots */
 static partmem_machine machine;
 static struct user users[USERS];
 static unsigned char *pattern;
@@ -135,7 +135,7 @@ static bool is_apart(const struct user *user, const struct piece *piece)
     return true;
 }
 
-/* Notes a piece that a heap returned, at `at`, in which the first `kept` bytes are the stamp's. */
+/* Checks and notes a piece that a heap returned at `at`, whose first `kept` bytes have to be its old ones. Fills it anew. */
 static void add_piece(struct user *user, struct piece *piece, void *at, size_t align, size_t bytes, size_t kept)
 {
     piece->kind = PIECE;
@@ -189,7 +189,7 @@ static void check_refused(struct user *user, size_t bytes)
 
 /* ---- Wrong frees -------------------------------------------------------------------------------------------------------- */
 
-/* No piece of the heap begins at the address. Checks that a free and a realloc are refused, and that nothing changes. */
+/* Checks that a free and a realloc of an address at which no piece begins are refused, and that nothing changes. */
 static void check_wrong(struct user *user, void *at)
 {
     const unsigned long changes = user->changes;
@@ -202,7 +202,7 @@ static void check_wrong(struct user *user, void *at)
     user->wrong_frees++;
 }
 
-/* Tries addresses inside of a piece, at least the beginning of each superblock of a run. */
+/* Tries an address inside a piece, and the beginning of each further superblock of a run. */
 static void check_inner(struct user *user, const struct piece *piece)
 {
     const size_t steps[] = {1, 8, 16, PARTMEM_FRAME_BYTES, piece->usable / 2, piece->usable - 1};
@@ -218,7 +218,7 @@ static const struct piece *piece_at(const struct user *user, uint32_t place)
     return NULL;
 }
 
-/* Tries an address of the tenant at which nothing begins. */
+/* Tries a random address of the tenant, if nothing begins there. */
 static void check_anywhere(struct user *user)
 {
     partmem_slot slot;
@@ -228,7 +228,7 @@ static void check_anywhere(struct user *user)
     check_wrong(user, (unsigned char *)partmem_superblock_address(&machine, slot.superblock) + place % unit);
 }
 
-/* Tries addresses outside of the tenant's superblocks. */
+/* Tries addresses outside the tenant's superblocks. */
 static void check_outside(struct user *user)
 {
     partmem_owner owner;
@@ -316,8 +316,8 @@ static uint32_t direct_caches(const struct user *user)
     return count;
 }
 
-/* Returns how many caches the tenant makes by direct calls: the heap always leaves 8. The last tenant makes so many that the heap
- * has none for some classes. */
+/* Returns how many caches the tenant makes by direct calls. A heap always leaves 8 for them. The last of the four tenants makes
+ * 29, so that the heap has none for some classes. */
 static uint32_t most_direct(const struct user *user) { return user->tenant.number == STABLE - 1 ? 29 : 8; }
 
 static void make_cache(struct user *user)
@@ -332,7 +332,7 @@ static void make_cache(struct user *user)
     if (status == PARTMEM_DONE) user->direct[made.cache] = (uint16_t)size;
 }
 
-/* Destroys a cache of any number, also the heap's, or makes one, or reaps. */
+/* Reaps, makes a cache, or tries to destroy a random cache, which may be one of the heap's. */
 static void administer(struct user *user)
 {
     uint32_t cache = any_of(user, PARTMEM_MOST_CACHES), frames;
@@ -370,7 +370,7 @@ static bool is_class(const struct user *user, size_t bytes)
     return false;
 }
 
-/* Gives back an object, which the heap refuses to free if no class has its size; or frees a page block. */
+/* Frees a page block or gives back an object. If no class has the object's size, the heap has to refuse to free it before. */
 static void release_direct(struct user *user, struct piece *piece)
 {
     MUST(is_kept(piece, piece->bytes));
@@ -382,7 +382,7 @@ static void release_direct(struct user *user, struct piece *piece)
 
 /* ---- Worlds ------------------------------------------------------------------------------------------------------------- */
 
-/* Uses something live or something that is not, while the tenant has more and more, or less and less. */
+/* Returns a random piece: mostly one that is not live while the tenant is filling, and else mostly a live one. */
 static struct piece *any_piece(struct user *user)
 {
     struct piece *piece = NULL;
@@ -442,7 +442,7 @@ static void open_user(uint32_t number, uint64_t seed)
     MUST(partmem_heap_init(&user->heap, user->tenant, config) == PARTMEM_DONE && has_runs(user) == wants_runs(number));
 }
 
-/* Frees all that a tenant has, and checks that no frame is in use. */
+/* Frees everything that a tenant has, and checks that no frame is in use then. */
 static void close_user(struct user *user)
 {
     partmem_figures figures;
@@ -463,7 +463,7 @@ static int disturb(uint64_t seed)
     return 1;
 }
 
-/* Runs all tenants together. Returns how often one of the others was reset. */
+/* Runs all tenants together. Returns the number of resets of the two further tenants. */
 static int run_together(long calls, uint64_t seed)
 {
     int resets = 0;

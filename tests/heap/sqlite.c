@@ -1,4 +1,4 @@
-/* SQLite: tables in memory, with an index, joins and sorts. */
+/* SQLite: uses tables in memory, with an index, joins and sorts. */
 #include <sqlite3.h>
 
 #include "guests.h"

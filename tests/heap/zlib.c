@@ -1,4 +1,4 @@
-/* zlib: streams that are compressed at any level, window size and memory level. */
+/* zlib: compresses streams at random levels, window sizes and memory levels. */
 #include <zlib.h>
 
 #include "guests.h"

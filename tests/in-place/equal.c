@@ -1,5 +1,5 @@
 /* Makes random calls, stores and loads. Writes each as a line of a trace, and its result as reply lines, for a comparison with
- * the program `partmem`. A store in place becomes a write line, and a load in place a read line.
+ * the program `partmem`. A store in place becomes write lines, and a load in place becomes read lines.
  *
  *     equal ORDER SUPERBLOCKS TENANTS CALLS SEED TRACE REPLIES
  */
@@ -39,7 +39,7 @@ static void line(const char *format, ...)
     va_end(rest);
 }
 
-/* Writes a reply line, or the refusal with its name from partmem_strerror. */
+/* Writes a reply line, or the refusal with its name from partmem_strerror. Returns whether the call was done. */
 static bool reply(bool is_admin, partmem_status status, const char *format, ...)
 {
     va_list rest;
@@ -73,7 +73,7 @@ static uint32_t order_of(uint32_t bytes)
 
 /* ---- loads and stores in place ---- */
 
-/* Writes what was loaded as the reply to a read, in pieces that a line can read. */
+/* Writes the first bytes that are lent as replies to reads, in pieces that one line can read. */
 static void loaded(const partmem_lent *lent)
 {
     uint32_t most = lent->bytes < MOST_STORED ? lent->bytes : MOST_STORED, piece;
@@ -101,7 +101,7 @@ static void load(void)
     }
 }
 
-/* Stores bytes in place, more than one line can write: they become several lines. */
+/* Stores bytes in place. If they are more than one line can write, they become several lines. */
 static void store(void)
 {
     partmem_lent lent;
@@ -277,7 +277,7 @@ static void pool(void)
     }
 }
 
-/* Makes a line and an event between the calls. */
+/* Run a line or an event between the calls. */
 static void run_line(void)
 {
     static char buffer[PARTMEM_MOST_TEXT_BYTES];

@@ -1,6 +1,6 @@
-/* Checks the lifetime rule. After each of many random calls, all that is lent and live is lent again. It has to be at the same
- * address with the same bytes, and its address has to lead back to its place. After a move it is at another address, with the
- * same bytes; what was not in that slot has not moved.
+/* Checks how long lent memory stays valid. After each of many random calls, each live range is lent again. It has to be at the
+ * same address with the same bytes, and its address has to lead back to its place. After a move of a slot, the ranges in the slot
+ * are at other addresses with the same bytes, and all others stay where they are.
  *
  *     life CALLS SEED
  */
@@ -161,7 +161,7 @@ static void reset(uint32_t t)
     make_caches(t);
 }
 
-/* Checks that a read, and a write that restores a byte, use the bytes in place. */
+/* Checks that reads return what is stored in place, and that a write changes the bytes in place. */
 static void read_and_write(uint32_t t, const struct range *range)
 {
     uint8_t bytes[PARTMEM_MOST_BYTES], other;
@@ -176,7 +176,7 @@ static void read_and_write(uint32_t t, const struct range *range)
     MUST(partmem_read(me, range->lent.place + 5, bytes, 1) == PARTMEM_DONE && bytes[0] == at[5]);
 }
 
-/* Gives back empty slabs, and counts the live objects. */
+/* Frees the empty slabs, and checks that a report counts the live objects right. */
 static void reap_and_report(uint32_t t)
 {
     partmem_figures figures;

@@ -1,7 +1,7 @@
-/* Checks the memory of a machine of partmem_boot_in. For a grid of sizes: boot writes no more of the tables than
- * PARTMEM_TABLE_BYTES and nothing of the RAM, and superblock m lies at ram + m * unit. For each order, in memory full of zeroes
- * and of other bytes: where superblocks, blocks and objects lie, which place an address has, and that superblocks which were
- * never granted are never touched. */
+/* Checks the memory of a machine that partmem_boot_in boots. For a grid of sizes, boot may write at most PARTMEM_TABLE_BYTES of
+ * the tables and nothing of the RAM, and superblock m has to lie at ram + m * unit. For each order, in memory full of zeroes and
+ * of other bytes, blocks and objects have to lie in their superblocks, an address has to have its place, and superblocks that
+ * were never granted may not change. */
 #include <sys/mman.h>
 
 #include "trial.h"
@@ -45,7 +45,7 @@ static void end(void)
     MUST(are_all(tables + table_bytes, OTHER, GUARD));
 }
 
-/* Boots a grid of sizes, in RAM that cannot be loaded or stored. */
+/* Boots a grid of sizes, in RAM that cannot be read or written. */
 static void try_sizes(void)
 {
     static const uint32_t superblocks[] = {1,  2,  3,  4,  5,  6,  7,  8,  9,   12,  15,  16,  17,  20,
@@ -116,8 +116,8 @@ static void try_objects(uint32_t size, uint32_t align, bool is_reset)
     }
 }
 
-/* Checks addresses that no tenant holds, also in a superblock without an owner, and after a move those that the tenant held
- * before. */
+/* Checks addresses that no tenant holds: outside the RAM, in a superblock without an owner, and, after a move, the former address
+ * of a block. */
 static void try_addresses(void)
 {
     partmem_lent block, moved;
@@ -152,7 +152,7 @@ static uint64_t seen_in(uint32_t order, int before)
     return seen;
 }
 
-/* Checks wrong memory, and what is tested before it; and a machine of partmem_boot beside one that was booted here. */
+/* Checks that wrong memory is refused after a wrong configuration, and that a machine of partmem_boot can be beside this one. */
 static void try_boots(void)
 {
     static const partmem_machine zeroes;
@@ -174,7 +174,7 @@ static void try_boots(void)
     MUST(partmem_end(&second) == PARTMEM_DONE && !memcmp(&second, &zeroes, sizeof zeroes));
 }
 
-/* Reserves memory between two pages that cannot be loaded or stored. */
+/* Reserves memory between two pages that cannot be read or written. */
 static uint8_t *reserve(size_t bytes, int how)
 {
     uint8_t *at = mmap(NULL, bytes + 8192, PROT_NONE, MAP_PRIVATE | MAP_ANONYMOUS | MAP_NORESERVE, -1, 0);

@@ -1,5 +1,6 @@
-/* Mistakes of a caller that do not break memory: each call returns its status, the first that applies, and zeroes as results; a
- * read leaves its buffer unchanged. Then what is right at the edges, lengths that no memory has, and the functions in C. */
+/* Tests mistakes of a caller that do not break memory. Each call has to return the first status that applies, with zeroes as
+ * results; a read leaves its buffer unchanged. Then tests valid calls with extreme arguments, lengths that no memory has, and the
+ * functions that are written in C. */
 #include "trial.h"
 
 static partmem_machine machine, none;
@@ -30,11 +31,11 @@ static bool are_all(const void *result, uint8_t byte, size_t size)
 #define LEAVES(call, status, result, byte) \
     (memset(&(result), UNTOUCHED, sizeof(result)), (call) == (status) && are_all(&(result), byte, sizeof(result)))
 
-/* Checks that a call returned a status, and left zeroes as its result, or what was there. */
+/* Check that a call returned a status, and that its result is zeroes (ZEROED), or still what it was (KEPT). */
 #define ZEROED(call, status, result) LEAVES(call, status, result, 0)
 #define KEPT(call, status, result) LEAVES(call, status, result, UNTOUCHED)
 
-/* Every function with a tenant first tests for a machine, and then for the tenant. */
+/* Checks that every function with a tenant first tests whether there is a machine, and then whether there is the tenant. */
 static void check_tenant(partmem_tenant tenant, partmem_status status)
 {
     MUST(ZEROED(partmem_grant(tenant, &slot), status, slot) && ZEROED(partmem_move(tenant, 99, &slot), status, slot));
@@ -53,7 +54,7 @@ static void check_tenant(partmem_tenant tenant, partmem_status status)
     MUST(ZEROED(partmem_find_place(tenant, bytes, &frames), status, frames));
 }
 
-/* Lengths that no line can have come before the tenant, and after the machine. */
+/* Checks that lengths that no line can have are tested after the machine and before the tenant. */
 static void check_lengths(void)
 {
     MUST(partmem_write(nowhere, 0, bytes, 0) == PARTMEM_NO_MACHINE && partmem_write(nobody, 0, bytes, 0) == PARTMEM_NOT_AN_EVENT);
@@ -76,7 +77,7 @@ static bool is_kept_around(size_t written)
            are_all(fenced.inside + written, UNTOUCHED, sizeof fenced.inside + sizeof fenced.back - written);
 }
 
-/* An event that reads, with a buffer of `buffer_len` bytes by its argument, returns this kind and writes what it read. */
+/* Returns whether an event that reads, with this length of its buffer, replies with this kind and writes only what it read. */
 static bool reads(uint32_t place, uint32_t count, size_t buffer_len, uint32_t kind)
 {
     const partmem_request request = {PARTMEM_READ, first.number, place, count};
@@ -86,7 +87,7 @@ static bool reads(uint32_t place, uint32_t count, size_t buffer_len, uint32_t ki
     return status == PARTMEM_DONE && reply.kind == kind && is_kept_around(kind == PARTMEM_BYTES ? count : 0);
 }
 
-/* Lengths that the memory behind a pointer does not have: no call writes more than its declaration says. The block is of zeroes. */
+/* Checks, with lengths that no memory has, that no call writes more than its declaration says. The block is full of zeroes. */
 static void check_wild_lengths(uint32_t place)
 {
     static const size_t wild[] = {65, 4096, 1 << 20, INT32_MAX, UINT32_MAX, 1 + (size_t)UINT32_MAX, 9 + (size_t)UINT32_MAX,
@@ -127,8 +128,8 @@ static void check_machines(void)
     MUST(partmem_superblock_bytes(&none) == 0 && partmem_superblock_bytes(&machine) == 32768);
 }
 
-/* Checks the live object or page block of each byte around objects of 72 bytes, side by side at multiples of 32, and of a page
- * block of two frames. Of three objects the middle one is given back. */
+/* Checks which object or page block is found at each byte of three objects, and of a page block of two frames. The objects have
+ * 72 bytes and lie side by side at multiples of 32. The middle one is given back before. */
 static void check_objects(uint32_t pages)
 {
     partmem_lent lives[3];

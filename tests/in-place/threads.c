@@ -1,4 +1,4 @@
-/* One thread loads and stores in place without a lock, while two others make calls under a lock, for other tenants and for its.
+/* One thread loads and stores in place without a lock, while two others make calls under a lock, for its tenant and for others.
  *
  *     threads CALLS
  */
@@ -15,7 +15,7 @@ static atomic_bool is_over;
 static partmem_lent ranges[RANGES];
 static atomic_ulong rounds, calls;
 
-/* Fills all ranges, and checks later that all of it is still there. */
+/* Fills all ranges again and again, and counts the bytes that have changed since. */
 static void *use_in_place(void *wrong)
 {
     for (unsigned seed = 0; !is_over; seed++, rounds++) {
@@ -54,7 +54,7 @@ static void call_for_other(partmem_tenant other, unsigned *random)
     }
 }
 
-/* Makes a call for the tenant whose ranges are in use: none that ends their lifetime. */
+/* Makes a call for the tenant whose ranges are in use, but none that ends their lifetime. */
 static void call_for_same(partmem_tenant same, unsigned *random)
 {
     partmem_lent lent;

@@ -1,5 +1,5 @@
-/* Libraries with one mistake each, which a program of this folder has to see: linked with it, with the linker's --wrap for each
- * function __wrap_NAME below, and chosen by -DWRONG=NAME. */
+/* Mistakes of a library, each of which a program of this folder has to see. Link this file with the program and the library, and
+ * with the linker's --wrap for each function __wrap_NAME below. -DWRONG=NAME chooses the mistake. */
 #include <stdbool.h>
 #include <stdlib.h>
 #include <string.h>

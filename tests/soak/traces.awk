@@ -1,15 +1,15 @@
-# Writes a random trace. What tenant 0 does and gets is drawn only from `seed`, and all that comes between from `seed` and
-# `world`. So two worlds of one seed and order have the same own list of tenant 0, whatever their other numbers are.
+# Writes a random trace. The own list of tenant 0 is drawn only from `seed`, and the lines between from `seed` and `world`. So two
+# worlds of one seed and order have the same own list of tenant 0, whatever their other numbers are.
 #
 #   awk -v seed=1 -v world=1 -v lines=1000000 -v order=3 -v superblocks=256 -v tenants=64 -v broken=10 -f tests/soak/traces.awk
 #
-# `lines` counts the lines of tenant 0 in both worlds; `others` lines come between them on average; `broken` in a hundred of those
-# are no command, or one with numbers that nobody has.
+# `lines` is the number of lines that are drawn for tenant 0. On average `others` other lines come before each. `broken` of a
+# hundred of these are no command, or a command with numbers that nobody has.
 #
-# Tenant 0 never holds more than 4 superblocks, and others never more than all but 4, so that no grant to it is refused. There
-# have to be more than 4.
+# Tenant 0 never holds more than 4 superblocks, and the others together never more than all but 4, so that no grant to tenant 0 is
+# refused. The machine has to have more than 4.
 
-# A number below n: Park and Miller's generator, one for the own list (0) and one for what is between (1).
+# Returns a number below n, by Park and Miller's generator: one for the own list (0), and one for the lines between (1).
 function draw(n) {
     state[whose] = (state[whose] * 16807) % 2147483647
     return int(state[whose] / 2147483647 * n)
@@ -25,17 +25,17 @@ function hex(bytes,    text) {
     return text
 }
 
-# A frame that the tenant may hold, where a block of that order can begin.
+# Returns a frame that the tenant may hold, at which a block of order k can begin.
 function frame(t, k) {
     return int(draw((held[t] ? held[t] : 1) * 2 ^ order) / 2 ^ k) * 2 ^ k
 }
 
-# The sizes of caches by number: most tenants make them in this order.
+# Returns the size of objects in a cache, by its number: most tenants make caches in this order.
 function size(c) {
     return sizes[c % size_count + 1]
 }
 
-# A place where an object of the cache may begin.
+# Returns a place at which an object of the cache may begin.
 function object(t, c,    chunk, count) {
     chunk = size(c) < 16 ? 16 : size(c)
     count = chunk < 512 ? int(4064 / chunk) : int(4096 / chunk)
@@ -46,7 +46,7 @@ function make_cache(t, c) {
     return t " cache " size(c) " 8 " hex(1 + draw(16))
 }
 
-# A command of the tenant.
+# Returns a command of the tenant.
 function command(t,    word, c) {
     word = pick("alloc alloc alloc alloc free free free free take take take take take give give give give give read read write " \
         "write cache destroy reap report")
@@ -65,7 +65,7 @@ function command(t,    word, c) {
     return t " " (word == "cache" ? "reap" : word)
 }
 
-# What the administrator does with the tenant's superblocks; it never holds more than `most`.
+# Returns a command of the administrator about the tenant, which never gets more than `most` superblocks.
 function administer(t, most,    word) {
     word = pick("grant grant grant grant takeback takeback reset")
     if (word == "grant" && held[t] < most) { held[t]++; all_held++; return "admin grant " t }
@@ -73,13 +73,13 @@ function administer(t, most,    word) {
     return "admin takeback " t " " draw(held[t] + 1)
 }
 
-# A number that hardly anything has: an end of a range, or one that wraps to a small number.
+# Returns a number that hardly anything has: an end of a range, or one that wraps to a small number.
 function far() {
     return pick("31 32 63 64 255 256 65535 65536 1048576 16777216 536870912 2147483647 2147483648 4294963200 4294967232 4294967295 " \
         "4294967296 9999999999 00000000000 18446744073709551616 -1 +1 0x1 1e3 x")
 }
 
-# A line that is no command, or one that is refused on any machine.
+# Returns a line that is no command, or one that is refused on any machine.
 function broken_line(    kind, text, n) {
     kind = draw(8)
     if (kind == 0) { n = draw(300); while (n-- > 0) text = text sprintf("%c", 11 + draw(245)); return (text ~ /^[ 0a]/ ? "~" : "") text }
@@ -92,7 +92,7 @@ function broken_line(    kind, text, n) {
     return 1 + draw(tenants - 1) " " pick("alloc free take destroy read write cache give") " " far() " " far()
 }
 
-# A line that is not in the own list of tenant 0.
+# Returns a line that is not in the own list of tenant 0.
 function between(    t) {
     if (draw(100) < broken) return broken_line()
     if (draw(40) == 0) return "admin move 0 " draw(held[0] + 1)

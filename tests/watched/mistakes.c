@@ -1,5 +1,5 @@
-/* Programs with one mistake each, which a tool has to see where it is marked. The command line names the mistake; "none" has
- * none. Loads and stores go through a volatile, so that no compiler removes them. */
+/* Makes the mistake that the command line names, which a tool has to report at a line that is marked. With "none" it makes no
+ * mistake. Loads and stores go through volatile pointers, so that no compiler removes them. */
 #include "partmem_watched.h"
 
 #include <stdio.h>
@@ -180,7 +180,7 @@ static void write_past(void)
     free((char *)at);
 }
 
-/* What is right at the edges. Pieces keep their bytes, and have as many as were requested. */
+/* Makes no mistake, but uses memory up to its edges. Pieces keep their bytes, and have as many as were requested. */
 static void none(void)
 {
     char *at = partmem_heap_malloc(&heap, 100);
