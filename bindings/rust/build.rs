@@ -1,6 +1,6 @@
-//! Finds libpartmem.a, or the unproved library if there is none, or with the feature `kernel` libpartmem_kernel.a. It searches
-//! the folder PARTMEM_DIR or its lib; without PARTMEM_DIR, where pkg-config finds it, or out/ of the repository that has this
-//! crate.
+//! Finds libpartmem.a, or the unproved library if there is none. With the feature `kernel` it finds libpartmem_kernel.a. It
+//! searches the folder PARTMEM_DIR and its lib. Without PARTMEM_DIR it searches the folder that pkg-config names, and out/ of the
+//! repository that has this crate.
 use std::path::{Path, PathBuf};
 use std::process::{exit, Command};
 use std::{env, fs};
@@ -15,7 +15,7 @@ fn fail(why: &str, how: &str) -> ! {
     exit(1)
 }
 
-/// Returns the first of these folders that has the library of that name.
+/// Returns the first of these folders that has the library of this name, with the name.
 fn find<'a>(folders: &[PathBuf], name: &'a str) -> Option<(PathBuf, &'a str)> {
     let found = folders.iter().find(|folder| folder.join(format!("lib{name}.a")).is_file())?;
     Some((found.clone(), name))
@@ -26,7 +26,7 @@ fn ask_pkg_config() -> Option<PathBuf> {
     output.status.success().then(|| String::from_utf8_lossy(&output.stdout).trim_end().into())
 }
 
-/// Returns where the library may be, the likeliest place first.
+/// Returns the folders that are searched, in order.
 fn folders() -> Vec<PathBuf> {
     if let Some(named) = env::var_os("PARTMEM_DIR").map(PathBuf::from) {
         return vec![named.join("lib"), named];

@@ -1,4 +1,5 @@
-//! Sessions as typed values in a client's cache: taking one writes the value, and dropping it drops the value and gives it back.
+//! Sessions are typed values in a client's cache. Taking an object writes the value; dropping it drops the value and gives the
+//! object back.
 use partmem::{typed, Client, Config, Error, Machine};
 
 struct Session<'k> {
@@ -13,7 +14,7 @@ impl Drop for Session<'_> {
     }
 }
 
-/// Opens sessions until the client has no frames, and returns how many there were.
+/// Takes objects for numbers until the client has no frames, and returns how many it took.
 fn fill(client: &Client<'_>) -> Result<usize, Error> {
     let numbers = client.cache_of::<u64>()?;
     let all: Vec<_> = (0..).map_while(|number| numbers.take(number).ok()).collect();

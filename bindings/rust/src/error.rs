@@ -1,4 +1,4 @@
-//! Why a call did nothing.
+//! The errors and refusals of calls.
 use crate::sys;
 use core::{fmt, slice, str};
 
@@ -12,7 +12,7 @@ pub enum Refusal {
 }
 use Refusal::*;
 
-/// In the order of their numbers, from 1.
+/// The refusals in the order of their numbers, from 1.
 #[rustfmt::skip]
 const REFUSALS: [Refusal; 15] = [
     NoFrames, BadOrder, NotABlock, OutOfReach, BadLength, BadSize, BadAlign, NoCacheSlot, NoCache, CacheInUse, NotAnObject,
@@ -24,11 +24,12 @@ const REFUSALS: [Refusal; 15] = [
 #[non_exhaustive]
 pub enum Error {
     Refused(Refusal),
-    /// A number of the [`Config`](crate::Config) is out of range, or the sizes of a heap's classes are.
+    /// A number of the [`Config`](crate::Config) is out of range, or the sizes of a heap's classes are not allowed.
     BadConfig,
-    /// The [`Memory`](crate::Memory) of a machine is too small or not aligned; or a heap with runs has no slots in a row.
+    /// The [`Memory`](crate::Memory) of a machine is too small or not aligned, or the slots for a heap with runs do not lie in a
+    /// row.
     BadMemory,
-    /// An allocation failed. From a heap: its tenant has too few frames, or the request is too large.
+    /// An allocation failed. If a heap returns it, its tenant has too few frames, or the request is too large.
     NoMemory,
     /// The pattern of a cache does not have 1 to 16 bytes.
     BadPattern,
@@ -38,7 +39,7 @@ pub enum Error {
     Other(u32),
 }
 
-/// Returns the meaning of a status of the library.
+/// Returns the result that a status of the library means.
 pub(crate) fn done(status: u32) -> Result<(), Error> {
     Err(match status {
         0 => return Ok(()),
@@ -74,8 +75,8 @@ impl fmt::Display for Error {
             Error::BadConfig => text_of(34),
             Error::BadMemory => text_of(35),
             Error::NoMemory => text_of(36),
-            Error::BadPattern => "BadPattern: the pattern has not 1 to 16 bytes",
-            Error::Stale => "Stale: of another machine or tenant, or from before a reset, or of a destroyed cache",
+            Error::BadPattern => "BadPattern: the pattern does not have 1 to 16 bytes",
+            Error::Stale => "Stale: a handle of another machine or tenant, from before a reset, or of a destroyed cache",
             Error::Other(status) => text_of(*status),
         })
     }

@@ -19,7 +19,7 @@ impl<T> Lock<T> for std::sync::Mutex<T> {
     }
 }
 
-/// A lock that waits in a loop. Do not use it in interrupt handlers: one that has interrupted the holder waits for ever.
+/// A lock that waits in a loop. Do not use it in interrupt handlers: a handler that has interrupted the holder waits forever.
 pub struct SpinLock<T> {
     is_held: AtomicBool,
     value: UnsafeCell<T>,
@@ -55,14 +55,15 @@ impl<T> Lock<T> for SpinLock<T> {
     }
 }
 
-/// How a program opens the machine of its global allocator. It may not allocate, nor panic, which allocates: both wait for ever.
+/// A function that opens the machine of a program's global allocator. It may not allocate, and not panic, which allocates: both
+/// would wait forever.
 pub type Open = fn() -> Result<(Machine, Tenant), Error>;
 
 /// A heap with its machine, which never ends. The first allocation opens it.
 #[derive(Debug)]
 pub struct LazyHeap(State);
 
-#[allow(clippy::large_enum_variant)] // there is one, in a static
+#[allow(clippy::large_enum_variant)] // a program has only one, in a static
 enum State {
     New(Open),
     Opened(ManuallyDrop<Machine>, Tenant, RawHeap),
@@ -73,7 +74,7 @@ enum State {
 unsafe impl Send for LazyHeap {}
 
 impl LazyHeap {
-    /// Returns a heap that is not opened yet. If opening it fails, it allocates nothing.
+    /// Returns a heap that is not opened yet. If opening it fails, each allocation fails.
     pub const fn new(open: Open) -> LazyHeap {
         LazyHeap(State::New(open))
     }
@@ -133,8 +134,8 @@ impl<L> Global<L> {
 }
 
 impl<L: Lock<LazyHeap>> Global<L> {
-    /// Runs some work with the administrator and the other tenants of the machine. It may not allocate from this allocator, whose
-    /// lock it holds, nor panic. Returns `None` if the heap could not be opened.
+    /// Runs some work with the administrator and the other tenants of the machine. The work may not allocate from this allocator,
+    /// whose lock is held, and not panic. Returns `None` if the heap could not be opened.
     pub fn with_others<R>(&self, work: impl FnOnce(Administrator<'_>, Clients<'_>) -> R) -> Option<R> {
         self.0.with(|lazy| {
             lazy.open();

@@ -40,7 +40,7 @@ impl RawHeap {
         debug_assert_eq!(status, 0, "no piece of the heap begins there");
     }
 
-    /// Gives a piece another size. Returns null if there is no memory; then nothing has changed.
+    /// Changes the size of a piece. Returns null if there is no memory; then nothing has changed.
     ///
     /// # Safety
     /// The piece is from this heap, with the layout `old`. If it moves, the old one is not used again.
@@ -60,7 +60,7 @@ impl RawHeap {
         to
     }
 
-    /// Destroys its caches, except those that have a live object, which was leaked.
+    /// Destroys the heap's caches, except those with a live object, which was leaked.
     fn close(&mut self, tenant: sys::Tenant) {
         for cache in self.0.get_mut().cache_of.iter().filter(|cache| **cache > 0) {
             // SAFETY: the machine is booted, and no other call of it runs. Nothing of a cache without live objects is used.
@@ -78,8 +78,8 @@ impl RawHeap {
 /// `Vec::new_in(&heap)`. On any compiler [`Heap::boxed`], [`Heap::copied`] and [`Heap::text`] put values, slices and texts in it.
 ///
 /// It borrows the [`Client`], and what it allocates borrows the heap. So both have to be dropped before a reset or a move of this
-/// tenant. Dropping the heap destroys its caches. The tenant's values may hold addresses of each other. `partmem_heap.h` says
-/// what is lost if a program computes from the numbers in them.
+/// tenant. Dropping the heap destroys its caches. The tenant's values may hold the addresses of each other. `partmem_heap.h` says
+/// what is lost if a program computes with these addresses as numbers.
 ///
 /// # Runs
 /// With runs a request larger than a superblock gets superblocks that lie in a row. The tenant's slots have to be 0, 1, 2 .., and
@@ -158,7 +158,7 @@ impl<'c> Heap<'c> {
         self.boxed_with(|| value)
     }
 
-    /// Makes a value and puts it into the heap, only if there is memory. Fails with `NoMemory`.
+    /// Makes a value and puts it into the heap. If there is no memory, the value is not made. Fails with `NoMemory`.
     pub fn boxed_with<T>(&self, make: impl FnOnce() -> T) -> Result<Boxed<'_, T>, Error> {
         let at = NonNull::new(self.raw.allocate(Layout::new::<T>()).cast::<T>()).ok_or(Error::NoMemory)?;
         let piece = Piece { at: at.as_ptr().cast(), heap: self };

@@ -2,9 +2,9 @@
 //!
 //! A [`Machine`] has RAM in superblocks, which are granted to tenants. Whatever the others do, a tenant gets the same results and
 //! finds the same bytes as if it were alone with the same grants, take-backs and resets. The header `partmem.h` describes the
-//! calls, and what is proved of them. Left out are events, lines, `read`, `write` and the `find` functions. `PARTMEM_DIR` (an
+//! calls, and what is proved of them. Events, lines, `read`, `write` and the `find` functions are left out. `PARTMEM_DIR` (an
 //! absolute path of the installation or of its `lib`) or pkg-config names the folder of `libpartmem.a`; without either, the
-//! library is the one that the repository's `make test` has built, or else, with a warning, that `make unproved` has built.
+//! library is the one that the repository's `make test` has built, or else, with a warning, the one of `make unproved`.
 //!
 //! | You want | Use |
 //! |---|---|
@@ -52,13 +52,13 @@
 //! - Any number of handles may be lent at once, also during `alloc`, `take`, `lend` and `report`, which need only `&Machine`.
 //! - `free` and `give` consume their handle, so nobody has its bytes. Other handles may be lent meanwhile.
 //! - `move_slot`, `reset` and the drop of the machine require that nothing is lent. Handles stay through a move, and can be lent
-//!   again. A lend compares two numbers. It calls the library after a move, until a `lend_mut` has found the new address.
+//!   again. A lend compares two numbers. After a move it also calls the library, until a `lend_mut` has found the new address.
 //! - Handles can lie beside the machine in one struct. Typed values and what a heap allocates borrow their [`Client`], so they
 //!   cannot.
-//! - A handle that is dropped leaves its bytes allocated until a reset. After a reset, or on another machine, a handle is
+//! - Dropping a handle leaves its bytes allocated until a reset. After a reset, or on another machine, a handle is
 //!   [`Error::Stale`].
-//! - Links between objects are numbers of places in lent bytes. [`Machine::lend_at`] follows them. It needs `&mut Machine`, since
-//!   a handle of the same bytes may be lent.
+//! - Links between objects are places, stored as numbers in lent bytes. [`Machine::lend_at`] follows them. It needs
+//!   `&mut Machine`, since a handle of the same bytes may be lent.
 //! - A machine is `Send` and not `Sync`, since calls are one at a time: threads share a `Mutex<Machine>`. Then a lend borrows the
 //!   lock's guard. Without a mutex, lent bytes may be used on other threads of a scope while this one makes calls.
 //! - A move or a reset of one client requires that nobody's bytes are lent, which is stricter than the library. After a
@@ -136,13 +136,13 @@
 //!
 //! # What types cannot keep
 //!
-//! The header ends in a list of duties. The crate keeps those of machines, arguments, bounds, endings, threads and reused
+//! The header ends in a list of duties. The crate fulfils those about machines, arguments, bounds, endings, threads and reused
 //! numbers. These are left to you:
 //!
 //! - *Flows.* Do not store for one tenant what was loaded for another, and do not show it to that tenant. Do not store an
 //!   address, such as the `as_ptr` of a lend, in lent bytes, or show it to a tenant. Values with references, and collections, are
 //!   full of addresses: such a tenant may learn of others, as `partmem_heap.h` says.
-//! - *Users.* Whoever has the machine acts for any tenant, and `lend_at` reaches every live object. Do not give them to a
+//! - *Users.* Code that has the machine can act for any tenant, and `lend_at` reaches every live object. Do not give them to a
 //!   tenant's user. A [`Client`] acts only for its tenant.
 //! - *After the end.* The memory goes back to the allocator with the tenants' bytes in it. Overwrite secrets before.
 //! - *Booting.* The crate boots one machine at a time. C code in the same program must not boot another at the same time.
@@ -175,7 +175,7 @@ pub use tenants::{Administrator, Client, Clients};
 #[derive(Clone, Copy, Debug, PartialEq, Eq, PartialOrd, Ord, Hash)]
 pub struct Tenant(pub u32);
 
-/// The number of a byte of a tenant. The place of its first byte names a block or an object.
+/// The number of a byte of a tenant. A block or an object is named by the place of its first byte.
 #[derive(Clone, Copy, Debug, PartialEq, Eq, PartialOrd, Ord, Hash)]
 #[repr(transparent)]
 pub struct Place(pub u32);

@@ -1,4 +1,4 @@
-//! The machine and the handles of its blocks and objects. All that is unsafe about lent bytes is here.
+//! The machine and the handles of its blocks and objects. All unsafe code for lent bytes is here.
 use crate::memory::{alone, Memory, Region};
 use crate::{error::done, sys, Administrator, Client, Clients, Config, Error, Figures, Place, Slot, Tenant};
 use core::cell::Cell;
@@ -157,7 +157,7 @@ impl Machine {
         same.then_some(self.of(tenant)).ok_or(Error::Stale)
     }
 
-    /// Grants the first superblock without an owner, under the first slot that the tenant does not hold. It reads as zero.
+    /// Grants the first superblock without an owner, under the first slot that the tenant does not hold. All its bytes are zero.
     pub fn grant(&self, tenant: Tenant) -> Result<Slot, Error> {
         // SAFETY: the machine is booted, no other call of it runs, and the result goes to a local variable.
         result(|slot| unsafe { sys::partmem_grant(self.of(tenant), slot) })
@@ -169,7 +169,7 @@ impl Machine {
         done(unsafe { sys::partmem_take_back(self.of(tenant), slot) })
     }
 
-    /// Replaces the superblock of a slot by the first one without an owner, and copies all its bytes. Handles stay.
+    /// Replaces the superblock of a slot by the first one without an owner, and copies all its bytes. Handles stay valid.
     pub fn move_slot(&mut self, tenant: Tenant, slot: u32) -> Result<Slot, Error> {
         // SAFETY: nothing is lent, since lends borrow the machine.
         unsafe { self.move_shared(tenant, slot) }
@@ -198,8 +198,8 @@ impl Machine {
         Ok(())
     }
 
-    /// Divides the machine into its administrator and its tenants: then one of these can be reset or moved while others use what
-    /// they have.
+    /// Divides the machine into its administrator and its tenants. Then one tenant can be reset or moved while the others use
+    /// what they have.
     ///
     /// ```
     /// # use partmem::{Config, Machine, Tenant};
@@ -224,7 +224,7 @@ impl Machine {
         self.split().1.nth(tenant.0 as usize).ok_or_else(|| crate::Refusal::NoTenant.into())
     }
 
-    /// Returns how many tenants it has.
+    /// Returns the number of tenants.
     pub(crate) fn tenants(&self) -> u32 {
         self.config.tenants
     }
@@ -273,7 +273,8 @@ impl Machine {
         Ok(())
     }
 
-    /// Takes an object of a cache. Its bytes are the pattern's if it is new, else what was in it when it was given back.
+    /// Takes an object of a cache. A new object has the bytes of the pattern, any other one what was in it when it was given
+    /// back.
     pub fn take(&self, cache: &Cache) -> Result<Object, Error> {
         let tenant = self.check(cache.tenant, cache.stamp)?;
         // SAFETY: the machine is booted, no other call of it runs, and the result goes to a local variable.
@@ -314,7 +315,7 @@ impl Machine {
         }
     }
 
-    /// Lends the bytes of a block or an object, to read them.
+    /// Lends the bytes of a block or an object for reading.
     pub fn lend<'a, Kind>(&'a self, handle: &'a Handle<Kind>) -> Result<&'a [u8], Error> {
         let at = self.address_of(handle)?;
         // SAFETY: the bytes stay there and live while the machine and the handle are borrowed, and have all been written. A store
@@ -322,7 +323,7 @@ impl Machine {
         Ok(unsafe { slice::from_raw_parts(at, handle.bytes as usize) })
     }
 
-    /// Lends the bytes of a block or an object, to use them.
+    /// Lends the bytes of a block or an object for reading and writing.
     pub fn lend_mut<'a, Kind>(&'a self, handle: &'a mut Handle<Kind>) -> Result<&'a mut [u8], Error> {
         handle.at = self.address_of(handle)?;
         handle.moves = self.moves.get();

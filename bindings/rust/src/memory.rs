@@ -9,7 +9,7 @@ use core::{fmt, hint};
 const FRAME_BYTES: usize = 4096;
 const TABLE_ALIGN: usize = 16;
 
-/// Returns the least power of 2 from 4 on that is not less than a number.
+/// Returns the least power of 2 that is at least 4 and at least this number.
 const fn power_of_2(number: usize) -> usize {
     if number <= 4 {
         4
@@ -48,13 +48,13 @@ impl Config {
         (self.library_bytes() + TABLE_ALIGN - 1) / TABLE_ALIGN * TABLE_ALIGN
     }
 
-    /// Returns how many bytes of tables a machine has: those that the header says, and up to 40 bytes of this crate.
+    /// Returns how many bytes of tables a machine has: those of the header's `PARTMEM_TABLE_BYTES`, and up to 40 for this crate.
     pub const fn table_bytes(self) -> usize {
         self.machine_offset() + size_of::<sys::Machine>()
     }
 }
 
-/// The memory of a machine. Its bytes may have any values, or none.
+/// The memory of a machine. Its bytes may have any values, or be uninitialised.
 pub struct Memory {
     /// At least [`Config::ram_bytes`], at a multiple of 4096.
     pub ram: &'static mut [MaybeUninit<u8>],
@@ -172,7 +172,7 @@ impl<const RAM: usize, const TABLES: usize> fmt::Debug for StaticMemory<RAM, TAB
     }
 }
 
-/// A program makes one boot at a time.
+/// Whether a boot runs: a program makes one boot at a time.
 static IS_BOOTING: AtomicBool = AtomicBool::new(false);
 
 /// Runs a boot while no other one runs.

@@ -38,7 +38,7 @@ pub struct HeapConfig {
     pub has_runs: u32,
 }
 
-/// Only the library writes to it. Between calls it may be moved.
+/// A heap. Only the library writes to it. Between calls it may be moved.
 #[repr(C)]
 pub struct Heap {
     tenant: Tenant,
@@ -46,7 +46,7 @@ pub struct Heap {
     numbers: [u32; 3],
     sizes: [u16; MOST_CLASSES],
     aligns: [u16; MOST_CLASSES],
-    /// The cache of a class plus 1, or 0 without one.
+    /// The number of the cache of each class plus 1, or 0 if the class has none.
     pub cache_of: [u8; MOST_CLASSES],
     class_in: [u8; 32],
     class_of: [u8; 257],
@@ -55,7 +55,7 @@ pub struct Heap {
 
 pub const MOST_CLASSES: usize = 24;
 
-// As tests/layout.c demands of the headers.
+// The sizes that tests/layout.c checks in the headers.
 const _: () = assert!(size_of::<Machine>() == 24 && size_of::<Tenant>() == 16 && size_of::<Lent>() == 16);
 const _: () = assert!(size_of::<Config>() == 12 && size_of::<Slot>() == 8 && size_of::<Cache>() == 20);
 const _: () = assert!(size_of::<Memory>() == 16 && size_of::<HeapConfig>() == 16 && size_of::<Heap>() == 960);

@@ -8,7 +8,7 @@ pub struct Administrator<'a>(&'a Machine);
 
 /// A tenant of a machine that is divided by [`Machine::split`], and its only handle. Code that has it acts only for this tenant.
 ///
-/// Its calls are those of [`Machine`] for one tenant. What is lent borrows the client, and a handle of another tenant is
+/// It has the calls of [`Machine`] for one tenant. What is lent borrows the client, and a handle of another tenant is
 /// [`Error::Stale`] here.
 pub struct Client<'a> {
     machine: &'a Machine,
@@ -30,7 +30,7 @@ impl<'a> Administrator<'a> {
 }
 
 impl Administrator<'_> {
-    /// Grants the first superblock without an owner, under the first slot that the tenant does not hold. It reads as zero.
+    /// Grants the first superblock without an owner, under the first slot that the tenant does not hold. All its bytes are zero.
     pub fn grant(&self, tenant: Tenant) -> Result<Slot, Error> {
         self.0.grant(tenant)
     }
@@ -45,7 +45,7 @@ impl Administrator<'_> {
         self.0.report(tenant)
     }
 
-    /// Replaces the superblock of a slot by the first one without an owner, and copies all its bytes. Handles stay.
+    /// Replaces the superblock of a slot by the first one without an owner, and copies all its bytes. Handles stay valid.
     pub fn move_slot(&self, client: &mut Client<'_>, slot: u32) -> Result<Slot, Error> {
         self.check(client)?;
         // SAFETY: nothing of this tenant is lent, since lends borrow its only client.
@@ -116,7 +116,7 @@ impl<'a> Client<'a> {
         Heap::new(self.again(), sizes, has_runs)
     }
 
-    /// Returns a heap as [`Client::heap_with`] does, which owns this client and does not borrow it.
+    /// Returns a heap as [`Client::heap_with`] does, but one that owns this client and does not borrow it.
     pub fn into_heap(self, sizes: &[u16], has_runs: bool) -> Result<OwnedHeap<'a>, Error> {
         OwnedHeap::new(self, sizes, has_runs)
     }
@@ -126,63 +126,63 @@ impl<'a> Client<'a> {
         Client { ..*self }
     }
 
-    /// As [`Machine::alloc`].
+    /// Calls [`Machine::alloc`] for this tenant.
     pub fn alloc(&self, order: u32) -> Result<Block, Error> {
         self.machine.alloc(self.tenant, order)
     }
 
-    /// As [`Machine::free`].
+    /// Calls [`Machine::free`] for this tenant.
     pub fn free(&self, block: Block) -> Result<(), Error> {
         self.check(block.tenant)?;
         self.machine.free(block)
     }
 
-    /// As [`Machine::make_cache`].
+    /// Calls [`Machine::make_cache`] for this tenant.
     pub fn make_cache(&self, size: u32, align: u32, pattern: &[u8]) -> Result<Cache, Error> {
         self.machine.make_cache(self.tenant, size, align, pattern)
     }
 
-    /// As [`Machine::destroy_cache`].
+    /// Calls [`Machine::destroy_cache`] for this tenant.
     pub fn destroy_cache(&self, cache: &mut Cache) -> Result<(), Error> {
         self.check(cache.tenant)?;
         self.machine.destroy_cache(cache)
     }
 
-    /// As [`Machine::take`].
+    /// Calls [`Machine::take`] for this tenant.
     pub fn take(&self, cache: &Cache) -> Result<Object, Error> {
         self.check(cache.tenant)?;
         self.machine.take(cache)
     }
 
-    /// As [`Machine::give`].
+    /// Calls [`Machine::give`] for this tenant.
     pub fn give(&self, object: Object) -> Result<(), Error> {
         self.check(object.tenant)?;
         self.machine.give(object)
     }
 
-    /// As [`Machine::reap`].
+    /// Calls [`Machine::reap`] for this tenant.
     pub fn reap(&self) -> Result<u32, Error> {
         self.machine.reap(self.tenant)
     }
 
-    /// As [`Machine::report`].
+    /// Calls [`Machine::report`] for this tenant.
     pub fn report(&self) -> Result<Figures, Error> {
         self.machine.report(self.tenant)
     }
 
-    /// As [`Machine::lend`].
+    /// Calls [`Machine::lend`] for this tenant.
     pub fn lend<'b, Kind>(&'b self, handle: &'b Handle<Kind>) -> Result<&'b [u8], Error> {
         self.check(handle.tenant)?;
         self.machine.lend(handle)
     }
 
-    /// As [`Machine::lend_mut`].
+    /// Calls [`Machine::lend_mut`] for this tenant.
     pub fn lend_mut<'b, Kind>(&'b self, handle: &'b mut Handle<Kind>) -> Result<&'b mut [u8], Error> {
         self.check(handle.tenant)?;
         self.machine.lend_mut(handle)
     }
 
-    /// As [`Machine::lend_at`].
+    /// Calls [`Machine::lend_at`] for this tenant.
     pub fn lend_at(&mut self, place: Place, bytes: u32) -> Result<&mut [u8], Error> {
         // SAFETY: nothing of this tenant is lent, since lends borrow its only client, and the result borrows it unshared.
         unsafe { self.machine.lend_shared(self.tenant, place, bytes) }

@@ -43,12 +43,12 @@ impl<'c, T> Cache<'c, T> {
         self.client.machine().of(self.client.number())
     }
 
-    /// Takes an object and writes the value to it. If there is none, the value is dropped. Fails with `NoFrames`.
+    /// Takes an object and writes the value to it. If no object can be taken, the value is dropped. Fails with `NoFrames`.
     pub fn take(&self, value: T) -> Result<Object<'_, T>, Error> {
         self.take_with(|| value)
     }
 
-    /// Takes an object, and then makes a value and writes it there. Fails with `NoFrames`.
+    /// Takes an object, then makes a value and writes it to the object. Fails with `NoFrames`.
     pub fn take_with(&self, make: impl FnOnce() -> T) -> Result<Object<'_, T>, Error> {
         // SAFETY: the machine is booted, no other call of it runs, and the result goes to a local variable.
         let lent: sys::Lent = result(|lent| unsafe { sys::partmem_take(self.tenant(), self.cache.number, lent) })?;

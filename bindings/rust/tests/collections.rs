@@ -3,7 +3,7 @@
 use partmem::{Config, Error, Heap, Machine, Tenant};
 use std::collections::{BTreeMap, VecDeque};
 
-/// Returns how many boxes a vector has before the heap refuses one.
+/// Returns how many boxes a vector gets before the heap refuses memory.
 fn fill(heap: &Heap<'_>) -> usize {
     let mut boxes = Vec::new_in(heap);
     while boxes.try_reserve(1).is_ok() {

@@ -1,4 +1,4 @@
-//! All that this program allocates lies in the memory of one tenant, and so does all that the test's own threads allocate.
+//! Everything that this program allocates lies in the memory of one tenant, also what the threads of its tests allocate.
 use partmem::{Config, Error, Global, LazyHeap, Machine, SpinLock, StaticMemory, Tenant};
 use std::alloc::{GlobalAlloc, Layout};
 use std::collections::BTreeMap;
@@ -50,7 +50,7 @@ fn collections_of_many_threads_lie_in_the_tenants_memory() {
 fn requests_are_aligned_and_refused_like_those_of_a_heap() {
     for align in (0..13).map(|power| 1 << power) {
         let layout = |bytes| Layout::from_size_align(bytes, align).unwrap();
-        // SAFETY: each layout is that of the piece, which is freed once.
+        // SAFETY: each layout is the layout of the piece, and the piece is freed once.
         unsafe {
             let at = GLOBAL.alloc_zeroed(layout(100));
             assert!(!at.is_null() && at as usize % align == 0 && (0..100).all(|byte| *at.add(byte) == 0));

@@ -5,7 +5,7 @@ use std::{sync::Barrier, thread};
 const ONE: Tenant = Tenant(0);
 const OTHER: Tenant = Tenant(1);
 
-/// Returns a machine with a slot of ONE, and a cache in it.
+/// Returns a machine in which the tenant ONE has a slot, and a cache of that tenant.
 fn booted(superblocks: u32) -> (Machine, Cache) {
     let machine = Machine::boot(Config { order: 3, superblocks, tenants: 3 }).unwrap();
     machine.grant(ONE).unwrap();
@@ -110,7 +110,7 @@ fn machines_boot_on_many_threads_at_once_and_share_nothing() {
     }
 }
 
-/// A tenant's user: what it has, each with the byte that fills it, and what it saw.
+/// A tenant's user: its blocks and objects, each with the byte that fills it, and what it saw.
 struct User {
     tenant: Tenant,
     random: u64,
@@ -120,7 +120,7 @@ struct User {
     seen: Vec<String>,
 }
 
-/// Lends all that a user has at once. The bytes are those that were stored, and no two lends overlap.
+/// Lends everything that a user has at once. Checks that the bytes are the stored ones, and that no two lends overlap.
 fn check<Kind>(machine: &Machine, handles: &mut [(Handle<Kind>, u8)]) {
     let mut lends: Vec<_> = handles.iter_mut().map(|(handle, fill)| (machine.lend_mut(handle).unwrap(), *fill)).collect();
     lends.sort_by_key(|(bytes, _)| bytes.as_ptr());
@@ -184,7 +184,7 @@ impl User {
     }
 }
 
-/// Checks a user whatever two others do, and wherever its slots are moved.
+/// Checks that a user sees the same alone and beside two others, while the slots of all are moved.
 #[test]
 fn a_tenant_sees_the_same_alone_and_beside_others() {
     for seed in 0..10 {

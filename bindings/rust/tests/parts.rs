@@ -132,7 +132,7 @@ fn values_lie_at_their_alignment() {
 /// A list in a heap.
 struct Node<'h>(u32, Option<Boxed<'h, Node<'h>>>);
 
-/// Returns for how many nodes a heap has memory, and leaks them.
+/// Fills a heap with the nodes of a list, and leaks them. Returns how many there are.
 fn fill(heap: &Heap<'_>) -> u32 {
     let (mut list, mut length) = (None, 0);
     while let Ok(node) = heap.boxed_with(|| Node(length, list.take())) {
@@ -237,7 +237,7 @@ fn a_machine_boots_in_memory_of_the_caller() {
 #[test]
 fn memory_that_is_too_small_or_not_aligned_is_refused() {
     let leaked = |bytes: usize| Box::leak(vec![MaybeUninit::uninit(); bytes + 4096].into_boxed_slice());
-    // Bytes at an offset from a multiple of 4096.
+    // Returns bytes that begin at this offset from a multiple of 4096.
     let at = |offset: usize, bytes: usize| {
         let all = leaked(bytes + 4096);
         let start = all.as_ptr().align_offset(4096) + offset;
@@ -261,7 +261,7 @@ fn memory_that_is_too_small_or_not_aligned_is_refused() {
     assert_eq!(machine.lend(&machine.alloc(Tenant(0), 0).unwrap()).unwrap()[..], [0; 4096]);
 }
 
-/// The sum of `PARTMEM_TABLE_BYTES` of all machines, rounded up to multiples of 16: tests/rust computes it from the header.
+/// The sum of `PARTMEM_TABLE_BYTES` over all machines, each rounded up to a multiple of 16. tests/rust checks it with the header.
 const TABLES_OF_ALL: usize = 102_610_436_096;
 
 #[test]
