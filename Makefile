@@ -3,13 +3,13 @@ SHELL := bash
 PREFIX ?= out/installed
 LIBDIR ?= lib
 PROGRAMS := partmem framemap partcheck
-# The tests, by what they need. Scripts name tools that are missing (tests/tools has them all), and skip what needs them.
+# The tests, by what they need. A script prints which tools are missing, and skips what needs them. tests/tools lists all tools.
 #   nothing that was built; refused-growths and pasted-first build without proofs:
 FROM_SOURCES := structure documents diagrams pages witnesses helps refused-growths pasted-first
-#   the programs that `rt ci` left:
+#   the programs that `rt ci` built:
 OVER_PROGRAMS := hostile-bytes refused-memory instructions conformance plain-machine pictures browser machines \
     command-lines partcheck examples
-#   the library for C, and some the programs too:
+#   the library for C, and some of them the programs too:
 OVER_LIBRARY := same-path kernel-archives objtool in-place heap watched cpp use-from-c pasted demo-kernel linux rust \
     costs stack install
 CHECKS := $(addprefix check-,$(FROM_SOURCES) $(OVER_PROGRAMS) $(OVER_LIBRARY))

@@ -1,4 +1,5 @@
-# For find_package(partmem): the targets partmem::partmem, and for kernels partmem::partmem_kernel and partmem::partmem_linux.
+# Defines the targets of find_package(partmem): partmem::partmem, and partmem::partmem_kernel and partmem::partmem_linux for
+# kernels.
 # Paths are relative to this file, so the installation may be moved.
 get_filename_component(_partmem_prefix "${CMAKE_CURRENT_LIST_DIR}/@PREFIX@" ABSOLUTE)
 get_filename_component(_partmem_libdir "${CMAKE_CURRENT_LIST_DIR}/../.." ABSOLUTE)

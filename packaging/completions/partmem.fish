@@ -7,7 +7,7 @@ for program in partmem framemap partcheck
     complete -c $program -s V -l version -d 'Print the version'
 end
 for program in partmem framemap
-    complete -c $program -l only -x -d 'This tenant alone'
+    complete -c $program -l only -x -d 'Only this tenant'
 end
 complete -c partmem -l own -x -d 'The own list of this tenant, instead of replies'
 complete -c partmem -l tally -d 'Print on standard error what was done, refused and faulty'
