@@ -1,4 +1,5 @@
-/* Reads a trace from standard input and writes the replies of the allocator behind adapter.h: docs/traces.md has the lines. */
+/* Reads a trace from standard input, runs its lines on the allocator behind adapter.h, and writes the replies. docs/traces.md
+ * describes the lines. */
 #include "adapter.h"
 
 #include <stdio.h>
@@ -20,11 +21,11 @@ static struct {
     uint32_t slot;
 } owners[MOST_SUPERBLOCKS];
 
-/* The words of a line; the last place has all text after the words that any command has. */
+/* The first words of the line, and how many words it has in all. */
 static char *words[MOST_WORDS];
 static int count;
 
-/* The arguments of a command, in their order: numbers, and at most one byte string. */
+/* The arguments of a command: its numbers by position, and at most one byte string with its length. */
 static uint32_t numbers[4];
 static uint8_t bytes[MOST_BYTES];
 static unsigned length;
@@ -51,8 +52,8 @@ static bool is_hex(const char *word, unsigned most) {
 
 static void fault(const char *name) { printf("!> fault %s\n", name); }
 
-/* Returns whether the words after the actor and the command have these forms: n a number, b up to MOST_BYTES bytes, p a
- * pattern. */
+/* Parses the words after the actor and the command. `forms` has a letter for each: n for a number, b for up to MOST_BYTES bytes,
+ * p for a pattern. Prints a fault and returns false if a word has another form, or if there are more or fewer words. */
 static bool have_forms(const char *forms) {
     if ((size_t)count != 2 + strlen(forms)) {
         fault("Words");
@@ -85,7 +86,7 @@ static void own(unsigned superblock, unsigned tenant, uint32_t slot) {
     owners[superblock].slot = slot;
 }
 
-/* Frees this slot of the tenant, or all its slots. */
+/* Notes that nobody owns the superblock of this slot of the tenant, or those of all its slots if `slot` is NULL. */
 static void disown(unsigned tenant, const uint32_t *slot) {
     for (unsigned i = 0; i < superblocks; i++)
         if (owners[i].tenant == tenant && (slot == NULL || owners[i].slot == *slot))
@@ -203,7 +204,7 @@ static int command_of(const char *const names[][2], int most) {
     return most;
 }
 
-/* Handles the line as one of the cases of docs/traces.md, in their order. */
+/* Prints the reply to the line. The cases of docs/traces.md are tested in their order. */
 static void answer(void) {
     uint32_t actor = 0;
     bool is_admin;
@@ -233,12 +234,13 @@ static void answer(void) {
     }
 }
 
-/* Reads the next line, as words and without its end. Returns false at the end of the trace. */
+/* Reads the next line and splits it into words. Prints a fault if it is too long; it then has no words. Returns false at the end
+ * of the trace. */
 static bool next_line(char *line) {
     int size = 0, byte;
     while ((byte = getchar()) != EOF && byte != '\n')
         if (size++ <= MOST_LINE)
-            /* a byte 0 would end a word; a byte that no right word has replaces it */
+            /* a zero byte would end the string; it becomes 1, which is in no valid word */
             line[size - 1] = byte == 0 ? 1 : (char)byte;
     if (byte == EOF && size == 0)
         return false;

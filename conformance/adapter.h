@@ -1,12 +1,15 @@
-/* Makes an allocator of your own answer the lines of docs/traces.md: fill in the ten functions below and link them with
- * adapter.c, which reads the trace and writes the replies.
+/* Connects your own allocator to the test: write the ten functions below and link them with adapter.c, which reads the lines of
+ * docs/traces.md and writes the replies.
  *
  *     cc -O2 -o mine conformance/adapter.c mine.c && conformance/check --pages ./mine
  *
- * A superblock has 2^order frames of FRAME_BYTES bytes. Slot u has the tenant's frames from u * 2^order on, and frame f its
- * places from f * FRAME_BYTES on, all below 2^32; which slot a grant takes is yours to choose. A tenant that is passed exists;
- * slots, frames, places and numbers of caches may be any that a line can have. A function that refuses changes nothing and
- * returns the first refusal that applies, in the order named with it. Otherwise it stores its results and returns DONE. */
+ * A superblock has 2^order frames of FRAME_BYTES bytes. Slot u of a tenant has the 2^order frames from u * 2^order on. Frame f
+ * has the FRAME_BYTES places from f * FRAME_BYTES on. All places are below 2^32. A grant may take any slot that the tenant does
+ * not hold.
+ *
+ * The tenant that is passed always exists, and the lengths of a write and of a pattern are right. All other numbers may be any
+ * 32-bit numbers. The refusals of a function are named in the order in which they are tested. A function that refuses changes
+ * nothing and returns the first refusal that applies. Otherwise it stores its results and returns DONE. */
 #ifndef PARTMEM_ADAPTER_H
 #define PARTMEM_ADAPTER_H
 
@@ -38,44 +41,48 @@ enum reply {
     SLOT_BUSY
 };
 
-/* Boots a machine: superblocks that nobody owns, and tenants that have nothing. Returns false if memory runs out. */
+/* Boots a machine on which nobody owns a superblock and the tenants have nothing. Returns false if memory runs out. */
 bool boot(unsigned order, unsigned superblocks, unsigned tenants);
 
-/* Puts a superblock that nobody owns under a slot that the tenant does not hold; it reads as zero: POOL_EMPTY. */
+/* Grants a superblock that nobody owns, in a slot that the tenant does not hold. All its bytes read as zero. Refusal:
+ * POOL_EMPTY. */
 enum reply grant(unsigned tenant, uint32_t *slot, unsigned *superblock);
 
-/* Gives up a slot without taken frames, and stores the superblock that it had: NO_SLOT, SLOT_BUSY. */
+/* Takes back a slot that has no taken frames, and stores the number of its superblock. Refusals: NO_SLOT, SLOT_BUSY. */
 enum reply take_back(unsigned tenant, uint32_t slot, unsigned *superblock);
 
-/* Takes away all that the tenant has, and stores how many superblocks it had. It is never refused. */
+/* Takes back all that the tenant has, and stores how many superblocks it had. It is never refused. */
 enum reply reset(unsigned tenant, unsigned *superblocks);
 
-/* Puts another superblock under the slot, with all its bytes, and stores its number: NO_SLOT, POOL_EMPTY. */
+/* Moves the slot, with all its bytes, to a superblock that nobody owns, and stores that superblock's number. Refusals: NO_SLOT,
+ * POOL_EMPTY. */
 enum reply move(unsigned tenant, uint32_t slot, unsigned *superblock);
 
-/* Allocates a block of 2^order frames, of any order that a line may have, and stores its first frame: BAD_ORDER, NO_FRAMES. */
+/* Allocates a block of 2^order frames and stores its first frame. Refusals: BAD_ORDER, NO_FRAMES. */
 enum reply alloc(unsigned tenant, uint32_t order, uint32_t *frame);
 
-/* Frees the block that begins at the frame, and stores its order: NOT_A_BLOCK. */
+/* Frees the block that begins at the frame, and stores its order. Refusal: NOT_A_BLOCK. */
 enum reply release(unsigned tenant, uint32_t frame, unsigned *order);
 
-/* Reads bytes inside one block or object of the tenant. `bytes` has space for MOST_BYTES: BAD_LENGTH, OUT_OF_REACH. */
+/* Reads `length` bytes that all lie in one block or object of the tenant. `bytes` has space for MOST_BYTES. Refusals: BAD_LENGTH
+ * unless the length is 1 to MOST_BYTES, OUT_OF_REACH. */
 enum reply read_bytes(unsigned tenant, uint32_t place, uint32_t length, uint8_t *bytes);
 
-/* Writes bytes in the same way; the length is 1 to MOST_BYTES: OUT_OF_REACH. */
+/* Writes bytes that all lie in one block or object of the tenant. `length` is always 1 to MOST_BYTES. Refusal: OUT_OF_REACH. */
 enum reply write_bytes(unsigned tenant, uint32_t place, uint32_t length, const uint8_t *bytes);
 
-/* What the reply to a new cache says: its number, the bytes from one object to the next, the order of a slab, its objects and its
- * colours. */
+/* What the reply to a new cache says: the cache's number, the bytes from one object to the next, the order of a slab, the objects
+ * in a slab, and the number of colours. */
 struct layout {
     unsigned number, chunk, order, objects, colours;
 };
 
-/* A row of a report: how many blocks of an order are free and taken; how many slabs of a cache are full, partial and empty. */
+/* The row of an order in a report: how many blocks of this order are free, and how many are taken. */
 struct order_row {
     unsigned free, taken;
 };
 
+/* The row of a cache in a report: its number, how many of its slabs are full, partial and empty, and its live objects. */
 struct cache_row {
     unsigned number, full, partial, empty, live;
 };
@@ -88,22 +95,22 @@ struct figures {
 
 /* The functions of an allocator that has caches of objects. */
 struct caches {
-    /* BAD_SIZE, BAD_ALIGN, NO_CACHE_SLOT */
+    /* makes a cache and stores its layout; refusals: BAD_SIZE, BAD_ALIGN, NO_CACHE_SLOT */
     enum reply (*make)(unsigned tenant, uint32_t size, uint32_t align, unsigned length, const uint8_t *pattern,
                        struct layout *layout);
-    /* stores the number of frames that are freed: NO_CACHE, CACHE_IN_USE */
+    /* destroys a cache and stores how many frames that freed; refusals: NO_CACHE, CACHE_IN_USE */
     enum reply (*destroy)(unsigned tenant, uint32_t cache, unsigned *frames);
-    /* stores the object's first place: NO_CACHE, NO_FRAMES */
+    /* takes an object and stores its first place; refusals: NO_CACHE, NO_FRAMES */
     enum reply (*take)(unsigned tenant, uint32_t cache, uint32_t *place);
-    /* NO_CACHE, NOT_AN_OBJECT */
+    /* gives back the object that begins at the place; refusals: NO_CACHE, NOT_AN_OBJECT */
     enum reply (*give)(unsigned tenant, uint32_t cache, uint32_t place);
-    /* stores the number of frames of the empty slabs that are freed */
+    /* frees empty slabs and stores how many frames they had */
     void (*reap)(unsigned tenant, unsigned *frames);
-    /* stores the rows of a report, those of caches by rising number */
+    /* stores the rows of a report, with the caches in the order of their numbers */
     void (*report)(unsigned tenant, struct figures *figures);
 };
 
-/* Your caches, or NULL if there are none: the commands of caches then end the program, so test it with --pages. */
+/* Returns your caches, or NULL if there are none. A command of caches then ends the program, so test it with --pages. */
 const struct caches *caches(void);
 
 #ifdef __cplusplus

@@ -1,15 +1,19 @@
-//! Makes an allocator of your own in Rust answer the lines of docs/traces.md: implement [`Allocator`], and call [`run`] in
-//! `main`.
+//! Connects your own allocator in Rust to the test: implement [`Allocator`] and call [`run`] in `main`. The program then answers
+//! the lines of docs/traces.md.
 //!
 //! ```sh
 //! rustc -O -o mine mine.rs && conformance/check --pages ./mine
 //! ```
 //!
-//! with `#[path = "conformance/adapter.rs"] mod adapter;` in `mine.rs`. A superblock has `2^order` frames of [`FRAME_BYTES`]
-//! bytes. Slot `u` has the tenant's frames from `u * 2^order` on, and frame `f` its places from `f * FRAME_BYTES` on, all below
-//! 2^32; which slot a grant takes is yours to choose. A tenant that is passed exists; slots, frames, places and numbers of caches
-//! may be any that a line can have. A function that refuses changes nothing and returns the first refusal that applies, in the
-//! order named with it.
+//! `mine.rs` includes this file by `#[path = "conformance/adapter.rs"] mod adapter;`.
+//!
+//! A superblock has `2^order` frames of [`FRAME_BYTES`] bytes. Slot `u` of a tenant has the `2^order` frames from `u * 2^order`
+//! on. Frame `f` has the `FRAME_BYTES` places from `f * FRAME_BYTES` on. All places are below 2^32. A grant may take any slot
+//! that the tenant does not hold.
+//!
+//! The tenant that is passed always exists, and the lengths of a write and of a pattern are right. All other numbers may be any
+//! 32-bit numbers. The refusals of a function are named in the order in which they are tested. A function that refuses changes
+//! nothing and returns the first refusal that applies.
 #![allow(dead_code)]
 
 use std::io::{self, BufRead, Write};
@@ -39,7 +43,7 @@ pub enum Refusal {
     SlotBusy,
 }
 
-/// A machine: superblocks of `2^order` frames that nobody owns, and tenants that have nothing.
+/// The sizes of a machine, whose superblocks have `2^order` frames. At boot nobody owns a superblock.
 #[derive(Clone, Copy, Debug, Default)]
 pub struct Sizes {
     pub order: u32,
@@ -48,31 +52,33 @@ pub struct Sizes {
 }
 
 pub trait Allocator {
-    /// Puts a superblock that nobody owns under a slot that the tenant does not hold; it reads as zero. Returns the slot and the
-    /// superblock: PoolEmpty.
+    /// Grants a superblock that nobody owns, in a slot that the tenant does not hold. All its bytes read as zero. Returns the
+    /// slot and the superblock. Refusal: PoolEmpty.
     fn grant(&mut self, tenant: u32) -> Result<(u32, u32), Refusal>;
-    /// Gives up a slot without taken frames. Returns the superblock that it had: NoSlot, SlotBusy.
+    /// Takes back a slot that has no taken frames. Returns its superblock. Refusals: NoSlot, SlotBusy.
     fn take_back(&mut self, tenant: u32, slot: u32) -> Result<u32, Refusal>;
-    /// Gives up all that the tenant has. Returns how many superblocks it had.
+    /// Takes back all that the tenant has. Returns how many superblocks it had.
     fn reset(&mut self, tenant: u32) -> u32;
-    /// Puts another superblock under the slot, with all its bytes. Returns it: NoSlot, PoolEmpty.
+    /// Moves the slot, with all its bytes, to a superblock that nobody owns. Returns that superblock. Refusals: NoSlot,
+    /// PoolEmpty.
     fn relocate(&mut self, tenant: u32, slot: u32) -> Result<u32, Refusal>;
-    /// Returns the first frame of a block of `2^order` frames, of any order that a line may have: BadOrder, NoFrames.
+    /// Allocates a block of `2^order` frames. Returns its first frame. Refusals: BadOrder, NoFrames.
     fn alloc(&mut self, tenant: u32, order: u32) -> Result<u32, Refusal>;
-    /// Takes back the block that begins at the frame. Returns its order: NotABlock.
+    /// Frees the block that begins at the frame. Returns its order. Refusal: NotABlock.
     fn free(&mut self, tenant: u32, frame: u32) -> Result<u32, Refusal>;
-    /// Returns this many bytes, 1 to [`MOST_BYTES`], inside one block or object of the tenant: BadLength, OutOfReach.
+    /// Returns `length` bytes that all lie in one block or object of the tenant. Refusals: BadLength unless the length is 1 to
+    /// [`MOST_BYTES`], OutOfReach.
     fn read(&mut self, tenant: u32, place: u32, length: u32) -> Result<Vec<u8>, Refusal>;
-    /// Writes bytes in the same way: OutOfReach.
+    /// Writes 1 to [`MOST_BYTES`] bytes that all lie in one block or object of the tenant. Refusal: OutOfReach.
     fn write(&mut self, tenant: u32, place: u32, bytes: &[u8]) -> Result<(), Refusal>;
-    /// Your caches; if there are none, the commands of caches end the program, so test it with --pages.
+    /// Returns your caches, or `None` if there are none. A command of caches then ends the program, so test it with --pages.
     fn caches(&mut self) -> Option<&mut dyn Caches> {
         None
     }
 }
 
-/// What the reply to a new cache says: its number, the bytes from one object to the next, the order of a slab, its objects and
-/// its colours.
+/// What the reply to a new cache says: the cache's number, the bytes from one object to the next, the order of a slab, the
+/// objects in a slab, and the number of colours.
 #[derive(Clone, Copy, Debug)]
 pub struct Layout {
     pub number: u32,
@@ -82,7 +88,7 @@ pub struct Layout {
     pub colours: u32,
 }
 
-/// A cache in a report: how many of its slabs are full, partial and empty, and how many objects are live.
+/// The row of a cache in a report: its number, how many of its slabs are full, partial and empty, and how many objects are live.
 #[derive(Clone, Copy, Debug)]
 pub struct CacheRow {
     pub number: u32,
@@ -92,7 +98,7 @@ pub struct CacheRow {
     pub live: u32,
 }
 
-/// The free and taken blocks of each order, and the caches by rising number.
+/// The figures of a report: how many blocks of each order are free and taken, and the caches in the order of their numbers.
 #[derive(Clone, Debug, Default)]
 pub struct Figures {
     pub orders: Vec<(u32, u32)>,
@@ -100,20 +106,20 @@ pub struct Figures {
 }
 
 pub trait Caches {
-    /// BadSize, BadAlign, NoCacheSlot.
+    /// Makes a cache. Returns its layout. Refusals: BadSize, BadAlign, NoCacheSlot.
     fn make(&mut self, tenant: u32, size: u32, align: u32, pattern: &[u8]) -> Result<Layout, Refusal>;
-    /// Returns the number of frames that are freed: NoCache, CacheInUse.
+    /// Destroys a cache. Returns how many frames that freed. Refusals: NoCache, CacheInUse.
     fn destroy(&mut self, tenant: u32, cache: u32) -> Result<u32, Refusal>;
-    /// Returns the object's first place: NoCache, NoFrames.
+    /// Takes an object. Returns its first place. Refusals: NoCache, NoFrames.
     fn take(&mut self, tenant: u32, cache: u32) -> Result<u32, Refusal>;
-    /// NoCache, NotAnObject.
+    /// Gives back the object that begins at the place. Refusals: NoCache, NotAnObject.
     fn give(&mut self, tenant: u32, cache: u32, place: u32) -> Result<(), Refusal>;
-    /// Returns the number of frames of the empty slabs that are freed.
+    /// Frees empty slabs. Returns how many frames they had.
     fn reap(&mut self, tenant: u32) -> u32;
     fn report(&mut self, tenant: u32) -> Figures;
 }
 
-/// The owner of each superblock, as the replies gave it.
+/// The owner of each superblock, a tenant and its slot, as the replies gave it.
 type Owners = Vec<Option<(u32, u32)>>;
 
 enum Argument {
@@ -173,7 +179,8 @@ fn hex(word: &[u8], most: usize) -> Option<Vec<u8>> {
     (0..text.len()).step_by(2).map(|at| u8::from_str_radix(&text[at..at + 2], 16).ok()).collect()
 }
 
-/// The forms of a command's arguments: n a number, b up to 64 bytes, p a pattern.
+/// Returns the forms of a command's arguments, a letter for each: n for a number, b for up to 64 bytes, p for a pattern. Returns
+/// `None` if there is no such command.
 fn forms(is_admin: bool, command: &[u8]) -> Option<&'static str> {
     Some(match (is_admin, command) {
         (true, b"grant" | b"reset") | (false, b"alloc" | b"free" | b"take" | b"destroy") => "n",
@@ -201,7 +208,7 @@ fn told(result: Result<String, Refusal>) -> String {
 }
 
 impl<A: Allocator> Adapter<A> {
-    /// Returns the reply to a line: the cases of docs/traces.md, in their order.
+    /// Returns the reply to a line. The cases of docs/traces.md are tested in their order.
     fn answer(&mut self, line: &[u8]) -> String {
         if line.len() > MOST_LINE {
             return "!> fault Long\n".into();

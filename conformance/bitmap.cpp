@@ -1,4 +1,4 @@
-// An allocator with one pool, in C++: it returns the first aligned place that is free, which it finds by a bit for each frame.
+// An allocator with one pool, in C++. It keeps a bit for each frame, and returns the first aligned block whose frames are free.
 #include "pool.h"
 
 #include <algorithm>

@@ -1,6 +1,6 @@
-/* An allocator that is right but chooses differently from partmem. It has no buddies: a request gets the block of its order that
- * was freed last, if it is still free, else the first place in the highest slot that has space. Page blocks keep what was left in
- * them; a superblock is scrubbed when it is given up. There are no caches. */
+/* A correct allocator that chooses other blocks than partmem. It has no buddies. A request gets the frames of the tenant's last
+ * freed block of this order if they are still free, and otherwise the first aligned free block in the highest slot that has one.
+ * Freeing a block does not change its bytes; a superblock is zeroed when it is given up. There are no caches. */
 #include "adapter.h"
 #include <stdlib.h>
 #include <string.h>
@@ -10,7 +10,7 @@ enum { NOBODY = 0xffff, NO_BLOCK = 0xff };
 struct superblock {
     unsigned tenant;
     uint32_t slot;
-    /* By frame: whether a block has it, and the order of the block that begins there. */
+    /* By frame: whether it is taken, and the order of the block that begins there, or NO_BLOCK. */
     bool taken[1 << MOST_ORDER];
     uint8_t order[1 << MOST_ORDER];
     uint8_t bytes[FRAME_BYTES << MOST_ORDER];
@@ -18,7 +18,7 @@ struct superblock {
 
 static struct superblock *all;
 static unsigned frames, count;
-/* By tenant and order, the frame that was freed last. */
+/* By tenant and order, the first frame of the block that was freed last; at first 0. */
 static uint32_t (*last)[MOST_ORDER + 1];
 
 static void vacate(struct superblock *of) {
@@ -88,7 +88,8 @@ enum reply move(unsigned tenant, uint32_t slot, unsigned *superblock) {
     return DONE;
 }
 
-/* Returns where a block of this order goes. */
+/* Finds frames for a block of this order. Returns their superblock, and stores the first frame's number in it; returns NULL if
+ * there are none. */
 static struct superblock *choose(unsigned tenant, uint32_t order, unsigned *at) {
     struct superblock *of = held(tenant, last[tenant][order] / frames);
     *at = last[tenant][order] % frames;
@@ -123,7 +124,7 @@ enum reply release(unsigned tenant, uint32_t frame, unsigned *order) {
     return DONE;
 }
 
-/* Returns the address of the first of the bytes, if one block has them all. */
+/* Returns the address of these bytes if one block of the tenant has them all, or else NULL. */
 static uint8_t *reach(unsigned tenant, uint32_t place, uint32_t length) {
     uint32_t at = place / FRAME_BYTES % frames, first = at;
     struct superblock *of = held(tenant, place / FRAME_BYTES / frames);

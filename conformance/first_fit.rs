@@ -1,5 +1,5 @@
-//! An allocator in Rust that is right: it returns the first aligned place that is free, in the lowest slot that has one. A
-//! superblock is zeroed when it is given up. There are no caches.
+//! A correct allocator in Rust. It returns the first aligned free block, in the lowest slot that has one. A superblock is zeroed
+//! when it is given up. There are no caches.
 mod adapter;
 
 use adapter::{Allocator, Refusal, Sizes, FRAME_BYTES, MOST_BYTES};
@@ -7,7 +7,7 @@ use std::process::ExitCode;
 
 struct Superblock {
     owner: Option<(u32, u32)>,
-    /// By frame, the first frame and the order of the block that contains it.
+    /// By frame, the first frame and the order of the block that contains it; `None` if the frame is free.
     blocks: Vec<Option<(usize, u32)>>,
     bytes: Vec<u8>,
 }
@@ -40,7 +40,7 @@ impl FirstFit {
         of.bytes.fill(0);
     }
 
-    /// Returns the superblock and the first of the bytes in it, if one block has them all.
+    /// Returns the superblock and the offset of these bytes in it, if one block has them all. Refusal: OutOfReach.
     fn reach(&self, tenant: u32, place: u32, length: u32) -> Result<(usize, usize), Refusal> {
         let (frame, offset) = ((place / FRAME_BYTES) as usize, (place % FRAME_BYTES) as usize);
         let superblock = self.held(tenant, (frame / self.frames) as u32).ok_or(Refusal::OutOfReach)?;

@@ -1,4 +1,5 @@
-/* A buddy allocator with one pool. For each order it marks the frames at which free blocks begin, outside the pool's memory. */
+/* A buddy allocator with one pool. A table outside the pool's memory marks, for each order, the frames at which free blocks
+ * begin. */
 #include "pool.h"
 
 #include <stdbool.h>
@@ -10,7 +11,7 @@ enum { FRAME = 4096, MOST = 8, NONE = -1 };
 struct pool {
     uint8_t *memory;
     unsigned order;
-    /* whether a free block of this order begins at this frame */
+    /* by order and frame: whether a free block of this order begins there */
     bool is_free[MOST + 1][1 << MOST];
 };
 

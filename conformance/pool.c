@@ -1,4 +1,4 @@
-/* The functions of adapter.h over those of pool.h: a pool for each slot that a tenant holds. */
+/* Implements adapter.h with the functions of pool.h. Each slot that a tenant holds has its own pool. */
 #include "pool.h"
 #include "adapter.h"
 
@@ -12,14 +12,14 @@ struct slot {
     void *whole;     /* what calloc returned */
     uint8_t *memory; /* aligned */
     struct pool *pool;
-    /* by frame: whether a block has it, and the order of the block that begins there */
+    /* by frame: whether it is taken, and the order of the block that begins there, or NO_BLOCK */
     bool taken[1 << MOST_ORDER];
     uint8_t order[1 << MOST_ORDER];
 };
 
 static unsigned machine_order, frames, count;
 static size_t size;
-/* By tenant and slot. */
+/* Slot s of tenant t is at index t * count + s. It is NULL if the tenant does not hold it. */
 static struct slot **slots;
 static bool *owned;
 
@@ -44,7 +44,7 @@ static bool own_superblock(unsigned *superblock) {
     return false;
 }
 
-/* Makes a slot with a pool over zeroes. */
+/* Makes a slot whose pool has zeroed memory. */
 static struct slot *new_slot(unsigned superblock) {
     struct slot *slot = calloc(1, sizeof *slot);
     if (slot == NULL || (slot->whole = calloc(2, size)) == NULL)
@@ -95,7 +95,7 @@ enum reply reset(unsigned tenant, unsigned *superblocks) {
     return DONE;
 }
 
-/* The pool stays where it is, and gets another label. */
+/* Only the number of the slot's superblock changes. The pool and its memory stay where they are. */
 enum reply move(unsigned tenant, uint32_t slot, unsigned *superblock) {
     struct slot *of = held(tenant, slot);
     if (of == NULL || !own_superblock(superblock))
@@ -113,7 +113,8 @@ enum reply alloc(unsigned tenant, uint32_t order, uint32_t *frame) {
         uint8_t *block = of == NULL ? NULL : pool_alloc(of->pool, order);
         if (block == NULL)
             continue;
-        /* A block outside the memory, or between two frames, is reported as one that no reply may name. */
+        /* If the block is outside the memory or does not begin at a frame, the reply names a frame above all slots, which breaks
+         * a promise. */
         size_t offset = (size_t)(block - of->memory);
         bool is_inside = block >= of->memory && offset < size && offset % FRAME_BYTES == 0;
         unsigned at = is_inside ? (unsigned)(offset / FRAME_BYTES) : frames;
@@ -139,7 +140,7 @@ enum reply release(unsigned tenant, uint32_t frame, unsigned *order) {
     return DONE;
 }
 
-/* Returns the address of the first of the bytes, if one block has them all. */
+/* Returns the address of these bytes if one block of the tenant has them all, or else NULL. */
 static uint8_t *reach(unsigned tenant, uint32_t place, uint32_t length) {
     struct slot *of = held(tenant, place / FRAME_BYTES / frames);
     uint32_t at = place / FRAME_BYTES % frames, first = at;

@@ -1,4 +1,4 @@
-"""Processes below this one. They end with it, also those that left its group or its session."""
+"""Ends all processes below this one when it ends, even those that left its process group or its session."""
 import contextlib
 import ctypes
 import os
@@ -13,7 +13,7 @@ def adopt():
 
 
 def end_with_parent():
-    """Makes SIGTERM come to this process when its parent ends."""
+    """Makes the system send SIGTERM to this process when its parent ends."""
     control(SET_PARENT_DEATH_SIGNAL, signal.SIGTERM)
 
 
@@ -32,8 +32,8 @@ def children():
 
 
 def kill_all():
-    """Kills and waits for all processes below this one. The children that they leave become children of this one, and are killed
-    too."""
+    """Kills all processes below this one and waits for them. The children of a killed process become children of this one, and
+    are killed too."""
     while left := children():
         for number in left:
             with contextlib.suppress(ProcessLookupError, PermissionError):

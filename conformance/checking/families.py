@@ -1,4 +1,4 @@
-"""Finds which lines of a run belong together: one that gives a name, and those that need it."""
+"""Finds the lines of a run that belong together: a line whose reply gives a name, and the lines that need this name."""
 import collections
 import contextlib
 
@@ -31,12 +31,12 @@ class Givers:
                 self.giver(number * FRAME_BYTES if kind == 'frame' else number) for kind, number in numbers]
 
     def giver(self, place):
-        """Returns the line that gave what has this place, or else the slot in which it is."""
+        """Returns the line that gave the block or object with this place, or else the line that gave the place's slot."""
         begin = self.places.around(place)
         return self.slots.get(place // FRAME_BYTES >> self.order) if begin is None else self.places.known[begin][1]
 
     def slot_of_new(self, at, words, told, kind):
-        """Notes what a line gives. Returns the line that gave the slot in which that lies."""
+        """Notes what a line gives. If it gives a block or an object, returns the line that gave its slot."""
         if kind == 'granted':
             self.slots[number_in(told[3])] = at
         elif kind == 'cache':
@@ -51,7 +51,7 @@ class Givers:
 
 def families_of(run):
     """Returns for each line the lines that cannot be kept without it: itself, and those that need what it gives, directly or
-    not."""
+    through other lines."""
     tenants = collections.defaultdict(lambda: Givers(run.sizes.order))
     families, needed = [], []
     for at, (line, replies) in enumerate(run.exchanges):

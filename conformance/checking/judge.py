@@ -1,4 +1,4 @@
-"""The tests of a run: partcheck judges its replies, and those of a tenant are compared with another run of its own list."""
+"""Tests a run: partcheck judges its replies, and a tenant's replies are compared with those in another run of its own list."""
 import os
 import re
 import subprocess
@@ -11,8 +11,8 @@ from .words import ending, visible, words_of
 
 # The exit statuses of partcheck.
 ALLOWED, NOT_ALLOWED = 0, 4
-# What partcheck prints: the number of the line, the line and the reply, the promise and its words. A reply, which is then quoted,
-# may look like the end of a finding too: the last promise is the broken one.
+# What partcheck prints: the line's number, the line and its reply, the broken promise, and why it is broken. A reply may contain
+# the name of a promise too, so the last name is the broken promise's.
 PROMISE = re.compile(r'line (\d+), .*: (Form|Refusals|Room|Busy|Blocks|Objects|Layout|Gives|Owners|Bytes|Report|Still): ', re.S)
 
 
@@ -21,8 +21,8 @@ class Unusable(Exception):
 
 
 class Breach(NamedTuple):
-    """A broken promise: one of docs/promises.md, or Exact. It has the line that shows it, if that is known, and for Alone the
-    tenant whose replies differ."""
+    """A broken promise of docs/promises.md, or Exact, a difference from partmem. `line` is the number of the line that shows it,
+    if that is known. For Alone, `tenant` is the tenant whose replies differ."""
     kind: str
     words: str
     tenant: Optional[int] = None
@@ -36,7 +36,8 @@ class Case(NamedTuple):
 
 
 def line_of_reply(run, tenant, number):
-    """Returns the line to which a tenant got the reply line of this number, or the last one."""
+    """Returns the number of the line whose reply contains the tenant's reply line of this number. If the tenant got fewer,
+    returns the number of the last line."""
     begin, told = f'{tenant}> ', 0
     for at, (_, replies) in enumerate(run.exchanges, 1):
         told += sum(reply.startswith(begin) for reply in replies)
@@ -46,14 +47,15 @@ def line_of_reply(run, tenant, number):
 
 
 class Judge:
-    """Tests runs. A run in which the program fails breaks no promise."""
+    """Tests runs. If the program fails in a run, the failure is the finding, and the promises are not tested."""
 
     def __init__(self, options, programs):
         self.programs, self.exact = programs, options.exact
         self.partmem, self.partcheck = options.partmem, options.partcheck
 
     def judged(self, run):
-        """Returns what a run shows on its own."""
+        """Returns the run with what was found in it: a failure, a broken promise, or with --exact a difference from partmem.
+        Returns None if nothing is found."""
         finding = run.failure or self.broken_promise(run) or (self.compared_with_partmem(run) if self.exact else None)
         return finding and Case(run, finding)
 
@@ -92,7 +94,7 @@ class Judge:
         return first and Breach('Exact', "reply line {}: partmem says '{}', the program '{}'".format(*first))
 
     def alone(self, run, tenant):
-        """Returns the finding if the tenant gets other replies while nobody else does anything, or if the program fails then."""
+        """Runs the tenant's own list alone. Returns a case if the tenant gets other replies then, or if the program fails."""
         other = replayed(self.programs, run.sizes, [(line, []) for line in run.own_list(tenant)])
         return Case(other, other.failure) if other.failure else self.compared(run, other, tenant, 'alone')
 
@@ -105,7 +107,8 @@ class Judge:
         return None
 
     def shows(self, sizes, exchanges, finding, order=None):
-        """Runs these lines, which had their replies on a machine of this order. Returns the run if it shows the same."""
+        """Runs these lines, which come from a run on a machine of this order. Returns the case if it shows a finding of the same
+        kind, or None."""
         run = replayed(self.programs, sizes, exchanges, order)
         is_alone = isinstance(finding, Breach) and finding.tenant is not None and not run.failure
         case = self.alone(run, finding.tenant) if is_alone else self.judged(run)

@@ -9,14 +9,14 @@ from .runs import Run, is_own
 from .talk import Programs
 from .words import Sizes
 
-# If one of this many lines is refused because there are no frames, or no superblocks, everything is full.
+# If more than one of this many lines is refused with NoFrames or PoolEmpty, everything counts as full.
 FULL = 3
-# Own lines, with noise between them, that are sent at once; and the most lines of noise before each of them.
+# How many own lines are sent at once, with noise between them; and the most lines of noise before each own line.
 OWN_AT_ONCE, MOST_NOISE = 16, 3
 
 
 class Reached(NamedTuple):
-    """What runs reached."""
+    """What the runs reached: how many lines they had, how often each refusal came, and how large the machines were."""
     lines: int = 0
     refused: collections.Counter = collections.Counter()
     most: collections.Counter = collections.Counter()           # the most that one tenant had at a time
@@ -36,7 +36,7 @@ def reached_by(run):
 
 
 class Load(NamedTuple):
-    """A load that was run: its number or the name of its trace, and what its runs reached and show."""
+    """A load that was run: its number or the name of its trace, what its runs reached, and the case if something was found."""
     name: object
     reached: Reached
     case: Optional[Case]
@@ -68,7 +68,8 @@ def load(options, number):
 
 
 def say_phase(run, maker, phase, at_once):
-    """Sends the lines of a phase. Returns when all are sent, at its goal, or when everything is full or empty."""
+    """Sends the lines of a phase. Stops when all are sent, when the goal is reached, or when everything is full or empty, if the
+    phase ends then."""
     left, world = phase.lines, run.world
     phase = phase._replace(slot=world.tenants[phase.tenants[0]].slot_of_rank(phase.rank))
     while left > 0 and not run.failure and maker.commands(phase):
@@ -83,14 +84,14 @@ def say_phase(run, maker, phase, at_once):
 
 
 def most_lines(world, phase):
-    """Returns how many lines of a phase may be sent at once, so that it ends where it has to: at its goal, or when nothing is
-    held."""
+    """Returns how many lines of a phase may be sent at once without passing its goal; 0 if the goal is reached, or if nothing is
+    held and the phase ends then."""
     tenants, most = [world.tenants[tenant] for tenant in phase.tenants], phase.lines
     if phase.until == 'empty' and not any(tenant.held() for tenant in tenants):
         return 0
     if phase.goal:
         most = phase.goal.away(tenants[0], world.sizes.order, phase.slot)
-        # a line about frames has a whole block of them
+        # the goal is in frames, and each line allocates or frees a whole block
         most >>= max(phase.orders) if phase.goal.noun == 'frames' else 0
     return most
 
@@ -100,7 +101,7 @@ def refused_for_want(world):
 
 
 def most_held(lines):
-    """Returns the most slots that these own lines have at a time."""
+    """Returns the most slots that the tenant of these own lines holds at a time."""
     held = most = 0
     for words in map(str.split, lines):
         step = words[1] if words[0] == 'admin' else ''
@@ -110,8 +111,8 @@ def most_held(lines):
 
 
 def between_noise(programs, before, tenant, maker):
-    """Runs a tenant's own list of the run before, between lines of the others. These leave it the superblocks that it will be
-    granted. Its own slots are moved too."""
+    """Runs a tenant's own list from an earlier run again, between lines of the others. These leave enough superblocks for the
+    tenant's grants."""
     sizes, lines = before.sizes, before.own_list(tenant)
     others = [number for number in range(sizes.tenants) if number != tenant]
     noise = Phase(0, ALL, others, [0, 0, 0, 1, 1, 2, sizes.order])

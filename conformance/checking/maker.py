@@ -1,4 +1,4 @@
-"""Makes lines that mostly do something, and otherwise have a number at an edge."""
+"""Makes lines. Most of them have numbers that name something; the others have a wrong number, often one at an edge."""
 import functools
 from typing import NamedTuple, Optional
 
@@ -26,13 +26,14 @@ MOST_CACHES = 32
 
 
 class Goal(NamedTuple):
-    """Exactly this many frames, blocks, objects or slots of a tenant; or this many objects more than this number of slabs has."""
+    """A number of frames, blocks, objects or slots that a tenant has to reach exactly: `count`, and in addition as many objects
+    as fit into `slabs` slabs."""
     noun: str
     count: int = 0
     slabs: int = 0
 
     def away(self, tenant, order, slot):
-        """Returns how many of them a tenant lacks, or has beyond the goal."""
+        """Returns how far a tenant is from the goal, above or below it."""
         return abs(self.count + self.slabs * tenant.of_a_slab() - tenant.count(self.noun, order, slot))
 
 
@@ -44,8 +45,8 @@ class Phase(NamedTuple):
     orders: list
     sizes: list = OBJECTS
     alignments: list = ALIGNMENTS
-    until: str = ''                                             # `full`, `empty`, or all lines
-    goal: Optional[Goal] = None                                 # it also ends when one tenant reaches this
+    until: str = ''                                             # it ends when everything is `full` or `empty`, if this says so
+    goal: Optional[Goal] = None                                 # it also ends when its first tenant reaches this
     is_plain: bool = False                                      # no number is wrong on purpose
     rank: Optional[int] = None                                  # the one slot that is used: 0 is the lowest, -1 the highest
     slot: Optional[int] = None                                  # the number of that slot
@@ -53,7 +54,8 @@ class Phase(NamedTuple):
 
 @functools.cache
 def commands_of(weights, without):
-    """Returns the commands of a text such as `alloc 5 free 4`, each as often as it says."""
+    """Returns the commands of a text such as `alloc 5 free 4`, each as often as the number after it says. Leaves out those of
+    `without`."""
     words = weights.split()
     return [name for name, count in zip(words[::2], words[1::2]) if name not in without for _ in range(int(count))]
 
@@ -82,7 +84,8 @@ class Maker:
         return ' '.join(map(str, [actor, *self.command(world, phase, world.tenants[tenant], command)]))
 
     def for_a_slot(self, world, tenant):
-        """Returns a tenant and a command that gives this tenant a slot, or takes one from another tenant if all are owned."""
+        """Returns a grant to this tenant if a superblock is free. Otherwise returns an owner, and mostly a command that takes
+        superblocks from it."""
         owners = [number for number, other in enumerate(world.tenants) if other.slots]
         if sum(len(world.tenants[number].slots) for number in owners) < world.sizes.superblocks:
             return tenant, 'grant'
@@ -92,7 +95,7 @@ class Maker:
         return items[int(self.rng.random() * len(items))]
 
     def is_right(self, phase, chance):
-        """Returns whether a number has to be a right one, by chance or by the phase."""
+        """Returns whether a number has to be right: always if the phase is plain, else with this chance."""
         return phase.is_plain or self.rng.random() < chance
 
     def admin(self, world, phase, tenant, command):
@@ -112,7 +115,7 @@ class Maker:
         return self.near(slots.draw(self.rng) if slots else 0, 1, [1 << 20 - world.sizes.order, 1 << 32 - world.sizes.order])
 
     def near(self, number, span, spans=()):
-        """Returns a number that is none of these: beside one of them, at a distance at which it wraps to one, or at an edge."""
+        """Returns a wrong number: beside this one, at a distance from it at which fewer bits would wrap to it, or at an edge."""
         spans = [1, span, 1 << 8, 1 << 16, *spans]
         wrong = number + self.one([1, 1, -1]) * self.one(spans) if self.rng.random() < 0.7 else self.one(EDGES)
         return min(max(wrong, 0), MOST_NUMBER)
@@ -150,12 +153,13 @@ class Maker:
         return self.one([world.sizes.order, world.sizes.order + 1]) if chance < 0.98 else self.one(WRONG_ORDERS)
 
     def drawn_in(self, bag, phase, places):
-        """Returns one of these numbers, in the slot of the phase if it has one there. A slot has this many of these places."""
+        """Returns a number from the bag, one in the phase's slot if there is one. Each slot has `places` numbers."""
         inside = [key for key in bag.keys if key // places == phase.slot] if phase.slot is not None else []
         return self.one(inside) if inside else bag.draw(self.rng)
 
     def page(self, world, phase, tenant):
-        """Returns the first frame of a block, rarely another number. It is not drawn again before the reply is there."""
+        """Returns the first frame of a block, or rarely another number. The block leaves the bag, so it is not drawn again before
+        the reply is there."""
         if tenant.pages and self.is_right(phase, 0.93):
             first = self.drawn_in(tenant.pages, phase, 1 << world.sizes.order)
             tenant.pages.drop(first)
@@ -192,13 +196,13 @@ class Maker:
         return size, alignment, rng.randbytes(self.one([1, 1, 2, 3, 7, 16])).hex()
 
     def range(self, world, tenant):
-        """Returns a place, and how many bytes from it on: mostly in something live, at its edges."""
+        """Returns a place and a number of bytes for a read or write, mostly at the edges of a live block or object."""
         chance = self.rng.random()
         if chance < 0.15 and tenant.written:
             return self.one(tenant.written)
         length = self.one(LENGTHS)
         if chance < 0.25 and world.offsets and tenant.slots:
-            # what somebody left at the same offset in a superblock
+            # an offset in a superblock at which some tenant has written
             place = tenant.slots.draw(self.rng) * (FRAME_BYTES << world.sizes.order) + self.one(world.offsets)
         elif chance < 0.28 or not tenant.pages and not tenant.objects:
             place = self.one([0, MOST_NUMBER, MOST_NUMBER - length + 1, MOST_NUMBER - length + 2, self.one(EDGES)])
@@ -209,7 +213,7 @@ class Maker:
         return min(max(place, 0), MOST_NUMBER), length
 
     def block(self, tenant):
-        """Returns the first place of a block or an object, and its bytes."""
+        """Returns the first place of a block or an object, and its size in bytes."""
         if tenant.pages and (not tenant.objects or self.rng.random() < 0.5):
             frame = tenant.pages.draw(self.rng)
             return FRAME_BYTES * frame, FRAME_BYTES << tenant.pages.get(frame)
@@ -217,7 +221,7 @@ class Maker:
         return place, tenant.caches.get(tenant.objects.get(place), Cache()).size
 
     def at(self, size, length):
-        """Returns where a range begins, counted from the first place of a block."""
+        """Returns the offset of a range from the first place of a block."""
         rng = self.rng
         chance, last = rng.random(), max(size - length, 0)
         if chance < 0.2:
@@ -227,9 +231,9 @@ class Maker:
         if chance < 0.52:
             return last + 1                                     # ends one past it
         if chance < 0.62:
-            # begins at the end, or begins or ends one before the block, or is partly in the next or partly in the one before
+            # begins right behind the block or one byte before it, ends right before it, or crosses its end or its beginning
             return self.one([size, -1, -length, size - rng.randint(1, length), -rng.randint(1, length)])
         if chance < 0.8:
-            # across two frames of a block, or at the end or the beginning of one
+            # begins at the boundary of two frames, crosses it, or ends there
             return FRAME_BYTES * rng.randrange(size // FRAME_BYTES + 1) - self.one([0, length // 2, length])
         return rng.randrange(last + 1)

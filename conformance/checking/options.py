@@ -12,10 +12,10 @@ from .traces import LIMITS
 from .words import Sizes
 
 TOP = os.path.dirname(os.path.dirname(os.path.dirname(os.path.abspath(__file__))))
-# The loads of a run without options, and with --long; the most loads that run at a time.
+# How many loads are run without options and with --long; and the most that run at a time.
 LOADS, LONG_LOADS, MOST_JOBS = 300, 8, 256
 INFINITE = float('inf')
-# Options that say which loads are run, and how; the others are part of what is tested.
+# Options that say which loads are run, and how. All other options are part of the test, and are repeated to run a load again.
 WHICH = 'loads', 'load', 'seed', 'trace', 'save', 'jobs'
 
 KEPT, BROKEN, UNUSABLE, FAILED = 0, 1, 2, 3
@@ -36,7 +36,7 @@ class Parser(argparse.ArgumentParser):
 
 
 def number_of(kind, least, most, text):
-    """Returns the number that a word of the command line is."""
+    """Returns the number that a word of the command line spells. Raises ArgumentTypeError if it is not within the limits."""
     try:
         number = kind(text)
     except ValueError:
@@ -56,7 +56,7 @@ def parser_of(description):
                     epilog=EXITS, formatter_class=argparse.RawDescriptionHelpFormatter, add_help=False)
     add = parser.add_argument
     add('program', metavar='PROGRAM', help='the program to test: a file, or a command of PATH')
-    add('arguments', metavar='ARGUMENT', nargs=argparse.REMAINDER, help='words that it is given first').required = False
+    add('arguments', metavar='ARGUMENT', nargs=argparse.REMAINDER, help='words that PROGRAM is given first').required = False
     add('--pages', action='store_true', help=f'leave out caches, the commands {", ".join(OF_CACHES)}')
     add('--without', action='append', default=[], metavar='COMMAND', choices=OF_TENANT,
         help=f'leave out a command of tenants: {", ".join(OF_TENANT)}; can be given more than once')
@@ -74,12 +74,13 @@ def parser_of(description):
 
 def add_loads(add):
     add('--loads', type=number(int, 1), metavar='N', help=f'how many loads are run (default: {LOADS}, with --long {LONG_LOADS})')
-    add('--seed', type=number(int, -INFINITE), default=1, metavar='S', help='a whole number; each makes other loads (default: 1)')
+    add('--seed', type=number(int, -INFINITE), default=1, metavar='S',
+        help='a whole number; each makes different loads (default: 1)')
     add('--load', type=number(int, 0), metavar='N', help='run the load of this number alone')
     add('--long', action='store_true', help='loads of 100,000 lines, half of them with 65,536 blocks or objects')
     add('--trace', action='append', metavar='FILE',
         help='run no loads but this trace, or all of a folder; can be given more than once')
-    add('--save', metavar='FILE', help='write the shortened trace of a load that shows something, to be given to --trace')
+    add('--save', metavar='FILE', help='write the shortened trace of a load that breaks a promise or fails, for --trace')
     add('--jobs', type=number(int, 1, MOST_JOBS), default=min(os.cpu_count() or 1, MOST_JOBS), metavar='J',
         help=f'how many loads are run at a time, 1 to {MOST_JOBS} (default: one for each processor)')
     add('--shorten', type=number(float, 0), metavar='SECONDS',
@@ -106,7 +107,7 @@ def options_of(words, description):
 
 
 def command_of(parser, options):
-    """Returns the words of a command line except those that say which loads are run, and the program."""
+    """Returns the words of a command line without the program, and without those that say which loads are run."""
     words = []
     for action in parser._actions:
         value = getattr(options, action.dest, None)

@@ -1,4 +1,4 @@
-"""What a load is: a machine, and phases of lines. Most have small machines, and some the widest."""
+"""Plans loads. A load has a machine and phases of lines. Most loads have small machines, and some have the widest."""
 import random
 from typing import NamedTuple
 
@@ -6,7 +6,7 @@ from .maker import ALIGNMENTS, MOST_CACHES, OBJECTS, Goal, Phase
 from .words import MOST_ORDER, Sizes
 
 MOST_SUPERBLOCKS, MOST_TENANTS = 256, 64
-# Lines whose replies are not waited for one by one.
+# How many lines are sent before the first of their replies is read.
 AT_ONCE = 64
 
 ALL = 'alloc 20 free 16 read 12 write 12 take 24 give 16 cache 6 destroy 3 reap 3 report 3 ' \
@@ -20,15 +20,16 @@ PROBE = 'takeback 6 alloc 6 take 3 read 4 write 2 move 2 report 2 grant 2 pool 1
 MOVES = 'move 1 read 4'
 GRANTS, RETURNS = 'grant 1', 'takeback 6 reset 1 grant 2 report 1 pool 1 move 1'
 CACHES = 'cache 12 destroy 1 take 3'
-# Commands that are refused, or change nothing, for counts that are at an edge.
+# Commands that are refused or change no count, sent while a count is at an edge.
 HOLD = 'takeback 4 destroy 4 report 2 read 2 write 1 pool 1 reap 1'
-# Commands that are refused between reports, which then have to be the same.
+# Reports, with commands between them that are refused; the reports then have to be the same.
 QUIET = 'report 4 alloc 3 takeback 1 read 1'
 TAKE, GIVE, ALLOC, FREE = 'take 1', 'give 1', 'alloc 1', 'free 1'
-# Counts around the least that does not fit into a byte, and slots around those that do not fit into 32, 64 or 128 bits.
+# Counts around the least that does not fit into a byte.
 EDGES_OF_COUNTS = 255, 256, 257
-# Orders and superblocks of machines that one tenant fills.
+# Order and number of superblocks of the machines that one tenant fills.
 ALONE = [(8, 1), (8, 16), (8, MOST_SUPERBLOCKS), (8, MOST_SUPERBLOCKS), (7, MOST_SUPERBLOCKS), (6, 3)]
+# Ranks of slots around the ends of bitmaps of 32, 64, 128 and 256 bits; -1 is the highest slot.
 RANKS = 0, 1, 31, 32, 62, 63, 64, 65, 127, 128, 254, 255, -1
 
 
@@ -44,12 +45,12 @@ def granting(sizes, tenants):
 
 
 def granting_all_but_one(sizes, tenants):
-    """Leaves one superblock, so that a slot can be moved. If there is only one superblock, it is granted."""
+    """Returns a phase that grants all superblocks but one, so that a slot can be moved. If there is only one, it is granted."""
     return granting(sizes, tenants)._replace(goal=Goal('slots', max(sizes.superblocks - 1, 1)))
 
 
 class Planner:
-    """Draws plans. Numbers of `fixed` that are not None are those of each machine."""
+    """Draws plans. Each machine has the sizes in `fixed` that are not None."""
 
     def __init__(self, seed, number, fixed, with_caches):
         self.seed, self.number, self.fixed, self.with_caches = seed, number, fixed, with_caches
@@ -60,12 +61,13 @@ class Planner:
         return Sizes(*(drawn if fixed is None else fixed for fixed, drawn in zip(self.fixed, drawn)))
 
     def in_turn(self, choices, each):
-        """Returns one of the choices in turn, if one in `each` loads is of this kind. The first one depends on the seed."""
+        """Returns one of the choices, each in its turn. One in `each` loads is of this kind, and the order of the choices depends
+        on the seed."""
         shuffled = random.Random(f'{self.seed}').sample(choices, len(choices))
         return shuffled[self.number // each % len(choices)]
 
     def orders(self, sizes):
-        """Returns the orders that are drawn: mostly small ones, or all, or one alone."""
+        """Returns the orders from which a phase draws: mostly small ones, or all, or one alone."""
         every = list(range(sizes.order + 1))
         return self.rng.choice([[0, 0, 0, 1, 1, 2, 3, sizes.order], [0, 0, 1, 2], every, [self.rng.choice(every)]])
 
@@ -84,7 +86,7 @@ class Planner:
         return Plan(sizes, [Phase(200, ALL, everyone, self.orders(sizes)), *self.phases(sizes, everyone, 800)])
 
     def life(self, lines=5000):
-        """Returns a plan in which one process lives long."""
+        """Returns a plan of many lines, so that one process of the program runs long."""
         sizes = self.machine([3, 3, 4, 5, 6], [2, 3, 4, 6, 12], [1, 2, 3, 4])
         return Plan(sizes, self.phases(sizes, list(range(sizes.tenants)), lines))
 
@@ -103,8 +105,8 @@ class Planner:
         return phases
 
     def alone(self):
-        """Returns a plan in which one tenant holds everything: its frames, blocks and superblocks cross 2^8, and its frames
-        2^16."""
+        """Returns a plan in which one tenant holds everything. On the widest machine its blocks and superblocks reach 2^8, and
+        its frames 2^16."""
         order, superblocks = self.in_turn(ALONE, 6)
         sizes = self.machine([order], [superblocks], [1, 2, 3])
         least = max(sizes.order - (10 - (sizes.superblocks - 1).bit_length()), 0)
@@ -114,8 +116,8 @@ class Planner:
         return Plan(sizes, self.whole(sizes, owner, order, FILL_PAGES, self.around(EDGES_OF_COUNTS, noun, owner, order)))
 
     def whole(self, sizes, owner, order, fill, edges):
-        """Returns the phases of a tenant that gets all superblocks, goes through `edges`, fills the superblocks, and gives all
-        back."""
+        """Returns the phases of a tenant that gets all superblocks, runs the phases `edges`, fills the superblocks, and gives
+        everything back."""
         blocks, every = sizes.superblocks << sizes.order - order, list(range(sizes.order + 1))
         most = 2 * blocks + 40
         reset = [Phase(1, 'reset 1', owner, every, is_plain=True), granting(sizes, owner)]
@@ -127,7 +129,8 @@ class Planner:
                 Phase(2 * sizes.superblocks + 20, DRAIN, owner, every, until='empty'), Phase(60, RETURNS, owner, every)]
 
     def around(self, counts, noun, owner, order=0):
-        """Returns phases that reach exactly these counts, up and down again. At each, commands are refused or change nothing."""
+        """Returns phases that reach exactly these counts, upwards and then downwards. At each count they send commands that are
+        refused or change no count."""
         up, down = (TAKE, GIVE) if noun == 'objects' else (ALLOC, FREE)
         # blocks as large as possible, then single frames
         orders = sorted({order, 0}, reverse=True) if noun == 'frames' else [order]
@@ -149,14 +152,15 @@ class Planner:
                             Phase(300, DRAIN, everyone, [0], until='empty'), Phase(100, RETURNS, everyone, [0])])
 
     def objects(self):
-        """Returns a plan in which the number of objects crosses 2^8, and a tenant has all caches that it can have."""
+        """Returns a plan in which the number of objects crosses 2^8, and a tenant has as many caches as it can have."""
         sizes = self.machine([3, 4, 6, 8], [1, 2, 4, 8], [1, 2])
         owner = [self.rng.randrange(sizes.tenants)]
         few = [self.rng.choice([1, 8, 16, 24, 64, self.rng.choice(OBJECTS)])]
         return self.of_caches(sizes, owner, [self.cache(owner, few)] * 4, self.around(EDGES_OF_COUNTS, 'objects', owner))
 
     def one_cache(self):
-        """Returns a plan in which the objects of one slab, or the slabs of one cache with four objects each, cross 2^8."""
+        """Returns a plan in which a number crosses 2^8: the objects of one slab, or the slabs of a cache with four objects in
+        each."""
         size = self.in_turn([8, 16, 4096, 4096], 12)
         sizes = self.machine(*([8], [8]) if size == 4096 else ([3, 4, 6, 8], [2, 4, 8]), [1, 2])
         owner = [self.rng.randrange(sizes.tenants)]
@@ -177,7 +181,7 @@ class Planner:
                             Phase(40, PROBE, owner, every), Phase(100, ALL, owner, every), Phase(40, RETURNS, owner, every)])
 
     def slabs(self):
-        """Returns a plan in which slabs are filled exactly, and with one object less and one more."""
+        """Returns a plan in which slabs get as many objects as fit into them, and one less and one more."""
         sizes = self.machine([3, 3, 4, 5, 6, 8], [1, 2, 3, 4, 8], [1, 2])
         owner, every = [self.rng.randrange(sizes.tenants)], list(range(sizes.order + 1))
         phases = [granting_all_but_one(sizes, owner)]
@@ -191,7 +195,8 @@ class Planner:
         return Plan(sizes, phases)
 
     def slots(self):
-        """Returns a plan in which all slots are full except a low and a high one, which blocks or slabs fill and leave again."""
+        """Returns a plan in which all slots are full except a low and a high one. Blocks or slabs fill these, and leave them
+        again."""
         sizes = self.machine([3, 3, 3, 4, 5], [64, 65, 66, 66, 96, 129, 255, MOST_SUPERBLOCKS], [1, 1, 2, 64])
         owner, every = [self.rng.randrange(sizes.tenants)], list(range(sizes.order + 1))
         fill = Phase(2 * sizes.superblocks, ALLOC, owner, [sizes.order], until='full', is_plain=True)

@@ -1,4 +1,4 @@
-"""What is printed of a load that shows something, and of all loads if they show nothing."""
+"""Makes the report: about the load in which something was found, or about all loads if nothing was found."""
 import contextlib
 import re
 import time
@@ -9,8 +9,8 @@ from .plans import MOST_SUPERBLOCKS, MOST_TENANTS
 from .talk import Failure
 from .words import MOST_ORDER, counted, in_seconds, visible, words_of
 
-# The lines of standard error that are shown: the last ones, those that say what happened, and the first frames of a stack after
-# them.
+# How many lines of standard error are shown: the last ones, those that say what happened, and after each of these the first
+# frames of a stack.
 MOST_LAST_LINES, MOST_TELLING, MOST_FRAMES = 5, 4, 3
 TELLING = re.compile(r'ERROR:|runtime error:|[Aa]ssertion|panicked at')
 FRAME = re.compile(r'\s*#\d+ |\s+\d+: ')
@@ -22,7 +22,7 @@ OF_ADMIN = ['NoTenant', 'PoolEmpty', 'NoSlot', 'SlotBusy']
 
 
 class Progress:
-    """A line on standard error that is overwritten in place, if that is a terminal."""
+    """A line that shows the progress and is overwritten in place. It appears only if the stream is a terminal."""
 
     def __init__(self, stream):
         self.stream = stream if stream is not None and stream.isatty() else None
@@ -45,7 +45,7 @@ class Progress:
 
 
 def advice(options, case):
-    """Returns what may help, in sentences."""
+    """Yields sentences that may help."""
     line, replies = case.run.exchanges[-1] if case.run.exchanges else ('', [])
     of_caches = line.split()[1:2] and line.split()[1] in OF_CACHES and not options.pages
     is_refused = isinstance(case.finding, Failure) and case.finding.kind.startswith('with status')
@@ -56,7 +56,7 @@ def advice(options, case):
 
 
 def last_words(errors):
-    """Returns the lines of standard error that say what happened, and the last ones."""
+    """Yields the lines of standard error that say what happened, and the last ones. `..` marks lines that are left out."""
     lines, shown = errors.splitlines(), set()
     for at in [at for at, line in enumerate(lines) if TELLING.search(line)][:MOST_TELLING]:
         behind = (frame for frame in range(at + 1, min(at + 20, len(lines))) if FRAME.match(lines[frame]))
@@ -71,7 +71,8 @@ def last_words(errors):
 
 
 def said_of(finding, whole):
-    """Returns the finding as text; for a failure also how the whole load failed, if it was waited for longer."""
+    """Returns the finding as lines of text. If the program hung, they also say how the whole load failed, which may have been
+    given more time."""
     if isinstance(finding, Breach):
         return [f'{finding.kind}: ' + (f'tenant {finding.tenant}: ' if finding.tenant is not None else '') + shown(finding.words)]
     again = f'; in the whole load {whole.words}' if finding.kind in ('hangs', 'stays') and finding != whole else ''
@@ -81,12 +82,12 @@ def said_of(finding, whole):
 
 
 def shown(words):
-    """Returns what partcheck prints, as one line of ASCII, with what it left out of a long reply."""
+    """Returns what partcheck printed as one line of ASCII. `..` stands for the ellipsis with which it cuts a long reply."""
     return ''.join(letter if ' ' <= letter <= '~' else '..' if letter == '\u2026' else visible(letter) for letter in words)
 
 
 def report_of(name, case, whole=None):
-    """Returns what is printed of a load, or of a trace of this name, that shows something; and of the finding in the whole
+    """Returns the lines that report the shortened load or trace of this name. `whole` is the finding in the whole
     load."""
     count, is_failure = len(case.run.exchanges), isinstance(case.finding, Failure)
     name = f'load {name}' if isinstance(name, int) else f'trace {visible(name)}'
@@ -98,7 +99,7 @@ def report_of(name, case, whole=None):
 
 
 def ends_of(options, case, stopped, command):
-    """Returns what may help, and how to run the load again."""
+    """Yields what may help, and the command that runs the load again."""
     yield from advice(options, case)
     if stopped is not None:
         yield f'Fewer lines may show it: shortening was stopped after {in_seconds(stopped)}; see --shorten.'
@@ -106,7 +107,7 @@ def ends_of(options, case, stopped, command):
 
 
 def not_reached(options, reached):
-    """Returns what the loads could have reached, and did not."""
+    """Yields what the loads could have reached and did not."""
     commands = [command for command in REFUSALS if command not in options.without]
     refusals = [name for command in commands for name in REFUSALS[command]] + OF_ADMIN
     yield from (name for name in dict.fromkeys(refusals) if not reached.refused[name])
@@ -119,7 +120,7 @@ def not_reached(options, reached):
 
 
 def kept(options, count, noun, reached):
-    """Returns what is printed if nothing is found."""
+    """Returns what is printed if no promise is broken and nothing fails."""
     done = f'kept: {counted(count, noun)}, {counted(reached.lines, "line")}'
     if noun != 'load':
         return done

@@ -1,17 +1,18 @@
-"""Other lines that may show the same as those of a run: fewer that fill as much, smaller blocks, and tenants from 0 on.
+"""Rewrites the lines of a run into others that may show the same finding: fewer lines that fill the same space, smaller blocks,
+or tenants numbered from 0 on.
 
-A change has the numbers of lines, each with what replaces the line, or None."""
+A change maps numbers of lines to the exchanges that replace them, or to None for lines that are left out."""
 import collections
 
 from .families import families_of
 from .runs import POWERS, Places, name_in, names_in, tenant_of
 from .words import FRAME_BYTES, MOST_ORDER, is_number, told_in
 
-# Sizes of objects that are tried instead of smaller ones, and how many of the last objects are then kept.
+# Sizes that are tried instead of a cache's smaller one, and how many of its last objects are then kept.
 LARGER, LAST_KEPT = (4096, 2048, 1024, 512, 128, 32), (1, 2, 3, 4, 5, 6, 8, 9, 12, 16, 32)
 # If a cache has at most this many objects, no larger ones are tried.
 FEW_OBJECTS = 3
-# The commands whose replies give each kind of name.
+# The command whose reply gives a name of this kind.
 COMMANDS = {'frame': 'alloc', 'object': 'take', 'cache': 'cache'}
 
 
@@ -24,14 +25,14 @@ def given(run, kind):
 
 
 def gives(kind, words, told):
-    """Returns whether a command was answered as it has to be, with a name of this kind."""
+    """Returns whether these words are a command that gives a name of this kind, and its reply gave one."""
     is_command = len(words) > 2 and words[1] == COMMANDS[kind] and is_number(words[2])
     is_answered = len(told) > 1 and told[0] == kind and is_number(told[1])
     return is_command and is_answered and (kind != 'frame' or int(words[2]) <= MOST_ORDER)
 
 
 def slabs_as_blocks(run):
-    """Yields changes that allocate a block instead of the objects of a slab, if no line names one of them."""
+    """Yields changes that allocate a block instead of the objects of a slab, if no line names one of these objects."""
     families, slabs, named = families_of(run), collections.defaultdict(list), set()
     orders = {(words[0], told[1]): int(told[5]) for _, words, told in given(run, 'cache') if is_number(''.join(told[5:6]))}
     for at, words, told in given(run, 'object'):
@@ -46,7 +47,7 @@ def slabs_as_blocks(run):
 
 
 def joined_blocks(run):
-    """Yields changes that allocate a block instead of its two halves, if no line names one of them."""
+    """Yields changes that allocate a block instead of its two halves, if no line names a half."""
     families, halves = families_of(run), {}
     for at, words, told in given(run, 'frame'):
         tenant, order, frame = words[0], int(words[2]), int(told[1])
@@ -65,7 +66,7 @@ def block(tenant, order, frame):
 
 
 def larger_objects(run):
-    """Yields changes that make the objects of a cache larger, and keep only the last of them."""
+    """Yields changes that make the objects of a cache larger, and keep only the last few of them."""
     families = families_of(run)
     takes = {at for at, *_ in given(run, 'object')}
     for at, words, _ in given(run, 'cache'):
@@ -79,7 +80,8 @@ def larger_objects(run):
 
 
 def wrong_numbers(run):
-    """Yields changes of the last line that name a lower number: the least name plus a power of two."""
+    """Yields changes of the last line that replace a number that is no name by a lower one: the least name plus a power of
+    two."""
     at, words = len(run.exchanges) - 1, run.exchanges[-1][0].split()
     for word, kind in names_in(words) if len(words) > 1 else ():
         names = set(names_of(run, tenant_of(' '.join(words)), kind))
@@ -90,7 +92,7 @@ def wrong_numbers(run):
 
 
 def names_of(run, tenant, kind):
-    """Yields the names of a kind that replies gave a tenant; for places, those of objects and blocks."""
+    """Yields the names of a kind that replies gave a tenant. For places, these are the first places of objects and blocks."""
     for line, replies in run.exchanges:
         told = told_in(replies)
         named, at = name_in(told)
@@ -102,8 +104,8 @@ def names_of(run, tenant, kind):
 
 
 def with_smaller_blocks(run, by):
-    """Returns the lines with each block smaller by `by` orders. What is read or written at the end of a block stays at its
-    end."""
+    """Returns the lines with each block smaller by `by` orders, down to order 0. Reads and writes in the second half of a block
+    keep their distance from its end."""
     blocks, lines = collections.defaultdict(Places), []
     for line, replies in run.exchanges:
         words, told = line.split(), told_in(replies)
@@ -118,14 +120,14 @@ def with_smaller_blocks(run, by):
 
 
 def in_smaller_block(places, place):
-    """Returns where a place is in a block that has lost its middle."""
+    """Returns where a place is after its block has become smaller. A place in the second half moves with the block's end."""
     begin = places.around(place)
     size, less = places.known[begin] if begin is not None else (0, 0)
     return place - less if less and 2 * (place - begin) >= size else place
 
 
 def with_first_tenants(run):
-    """Returns the lines with the tenants that exist renamed from 0 on, and the new names."""
+    """Returns the lines with the existing tenants renumbered from 0 on, and a map from their old to their new numbers."""
     there = sorted({int(word) for line, _ in run.exchanges if is_number(word := tenant_of(line))})
     names = {str(old): str(new) for new, old in enumerate(old for old in there if old < run.sizes.tenants)}
     lines = []

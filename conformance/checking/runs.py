@@ -1,4 +1,4 @@
-"""Runs of the program: lines with their replies, and the same lines once more."""
+"""Runs of the program: sends lines and keeps the replies, and runs the lines of an earlier run again."""
 import bisect
 import collections
 import contextlib
@@ -7,15 +7,16 @@ from .talk import ProgramFailed
 from .words import FRAME_BYTES, MOST_BYTES, MOST_NUMBER, is_number, number_in, order_in, told_in
 from .world import World
 
-# The most lines that are sent at once if none of them waits for a reply.
+# The most lines that are sent at once if none of them needs the reply to another.
 MOST_AT_ONCE = 256
-# The distances from a name at which a wrong number stays: powers of two, at which numbers may be cut, and which are sizes.
+# If a wrong number has one of these distances from a name, it keeps the distance when the name changes. They are powers of two,
+# since these are sizes, and a program may cut numbers at a power of two.
 POWERS = [1 << power for power in range(32)]
 DISTANCES = [0, *reversed(POWERS), *(-power for power in POWERS)]
 
 
 class Run:
-    """A trace in the making: its lines with their replies."""
+    """A trace that is being made: its lines so far, with their replies."""
 
     def __init__(self, programs, sizes):
         self.talk, self.world = programs.start(sizes), World(sizes)
@@ -23,7 +24,7 @@ class Run:
         self.slowest = 0.0
 
     def say(self, lines):
-        """Sends lines at once, and takes the reply to each."""
+        """Sends lines all at once, and then takes the reply to each."""
         if self.failure or not lines:
             return
         self.talk.send(lines)
@@ -59,11 +60,11 @@ class Run:
         return [reply for _, replies in self.exchanges for reply in replies if reply.startswith(begin)]
 
     def own_list(self, tenant):
-        """Returns the tenant's commands, its resets, and the grants and take-backs that were done."""
+        """Returns the tenant's commands and its resets, and those of its grants and take-backs that were not refused."""
         return [line for line, replies in self.exchanges if is_own(tenant, line, replies)]
 
     def speakers(self):
-        """Returns the tenants that have an own list."""
+        """Returns the tenants that a line names."""
         numbers = collections.Counter(tenant_of(line) for line, _ in self.exchanges)
         return [tenant for tenant in range(self.sizes.tenants) if numbers[str(tenant)]]
 
@@ -77,7 +78,7 @@ def is_own(tenant, line, replies):
 
 
 def has_done(replies):
-    """Returns whether a line was neither refused nor faulty, nor a remark."""
+    """Returns whether a line got a reply and was neither refused nor faulty."""
     return bool(replies) and not replies[0].startswith('!') and ' refused ' not in replies[0]
 
 
@@ -88,13 +89,14 @@ def tenant_of(line):
 
 
 class Places:
-    """Places of blocks and objects that one run returned, with the places of the same in another run."""
+    """The blocks and objects that one run returned, by first place. With each comes a value, mostly its first place in another
+    run."""
 
     def __init__(self):
-        self.begins, self.known = [], {}                        # in rising order; their sizes and new first places
+        self.begins, self.known = [], {}                        # first places, rising; by first place the size and the value
 
     def add(self, begin, size, now):
-        """Adds something. What shares a place with it was returned before, and is forgotten."""
+        """Adds a block or an object. An older one that shares a place with it has been given back, and is dropped."""
         at = bisect.bisect_left(self.begins, begin + size)
         while at and self.begins[at - 1] + self.known[self.begins[at - 1]][0] > begin:
             at -= 1
@@ -103,7 +105,8 @@ class Places:
         self.known[begin] = size, now
 
     def around(self, place):
-        """Returns the first place of what contains a place, or has it just before or after it; None if there is nothing."""
+        """Returns the first place of the block or object that contains a place, ends right before it, or begins at most
+        MOST_BYTES after it. Returns None if there is none."""
         at = bisect.bisect_right(self.begins, place) - 1
         before = self.begins[at] if at >= 0 else None
         if before is not None and place <= before + self.known[before][0]:
@@ -112,15 +115,15 @@ class Places:
         return behind if behind is not None and behind - place <= MOST_BYTES else None
 
     def now(self, place):
-        """Returns the place in the other run."""
+        """Returns where a place is in the other run. It stays where it is if nothing is around it."""
         begin = self.around(place)
         now = place if begin is None else self.known[begin][1] + place - begin
         return now if now >= 0 else place
 
 
 class Renamed:
-    """What a tenant's frames, objects, caches and slots of one run are called in another, of fewer lines and maybe another order.
-    """
+    """Maps a tenant's frames, objects, caches and slots in one run to those in another run, which may have fewer lines and
+    another order."""
 
     def __init__(self, before, now):
         self.before, self.now = FRAME_BYTES << before, FRAME_BYTES << now
@@ -129,7 +132,7 @@ class Renamed:
         self.awaited = set()                                    # names whose reply is not yet known, and their kinds
 
     def awaits(self, old):
-        """Notes that a line whose reply was `old` is sent and not answered."""
+        """Notes that a line is sent and not yet answered. Its reply in the first run was `old`."""
         kind, at = name_in(old)
         if kind and len(old) > at:
             self.awaited |= {kind, (kind, old[at])}
@@ -139,13 +142,13 @@ class Renamed:
         return bool(self.awaited) and any(self.is_awaited(kind, words[at]) for at, kind in names_in(words))
 
     def is_awaited(self, kind, word):
-        """Returns whether an awaited reply may say what a word is called now."""
+        """Returns whether an awaited reply may decide what a word becomes in the other run."""
         if kind in self.names and int(word) in self.names[kind] or not self.awaited:
             return (kind, word) in self.awaited
         return bool(self.awaited & ({'frame', 'object', 'slot'} if kind in ('frame', 'place') else {kind}))
 
     def note(self, words, old, new):
-        """Notes that the reply to these words was `old`, and is now `new`."""
+        """Notes that the reply to these words was `old` in the first run, and is `new` in the other."""
         kind, at = name_in(old)
         if kind and new[:1] == old[:1]:
             with contextlib.suppress(IndexError, ValueError):
@@ -167,7 +170,7 @@ class Renamed:
         return ' '.join(named)
 
     def number(self, kind, word):
-        """Returns what a number is called now: a name, or a number at the same distance from a name."""
+        """Returns what a number becomes in the other run: a name, or a number at the same distance from a name."""
         names, number = self.names[kind], int(word)
         if kind == 'frame' and number not in names:
             return self.place(number * FRAME_BYTES, FRAME_BYTES) // FRAME_BYTES
@@ -178,7 +181,7 @@ class Renamed:
         return word
 
     def place(self, place, unit=1):
-        """Returns the same for a place: in something, or beside it, or at the same distance from it in units."""
+        """Returns what a place becomes in the other run. It keeps its distance, in units, from a block, an object or a slot."""
         for distance in (unit * distance for distance in DISTANCES if distance >= 0):
             now = self.known_place(place - distance) if distance <= place else None
             if now is not None:
@@ -186,7 +189,7 @@ class Renamed:
         return place
 
     def known_place(self, place):
-        """Returns the same for a place that is in a block, an object or a slot."""
+        """Returns what a place becomes if it is in or beside a block or an object, or in a slot; or else None."""
         slot, offset = divmod(place, self.before)
         if self.places.around(place) is not None:
             return self.places.now(place)
@@ -198,7 +201,7 @@ class Renamed:
 
 
 def name_in(told):
-    """Returns which kind of name a reply gives, and which of its words it is."""
+    """Returns which kind of name a reply gives, and which of the reply's words the name is."""
     kind = told[0] if told else ''
     return (kind, 1) if kind in ('frame', 'object', 'cache') else ('slot', 3) if kind == 'granted' else ('', 0)
 
@@ -208,13 +211,13 @@ NAMES = {'free': ['frame'], 'read': ['place'], 'write': ['place'], 'destroy': ['
 
 
 def names_in(words):
-    """Returns the words of a line that are names from replies, with their kinds."""
+    """Returns which words of a line are names from replies, each with its kind."""
     return [(at, kind) for at, kind in enumerate(NAMES.get(words[1], []), 2) if kind and at < len(words) and is_number(words[at])]
 
 
 def replayed(programs, sizes, exchanges, order=None):
-    """Runs these lines, each with the reply that it had on a machine of this order. Names from those replies are replaced by
-    those of the new replies. Lines that need no reply that is still missing are sent at once."""
+    """Runs these lines again. With each comes its old reply, from a machine of this order. Names from the old replies are
+    replaced by those from the new ones. Lines are sent together until one needs a reply that is still missing."""
     before = sizes.order if order is None else order
     run, renamed, sent = Run(programs, sizes), collections.defaultdict(lambda: Renamed(before, sizes.order)), []
 

@@ -1,4 +1,4 @@
-"""Makes a load shorter as long as what is left shows the same."""
+"""Makes a load shorter as long as the rest shows the same finding."""
 import itertools
 import time
 
@@ -9,17 +9,20 @@ from .runs import has_done, tenant_of
 from .talk import SECONDS, Failure, Programs
 from .words import LEAST_ORDER, Sizes, counted, in_seconds, is_number, told_in
 
-# Seconds for which a load is shortened, and if the program hangs: then each run that shows it takes the whole wait.
+# For how many seconds a load is shortened; and for how many if the program hangs, when each run that shows it takes the whole
+# wait.
 SHORTENING, SHORTENING_OF_HANGING = 30, 4
 # While a failure is shortened, a reply may take this many times the longest wait before, and at least these seconds.
 TIMES_SLOWEST, LEAST_SECONDS = 10, 0.2
 # Seconds that a reply may take when the shortened failure is run once more: a busy machine makes a program look as if it hung.
 SECONDS_AGAIN = 1
-# The kinds of failures that come at once begin with these words.
+# The kinds of failures that need no wait begin with these words.
 AT_ONCE = 'by ', 'with status '
-# The number of parts of a load that are first left out, each alone; and by how much it grows if none can be.
+# Into how many parts a load is divided at first, to leave out each of them alone; and by what this number is multiplied if no
+# part can be left out.
 FIRST_PARTS, TIMES_PARTS = 4, 4
-# With so few lines no other numbers are tried; up to this many lines of a load, pairs are left out.
+# Larger objects and other numbers are tried only if a load has more than FEW_LINES lines. Pairs of lines are left out only if
+# it has at most MOST_FOR_PAIRS.
 FEW_LINES, MOST_FOR_PAIRS = 3, 40
 # The first words of replies that give a name, and the commands that end its life.
 GIVERS, ENDS = ('granted', 'cache', 'frame', 'object'), ('free', 'give', 'destroy', 'takeback')
@@ -30,14 +33,14 @@ def is_at_once(finding):
 
 
 class Shortener:
-    """Shortens a case. Numbers of `fixed` that are not None are those of each machine."""
+    """Shortens a case. Each machine has the sizes in `fixed` that are not None."""
 
     def __init__(self, judge, case, deadline, note, fixed=Sizes(None, None, None)):
         self.judge, self.case, self.deadline, self.note, self.fixed = judge, case, deadline, note, fixed
         self.tried = set()
 
     def shorten(self):
-        """Shortens the case. Returns whether it came to its end: then no line, and no pair of lines, can be left out."""
+        """Shortens the case until no line and no pair of lines can be left out. Returns false if the deadline passed before."""
         parts = FIRST_PARTS
         try:
             self.cut()
@@ -54,7 +57,7 @@ class Shortener:
             return False
 
     def cut(self):
-        """Leaves out at once what can mostly be left out."""
+        """Leaves out at once the lines that can usually be left out."""
         if isinstance(self.case.finding, Failure):
             self.without_idle_lines()
             return
@@ -64,8 +67,8 @@ class Shortener:
         self.from_the_end()
 
     def leave_out(self, parts):
-        """Leaves lines out, the families of lines first, and fills the same space with fewer lines. The changes of a kind are
-        tried in parts, down to `parts` of them."""
+        """Leaves lines out, families of lines first, and fills the same space with fewer lines. The changes of a kind are first
+        tried all together, and then in up to `parts` parts."""
         for changes_of in (of_tenants, by_command, over, idle, grants, caches, rewriting.slabs_as_blocks, rewriting.joined_blocks,
                            taken):
             self.change(changes_of, parts)
@@ -82,8 +85,8 @@ class Shortener:
                 any(self.is_shown([change]) for change in changes_of(self.case.run))
 
     def change(self, changes_of, parts, less=0):
-        """Makes those of the changes to a run that can be made: all at once first, then halves, down to `parts` parts. Returns
-        whether there is one. For each change the machine has `less` superblocks less."""
+        """Makes the changes after which the finding is still shown. Tries all of them at once, then halves, down to `parts`
+        parts. Returns whether a change was made. For each change the machine loses `less` superblocks."""
         changes, is_changed = list(changes_of(self.case.run)), False
         part = len(changes)
         while part and part * parts >= len(changes):
@@ -97,7 +100,7 @@ class Shortener:
         return is_changed
 
     def is_shown(self, changes, less=0):
-        """Returns whether the lines still show it with these changes; then they become the case."""
+        """Returns whether the lines still show the finding after these changes. If so, they become the case."""
         sizes, exchanges = self.case.run.sizes, self.case.run.exchanges
         instead = {at: new for change in changes for at, new in change.items()}
         changed = [instead.get(at, exchange) for at, exchange in enumerate(exchanges)]
@@ -105,7 +108,7 @@ class Shortener:
         return self.shows(sizes, [exchange for exchange in changed if exchange])
 
     def is_kept(self, kept):
-        """Returns whether these of the lines still show it; then they become the case."""
+        """Returns whether the lines with these numbers are fewer and still show the finding. If so, they become the case."""
         exchanges = self.case.run.exchanges
         return len(kept) < len(exchanges) and self.shows(self.case.run.sizes, [exchanges[at] for at in kept])
 
@@ -123,7 +126,8 @@ class Shortener:
         return case is not None
 
     def on_a_smaller_machine(self):
-        """Keeps only the tenants that are named, the superblocks that are owned at a time, and the least order that shows it."""
+        """Reduces the machine to the tenants that are named, the most superblocks that are owned at a time, and the least order
+        that shows the finding."""
         if not is_at_once(self.case.finding):
             return
         self.with_first_tenants()
@@ -148,7 +152,7 @@ class Shortener:
             self.shows(self.case.run.sizes, lines, finding)
 
     def from_the_end(self):
-        """Keeps only the last lines, more and more of them, after the first grant or after all grants."""
+        """Tries to keep only the last lines, after the first grant or after all grants: first one line, then more and more."""
         exchanges, last = self.case.run.exchanges, 1
         grants = [at for at, (line, replies) in enumerate(exchanges) if line.startswith('admin grant') and has_done(replies)]
         while last < len(exchanges) // 2:
@@ -158,7 +162,7 @@ class Shortener:
             last *= 4
 
     def without_idle_lines(self):
-        """Leaves out refused lines, and those of other tenants than the last line's."""
+        """Tries the first line alone. Then leaves out refused lines, and lines of other tenants than the last line's."""
         self.is_kept([0])
         lines = self.case.run.exchanges
         self.is_kept([at for at, (_, replies) in enumerate(lines) if at + 1 == len(lines) or has_done(replies)])
@@ -166,25 +170,25 @@ class Shortener:
         self.is_kept([at for at, tenant in enumerate(tenants) if tenant == tenants[-1]])
 
     def without_a_pair(self):
-        """Leaves out two lines if neither can be left out alone: for example a grant, and what it moved on."""
+        """Leaves out a pair of lines, neither of which can be left out alone. Returns whether there was one."""
         count = len(self.case.run.exchanges)
         pairs = itertools.combinations(range(count if count <= MOST_FOR_PAIRS else 0), 2)
         return any(self.is_shown([dict.fromkeys(pair)]) for pair in pairs)
 
 
 def of_tenants(run):
-    """Returns changes that leave out all lines of a tenant."""
+    """Returns changes, each of which leaves out all lines of a tenant."""
     names = [tenant_of(line) for line, _ in run.exchanges]
     return [{at: None for at, other in enumerate(names) if other == name} for name in dict.fromkeys(names)]
 
 
 def kinds_of(run):
-    """Returns for each line how its reply begins."""
+    """Returns for each line the first word of its reply, or an empty text."""
     return [''.join(told_in(replies)[:1]) for _, replies in run.exchanges]
 
 
 def families(run, *kinds):
-    """Returns changes that leave out a line that gave one of these, with all that needs it."""
+    """Returns changes, each of which leaves out a line whose reply has one of these kinds, with all lines that need it."""
     return [dict.fromkeys(family) for family, kind in zip(families_of(run), kinds_of(run)) if kind in kinds]
 
 
@@ -206,7 +210,7 @@ def ends(run):
 
 
 def by_command(run):
-    """Returns changes that leave out all lines of a command, with all that needs them."""
+    """Returns changes, each of which leaves out all lines of a command, with all lines that need them."""
     families, of = families_of(run), {}
     for at, (line, _) in enumerate(run.exchanges):
         of.setdefault(''.join(line.split()[1:2]), set()).update(families[at])
@@ -248,7 +252,8 @@ def needed_by(run, fixed):
 
 
 def shortened(options, case, note):
-    """Returns the shortest case that is found, and the seconds after which shortening was stopped, if it was."""
+    """Returns the shortest case that was found. Also returns the seconds after which shortening was stopped, or None if it was
+    not."""
     is_failure, seconds, patience = isinstance(case.finding, Failure), options.shorten, SECONDS
     if is_failure:
         patience = min(SECONDS, max(LEAST_SECONDS, TIMES_SLOWEST * case.run.slowest))

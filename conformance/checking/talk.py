@@ -12,21 +12,23 @@ from typing import NamedTuple
 from . import children
 from .words import ending, in_seconds, words_of
 
-# The seconds that a reply may take, and the end of a run, if the machine is not busy.
+# The seconds that the program may take for a reply, and to exit, if the machine is not busy.
 SECONDS = 5
-# The seconds for which standard error of a program that was killed is read.
+# For how many seconds standard error is still read after the program was killed.
 SECONDS_OF_ERRORS = 0.2
-# The bytes that a run may print that answer no line. The replies to lines that are sent at once easily fit into as many.
+# The most bytes that answer no line, at the end of a run; and the most bytes that may wait to be taken before. The replies to
+# lines that are sent at once are much shorter.
 MOST_UNASKED, MOST_WAITING = 1 << 16, 1 << 20
 # The bytes of standard error that are kept: the first, with the words of a sanitizer or of a panic, and the last.
 FIRST_ERRORS, LAST_ERRORS = 1 << 14, 1 << 12
 
-# A new session takes longer: Linux gives it its own share of the processors.
+# A process group is faster than a session, to which Linux gives its own share of the processors.
 GROUP_OF_ITS_OWN = {'process_group': 0} if sys.version_info >= (3, 11) else {'start_new_session': True}
 
 
 class Failure(NamedTuple):
-    """How the program failed: what a shorter load has to show too, the whole in words, and what it wrote to standard error."""
+    """How the program failed: the kind, which a shorter load has to show too, a description, and what it wrote to standard
+    error."""
     kind: str
     words: str
     errors: str
@@ -41,7 +43,8 @@ class CannotRun(Exception):
 
 
 def on_this_machine(seconds):
-    """Returns the seconds that are waited: more in proportion to the processes that want to run on each processor."""
+    """Returns how many seconds to wait. If more processes want to run than there are processors, the wait is longer in
+    proportion."""
     return round(seconds * max(1, os.getloadavg()[0] / (os.cpu_count() or 1)), 1)
 
 
@@ -58,8 +61,8 @@ class Programs(NamedTuple):
 
 
 class Talk:
-    """A run of the program in a process group of its own. At its end all that it started is killed. A process has one at a
-    time."""
+    """A run of the program in its own process group. At its end all processes below this one are killed, so this process has one
+    run at a time."""
 
     def __init__(self, command, seconds):
         self.process = subprocess.Popen(command, stdin=subprocess.PIPE, stdout=subprocess.PIPE, stderr=subprocess.PIPE,
@@ -76,14 +79,14 @@ class Talk:
         os.set_blocking(self.input, False)
 
     def send(self, lines):
-        """Sends lines at once."""
+        """Sends lines without waiting for replies."""
         is_waiting = bool(self.unsent)
         self.unsent += ''.join(f'{line}\n' for line in lines).encode('latin-1')
         if not is_waiting:
             self.write()
 
     def write(self):
-        """Writes what the pipe takes. The rest is written while replies are waited for."""
+        """Writes as much as fits into the pipe. The rest is written while this process waits for replies."""
         is_waiting = len(self.unsent)
         try:
             self.unsent = self.unsent[os.write(self.input, self.unsent):]
@@ -98,7 +101,7 @@ class Talk:
                 self.poll.unregister(self.input)
 
     def reply(self, owed):
-        """Returns the reply to the next line, which has `owed` lines."""
+        """Returns the reply to the next line, a list of `owed` lines. Raises ProgramFailed if the program does not give it."""
         if len(self.ready) < owed:
             start = time.monotonic()
             while len(self.ready) < owed:
@@ -120,7 +123,7 @@ class Talk:
         return self.taken(len(self.ready)) + ([self.held] if self.held else [])
 
     def end(self):
-        """Returns what the program still prints at the end of its input. There it has to exit with status 0."""
+        """Closes the program's input, and returns what it still prints. It has to exit with status 0 then."""
         if self.unsent:
             raise self.failed('deaf', f'it answers without reading: line {self.answered} does not fit into the pipe any more')
         self.process.stdin.close()
@@ -166,7 +169,7 @@ class Talk:
         self.last_errors = (self.last_errors + piece[space:])[-LAST_ERRORS:]
 
     def exits(self, deadline):
-        """Returns whether the program exits before the deadline. It does not wait if the program prints too much."""
+        """Waits for the program to exit. Returns false at the deadline, or as soon as the program has printed too much."""
         while self.open and self.held_bytes <= MOST_UNASKED and self.hear(deadline):
             pass
         if self.held_bytes > MOST_UNASKED:
@@ -199,12 +202,12 @@ class Talk:
         return self.failed('babbles', f'it printed more than {MOST_UNASKED} bytes that answer no line')
 
     def failed(self, kind, words):
-        """Ends the run."""
+        """Ends the run, and returns its failure as an exception."""
         self.finish()
         return ProgramFailed(Failure(kind, words, (self.first_errors + self.last_errors).decode('latin-1')))
 
     def finish(self):
-        """Kills what still runs, and reads what is left on standard error."""
+        """Kills the processes that still run, and reads what is left on standard error."""
         if self.process.returncode is None:
             with contextlib.suppress(ProcessLookupError):
                 os.killpg(self.process.pid, signal.SIGKILL)

@@ -1,4 +1,4 @@
-"""Traces that are kept in files: a failure with its machine and its replies, or any trace."""
+"""Reads, writes and runs traces in files: failures that were saved with their machine and replies, or any other traces."""
 import os
 import re
 
@@ -8,8 +8,8 @@ from .runs import replayed
 from .talk import Programs
 from .words import Sizes, words_of
 
-# The beginnings of a line with the machine and of one with a line of a reply; and how many bytes of these lines are kept, since a
-# longer remark is a faulty line.
+# How the line that names the machine begins, and how a line begins that keeps a reply line. Remarks are cut to MOST_REMARK bytes,
+# since a long remark would be a faulty line.
 MACHINE, REPLY, MOST_REMARK = '# machine: ', '#> ', 250
 LIMITS = Sizes((3, 8), (1, 256), (1, 64))
 
@@ -35,7 +35,7 @@ def save(name, case, about):
 
 
 def files_of(name):
-    """Returns the file, or the files of a folder by name."""
+    """Returns a list of the file alone, or of the folder's files, sorted by name."""
     try:
         inside = sorted(os.listdir(name)) if os.path.isdir(name) else None
     except OSError as error:
@@ -49,8 +49,8 @@ def files_of(name):
 
 
 def read(name, fixed):
-    """Returns the machine of a trace, and its lines with the replies that it keeps. Numbers of `fixed` that are not None are the
-    machine's."""
+    """Returns the machine of a trace, and its lines with the replies that are kept with them. Sizes in `fixed` that are not None
+    replace those in the trace."""
     try:
         with open(name, 'rb') as file:
             lines = file.read().decode('latin-1').split('\n')

@@ -1,11 +1,11 @@
-"""What several parts share: the sizes of a machine, numbers of a reply, and text that is shown."""
+"""Helpers of several modules: the sizes of a machine, the numbers in a reply, and text to be shown."""
 import signal
 from typing import NamedTuple
 
 FRAME_SHIFT, LEAST_ORDER, MOST_ORDER, MOST_BYTES = 12, 3, 8, 64
 FRAME_BYTES = 1 << FRAME_SHIFT
 MOST_NUMBER = (1 << 32) - 1
-# The characters of a line that are shown.
+# How many characters of a text are shown.
 MOST_SHOWN = 200
 
 
@@ -42,7 +42,7 @@ def is_number(word):
 
 
 def number_in(word):
-    """Returns the number that a word is. A program may answer anything: another word raises ValueError."""
+    """Returns the number that a word spells. A program may answer anything, so another word raises ValueError."""
     if not is_number(word):
         raise ValueError
     return int(word)
@@ -55,7 +55,7 @@ def order_in(word):
 
 
 def told_in(replies):
-    """Returns the words of the first reply, without the tenant that it goes to; none if there is no reply, or no tenant."""
+    """Returns the words of the first reply line without its tenant. Returns none if there is no reply, or if it has no tenant."""
     return replies[0].partition('> ')[2].split() if replies and not replies[0].startswith('!') else []
 
 
@@ -67,5 +67,5 @@ def ending(status):
     """Returns how a process ended: `by SIGSEGV`, `with status 3`."""
     if status < 0:
         return f'by {name_of_signal(-status)}'
-    # A shell exits like this if the program that it runs is ended by a signal.
+    # A shell exits with 128 plus the signal's number if a signal ended the program that it ran.
     return f'with status {status}' + (f', 128 + {name_of_signal(status - 128)}' if status > 128 else '')

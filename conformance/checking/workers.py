@@ -1,4 +1,5 @@
-"""Processes that do the work, each one task at a time. What they start ends with them, and they end with this process."""
+"""Worker processes, each of which does one task at a time. The processes that they start end with them, and they end with this
+process."""
 import multiprocessing
 import multiprocessing.connection
 import os
@@ -7,7 +8,7 @@ import traceback
 
 from . import children
 
-# How many tasks for each worker are started before the first task of all has ended.
+# How many tasks for each worker may be begun while the result of the first of them is still missing.
 AHEAD = 16
 
 
@@ -16,7 +17,7 @@ class Broken(Exception):
 
 
 class Workers:
-    """A group of workers. When it is left as a context, all processes below this one are ended."""
+    """A group of workers. It is a context manager; on exit it kills all processes below this one."""
 
     def __init__(self, work, count, note=str):
         self.work, self.count, self.note, self.pipes = work, count, note, []
@@ -37,12 +38,13 @@ class Workers:
             pipe.close()
 
     def serve(self, pipe):
-        """Does tasks until this worker is ended. Signals of a terminal come to all workers; the first process ends them."""
+        """Does tasks until this worker is ended. A signal from a terminal reaches all workers, and does nothing there: the first
+        process ends them."""
         def end(*_):
             children.kill_all()
             os._exit(0)
 
-        # Not ignored: the program under test would ignore them too.
+        # If the signals were ignored here, the program under test would ignore them too.
         for number in signal.SIGINT, signal.SIGHUP:
             if signal.getsignal(number) != signal.SIG_IGN:
                 signal.signal(number, lambda *_: None)

@@ -1,15 +1,15 @@
-"""What the replies of a run said, as far as lines are made of it."""
+"""Keeps what the replies of a run said, as far as it is needed to make more lines."""
 import collections
 from typing import Any, NamedTuple
 
 from .words import FRAME_BYTES, FRAME_SHIFT, is_number, number_in, order_in, told_in
 
-# How much of what was freed or written last is kept, for lines that name it again.
+# How many of the last frees, gives and writes are kept, so that later lines can name them again.
 LAST = 32
 
 
 class Bag:
-    """Numbers with what is known of each. One of them is drawn in constant time, however many there are."""
+    """A map from numbers to what is known of them. It draws a random number in constant time."""
 
     def __init__(self):
         self.known, self.keys, self.at = {}, [], {}
@@ -42,7 +42,7 @@ class Bag:
 
 
 class Cache(NamedTuple):
-    """The bytes of an object, and the objects of a slab."""
+    """The size of an object in bytes, and the number of objects in a slab."""
     size: int = 1
     objects: int = 1
 
@@ -56,16 +56,18 @@ class Tenant:
         self.frames, self.last_cache = 0, 0
 
     def slot_of_rank(self, rank):
-        """Returns the number of the slot of this rank, or of the highest; None if it has no slot, or if there is no rank."""
+        """Returns the number of the slot of this rank, or of the highest slot if there are fewer. Returns None if there is no
+        slot or `rank` is None."""
         slots = sorted(self.slots.keys)
         return slots[min(rank, len(slots) - 1)] if slots and rank is not None else None
 
     def held(self):
-        """Returns how many blocks or objects it has, whichever are more."""
+        """Returns the number of blocks or the number of objects of the tenant, whichever is larger."""
         return max(len(self.pages), len(self.objects))
 
     def count(self, noun, order, slot=None):
-        """Returns how many slots, frames, blocks or objects it has; if there is a slot, only its blocks and objects."""
+        """Returns how many slots, frames, blocks or objects the tenant has. If a slot is given, only its blocks or objects are
+        counted."""
         if noun == 'slots':
             return len(self.slots)
         if noun == 'frames':
@@ -83,7 +85,7 @@ class World:
         self.sizes = sizes
         self.tenants = [Tenant() for _ in range(sizes.tenants)]
         self.refused = collections.Counter()
-        self.offsets = collections.deque(maxlen=LAST)           # of bytes in superblocks that somebody wrote
+        self.offsets = collections.deque(maxlen=LAST)           # offsets in a superblock at which some tenant wrote
         self.most = collections.Counter()                       # the most that one tenant had at a time
 
     def owed(self, line):
@@ -98,7 +100,7 @@ class World:
         return 1
 
     def note(self, line, replies):
-        """Learns from the reply to a line. A program may answer anything: nothing is learned from a reply of another form."""
+        """Learns from the reply to a line. A program may answer anything, so replies of another form are skipped."""
         words, told = line.split(), told_in(replies)
         if 'refused' in told[:1] or replies and replies[0].startswith('!> refused'):
             self.refused[replies[0].split()[-1]] += 1
