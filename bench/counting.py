@@ -1,4 +1,4 @@
-"""Counts instructions by callgrind, and keeps the numbers that they are compared with."""
+"""Counts instructions by callgrind, and reads and writes the files of numbers with which the counts are compared."""
 import os
 import re
 import subprocess
@@ -10,7 +10,7 @@ ROUNDS = 100
 # The C library has a memcpy and a memset for each kind of processor. With these settings it uses the same ones on all.
 TUNABLES = "glibc.cpu.hwcaps=-ERMS,-FSRM,-AVX,-AVX2,-AVX512F,-AVX512VL,-AVX_Fast_Unaligned_Load"
 LIBRARY = "C library"
-# Programs that use this header say where callgrind begins. They run faster until there.
+# Programs that use this header start callgrind themselves, just before the measured calls. Until then they run faster.
 HEADER = "/usr/include/valgrind/callgrind.h"
 LATE = ["--instr-atstart=no"] if os.path.exists(HEADER) else []
 
@@ -29,7 +29,7 @@ def read_ceilings(path):
 
 
 def write_ceilings(path, values):
-    """Puts values into the file by their names, under the comment on top."""
+    """Writes the values with their names into the file, and keeps the comment at its top."""
     with open(path, encoding="utf-8") as lines:
         comment = [line for line in lines if line.startswith("#")]
     rows = [f"{LIBRARY}: {own_library()}\n", *(f"{name}: {value}\n" for name, value in values.items())]
@@ -38,7 +38,7 @@ def write_ceilings(path, values):
 
 
 def callgrind(command, *options, out="/dev/null", tunables=TUNABLES, preload=""):
-    """Runs a command under callgrind, and returns how it ended, with what it wrote on standard error."""
+    """Runs a command under callgrind. Returns the completed process, with what it wrote to standard error."""
     tool = ["valgrind", "--tool=callgrind", f"--callgrind-out-file={out}", *options]
     settings = {**os.environ, "GLIBC_TUNABLES": tunables, "LD_PRELOAD": preload}
     return subprocess.run([*tool, *command], stdin=subprocess.DEVNULL, stdout=subprocess.DEVNULL, stderr=subprocess.PIPE,
@@ -46,8 +46,9 @@ def callgrind(command, *options, out="/dev/null", tunables=TUNABLES, preload="")
 
 
 def of_calls(command, out, *options, toggle="measured", functions="measured", called=r".*", tunables=TUNABLES, preload=""):
-    """Returns the instructions of the calls that some functions make, with all that these calls call, while `toggle` runs.
-    callgrind writes to the file `out`. `options` are callgrind's; `functions` and `called` are patterns of names."""
+    """Returns how many instructions the calls from some functions to others take, with all that they call in turn. Only what runs
+    inside the function `toggle` counts. `functions` is a pattern for the names of the callers, `called` one for the names of the
+    called functions. callgrind gets `options`, and writes to the file `out`."""
     own = ["--compress-strings=no", "--compress-pos=no", f"--toggle-collect={toggle}"]
     ran = callgrind(command, *own, *options, out=out, tunables=tunables, preload=preload)
     if ran.returncode:
@@ -61,8 +62,8 @@ def of_calls(command, out, *options, toggle="measured", functions="measured", ca
 
 
 def of_command(program, how, command, folder, tunables=TUNABLES):
-    """Returns the average instructions of a command of bench/events.c, as an event or a direct call: of the call that its
-    `measured` makes in each round."""
+    """Returns the average instructions of a command of bench/events.c, run as an event or as a direct call. Only the call of the
+    library that `measured` makes in each round is counted."""
     run = [program, how, command, str(ROUNDS)]
     functions = "measured|run|event|call"
     return of_calls(run, f"{folder}/{how}-{command}", functions=functions, called=r"partmem_\w+", tunables=tunables) / ROUNDS

@@ -1,18 +1,18 @@
-/* Runs one command again and again by the static library, for bench/run --events and --first-write.
+/* Runs one command again and again with the static library, for bench/run --events and --first-write.
  *
  *     events event|call COMMAND ROUNDS
  *
  * COMMAND is alloc, free, take, give, read, write, cache, destroy, reap, report, grant, take_back, move or reset. For `call` it
- * may also be lend, lend_object, lend_block or find_object. Only its events or direct calls go through `measured`, so that
- * callgrind counts these alone; what undoes them is made in the same way, and not counted. The machine has 32 superblocks of order
- * 6 and 8 tenants. Tenant 0 has half of the superblocks, a page block in each, which was written, and two caches with live
- * objects. A reset is of tenant 1, who has a superblock with a page block and a slab. If bench/floor.c is linked in the place of
- * the library, direct calls of alloc, free, take, give, read, write and lend run.
+ * may also be lend, lend_object, lend_block or find_object. Only the command itself goes through `measured`, so that callgrind
+ * counts it alone. It is undone by events or direct calls too, which are not counted. The machine has 32 superblocks of order 6
+ * and 8 tenants. Tenant 0 has half of the superblocks, a page block in each, which was written to, and two caches with live
+ * objects. A reset is of tenant 1, which has a superblock with a page block and a slab. If bench/floor.c is linked instead of the
+ * library, only the direct calls alloc, free, take, give, read, write and lend work.
  *
  *     events new ORDER           the first write into each superblock, whose memory was never touched
  *     events again ORDER ROUNDS  the first write after a grant, into memory that was touched before
  *
- * The last two print the page faults and the nanoseconds of such a write. The machine has 32 superblocks of that order.
+ * `new` and `again` print the average page faults and nanoseconds of such a write. The machine has 32 superblocks of that order.
  */
 #define _DEFAULT_SOURCE
 #include <stdio.h>
@@ -27,7 +27,7 @@ enum { LEND = 100, LEND_OBJECT, LEND_BLOCK, FIND_OBJECT }; /* direct calls that 
 enum { SUPERBLOCKS = 32, TENANTS = 8, SLOTS = SUPERBLOCKS / 2, SMALL = 96, LARGE = 2048, FRAME_BYTES = 4096 };
 
 static partmem_machine machine;
-static uint32_t tenant; /* who makes the commands */
+static uint32_t tenant; /* the one that makes the commands */
 static uint8_t buffer[PARTMEM_MOST_BYTES];
 static const uint8_t bytes[PARTMEM_MOST_BYTES];
 
@@ -36,7 +36,7 @@ static void fail(const char *what) {
     exit(1);
 }
 
-/* Runs an event of the tenant, and returns its first number, or the slot that a grant gave. */
+/* Runs an event of the tenant. Returns the first number of its reply, or the slot of a grant. */
 static uint32_t event(uint32_t kind, uint32_t first, uint32_t second) {
     partmem_request request = {kind, tenant, first, second};
     partmem_reply reply;
@@ -54,7 +54,7 @@ static void done(partmem_status status) {
     }
 }
 
-/* Does the same by a direct call. */
+/* Makes a direct call of the tenant. Returns the frame, place, cache or slot that it gave, or 0. */
 static uint32_t call(uint32_t kind, uint32_t first, uint32_t second) {
     const partmem_tenant me = {&machine, tenant};
     partmem_lent lent = {0};
@@ -88,12 +88,12 @@ static uint32_t call(uint32_t kind, uint32_t first, uint32_t second) {
 
 static int is_direct;
 
-/* Does the same by an event or a direct call. */
+/* Runs a command as an event or as a direct call. Returns the number that it gave. */
 static uint32_t run(uint32_t kind, uint32_t first, uint32_t second) {
     return is_direct ? call(kind, first, second) : event(kind, first, second);
 }
 
-/* The same, counted. */
+/* Runs the command that callgrind counts. */
 __attribute__((noinline)) uint32_t measured(uint32_t kind, uint32_t first, uint32_t second) { return run(kind, first, second); }
 
 static void boot(int order) {
@@ -103,7 +103,7 @@ static void boot(int order) {
     }
 }
 
-/* Boots the machine and gives tenant 0 what it has, and returns the first frame of a page block that was written. */
+/* Boots the machine, and gives tenant 0 its memory. Returns the first frame of a page block that was written to. */
 static uint32_t set_up(void) {
     uint32_t frame = 0;
     boot(6);
@@ -130,7 +130,7 @@ static void reset_another(void) {
     measured(PARTMEM_RESET, 0, 0);
 }
 
-/* Runs a command once, counted, with what makes it possible and what undoes it, which are not. */
+/* Runs a command once, counted. What prepares it and what undoes it is not counted. */
 static void run_round(const char *command, uint32_t frame) {
     if (!strcmp(command, "alloc")) {
         run(PARTMEM_FREE, measured(PARTMEM_ALLOC, 0, 0), 0);
@@ -189,7 +189,7 @@ static long page_faults(void) {
     return used.ru_minflt;
 }
 
-/* Prints the page faults and the time of a first write, into new memory or into memory that was touched before. */
+/* Prints the average page faults and nanoseconds of a first write, into new memory or into memory that was touched before. */
 static void first_writes(int is_new, int rounds, int order) {
     double time = 0;
     long faults = 0;

@@ -1,9 +1,9 @@
-/* The floor of the direct calls: those calls of partmem.h that the benchmark makes, written by hand in plain C. Nothing of it is
+/* The floor of the direct calls: those calls of partmem.h that the benchmark makes, written by hand in plain C. Nothing here is
  * proved.
  *
  * It follows docs/frames-and-blocks.md and docs/slabs.md as the library does: it chooses the same blocks and objects, tests the
  * same numbers in the same order, and keeps the same records in the frames. So each call returns the same status, numbers and
- * bytes, and bench/run checks that it does. What a call takes here is owed to these rules:
+ * bytes, and bench/run checks that it does. These rules decide what a call has to do:
  *
  *     tests    the machine, the tenant, the order or the cache, and whether a live block or object begins at the place
  *     alloc    the first of the least free blocks that are large enough; what is left of it stays free
@@ -13,9 +13,9 @@
  *     zeroes   in the frames of a slab that is freed, and in a superblock before its first use after a grant
  *     moves    a slot may get another superblock, so each address is looked up by its slot
  *
- * Free blocks, partial slabs and empty slabs are bits, and the first one is found by reading three words. There are no lists.
- * Each tenant has tables of its own, as large as on the largest machine; what a load does not use stays untouched. Calls that no
- * load makes are missing.
+ * Free blocks, partial slabs and empty slabs are marked by bits, and the first one is found by reading three words. There are no
+ * lists. Each tenant has its own tables, as large as on the largest machine; a load touches only what it uses of them. Calls that
+ * no load makes are missing.
  */
 #include <stdbool.h>
 #include <stdlib.h>
@@ -24,12 +24,12 @@
 #include "partmem.h"
 
 #define INLINE static inline __attribute__((always_inline))
-/* Not inlined: a function that calls it at its very end need not save registers for it. */
+/* A function that is never inlined. A caller that calls it last need not save registers for it. */
 #define APART static __attribute__((noinline))
 #define RARE static __attribute__((noinline, cold))
 
 enum {
-    GROUP = 64, /* frames, a bit of a word for each */
+    GROUP = 64, /* frames of a group: each has a bit in the group's words */
     MOST_FRAMES = PARTMEM_MOST_SUPERBLOCKS << PARTMEM_MOST_ORDER,
     MOST_GROUPS = MOST_FRAMES / GROUP,
     FRAME_BYTES = PARTMEM_FRAME_BYTES,
@@ -47,28 +47,29 @@ struct group {
     uint64_t empty[PARTMEM_MOST_CACHES];
 };
 
-/* Which groups have a bit of one kind: a bit for each of them, and above these a bit for each word of them that is not 0. */
+/* Says which groups have a bit of one kind. `groups` has a bit for each group, and `words` one for each word of `groups` that is
+ * not 0. */
 struct summary {
     uint64_t words;
     uint64_t groups[MOST_GROUPS / 64];
 };
 
-/* The first frame of a page block or a slab. `taken` and `cache` of any other are 0. */
+/* What is kept for the first frame of a page block or a slab. For any other frame `taken` and `cache` are 0. */
 struct frame {
     uint64_t record; /* of a slab of large objects: which are live */
     uint16_t live;   /* objects of a slab */
     uint16_t colour; /* bytes of a slab before its first object */
     uint8_t taken;   /* the order of the block plus 1 */
-    uint8_t cache;   /* the number of the slab's cache plus 1, 0 of a page block */
+    uint8_t cache;   /* the number of the slab's cache plus 1; 0 for a page block */
 };
 
 struct cache {
     uint32_t size;    /* bytes of an object */
     uint32_t chunk;   /* bytes from an object to the next */
     uint32_t extent;  /* bytes of all chunks of a slab */
-    uint32_t inverse; /* 2^32 / chunk, rounded up: a product with it takes the place of a division */
+    uint32_t inverse; /* 2^32 / chunk, rounded up: it is multiplied instead of dividing by chunk */
     uint32_t objects; /* of a slab */
-    uint32_t live;    /* objects of all slabs: a cache with a live one must not be destroyed */
+    uint32_t live;    /* live objects of all slabs: a cache with one must not be destroyed */
     uint8_t order;    /* of a slab */
     bool is_small;
     struct summary partial, empty;
@@ -80,7 +81,7 @@ struct cache {
 struct tenant {
     uint32_t orders; /* bit k is 1 if a block of order k is free */
     struct summary free[PARTMEM_MOST_ORDER + 1];
-    uintptr_t base[PARTMEM_MOST_SUPERBLOCKS]; /* by slot: the address of a place less the place, 0 if the slot is not held */
+    uintptr_t base[PARTMEM_MOST_SUPERBLOCKS]; /* by slot: the address of a place minus the place; 0 if the slot is not held */
     bool is_cleared[PARTMEM_MOST_SUPERBLOCKS];
     struct cache *cache[PARTMEM_MOST_CACHES]; /* NULL if there is no such cache */
     struct cache caches[PARTMEM_MOST_CACHES];
@@ -99,7 +100,7 @@ struct machine {
 
 INLINE uint32_t lowest(uint64_t bits) { return (uint32_t)__builtin_ctzll(bits); }
 
-/* Sets the bit of a frame in a word of its group. */
+/* Sets the bit of a frame in a word of its group, and notes in the summary that the group has one. */
 INLINE void add(struct summary *summary, uint64_t *word, uint32_t frame)
 {
     const uint32_t group = frame / GROUP;
@@ -119,7 +120,8 @@ INLINE bool drop(struct summary *summary, uint64_t *word, uint32_t frame)
     return (summary->words &= ~(1ull << group / 64)) == 0;
 }
 
-/* Clears the first bit of the first group, which `word` is of. Returns true if no group has a bit any more. */
+/* Clears the first bit of the first group that has one. `word` is this group's word. Returns true if no group has a bit any
+ * more. */
 INLINE bool drop_first(struct summary *summary, uint64_t *word)
 {
     uint64_t *groups = &summary->groups[lowest(summary->words)];
@@ -154,8 +156,8 @@ INLINE bool is_free(const struct tenant *tenant, uint32_t order, uint32_t frame)
     return (tenant->group[frame / GROUP].free[order] >> frame % GROUP & 1) != 0;
 }
 
-/* Takes the first of the least free blocks that are large enough. Sets `*its` to its order, and returns its first frame. There is
- * such a block. */
+/* Takes the first of the least free blocks that are large enough; there has to be one. Sets `*its` to its order, and returns its
+ * first frame. */
 INLINE uint32_t take_free(struct tenant *tenant, uint32_t order, uint32_t *its)
 {
     *its = order + lowest(tenant->orders >> order);
@@ -206,19 +208,19 @@ INLINE uint8_t *address(const struct machine *machine, const struct tenant *tena
     return (uint8_t *)(tenant->base[frame >> machine->order] + (uintptr_t)frame * FRAME_BYTES);
 }
 
-/* The record of a slab, by the address of its first frame. */
+/* Returns the record of a slab whose first frame is at the address `at`. */
 INLINE uint64_t *record_of(const struct cache *cache, struct frame *slab, uint8_t *at)
 {
     return cache->is_small ? (uint64_t *)(void *)(at + FRAME_BYTES - RECORD_BYTES) : &slab->record;
 }
 
-/* The number of the object whose chunk has a byte, `offset` bytes from the first object on. */
+/* Returns the number of the object whose chunk contains the byte at `offset`, counted from the first object. */
 INLINE uint32_t object_at(const struct cache *cache, uint32_t offset)
 {
     return (uint32_t)((uint64_t)offset * cache->inverse >> 32);
 }
 
-/* Clears the superblock under a slot. */
+/* Fills the superblock of a slot with zeroes. */
 RARE partmem_status clear_slot(const struct machine *machine, struct tenant *tenant, uint32_t slot)
 {
     memset(address(machine, tenant, slot << machine->order), 0, (size_t)FRAME_BYTES << machine->order);
@@ -226,7 +228,7 @@ RARE partmem_status clear_slot(const struct machine *machine, struct tenant *ten
     return PARTMEM_DONE;
 }
 
-/* Frees the empty slabs of all caches, with zeroes in their frames, and returns how many frames they had. */
+/* Fills the empty slabs of all caches with zeroes and frees them. Returns how many frames they had. */
 APART uint32_t reap(const struct machine *machine, struct tenant *tenant)
 {
     uint32_t frames = 0;
@@ -246,7 +248,7 @@ APART uint32_t reap(const struct machine *machine, struct tenant *tenant)
     return frames;
 }
 
-/* Whether each frame of a block is free or in an empty slab. */
+/* Returns whether each frame of a block is free or in an empty slab. */
 static bool can_be_free(const struct tenant *tenant, uint32_t frame, uint32_t order)
 {
     const uint32_t end = frame + (1u << order);
@@ -258,7 +260,8 @@ static bool can_be_free(const struct tenant *tenant, uint32_t frame, uint32_t or
     return true;
 }
 
-/* Whether a block of an order is free once all empty slabs are freed. Only a block around one of them can be. */
+/* Returns whether a block of this order would be free after all empty slabs are freed. Only blocks that share a frame with an
+ * empty slab are tested. */
 APART bool has_block_after_reap(const struct machine *machine, const struct tenant *tenant, uint32_t order)
 {
     const uint32_t groups = ((machine->superblocks << machine->order) + GROUP - 1) / GROUP;
@@ -273,7 +276,8 @@ APART bool has_block_after_reap(const struct machine *machine, const struct tena
     return false;
 }
 
-/* Frees all empty slabs if no block of an order is free without that. Returns false if none would be; nothing is freed then. */
+/* Makes sure that a block of this order can be taken, by freeing all empty slabs if there is none without that. Returns false and
+ * frees nothing if that would not help. */
 APART bool make_block(const struct machine *machine, struct tenant *tenant, uint32_t order)
 {
     if (has_block(tenant, order)) return true;
@@ -282,7 +286,7 @@ APART bool make_block(const struct machine *machine, struct tenant *tenant, uint
     return true;
 }
 
-/* Repeats the pattern in an object. */
+/* Fills an object with the pattern of its cache, repeated. */
 static void construct(const struct cache *cache, uint8_t *object)
 {
     size_t done = cache->pattern_bytes < cache->size ? cache->pattern_bytes : cache->size;
@@ -294,7 +298,7 @@ static void construct(const struct cache *cache, uint8_t *object)
     }
 }
 
-/* Makes an empty slab of a cache. Returns false without a block for it. */
+/* Makes an empty slab of a cache. Returns false if there is no block for it. */
 APART bool make_slab(const struct machine *machine, struct tenant *tenant, uint32_t number)
 {
     struct cache *cache = tenant->cache[number];
@@ -319,7 +323,7 @@ APART bool make_slab(const struct machine *machine, struct tenant *tenant, uint3
     return true;
 }
 
-/* ---- Who calls, and refusals --------------------------------------------------------------------------------------------- */
+/* ---- Callers and refusals ------------------------------------------------------------------------------------------------ */
 
 INLINE partmem_status enter(partmem_tenant who, struct machine **machine, struct tenant **tenant)
 {
@@ -330,7 +334,7 @@ INLINE partmem_status enter(partmem_tenant who, struct machine **machine, struct
     return PARTMEM_DONE;
 }
 
-/* Returns why a call that lends is refused, with zeroes in its result. */
+/* Refuses a call that lends: fills its result with zeroes, and returns the reason. */
 RARE partmem_status refuse(partmem_lent *lent, partmem_status why)
 {
     *lent = (partmem_lent){NULL, 0, 0};
@@ -339,7 +343,7 @@ RARE partmem_status refuse(partmem_lent *lent, partmem_status why)
 
 /* ---- Page blocks --------------------------------------------------------------------------------------------------------- */
 
-/* An alloc that finds no free block. */
+/* Does an alloc that found no free block. */
 APART partmem_status alloc_after_reap(partmem_tenant who, uint32_t order, partmem_lent *block)
 {
     struct machine *machine = who.machine->held[0];
@@ -347,7 +351,7 @@ APART partmem_status alloc_after_reap(partmem_tenant who, uint32_t order, partme
                                                                     : refuse(block, PARTMEM_NO_FRAMES);
 }
 
-/* The rest of an alloc from a larger block, or in a slot that was not used before. */
+/* Does the rest of an alloc if its block was larger, or lies in a slot that was not used before. */
 APART partmem_status alloc_more(const struct machine *machine, struct tenant *tenant, uint32_t frame, uint32_t its,
                                 uint32_t order)
 {
@@ -409,7 +413,7 @@ APART partmem_status relist_given(struct tenant *tenant, uint32_t number, uint32
     return PARTMEM_DONE;
 }
 
-/* A take that finds no partial and no empty slab. */
+/* Does a take that found neither a partial nor an empty slab. */
 APART partmem_status take_of_new_slab(partmem_tenant who, uint32_t number, partmem_lent *object)
 {
     struct machine *machine = who.machine->held[0];
@@ -522,7 +526,8 @@ INLINE partmem_status lend(const struct machine *machine, struct tenant *tenant,
 
     if (offset > most || bytes > most - offset) return refuse(lent, PARTMEM_OUT_OF_REACH);
     *lent = (partmem_lent){address(machine, tenant, place / FRAME_BYTES) + place % FRAME_BYTES, place, (uint32_t)bytes};
-    /* Direct calls have cleared the slot before. The library needs this test, since an alloc by an event lends nothing. */
+    /* Direct calls have cleared the slot before. The library needs this test all the same: an alloc by an event lends nothing,
+     * and so clears nothing. */
     const uint32_t slot = place / FRAME_BYTES >> machine->order;
     return tenant->is_cleared[slot] ? PARTMEM_DONE : clear_slot(machine, tenant, slot);
 }
@@ -561,7 +566,7 @@ partmem_status partmem_write(partmem_tenant who, uint32_t place, const void *fro
     return wrong;
 }
 
-/* ---- What comes before --------------------------------------------------------------------------------------------------- */
+/* ---- Boot, grants and caches --------------------------------------------------------------------------------------------- */
 
 partmem_status partmem_end(partmem_machine *machine)
 {
@@ -615,7 +620,7 @@ partmem_status partmem_grant(partmem_tenant who, partmem_slot *granted)
     return PARTMEM_DONE;
 }
 
-/* Sets the form of the slabs of a cache. */
+/* Computes the layout of a cache's slabs from the size and the alignment of its objects. */
 static void set_form(struct cache *cache)
 {
     const uint32_t chunk = (cache->size + cache->align - 1) / cache->align * cache->align;
@@ -658,9 +663,9 @@ partmem_status partmem_make_cache(partmem_tenant who, uint32_t size, uint32_t al
     return PARTMEM_DONE;
 }
 
-/* ---- What is not there --------------------------------------------------------------------------------------------------- */
+/* ---- Missing functions --------------------------------------------------------------------------------------------------- */
 
-/* The programs of the benchmark name these functions too. With the floor they call none of them. */
+/* The programs of the benchmark are linked to these functions too, but with the floor they call none of them. */
 __attribute__((used)) static void is_missing(void) { abort(); }
 
 #define MISSING(name) __asm__(".globl " #name "\n.set " #name ", is_missing")

@@ -1,12 +1,12 @@
-/* Runs the requests of a recorded program by the heap of a tenant (partmem_heap.h), or by malloc and free.
+/* Runs the requests of a recorded program with the heap of a tenant (partmem_heap.h), or with malloc and free.
  *
  *     heap heap|malloc LOG           prints how many requests and frees there are, and the nanoseconds of one
  *     heap heap-used|malloc-used LOG stores all bytes, and prints the most bytes that were requested and not yet freed, and by
  *                                    how many bytes the process grew
  *
  * LOG is a log of machines/malloc_log.c, where a realloc is a free and a malloc. The requests are read first, so that only calls
- * are measured. `malloc` measures the allocator that is linked or preloaded. The machine has 64 superblocks of a MiB, all of them
- * the tenant's, with runs.
+ * are measured. `malloc` measures the allocator that is linked or preloaded. The machine has 64 superblocks of 1 MiB, all granted
+ * to the tenant, whose heap has runs.
  */
 #define _DEFAULT_SOURCE
 #include <fcntl.h>
@@ -27,7 +27,7 @@
 
 enum { ORDER = 8, SUPERBLOCKS = 64, FREED = 0xffffffff /* the bytes of a call that frees */ };
 
-/* A request, or a free; `piece` is the number of what it allocates or frees. */
+/* A request or a free. `piece` is the number of the memory that it allocates or frees. */
 struct call {
     uint32_t piece, bytes;
 };
@@ -44,7 +44,7 @@ static void check(int holds, const char *what) {
     }
 }
 
-/* Returns memory from the system, which no allocator has. */
+/* Returns memory that comes from the system, not from an allocator. */
 static void *some(size_t bytes) {
     void *at = mmap(NULL, bytes, PROT_READ | PROT_WRITE, MAP_PRIVATE | MAP_ANONYMOUS, -1, 0);
     check(at != MAP_FAILED, "not enough memory");
@@ -53,7 +53,7 @@ static void *some(size_t bytes) {
 
 /* ---- The log ------------------------------------------------------------------------------------------------------------ */
 
-/* The live pieces by address: open addressing in a table whose size is a power of two. An entry is a piece's number plus 1. */
+/* The live pieces by address: open addressing in a table whose size is a power of two. An entry has the piece's number plus 1. */
 static struct entry {
     uint64_t at;
     size_t piece;
@@ -156,7 +156,7 @@ static size_t status(const char *name) {
     return strtoul(found + strlen(name), NULL, 10) * 1024;
 }
 
-/* Resets VmHWM, which from now on is the peak of what follows. */
+/* Resets VmHWM, so that it is the peak from now on. */
 static void forget_peak(void) {
     int file = open("/proc/self/clear_refs", O_WRONLY);
     check(file >= 0 && write(file, "5", 1) == 1, "/proc/self/clear_refs cannot be written");

@@ -1,16 +1,17 @@
-/* Runs the lines of a trace by the static library, or by malloc and free, and prints the nanoseconds of a call.
+/* Runs the lines of a trace with the static library, or with malloc and free, and prints the nanoseconds of a call.
  *
  *     library HOW ORDER SUPERBLOCKS TENANTS TRACE
  *     library answers ORDER SUPERBLOCKS TENANTS TRACE   writes what each direct call returns, a line each
  *     library --order=ORDER --superblocks=SUPERBLOCKS --tenants=TENANTS   writes the replies to lines, as `partmem` does
  *
  * HOW is `event` (partmem_event), `line` (partmem_line), `call` (the direct calls) or `malloc`. The calls are made in turn on a
- * machine that was just booted. Their arguments are made before, and their results are not used. For malloc a page block or an
- * object is a block of as many bytes; lines that neither take nor give are left out. `malloc` measures the allocator that is
- * linked or preloaded. After a direct call and after malloc the first byte is stored. With `call-used` and `malloc-used` all
- * bytes of a block or an object are stored when it is taken, and loaded and checked before it is given back.
+ * machine that was just booted. Their arguments are made before, and their results are not used. `malloc` requests as many bytes
+ * as each page block or object has, and leaves out lines that neither take nor give memory. It measures the allocator that is
+ * linked or preloaded. After a malloc, and after a direct call that takes memory, the first byte is stored. With `call-used` and
+ * `malloc-used` all bytes of a block or an object are stored when it is taken, and loaded and checked before it is given back.
  *
- * If bench/floor.c is linked in the place of the library, `call`, `call-used` and `answers` run. Its answers have to be the same.
+ * If bench/floor.c is linked instead of the library, `call`, `call-used` and `answers` work. The lines of `answers` have to be
+ * the same.
  */
 #define _POSIX_C_SOURCE 200809L
 #include <inttypes.h>
@@ -40,8 +41,8 @@ struct call {
     uint8_t bytes[PARTMEM_MOST_BYTES];
     size_t bytes_len;
     enum deed deed;
-    size_t block; /* how many blocks were taken before this line */
-    size_t size;  /* of what is taken or given, in bytes */
+    size_t block; /* the number of what is taken or given back, in the order of the takes */
+    size_t size;  /* its bytes */
 };
 
 static struct call *calls;
@@ -72,7 +73,7 @@ static size_t from_hex(const char *hex, uint8_t *bytes) {
     return count;
 }
 
-/* The event of a line of a load. */
+/* Reads the event from a line of a load. */
 static void understand(struct call *call) {
     static const struct { const char *word; uint32_t kind; } kinds[] = {
         {"alloc", PARTMEM_ALLOC}, {"free", PARTMEM_FREE}, {"read", PARTMEM_READ},       {"write", PARTMEM_WRITE},
@@ -126,7 +127,7 @@ static void boot(char **sizes) {
     check(partmem_boot(&machine, &config) == PARTMEM_DONE, "boot");
 }
 
-/* What the direct calls return, but for their status. */
+/* What the direct calls return besides their status. */
 struct results {
     partmem_lent lent;
     partmem_slot slot;
@@ -134,7 +135,7 @@ struct results {
     uint32_t frames;
 };
 
-/* Always inlined, so that callgrind counts the library's calls alone. */
+/* Makes the direct call of a line. It is always inlined, so that callgrind counts only the library's calls. */
 __attribute__((always_inline)) static inline partmem_status run_direct(const struct call *call, struct results *results) {
     const partmem_tenant tenant = {&machine, call->request.tenant};
     uint32_t first = call->request.first, second = call->request.second;
@@ -152,7 +153,7 @@ __attribute__((always_inline)) static inline partmem_status run_direct(const str
     }
 }
 
-/* The place that a call names, or at which begins what it took. */
+/* Returns the place that a call names, or the first place of what it took. */
 static uint32_t place_of(const struct call *call, const struct results *results) {
     const partmem_request *request = &call->request;
     switch (request->kind) {
@@ -164,10 +165,10 @@ static uint32_t place_of(const struct call *call, const struct results *results)
     }
 }
 
-/* Finds what each line takes or gives back, from the library's replies: a frame or a place says which block is given back. */
+/* Runs the trace once to find what each line takes or gives back. The place in a free or a give says which memory is meant. */
 static void plan(char **sizes) {
     size_t granules = ((size_t)atol(sizes[1]) << atol(sizes[0])) * FRAME_BYTES / 8;
-    uint32_t *taker[MOST_TENANTS]; /* the call that took what begins at a place */
+    uint32_t *taker[MOST_TENANTS]; /* by place / 8: the call that took what begins at the place */
     for (size_t tenant = 0; tenant < MOST_TENANTS; tenant++) {
         taker[tenant] = some(granules, sizeof **taker);
     }
@@ -215,7 +216,7 @@ __attribute__((noinline)) static void run_lines(void) {
     }
 }
 
-/* Stores all bytes of what was taken, or only the first. */
+/* Stores all bytes of what was taken if it is used, or else only the first. */
 static void store(uint8_t *at, const struct call *call, int is_used) {
     if (is_used) {
         memset(at, (uint8_t)call->block, call->size);
@@ -224,7 +225,7 @@ static void store(uint8_t *at, const struct call *call, int is_used) {
     }
 }
 
-/* Loads all bytes of what is given back. */
+/* Loads and checks all bytes of what is given back. */
 static void load(const uint8_t *at, const struct call *call) {
     check(*at == (uint8_t)call->block && memcmp(at, at + 1, call->size - 1) == 0, "bytes are not as they were stored");
 }
@@ -265,7 +266,7 @@ __attribute__((noinline)) static size_t run_malloc(uint8_t **blocks, int is_used
     return count;
 }
 
-/* A number that depends on all bytes, on their order, and on the number before. */
+/* Returns a hash of some bytes and of the hash before. */
 static uint64_t sum(uint64_t before, const void *bytes, size_t count) {
     const uint8_t *at = bytes;
     for (size_t size; count > 0; count -= size, at += size) {
@@ -278,8 +279,8 @@ static uint64_t sum(uint64_t before, const void *bytes, size_t count) {
     return before;
 }
 
-/* Adds to a sum what more calls about a place return: lends, some of them of too many bytes, and calls that are refused since no
- * object or block begins there, or none any more. */
+/* Adds to a hash what more calls about a place return: lends, some of them of too many bytes, and frees and gives that are
+ * refused, since nothing begins at their place, or since it was already given back. */
 static uint64_t sum_of_more(uint64_t before, const struct call *call, uint32_t place, uint32_t bytes) {
     const partmem_tenant tenant = {&machine, call->request.tenant};
     const struct { uint32_t place, bytes; } lends[] = {
@@ -300,8 +301,9 @@ static uint64_t sum_of_more(uint64_t before, const struct call *call, uint32_t p
     return sum(before, refusals, sizeof refusals);
 }
 
-/* Writes what each direct call returns: its kind, its status, the place that it names or takes, the bytes that it takes or gives
- * back, and a sum of these bytes, of all else that it returns, and of what more calls about the place return. */
+/* Writes a line for each direct call: its kind, its status, the place that it names or takes, how many bytes it takes or gives
+ * back, and a hash. The hash is of these bytes, of all else that the call returns, and of what more calls about the place
+ * return. */
 static void write_answers(uint8_t **blocks) {
     for (size_t i = 0; i < call_count; i++) {
         const struct call *call = &calls[i];

@@ -7,7 +7,7 @@ import random
 
 # Bytes of the objects of each cache of a tenant, by its number.
 SIZES = (16, 24, 64, 100, 256, 500, 1000, 2000, 3000)
-# The cache of objects of a whole frame, which `mixed` makes after those.
+# The number of the cache whose objects have the size of a frame. Only `mixed` makes it, after the caches of SIZES.
 WHOLE = len(SIZES)
 BATCH = 256
 
@@ -27,12 +27,12 @@ class Tenant:
 
 
 def grants(superblocks, tenants):
-    """Shares out the superblocks in turn."""
+    """Returns lines that grant the superblocks to the tenants in turn."""
     return [f'admin grant {m % tenants}' for m in range(superblocks)]
 
 
 def caches(draw, tenants):
-    """Each tenant makes a cache of every size; a constructed object is a pattern of 1, 4 or 8 bytes, repeated."""
+    """Returns lines with which each tenant makes a cache of every size. The patterns of the objects have 1, 4 or 8 bytes."""
     return [f'{t} cache {size} 8 {draw.randbytes(draw.choice((1, 4, 8))).hex()}' for t in range(tenants) for size in SIZES]
 
 
@@ -58,7 +58,7 @@ def give(draw, tenant):
 
 
 def pages(draw, tenants):
-    """Allocates and frees blocks of order 0 to 3, mostly small, in any order. They fill about half of each tenant's frames."""
+    """Allocates and frees blocks of order 0 to 3, mostly small ones, at random. They fill about half of each tenant's frames."""
     for tenant in draw.choices(tenants, k=BATCH):
         if draw.random() < (.6 if tenant.used < tenant.frames // 2 else .4) or not tenant.blocks:
             yield alloc(draw, tenant)
@@ -67,7 +67,7 @@ def pages(draw, tenants):
 
 
 def objects(draw, tenants):
-    """Takes and gives objects of all sizes. Some tens of each tenant are live at a time, so slabs come and go."""
+    """Takes and gives objects of all sizes. Each tenant has about half as many live objects as frames, so slabs come and go."""
     for tenant in draw.choices(tenants, k=BATCH):
         if draw.random() < .0005:
             yield tenant, f'{tenant.number} reap', None
@@ -78,7 +78,8 @@ def objects(draw, tenants):
 
 
 def scattered(draw, tenants):
-    """Takes small objects until they use most frames, and gives back any of them, so each cache has hundreds of partial slabs."""
+    """Takes objects of 256 to 1000 bytes until they use most frames, and gives back random ones, so each cache has hundreds of
+    partial slabs."""
     for tenant in draw.choices(tenants, k=BATCH):
         if draw.random() < (.9 if len(tenant.objects) < tenant.frames * 5 else .5) or not tenant.objects:
             yield take(tenant, draw.choice((4, 5, 6)))
@@ -122,7 +123,7 @@ FAULTS = ('frobnicate 1', '{} alloc', '{} allot 1', '{} free x', '{} write 0 0',
 
 
 def faulty(draw, tenants):
-    """Follows each line on blocks by one that is no command, or is refused."""
+    """Puts behind each line on blocks a line that is no command, or that is refused."""
     for line in pages(draw, tenants):
         yield line
         tenant = draw.choice(tenants)
@@ -146,14 +147,14 @@ def object_of(held):
 
 LOADS = {'pages': pages, 'objects': objects, 'scattered': scattered, 'transfers': transfers, 'mixed': mixed, 'faulty': faulty,
          'administered': administered}
-# An allocator has no call like those of these loads.
+# These loads are not run with other allocators, which have no calls like theirs.
 LINES_ALONE = ('faulty', 'administered')
 # The blocks and objects of these loads are also used in place.
 USED = ('pages', 'objects')
 
 
 def make(name, ask, lines, order, superblocks, tenants, seed=1):
-    """Returns all lines of a load. `ask` runs some lines and returns the replies, one to a line."""
+    """Returns all lines of a load. `ask` runs some lines and returns the replies, one for each line."""
     draw = random.Random(f'{name} {seed}')
     # One superblock is left without owner, so that slots can be moved to it.
     granted = superblocks - 1 if name == 'administered' else superblocks

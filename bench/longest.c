@@ -3,8 +3,8 @@
  *     longest CALL ORDER SUPERBLOCKS ROUNDS
  *     longest                                 prints the names of the calls
  *
- * Prints the least nanoseconds of the rounds. The machine lies in memory that was touched before. It
- * boots again in each round. Only the call itself goes through `measured`, so that callgrind counts it alone.
+ * Prints the least nanoseconds of the rounds. The machine lies in memory that was touched before, and boots again in each round.
+ * Only the call itself goes through `measured`, so that callgrind counts it alone.
  */
 #define _POSIX_C_SOURCE 200809L
 #include <stdbool.h>
@@ -43,7 +43,7 @@ static void must(partmem_status status)
 
 static void boot(void) { must(partmem_boot_in(&machine, &config, &memory)); }
 
-/* Grants all superblocks but some, and touches each, so that none has to be cleared later. */
+/* Grants all superblocks but `some`, and allocates and frees each of them, so that none has to be cleared later. */
 static void grant_all_but(uint32_t some)
 {
     partmem_slot slot;
@@ -128,7 +128,7 @@ static void grant_again(void)
     must(partmem_grant(me, &slot));
 }
 
-/* Leaves a superblock to grant, a cache with a live object, and a page block, which is `lent`. */
+/* Leaves one superblock free, and makes a cache with a live object, and a page block, which is `lent`. */
 static void hold_some(void)
 {
     grant_all_but(1);
@@ -151,7 +151,7 @@ static partmem_status reap(void)
     return partmem_reap(me, &frames);
 }
 
-/* Makes each other call once, except the end, events and lines. */
+/* Makes each call once that has no case of its own, except the end, events and lines. They also need a take and an alloc. */
 static partmem_status others(void)
 {
     static uint8_t bytes[PARTMEM_MOST_BYTES];
@@ -182,7 +182,7 @@ static partmem_status take(void) { return partmem_take(me, 0, &lent); }
 static partmem_status take_other(void) { return partmem_take(me, 1, &lent); }
 static partmem_status boot_in(void) { return partmem_boot_in(&machine, &config, &memory); }
 
-/* Fails if the block is not refused. */
+/* Requests a block of the greatest order. Fails if it is not refused. */
 static partmem_status alloc_refused(void)
 {
     partmem_status status = partmem_alloc(me, config.order, &lent);

@@ -1,4 +1,4 @@
-"""The workloads of bench/workloads.txt, timed by turns in two built checkouts."""
+"""Times the workloads of bench/workloads.txt, in turn in two built checkouts."""
 import hashlib
 import os
 import shlex
@@ -44,8 +44,8 @@ def turn(checkout, crate, words, seed):
 
 
 def compare(old, new, seed):
-    """Prints a row for each workload of the new checkout: the medians of its turns in both, and the old one's divided by the new
-    one's."""
+    """Prints a row for each workload of the new checkout: the median times in the old and the new checkout, the old one divided
+    by the new one, and the least and greatest times in both."""
     rows = workloads(new)
     print(f'{TURNS} turns, seed {seed}: seconds, medians')
     print(f'{"workload":<12}{"old":>9}{"new":>9}{"old/new":>9}   least to most')

@@ -1,7 +1,8 @@
-"""The most expensive lines that one tenant may send for ever: the lines before, and those that are sent again and again.
+"""The most expensive lines that one tenant may send for ever. Each case has lines that prepare it, and lines that are then sent
+again and again.
 
-As in the loads, later lines name what the replies to the lines before had. bench/run shows a usual case beside each: lines of the
-same kind of a tenant that holds little else.
+As in the loads, later lines name the frames and places of earlier replies. bench/run --worst runs each case with all superblocks
+and with two.
 """
 CACHES = 32
 
@@ -20,7 +21,7 @@ def last_number(reply):
 
 
 class Standing:
-    """The lines so far; `run` returns the replies to more."""
+    """The lines that were run so far. `run` runs more lines and returns their replies."""
 
     def __init__(self, ask):
         self.ask, self.lines = ask, []
@@ -32,7 +33,7 @@ class Standing:
 
 
 def no_room_around_slabs(standing, order, superblocks):
-    """Requests a block of the greatest order. Each superblock has an empty slab of every cache, free frames, and a taken one."""
+    """Requests a block of the greatest order. Each superblock has an empty slab of every cache, free frames and a taken one."""
     frames = 1 << order
     some = min(CACHES, frames - 1)
     standing.run(grants(superblocks) + [cache(4096)] * CACHES)
@@ -90,7 +91,7 @@ CASES = (no_room_around_slabs, no_frame, middle_of_full_slabs, last_frame, last_
 
 
 def made(case, ask, order, superblocks):
-    """Returns the lines before, and those that are sent again and again."""
+    """Returns the lines that prepare a case, and those that are sent again and again."""
     standing = Standing(ask)
     again = case(standing, order, superblocks)
     return standing.lines, again
