@@ -7,8 +7,8 @@ HOW = 'build it by `make unproved`, which proves nothing and takes two minutes, 
 
 
 def found(user, proved, unproved):
-    """Returns the path of the first of these files at the top of the repository or of a release, or None. If only the unproved
-    one is there, it says so on standard error, in the name of `user`."""
+    """Returns the path of the first of these files that exists, or None. They are named from the top of the repository or of a
+    release. If only the unproved one exists, a message of the script `user` says so on standard error."""
     for file in [*proved, unproved]:
         path = os.path.join(TOP, file)
         if os.path.isfile(path):

@@ -1,4 +1,4 @@
-"""Finds, for from-malloc, who allocated the blocks that are live when most bytes are."""
+"""Finds for from-malloc who allocated the blocks that are live at the time when most bytes are live."""
 import collections
 import os
 import shutil
@@ -8,11 +8,11 @@ import time
 import summary
 
 MOST_ROWS, MOST_LOOKED_UP, MOST_CHARACTERS = 20, 1000, 80
-MOST_SECONDS, MOST_BYTES = 60, 1 << 32  # for all runs of addr2line; of a file that it reads
+MOST_SECONDS, MOST_BYTES = 60, 1 << 32  # for all runs of addr2line together; of a file that it reads
 
 
 class Calls:
-    """The bytes and blocks of a caller: those that are live, and those that were live at the peak of a number."""
+    """The live bytes and blocks of a caller, and in `then` those that were live at the peak whose number is `peak`."""
     __slots__ = 'size', 'count', 'peak', 'then'
 
     def __init__(self):
@@ -41,8 +41,8 @@ class Callers:
             self.change(calls, -size, -1)
 
     def change(self, calls, size, count):
-        """Counts a change. What has not changed since the last peak is still what it was then, so only the first change keeps
-        it."""
+        """Counts a change. The first change of a caller after a peak stores what the caller had at the peak. As long as nothing
+        changes, the caller still has it."""
         if calls.peak < self.peaks:
             calls.peak, calls.then = self.peaks, (calls.size, calls.count)
         calls.size += size
@@ -60,7 +60,8 @@ class Callers:
 
 
 def is_plain(path):
-    """Returns whether a path is a plain file, since a log may name any path: files of /proc have no size, or more than RAM."""
+    """Returns whether addr2line may read a path, which a log may choose freely: only a plain file, and neither an empty nor a
+    huge one, as files of /proc are."""
     return os.path.isabs(path) and os.path.isfile(path) and 0 < os.path.getsize(path) <= MOST_BYTES
 
 

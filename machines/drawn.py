@@ -29,7 +29,7 @@ LAYER = re.compile(r'<path class="(?P<classes>cells d(?P<depth>\d))" transform="
 
 
 class Figures:
-    """How many frames a tenant holds in each column, how many of these are taken, and how often it had been refused frames."""
+    """By column: how many frames a tenant holds, how many of these are taken, and how often it had been refused frames."""
 
     def __init__(self):
         self.held, self.taken, self.refused = [], [], []

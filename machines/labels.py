@@ -1,5 +1,5 @@
-"""Adds to a picture of framemap what its trace and its figures say: names, bytes, time, and titles under the pointer. All else
-stays where framemap has drawn it."""
+"""Adds to a picture of framemap what the trace and the figures say: names, bytes, times, and titles that appear under the
+pointer. All else stays where framemap has drawn it."""
 import html
 import re
 
@@ -7,11 +7,11 @@ import drawn
 import scales
 from scales import WIDTH
 
-LEFT, RIGHT, MARGIN = 72, 36, 16        # the space to the left and right of the columns; added on both sides
+LEFT, RIGHT, MARGIN = 72, 36, 16        # the space left and right of the columns; what is added to it on both sides
 NAME_LINE = 18                          # by how much each band becomes higher, for a line with its name
 BELOW, FREE_BELOW = 18, 40              # how far below the foot of a band the numbers of its lines are, and its end
 MARKS_BELOW, MARK_HEIGHT = 4, 9         # how far below the rows the marks of refusals are, and their height
-INDENT = 12                             # of the figures of a band, after the word above its axis
+INDENT = 12                             # of a band's figures: the word above its axis comes before them
 BYTES_RIGHT = 22                        # where the numbers of bytes end
 MOST_NAME = 64                          # characters of a name
 MOST_TITLES, LEAST_WIDTH, LEAST_HEIGHT = 1500, 3, 3     # how many rectangles have a title, and their least size in pixels
@@ -66,7 +66,7 @@ class Band:
         return width * height if width >= LEAST_WIDTH and height >= LEAST_HEIGHT else 0
 
     def title(self, kind, shade, rectangle):
-        """Returns what a rectangle shows: its frames, its lines, and what they are."""
+        """Returns what a rectangle shows: its frames, its lines, and the kind of the frames."""
         column, row, columns, rows = rectangle
         first, end, lines = row * self.per_row, (row + rows) * self.per_row, self.labels.lines
         frames = f'frames {first} to {end - 1}' if end > first + 1 else f'frame {first}'
@@ -107,7 +107,8 @@ class Band:
                    f'd="{path}">{title}</path>')
 
     def draw_refused(self):
-        """Returns the marks of refusals: by time where their column begins, else where framemap has drawn them."""
+        """Returns the marks of refusals. If the axis is time, they are where their column begins; if not, they stay where
+        framemap has drawn them."""
         axis = self.labels.axis
         if not axis.by_time:
             return self.found['refused'].rstrip()
@@ -116,7 +117,7 @@ class Band:
         return f'<path class="refused" d="{marks}"/>'
 
     def draw_window(self, titled, order):
-        """Yields what moves if other lines are shown."""
+        """Yields the part of the band that moves when other lines are shown."""
         height = self.foot - self.top
         yield (f'<svg class="window" x="{LEFT}" y="{self.top}" width="{WIDTH}" height="{height}" '
                f'viewBox="{LEFT} {self.top} {WIDTH} {height}" preserveAspectRatio="none">')
@@ -148,7 +149,7 @@ class Band:
         yield text('seconds', self.foot + BELOW, LEFT - 9, 'right')
 
     def draw(self, titled, order, moved):
-        """Yields the band, moved down by this much."""
+        """Yields the band, moved down by `moved` pixels."""
         labels, unit = self.labels, self.labels.unit
         name, full = (escaped(it) for it in (labels.short(self.tenant), labels.name_of(self.tenant)))
         yield (f'<g class="band" data-tenant="{self.tenant}" data-top="{self.y - 2 * NAME_LINE}" '

@@ -7,8 +7,8 @@
    machines/malloc_log does both.
 
    Each process, and each program that it becomes by exec, has its own log: sort.log.PID, then sort.log.PID-2 and so on. The name
-   is malloc.log if MALLOC_LOG is not set. A relative name is made absolute in the first process, for its children too. If the name
-   is empty, nothing is logged.
+   is malloc.log if MALLOC_LOG is not set. A relative name is made absolute in the first process, for its children too. If the
+   name is empty, nothing is logged.
 
    The first line is "# program NAME", with the name by which the program was called. The others are
    "SECONDS malloc POINTER BYTES" and "SECONDS free POINTER"; a realloc is a free and a malloc. They are written through a shared
@@ -115,7 +115,7 @@ static void hold_signals(sigset_t *held, sigset_t *before)
     pthread_sigmask(SIG_BLOCK, held, before);
 }
 
-/* Drops those signals if they came, and ends the block. */
+/* Drops these signals if they came, and restores the mask from before. */
 static void drop_signals(const sigset_t *held, const sigset_t *before)
 {
     static const struct timespec at_once;
@@ -138,7 +138,7 @@ static void give_up(const char *what, int error)
     name[0] = 0;
 }
 
-/* Goes to the next window, or gives up. A log begins with its first line. */
+/* Goes to the next window, or gives up. The first window begins with the head of the log. */
 static void begin_window(void)
 {
     bool is_first = !window;
@@ -177,7 +177,7 @@ static size_t end_line(char *line)
     return length + 1;
 }
 
-/* Returns the number of a loaded file, or -1 if there are too many. A new file is first named in a line. */
+/* Returns the number of a loaded file, or -1 if there are too many. A line names each file before its number is used. */
 static int file_of(uintptr_t load, const char *loaded)
 {
     static char line[PATH_BYTES + 32];
@@ -196,8 +196,8 @@ static int file_of(uintptr_t load, const char *loaded)
     return file_count++;
 }
 
-/* Writes the file and the offset of a caller, and returns how long that is: 0 if callers are not logged, or if it is unknown.
-   This takes no lock of the loader: another thread may hold one and wait for ours. */
+/* Writes the file and the offset of a caller. Returns how many characters these are: 0 if callers are not logged, or if this one
+   is unknown. This takes no lock of the loader: another thread may hold one and wait for ours. */
 static int write_caller(char *to, size_t size, void *caller)
 {
 #if __GLIBC_PREREQ(2, 35)
@@ -280,7 +280,7 @@ static int make_path(const char *given)
     return error;
 }
 
-/* Puts the entry into the environment. A shell may have a putenv of its own, which does not. */
+/* Puts the entry into the environment, without putenv: a shell may have its own, which does not do it. */
 static void put_entry(void)
 {
     size_t count = 0;
@@ -299,7 +299,7 @@ static void put_entry(void)
     environ = more;
 }
 
-/* Makes the first line of a log, and prepares what names the callers in it. */
+/* Makes the first line of a log. Finds whether callers are logged, and the path of the program's file for them. */
 static void make_head(void)
 {
     const char *called = program_invocation_short_name, *wanted = getenv("MALLOC_LOG_CALLERS");

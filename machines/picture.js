@@ -4,7 +4,7 @@ const LEAST_DRAG = 4 // pixels of the picture: less is a click
 const PLAY_SECONDS = 12
 const MOST_TICKS = 10
 const TINY = 1e-6
-// How far above the foot of a band the words above its free frames are, and how far below it its numbers of lines.
+// How far above the foot of a band the words above its free frames are, and how far below the foot the numbers of its lines are.
 const ABOVE_FOOT = 61
 const BELOW_FOOT = 18
 
@@ -23,7 +23,7 @@ let cursor = { column: 0, place: 0 } // the place is in pixels of the whole
 let drag = null // where a drag began, in pixels of the picture
 let playing = null // when and where playing began
 
-/** The figures of each column, by tenant, as framemap has written them. */
+/** Returns the figures of each column, by tenant, as framemap has written them. */
 function readTable(text) {
   const columns = []
   for (const row of text.trim().split('\n').slice(1)) {
@@ -40,7 +40,7 @@ function create(parent, name, attributes) {
   return parent.appendChild(made)
 }
 
-/** A band of the picture, with what is drawn over it: the cursor, the part that is chosen, and the figures at the cursor. */
+/** Returns a band of the picture. Adds what is drawn over it: the cursor, the chosen part, and the figures at the cursor. */
 function readBand(group) {
   const pane = group.querySelector('svg.window')
   const [y, height] = [pane.y.baseVal.value, pane.height.baseVal.value]
@@ -176,7 +176,7 @@ function describe(event) {
 function describeRow({ rows, row: height, frames }, row, kind, shade) {
   const what = facts.kinds[kind]
   if (frames === 1) return `frame ${row}, ${what}`
-  const last = (row + 1) * height < rows ? `to ${(row + 1) * frames - 1}` : 'and above' // which may have fewer frames
+  const last = (row + 1) * height < rows ? `to ${(row + 1) * frames - 1}` : 'and above' // the last row may have fewer frames
   const share = ['none', 'free'].includes(kind) ? '' : `${facts.shares[shade ?? '']} taken, most in `
   return `frames ${row * frames} ${last}, ${share}${what}`
 }

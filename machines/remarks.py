@@ -11,7 +11,7 @@ INTERVAL = re.compile(r'# times every (\d{1,12}(?:\.\d{1,9})?) seconds')
 
 
 class Clock:
-    """When the lines of a trace were run. A remark gives the time of the lines after it, or up to an interval less."""
+    """When the lines of a trace were run. The lines after a remark ran at its time, or up to an interval later."""
 
     def __init__(self):
         self.lines, self.times, self.interval = [], [], None    # the lines that have a remark, and their seconds
@@ -27,8 +27,8 @@ class Clock:
         return self.times[max(bisect.bisect_right(self.lines, line) - 1, 0)]
 
     def place(self, line, last):
-        """Returns about when the line was run. The lines after a remark are spread evenly over its interval, or up to the next
-        remark if that comes before. The trace ends with line `last`."""
+        """Returns about when the line was run. The lines after a remark are spread evenly over its interval, or over the time to
+        the next remark if that is shorter. The trace ends with line `last`."""
         at = bisect.bisect_right(self.lines, line) - 1
         if at < 0:
             return self.times[0]

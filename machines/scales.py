@@ -22,7 +22,7 @@ class Unit:
         return plain(frames * FRAME / self.bytes)
 
     def share(self, frames, whole):
-        """Returns this share of the frames, in bytes, to a tenth."""
+        """Returns a text that says how much of `whole` frames `frames` frames are, in bytes, to a tenth of the unit."""
         return f'{plain(round(frames * FRAME / self.bytes, 1))} of {plain(round(whole * FRAME / self.bytes, 1))} {self.name}'
 
 
@@ -45,7 +45,7 @@ class Axis:
             begin, end = clock.times[0], clock.place(lines[-1], lines[-1]) if lines else 0
             if not end > begin:
                 tenants.fail('no time passes in the trace: draw it by lines')
-            # A moment shows the column whose line is nearest, so a pause does not show what was run after it.
+            # Two columns meet halfway between the times of their lines, so a pause does not show only what was run after it.
             places = [clock.place((line + after) / 2, lines[-1]) for line, after in zip(lines, lines[1:])]
             self.edges = [0, *((place - begin) / (end - begin) * WIDTH for place in places), WIDTH]
             self.name, self.begin, self.end = 'seconds', begin, end

@@ -1,10 +1,10 @@
 """The summary that from-kmem and from-malloc print of each tenant on standard error: first what it used, then what it requested,
-and last what docs/capacity.md says of any load with as many blocks and objects."""
+and last what any load with as many blocks and objects needs, by docs/capacity.md."""
 import collections
 import sys
 
 FRAME, MOST_SUPERBLOCKS = 4096, 256
-LEAST_BITS, MOST_COLUMNS = 4, 40    # of the first row of sizes, up to 16 bytes; of a bar
+LEAST_BITS, MOST_COLUMNS = 4, 40    # the first row of sizes is up to 2^4 bytes; the longest bar has 40 columns
 
 
 def plural(noun, count):
@@ -31,12 +31,12 @@ class Used:
     def __init__(self):
         self.slots = self.largest = 0                   # the most slots, and the frames of the largest block
         self.frames = self.in_slabs = self.asked = 0    # frames taken now, those in slabs, requested bytes of live objects
-        self.most = 0, 0, 0                             # these when most frames were taken, and then most bytes requested
+        self.most = 0, 0, 0                             # these at the time with most frames, and of such times with most bytes
         self.objects = collections.Counter()            # the live objects of each slab, by its first frame
 
     def note(self, slots, frames):
-        """Notes that a request was met, by blocks of up to this number of frames. A refused request has its blocks only for a
-        moment."""
+        """Notes what the tenant has after a request was met, by blocks of at most this number of frames. Refused requests are not
+        noted: they have their blocks only for a moment."""
         if slots > self.slots:
             self.slots = slots
         if frames > self.largest:
@@ -52,7 +52,7 @@ class Used:
         self.frames -= frames
 
     def add_object(self, slab, frames, asked):
-        """Adds an object of this size, in the slab of this number of frames that begins at frame `slab`."""
+        """Adds an object with `asked` requested bytes, in the slab of this number of frames that begins at frame `slab`."""
         self.objects[slab] += 1
         self.asked += asked
         if self.objects[slab] == 1:
@@ -69,7 +69,7 @@ class Used:
 
 
 def tell_used(used, refused, order):
-    """Prints what was used. Bytes of slabs that are not part of a request are lost."""
+    """Prints what was used. The bytes of slabs that were not requested count as lost."""
     frames, in_slabs, asked = used.most
     heading('used')
     row(used.slots, f'{plural("slot", used.slots)} of {2**order} frames at most')
@@ -87,7 +87,8 @@ def bits(size):
 
 
 def tell_sizes(sizes):
-    """Prints a histogram of the requested sizes: for each power of two, how many are at most that, and above half of it."""
+    """Prints a histogram of the requested sizes: for each power of two, how many sizes are at most this power and above half of
+    it."""
     if not sizes:
         return
     heading('requested sizes, in bytes')
@@ -111,7 +112,7 @@ def tell_needs(blocks, order):
 
 
 def tell(tenant, larger):
-    """Prints the summary of a tenant. `larger` names the larger machines that exist."""
+    """Prints the summary of a tenant. `larger` says how a larger machine can be requested, if there is one."""
     refused = sum(count for what, count in tenant.told.items() if 'refused' in what)
     tell_used(tenant.used, refused, tenant.machine.order)
     heading('requested')

@@ -19,7 +19,7 @@ from summary import FRAME, MOST_SUPERBLOCKS, visible
 GREATEST_OBJECT = 4096
 CACHES = 32
 ORDERS, MOST_TENANTS = range(3, 9), 64
-MOST_CHARACTERS = 1 << 17   # of a line; malloc_log.c leaves up to half of it after the last line
+MOST_CHARACTERS = 1 << 17   # of a line; malloc_log.c leaves up to half as many zeroes after the last line
 MOST_BYTES, BYTES_BEGUN = 255, 100  # of a line of a trace; of a name that is cut, before the cut
 SECOND, MOST_TIMES = 10**9, 100     # in nanoseconds; remarks of the time in a trace
 AGAIN = 'given again without a free between: given back first'
@@ -46,7 +46,7 @@ def arguments(description):
 
 
 def checked(given):
-    """Returns the arguments, if a machine can have them, with the files of folders."""
+    """Returns the arguments if a machine can have them, or else fails. With --largest the logs become the largest files."""
     if given.order not in ORDERS:
         fail(f'--order {given.order}: the order of a superblock is {ORDERS[0]} to {ORDERS[-1]}', 2)
     if not 1 <= given.superblocks <= MOST_SUPERBLOCKS:
@@ -73,7 +73,7 @@ def size_of_text(path):
 
 
 def files_of(path):
-    """Yields the path with its size, or if it is a folder those of its files."""
+    """Returns the path with its size. If it is a folder, returns its files with their sizes."""
     try:
         found = [entry.path for entry in os.scandir(path) if entry.is_file()] if os.path.isdir(path) else [path]
         return [(it, size_of_text(it)) for it in found]
@@ -103,8 +103,8 @@ def lines_in(file, path):
 
 
 def lines_of(path):
-    """Yields the lines of a log with their numbers. Bytes that are not UTF-8 are replaced: only names that are not used have
-    any."""
+    """Yields the lines of a log with their numbers. Bytes that are not UTF-8 are replaced. They are only in names, which need not
+    be exact."""
     try:
         mode = os.stat(path).st_mode
         if not stat.S_ISREG(mode):
@@ -196,15 +196,15 @@ class Survey:
 
 
 def longest(surveys, together):
-    """Returns how much time passes in all of these logs, in nanoseconds."""
+    """Returns how much time passes from the first event of the merged logs to the last, in nanoseconds."""
     if together:
         return round(max(it.most - it.first for it in surveys) * SECOND)
     return round((max(it.most for it in surveys) - min(it.first for it in surveys)) * SECOND)
 
 
 def merged(counts, most):
-    """Returns for each size the size that is used instead, of which there are at most `most`. It merges first the sizes that
-    waste the least memory: the number of requests of a size times its distance to the next one."""
+    """Returns for each size the size that is used instead, so that at most `most` sizes are used. It merges a size into the next
+    one, first where that wastes least memory: the number of requests of a size times its distance to the next one."""
     kept = dict(counts)
     while len(kept) > most:
         sizes = sorted(kept)
@@ -227,8 +227,8 @@ class Machine:
         write(f'# partmem {sizes}')
 
     def ask(self, line):
-        """Returns the words of the reply after its actor, or None if the line was refused for want of frames or of superblocks,
-        or because the slot is still in use. Nothing else is refused to the lines that are sent here."""
+        """Sends a line, and writes it to the trace. Returns the words of the reply after its actor, or None if the line was
+        refused for want of frames or of superblocks, or because the slot is still in use. Any other refusal is a failure."""
         try:
             self.program.stdin.write(line + '\n')
             self.program.stdin.flush()
@@ -282,7 +282,7 @@ class Tenant:
         self.told, self.used = collections.Counter(), summary.Used()
         self.sizes = collections.Counter()      # how often each size was requested, by summary.bits
         self.live, self.most = collections.Counter(), collections.Counter()     # what each line allocated, now and at most
-        self.blocks = {}    # by line: the order of the block that it takes, and how many things that has
+        self.blocks = {}    # by line: the order of the block or slab that it needs, and how many of its kind fit into one
         stands_for = merged(counts, CACHES)
         sizes = sorted(set(stands_for.values()))
         self.cache_of = {size: sizes.index(stands_for[size]) for size in counts}
@@ -291,7 +291,8 @@ class Tenant:
             self.blocks[f'{self.number} take {cache}'] = int(words[5]), int(words[7])
 
     def request(self, line):
-        """Returns the frame or place of the reply, or None. A tenant that is short is granted a superblock, if one is left."""
+        """Sends a request. If it is refused, the tenant is granted a superblock if one is left, and sends it again. Returns the
+        frame or place of the reply, or None."""
         words = self.machine.ask(line)
         if not words and self.machine.grant(self):
             words = self.machine.ask(line)
@@ -316,7 +317,7 @@ class Tenant:
             self.used.note(len(self.slots), 2**self.blocks[parts[0].asked][0])
 
     def take(self, name, size, asked):
-        """Takes an object of this size for `asked` requested bytes. If no cache can have it, it is a page block."""
+        """Takes an object of this size for `asked` requested bytes. If it is too large for a cache, allocates page blocks."""
         if size > GREATEST_OBJECT:
             return self.alloc(name, -(-size // FRAME))
         self.give(name, AGAIN)
@@ -372,8 +373,9 @@ class Tenant:
             self.take_back(2)
 
     def take_back(self, least):
-        """If at least `least` slots are not used, the last of them is taken back, with empty slabs or without. A tenant keeps one
-        as long as nobody is short; otherwise it would be granted and taken back again and again."""
+        """Gives up the last of the unused slots, and any empty slabs in it, if at least `least` slots are unused. Returns whether
+        it did. A tenant keeps one unused slot as long as nobody is short. Otherwise it would be granted and taken back again and
+        again."""
         spare = [slot for slot, things in self.slots.items() if things == 0]
         if len(spare) < least:
             return False
@@ -396,14 +398,15 @@ class Tenant:
 
 
 def larger(given):
-    """Returns the arguments that a larger machine would have."""
+    """Returns the words that advise the options of a larger machine; they are empty if there is none."""
     more = 'more --superblocks, ' if given.superblocks < MOST_SUPERBLOCKS else ''
     return more + ('a larger --order, ' if given.order < ORDERS[-1] else '')
 
 
 def convert(given, read, size_of, kind, name_of=str):
-    """Reads each log twice: first to find the sizes that it requests and whether it is sound, and then all of them, merged by
-    time. Each is a tenant of class `kind`, which applies its events. Trace and summary name it by `name_of`."""
+    """Reads each log twice: first alone, to check it and to find the sizes that it requests, and then together with the others,
+    merged by time. Each log is a tenant of class `kind`, which applies its events. The trace and the summary name it as `name_of`
+    says."""
     sys.stdout.reconfigure(encoding='utf-8')
     surveys, names = [Survey(read(path), size_of) for path in given.logs], [name_of(path) for path in given.logs]
     machine = Machine(given)
