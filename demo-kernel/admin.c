@@ -1,12 +1,12 @@
-/* The administrator. Partition 0 gets and loses the same at the same points of its own run in all worlds. Everything
- * else may differ. */
+/* The administrator. In all worlds partition 0 gets and loses the same slots, at the same points of its own run. Everything else
+ * may differ. */
 #include "kernel.h"
 
 /* The words of the boot line, NAME=VALUE. */
 static bool is_noisy;
 static unsigned ticks_between; /* from one act of the administrator to the next */
-static unsigned most_ticks;    /* that partition 0 may take: else it is starved */
-static uint64_t state;         /* of the numbers that look random */
+static unsigned most_ticks;    /* that partition 0 may take; if it takes more, the world ends as starved */
+static uint64_t state;         /* of the pseudo-random numbers */
 unsigned ticks_per_second, ticks_a_turn;
 
 static uint64_t acted_at;
@@ -20,7 +20,7 @@ static unsigned draw(unsigned below)
     return (unsigned)(state >> 33) % below;
 }
 
-/* Returns the text that follows a word, if a text begins with it, or NULL. */
+/* Returns the rest of a text that begins with this word, or NULL if it does not. */
 static const char *behind(const char *text, const char *word)
 {
     while (*word && *text == *word) text++, word++;
@@ -81,8 +81,8 @@ void administer_at_start(void)
     start_1();
 }
 
-/* Partition 1 has filled its memory. It loses all of it, and partition 0 gets the first superblock that it had. Superblocks
- * without an owner before that one are kept back meanwhile. */
+/* Takes all memory from partition 1, which has filled it, and grants partition 0 the first superblock that partition 1 had. Free
+ * superblocks before that one go to RESERVE meanwhile, since a grant takes the first free one. */
 static void hand_over(void)
 {
     uint32_t next = 0;
@@ -95,7 +95,8 @@ static void hand_over(void)
     start_1();
 }
 
-/* Partition 0 waits for a superblock, for its loss, or for another one. */
+/* Does what partition 0 waits for: grants it a superblock at meeting 1, takes it back at meeting 2, and grants another one at
+ * meeting 3. In a noisy world meeting 1 lasts until partition 1 has filled its memory. */
 static void serve_meeting(void)
 {
     if (meeting_of(0) == 2) take_back(0, 1);
@@ -115,7 +116,7 @@ static void move_0(uint32_t slot)
     if (is_moved && taken > longest_move) longest_move = taken;
 }
 
-/* Does what partition 0 must not notice. */
+/* Does something at random that partition 0 must not notice. */
 static void act(void)
 {
     partmem_slot granted;

@@ -144,7 +144,7 @@ resume: movq    %rdi, %rsp                      /* resume(registers) */
         addq    $16, %rsp
         iretq
 
-        /* Entries of the programs: addresses that code of the small model cannot name. */
+        /* The entries of the programs. Their addresses are too large for code of the small model. */
         .section .rodata
         .globl  user_entries
 user_entries:

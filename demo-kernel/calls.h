@@ -4,13 +4,13 @@
 
 enum {
     CALL_SAY,     /* text, number: prints them */
-    CALL_ALLOC,   /* order: the first frame of a page block, which is then mapped */
-    CALL_FREE,    /* frame: unmaps the page block that begins there */
-    CALL_MAKE,    /* the place of a new endpoint, its name */
-    CALL_SEND,    /* endpoint, word: to the thread that waits there, or to its queue of 7 words */
-    CALL_RECEIVE, /* endpoint: its next word. Waits for it if another thread of the partition can run */
-    CALL_DROP,    /* endpoint */
-    CALL_START,   /* address, stack, argument: a new thread, which runs when this one waits */
+    CALL_ALLOC,   /* order: allocates a page block and maps it. Returns its first frame */
+    CALL_FREE,    /* frame: unmaps and frees the page block that begins there */
+    CALL_MAKE,    /* makes an endpoint. Returns its place, by which other calls name it */
+    CALL_SEND,    /* endpoint, word: sends the word to the thread that waits there, or to the endpoint's queue of 7 words */
+    CALL_RECEIVE, /* endpoint: returns its next word. If there is none, it waits if another thread of the partition can run */
+    CALL_DROP,    /* endpoint: drops it if no thread waits there */
+    CALL_START,   /* address, stack, argument: starts a thread, which runs when this one waits. Returns its number */
     CALL_CATCH,   /* address: where this thread continues after a fault. Without it a fault ends the thread */
     CALL_REAP,
     CALL_REPORT,

@@ -1,6 +1,6 @@
 /* A small partitioning kernel for x86-64 whose memory is partmem's.
  *
- * Each partition is a tenant. Its page blocks are mapped in user mode, on page tables of its own. Its threads and endpoints are
+ * Each partition is a tenant. Its page blocks are mapped in user mode, by its own page tables. Its threads and endpoints are
  * objects of two caches of the tenant; they belong to the kernel and are never mapped.
  *
  * The duties of partmem.h, and the functions that keep them:
@@ -11,7 +11,7 @@
  *      4 Bounds          store_in_object: a store ends where the object ends
  *      5 Endings         move_slot, lent_object: after a move the blocks are mapped again; no address of an object is kept
  *      6 Flows           say, fault: a partition learns its own results and places, and no address
- *      7 Users           lent_object, drop_object: users name endpoints by calls of the kernel, and never a thread's object
+ *      7 Users           lent_object, drop_object: users name endpoints in system calls, and never a thread's object
  *      8 Threads         set_up_gates: interrupts are off in the kernel, so one call runs at a time
  *      9 Ring 0          save_vectors, load_vectors, guard_stack, enter_kernel: vector registers, the stack, the flags
  *     10 After the end   end_memory: clears the RAM and the tables

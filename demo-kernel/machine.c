@@ -17,8 +17,8 @@ static void set_gate(unsigned vector, const char *stub, uint8_t stack, uint8_t k
     gates[vector] = (struct gate){(uint16_t)at, 0x08, stack, kind, (uint16_t)(at >> 16), (uint32_t)(at >> 32), 0};
 }
 
-/* Sets up interrupt gates, so interrupts are off in the kernel and one call of the library runs at a time (duty 8). What can
- * still interrupt it has a stack of its own: the library uses 128 bytes below its stack pointer (duty 9). */
+/* Sets up interrupt gates, so interrupts are off in the kernel and one call of the library runs at a time (duty 8). The traps
+ * that can still interrupt the kernel have their own stack, since the library uses 128 bytes below its stack pointer (duty 9). */
 static void set_up_gates(void)
 {
     for (unsigned vector = 0; vector < 48; vector++)
@@ -39,8 +39,8 @@ static void check_processor(void)
     if ((c & wanted) != wanted) panic("the library requires x86-64-v2");
 }
 
-/* Keeps user mode from reading the time, and the kernel from running what user mode can access, or accessing user mode's
- * addresses. */
+/* Makes user mode unable to read the time. If the processor can do it, makes the kernel unable to run or access pages of user
+ * mode. */
 static void protect(void)
 {
     uint32_t a = 7, b, c = 0, d;
@@ -80,7 +80,7 @@ uint64_t fault_address(void)
     return at;
 }
 
-/* QEMU's isa-debug-exit ends it with 2 * status + 1. */
+/* Ends QEMU, whose device isa-debug-exit makes its exit status 2 * status + 1. */
 _Noreturn void stop(int status)
 {
     flush();

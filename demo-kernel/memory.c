@@ -13,7 +13,8 @@ void must(partmem_status status)
     if (status != PARTMEM_DONE) panic(partmem_strerror(status));
 }
 
-/* Boots once (duty 14), in two regions that nothing else uses (duty 3). The RAM has whatever an earlier system left there. */
+/* Boots once (duty 14), in two regions that nothing else uses (duty 3). The RAM is first filled with bytes that are not 0, as an
+ * earlier system may leave it. */
 void set_up_memory(void)
 {
     const partmem_config config = {ORDER, SUPERBLOCKS, TENANTS};
@@ -34,8 +35,8 @@ void end_memory(void)
 
 enum { ADMIN = TENANTS };
 
-/* Prints a refusal to a tenant or the administrator, and returns true if there is one. A mistake of the caller ends the
- * kernel. */
+/* If a call was refused to a tenant or the administrator, prints the refusal and returns true. A status that says that the call
+ * was wrong ends the kernel. */
 static bool is_refused(unsigned who, partmem_status status)
 {
     static char name[32];
@@ -56,7 +57,7 @@ static bool is_refused(unsigned who, partmem_status status)
 static void map_block(unsigned t, partmem_lent block)
 {
     uint8_t *at = block.at;
-    if (planted == OTHER_ADDRESS && t == 0 && block.place) at = RAM + ((at - RAM) ^ SUPERBLOCK); /* except for the first stack */
+    if (planted == OTHER_ADDRESS && t == 0 && block.place) at = RAM + ((at - RAM) ^ SUPERBLOCK); /* not for the first stack */
     map(t, block.place, at, block.bytes);
 }
 
@@ -199,7 +200,7 @@ static void map_slot(unsigned t, uint32_t slot)
     }
 }
 
-/* Moves a slot under a running partition, whose pages are unmapped meanwhile (duty 12). */
+/* Moves a slot of a running partition. The slot's pages are unmapped meanwhile (duty 12). */
 bool move_slot(unsigned t, uint32_t slot)
 {
     partmem_slot moved;

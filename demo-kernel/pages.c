@@ -11,12 +11,12 @@ extern uint8_t kernel_guard[], kernel_stack_top[];
 extern const char programs[], programs_bytes[];
 static table roots[PARTITIONS], pointers[PARTITIONS], directories[PARTITIONS], pages[PARTITIONS][TABLES];
 static table code_pointers, code_directory, code_pages, guard_pages;
-static unsigned entered = PARTITIONS; /* whose address space is in use; PARTITIONS at boot */
+static unsigned entered = PARTITIONS; /* the partition whose address space is in use; PARTITIONS at boot */
 
 static uint64_t entry_of(const void *at, unsigned rights) { return (uint64_t)at | PRESENT | rights; }
 
-/* Unmaps the page below the kernel's stack, so that an overflow is a double fault, on a stack of its own (duty 9). Fills the
- * stack with a pattern, which later shows how much of it was used. */
+/* Unmaps the page below the kernel's stack, so that an overflow causes a double fault, whose handler has its own stack (duty 9).
+ * Fills the stack with a pattern, which later shows how much of it was used. */
 static void guard_stack(void)
 {
     for (volatile uint8_t *at = kernel_guard + FRAME; at < (uint8_t *)__builtin_frame_address(0) - 128; at++) *at = 0xcc;
@@ -72,7 +72,7 @@ void enter_space(unsigned t)
     __asm__ volatile("mov %0, %%cr3" : : "r"(roots[t]) : "memory");
 }
 
-/* Returns the address at which the kernel reads a text of the programs, or NULL for any other address. */
+/* Returns where the kernel reads the byte that programs have at `address`, or NULL if `address` is not in the programs. */
 const char *program_text(uint64_t address)
 {
     uint64_t offset = address - USER_CODE;

@@ -32,7 +32,7 @@ static struct {
 static unsigned current;
 uint64_t ticks;
 
-/* The instructions of each call of partition 0, and of these the ones that are not for printing. */
+/* The instructions of each call of partition 0: all of them, and those that are not for printing. */
 static struct {
     const char *name;
     uint64_t all, quiet;
@@ -127,7 +127,7 @@ void start_partition(unsigned t, enum program program, uint64_t argument)
     partitions[t].meeting = 0;
 }
 
-/* Nothing of the partition is left, so another one can get its number (duty 13). */
+/* Clears all that the kernel keeps for a partition, so that another one can get its number (duty 13). */
 void end_partition(unsigned t)
 {
     memset(contexts[t], 0, sizeof contexts[t]);
@@ -218,7 +218,8 @@ static uint64_t catch_faults(unsigned t, uint64_t handler)
     return 0;
 }
 
-/* Returns a number of a system call as the library takes it. A number that is too large stays too large. */
+/* Returns a number of a system call in 32 bits, as the library takes it. A number that does not fit becomes the largest, which is
+ * too large too. */
 static uint32_t fit(uint64_t number) { return number > UINT32_MAX ? UINT32_MAX : (uint32_t)number; }
 
 static uint64_t answer(unsigned t, uint64_t call, uint64_t first, uint64_t second, uint64_t third)
@@ -261,7 +262,8 @@ static void system_call(struct context *context, uint64_t begin)
     counts[count++].quiet = all - printing;
 }
 
-/* Reports a fault of a partition, by its place and not by an address. The thread continues at its handler (duty 6). */
+/* Reports a fault of a partition, by the place if it is at one of its places (duty 6). The thread continues at its handler, or
+ * ends if it has none. */
 static void fault(unsigned t, struct context *context)
 {
     const struct registers *registers = &context->registers;

@@ -21,13 +21,13 @@ static uint64_t alloc(uint64_t order) { return call(CALL_ALLOC, order, 0, 0); }
 static void free_frame(uint64_t frame) { call(CALL_FREE, frame, 0, 0); }
 static volatile uint64_t *words_of(uint64_t frame) { return (volatile uint64_t *)(PLACES + frame * FRAME); }
 
-/* Loads the byte at an address, stores one, or runs the code there. Returns REFUSED after a fault, whose handler is `in_vain`. */
+/* Loads a byte, stores a byte, runs code, reads the time, or reads a port. After a fault `in_vain` returns REFUSED. */
 uint64_t load_byte(uint64_t address);
 uint64_t store_byte(uint64_t address);
 uint64_t run_at(uint64_t address);
 uint64_t read_time(uint64_t unused);
 uint64_t read_port(uint64_t unused);
-extern const char in_vain[], new_thread[]; /* new_thread: serve, with the bits of all registers as its second argument */
+extern const char in_vain[], new_thread[]; /* new_thread jumps to serve; its second argument has the bits of all registers */
 __asm__(".text\n"
         ".globl load_byte, store_byte, run_at, read_time, read_port, in_vain, new_thread\n"
         "load_byte: movzbl (%rdi), %eax\n ret\n"
@@ -174,7 +174,7 @@ static void touch_what_is_not_its_own(uint64_t slab)
     call(CALLS, 0, 0, 0);
 }
 
-/* The other thread: returns each word doubled, until a word is 0. */
+/* Runs in the other thread: sends back each word that it receives, doubled, until a word is 0. */
 void serve(uint64_t endpoints, uint64_t registers);
 void serve(uint64_t endpoints, uint64_t registers)
 {
@@ -289,7 +289,8 @@ static void fill_all(void)
 }
 
 struct load {
-    uint64_t state, taken[8], orders[8], held, lost, made; /* `held` blocks, in which `lost` words were wrong; an endpoint */
+    /* `taken` and `orders` have the `held` blocks. `lost` is the number of wrong words in blocks, and `made` is an endpoint. */
+    uint64_t state, taken[8], orders[8], held, lost, made;
 };
 
 static void take_block(struct load *load, uint64_t order)
@@ -323,7 +324,7 @@ static void call_any(struct load *load)
         load->made = call(CALL_MAKE, 0, 0, 0);
         call(CALL_SEND, load->made, load->state, 0);
     } else if (what == 6) {
-        uint64_t of_partition_0 = 4 * FRAME + (which & 1) * 64; /* if this partition has it too, nothing is lost */
+        uint64_t of_partition_0 = 4 * FRAME + (which & 1) * 64; /* an endpoint there; this partition may have one there too */
         call(CALL_DROP, load->made, 0, 0);
         call(CALL_SEND, of_partition_0, load->state, 0);
         call(CALL_RECEIVE, of_partition_0, 0, 0);
@@ -346,7 +347,7 @@ static void free_all(void)
     for (uint64_t frame = 1; frame < SUPERBLOCKS * SLOT; frame++) free_frame(frame);
 }
 
-/* Does all that it can; then fills all of its memory, and starts again. */
+/* Makes 100 calls at random, fills all its memory and frees it, and starts again. */
 void noisy(uint64_t seed);
 void noisy(uint64_t seed)
 {

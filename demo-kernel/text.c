@@ -89,7 +89,8 @@ void *memmove(void *to, const void *from, size_t bytes)
     return to;
 }
 
-/* An unproved library refers to it, for a notice when a program starts. Nothing here makes it write one. */
+/* An unproved library calls this function for a notice when a program starts, which does not happen in a kernel, and if one of
+ * its checks fails. */
 long write(int file, const void *text, size_t bytes);
 long write(int file, const void *text, size_t bytes)
 {
