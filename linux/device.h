@@ -1,6 +1,6 @@
-/* /dev/partmem. Its administrator, a process with CAP_SYS_ADMIN, grants superblocks to partitions, and binds files to them. A
- * process with a bound file maps its partition's places, MAP_SHARED and from offset 0, and allocates page blocks there. An access
- * to a place outside the partition's page blocks raises SIGBUS. */
+/* The calls of /dev/partmem. Its administrator, a process with CAP_SYS_ADMIN, grants superblocks to partitions, and binds files to
+ * them. A process with a bound file maps its partition's places with MAP_SHARED, place 0 at offset 0, and allocates page blocks
+ * there. An access to a place outside the partition's page blocks raises SIGBUS. */
 #ifndef PARTMEM_DEVICE_H
 #define PARTMEM_DEVICE_H
 
@@ -15,7 +15,7 @@ struct partmem_call {
 	__u32 slot, superblock; /* for the administrator's calls */
 };
 
-/* Calls of the administrator. A reset also ends the binding of each file of the partition. A file is bound once. */
+/* Calls of the administrator. A reset also ends the binding of each file of the partition. A file can be bound only once. */
 #define PARTMEM_IOC_GRANT _IOWR('m', 1, struct partmem_call)
 #define PARTMEM_IOC_TAKE_BACK _IOWR('m', 2, struct partmem_call) /* slot */
 #define PARTMEM_IOC_MOVE _IOWR('m', 3, struct partmem_call)      /* slot */

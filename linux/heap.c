@@ -1,5 +1,6 @@
-/* malloc for a program of one thread, by LD_PRELOAD, over the page blocks of its partition, to which the file PARTMEM_FILE is
- * bound. All that it allocates lies in them. A piece has 2^k bytes, and begins at a multiple of 2^k up to a page. */
+/* malloc for a program with one thread, which loads it by LD_PRELOAD. PARTMEM_FILE is the number of a file that is bound to a
+ * partition. All memory comes from page blocks of that partition. A piece has 2^k bytes, and begins at a multiple of 2^k, or of a
+ * page if it is larger than a page. */
 #include <errno.h>
 #include <stdint.h>
 #include <stdlib.h>
@@ -20,7 +21,7 @@ static char *places;
 static struct unused *unused[PAGE];
 static uint8_t power_in[PAGES]; /* by page: k of the pieces in it, or of the block that begins there */
 
-/* Maps all places that the partition can name. */
+/* Maps all places that the partition can name. A mapping that is too large is refused, so the largest is tried first. */
 static void start(void)
 {
     file = atoi(getenv("PARTMEM_FILE"));

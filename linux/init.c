@@ -1,7 +1,7 @@
 /* /init of the virtual machine that linux/run boots. In each world partition 0 does the same, and prints the results of its calls
- * and what it finds; linux/run compares these lines. In a noisy world partition 1 meanwhile does what it can, slots of both are
- * moved, and partition 1 is reset. Then perl runs with its heap in a partition whose slots are moved. The output goes to port
- * 0xe9. */
+ * and what it finds; linux/run compares these lines. In a noisy world partition 1 meanwhile makes calls and stores at random,
+ * slots of both are moved, and partition 1 is reset. Perl runs in its own world, with its heap in a partition whose slots are
+ * moved. The output goes to port 0xe9. */
 #define _GNU_SOURCE
 #include <errno.h>
 #include <fcntl.h>
@@ -34,7 +34,7 @@ struct block {
     uint64_t seed; /* of the numbers in its words */
 };
 
-static int file; /* of the administrator, or of the partition */
+static int file; /* /dev/partmem: the administrator's file, or the partition's */
 static uint8_t *places;
 static struct block blocks[MOST];
 static uint32_t held;
@@ -148,7 +148,7 @@ static void work(int to_administrator, int from_administrator)
     }
 }
 
-/* Takes a superblock that partition 1 had, in a noisy world, and uses it while partition 1 still runs. */
+/* Takes a new superblock, and uses it. In a noisy world partition 1 had it before, and still runs meanwhile. */
 static void take_over(int to_administrator, int from_administrator)
 {
     char byte;
@@ -179,7 +179,7 @@ static void run_partition_0(int to_administrator, int from_administrator)
     exit(0);
 }
 
-/* Takes and fills all that there is, and says so. */
+/* Reads the request from `asked`, allocates and fills all memory of the partition, and answers by `done`. */
 static void fill_all(int asked, int done)
 {
     char byte;
@@ -193,7 +193,7 @@ static void run_partition_1(int asked, int done)
 {
     static uint64_t state = 12345;
     struct pollfd is_asked = {asked, POLLIN, 0};
-    sigsetjmp(on_bus_error, 1); /* after a store where nothing is mapped */
+    sigsetjmp(on_bus_error, 1); /* it continues here after a store where nothing is mapped */
     for (;;) {
         const uint64_t random = random_of(&state), which = random >> 32;
         if (poll(&is_asked, 1, 0) == 1) fill_all(asked, done);
@@ -214,7 +214,8 @@ static int bound_file(uint32_t partition)
     return bound;
 }
 
-/* Starts a process with a file of a partition, and no other way to reach its memory. */
+/* Starts a process that has a bound file of a partition, and no other way to reach the partition's memory. Returns 0 in the new
+ * process. */
 static pid_t start(uint32_t partition)
 {
     const int bound = bound_file(partition);

@@ -1,4 +1,4 @@
-/* partmem.ko: page blocks of isolated partitions for processes, by libpartmem_linux.a. device.h says how processes use it. */
+/* partmem.ko gives processes page blocks of isolated partitions, with libpartmem_linux.a. device.h says how processes use it. */
 #include <linux/capability.h>
 #include <linux/fs.h>
 #include <linux/miscdevice.h>
@@ -22,14 +22,14 @@ module_param(mistake, uint, 0444);
 /* The mistakes that the parameter `mistake` plants, for the test. */
 enum { NO_UNMAP_AT_FREE = 1, NO_UNMAP_AT_MOVE, NO_UNMAP_AT_RESET, MAP_ADDRESS };
 
-/* Protects the library and the mappings: a page is unmapped before the call that ends its lifetime, and faults wait (duties 8,
- * 12). */
+/* Protects the library and the mappings. A page is unmapped before the call that ends its lifetime, and page faults wait until
+ * the call is done (duties 8, 12). */
 static DEFINE_MUTEX(lock);
 static partmem_machine machine;
 static u8 *ram, *tables;
 static u32 unit;      /* bytes of a superblock */
 static u32 pages;     /* how many a partition can name */
-static u32 *bindings; /* by partition: how often its files have lost it (duty 13) */
+static u32 *bindings; /* by partition: how many resets have ended the bindings of its files (duty 13) */
 
 /* All mappings are of this inode, whatever path was opened. Page p of partition i has the offset i * pages + p. */
 static struct inode *node;
@@ -138,7 +138,7 @@ static long device_ioctl(struct file *file, unsigned int kind, unsigned long at)
 	return !status && copy_to_user((void __user *)at, &call, sizeof(call)) ? -EFAULT : status;
 }
 
-/* ---- Maps, of numbers of frames: nobody (direct I/O, ptrace) gets a reference to a page, which could last longer --------------- */
+/* ---- Maps have only frame numbers, so nobody (direct I/O, ptrace) gets a reference to a page, which could outlast the map ------ */
 
 static u8 *address_of(u32 partition, u32 place)
 {
