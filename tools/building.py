@@ -1,5 +1,5 @@
-"""What tools/library and tools/unproved have in common: the crates, the toolchain's folder, and one archive of the library for C and
-its functions in C."""
+"""Helpers of tools/library and tools/unproved: which crates there are, where the toolchain is, and how one archive is made of the
+library for C and its functions in C."""
 import functools
 import glob
 import os
@@ -53,7 +53,7 @@ def uses():
 
 @functools.lru_cache(maxsize=None)
 def below(crate):
-    """Returns the repository's crates that a crate uses, directly or not, each after those that it uses."""
+    """Returns the repository's crates that a crate uses, directly or through others. Each comes after those that it uses."""
     found = []
     for used in uses()[crate]:
         if used in uses():
@@ -93,8 +93,8 @@ def compile_functions_in_c(work, flags, left_out=()):
 
 
 def add_functions_in_c(library, to):
-    """Writes to `to` one archive of a library and of the C files beside partmem.h, each an object of its own. A program links it
-    and the C library, and nothing else; without partmem_boot it needs only functions of string.h."""
+    """Writes to `to` one archive of a library and of the C files beside partmem.h, with an object for each. A program links it
+    and the C library, and nothing else. If it does not call partmem_boot, it needs only functions of string.h."""
     with tempfile.TemporaryDirectory(prefix="archive-") as work:
         shutil.copy(library, f"{work}/library.a")
         added = "".join(f"addmod {name}\n" for name in compile_functions_in_c(work, ["-c"]))
@@ -104,7 +104,7 @@ def add_functions_in_c(library, to):
 
 
 def make_watched(archive, to):
-    """Writes to `to` the code of an archive as one object, whose calls of functions of string.h go to its own."""
+    """Writes to `to` the code of an archive as one object, which calls its own functions instead of OWN_FUNCTIONS of string.h."""
     tools = f"{kit()}/toolchain/bin"
     with tempfile.TemporaryDirectory(prefix="watched-") as work:
         own = compile_in_c(work, ["-c"], [f"{TOP}/crates/{LIBRARY}/{OF_WATCHED}"])

@@ -1,13 +1,13 @@
-"""The archives for kernels, libpartmem_kernel.a and libpartmem_linux.a: what their builds change.
+"""Compiles the library's module for the archives for kernels, libpartmem_kernel.a and libpartmem_linux.a, with their changes.
 
 tools/library builds each by `rattle build` from the same checked crate as the library, with a toolchain whose clang runs
 
     python3 tools/kernels.py NAME FOLDER CLANG WORD..
 
-in its place. For the module of the library it adds to the text what KERNELS lists, and compiles it with the flags there. All other
-calls go to CLANG as they are. In FOLDER it leaves the assembly (module.s), which tools/one_object.py joins with the assembly of
-the functions in C; and for tests/kernel-archives the text before (module.ll) and after (changed.ll), and the words of the call.
-No proof and no kit vouches for these flags.
+instead. For the module of the library this script adds to the text what KERNELS lists, and compiles it with the flags there. All
+other calls go to CLANG as they are. In FOLDER it leaves the assembly (module.s), which tools/one_object.py joins with the
+assembly of the functions in C. For tests/kernel-archives it also leaves the text before the change (module.ll) and after it
+(changed.ll), and the words of the call. Neither a proof nor the kit vouches for these flags.
 """
 import json
 import os
@@ -20,13 +20,13 @@ from typing import NamedTuple
 class Kernel(NamedTuple):
     """How the build of an archive differs from that of the library."""
 
-    # Flags of clang, and those that only change what it makes of C.
+    # Flags of clang, and flags that have an effect only on C.
     flags: list[str]
     flags_for_c: list[str]
     # What is added to the attributes of each function in the text, since some flags have no effect on a module that is already
     # text.
     attributes: str
-    # The same for flags of the module: the text's last lines.
+    # What is added at the end of the text: flags of the module, which also have no effect on text otherwise.
     last: str
     # Sections that have another name and other flags in the object.
     renamed: dict[str, str]
@@ -62,7 +62,7 @@ OWN = b"partmem_boot_kernel"
 
 
 def text_of(clang, module):
-    """Returns the text of a module unchanged."""
+    """Returns a module as text, without changes."""
     words = [TARGET, "-S", "-emit-llvm", "-Xclang", "-disable-llvm-passes", "-x", "ir", module, "-o", "-"]
     return subprocess.run([clang, *words], stdout=subprocess.PIPE, text=True, check=True).stdout
 

@@ -1,4 +1,4 @@
-"""Makes an archive for kernels of one object: the module of the library and its functions in C, joined as assembly.
+"""Makes an archive for kernels, with one object: the module of the library and its functions in C, joined as assembly.
 
 In one file of assembly a name that is not declared global is visible nowhere else, so no tool has to hide it afterwards. Only the
 functions of the headers stay global.
@@ -10,7 +10,8 @@ import tempfile
 
 from building import TARGET, compile_functions_in_c, declared, kit, read, write
 
-# The entries for tracing that clang writes with the padding of functions, and the note of a unit's properties, of which one is enough.
+# What is left out: the entries for tracing that clang writes with the padding of functions, and the notes of the units'
+# properties except the first.
 TRACED = re.compile(r"^\t\.section\t__patchable_function_entries,.*\n\t\.p2align\t.*\n\t\.quad\t.*\n", re.M)
 NOTE = re.compile(r"^\t\.section\t\.note\.gnu\.property,.*\n(?:\t\.(?:p2align|long|asciz)\t.*\n)+", re.M)
 STRING = re.compile(r"\t\.(ascii|asciz|string)\b")
@@ -30,7 +31,7 @@ def unit_of(text, number, renamed):
 
 
 def joined(texts, renamed):
-    """Returns one file of assembly for some units."""
+    """Returns one file of assembly for some units. Only the headers' functions without partmem_boot are global in it."""
     lines = "".join(unit_of(text, number, renamed) for number, text in enumerate(texts)).splitlines(keepends=True)
     found = {match[1]: number for number, line in enumerate(lines) if (match := GLOBAL.match(line))}
     names = declared() - {"partmem_boot"}
