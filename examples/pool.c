@@ -2,7 +2,8 @@
  * that are objects of a cache, and blobs in page blocks. All are used in place, and all links are places.
  *
  * The server runs twice. In one run client 0 takes part and is reset at random, and slots of the others are moved. The others
- * have to get the same answers, and to read the same bytes, as in the run without. Otherwise the program exits with 1. */
+ * have to get the same answers, and to read the same bytes, as in the run without client 0. If they do not, the program exits
+ * with 1. */
 #include <stdio.h>
 #include <stdlib.h>
 #include <string.h>
@@ -52,7 +53,7 @@ static int is_done(struct pool *pool, partmem_status status, const uint32_t *pla
 
 static struct entry *entry_at(const struct pool *pool, uint32_t at) { return partmem_object_at(pool->tenant, ENTRIES, at); }
 
-/* Returns the link to the entry of a key, or the link at the end of its chain. The address is used within one request. */
+/* Returns the link to the entry of a key, or the link at the end of its chain. The address is used only within one request. */
 static uint32_t *link_to(const struct pool *pool, uint32_t key) {
     uint32_t *link = (uint32_t *)partmem_at(pool->tenant, pool->heads, HEADS * sizeof *link) + key % HEADS;
     for (struct entry *entry; (entry = entry_at(pool, *link)) && entry->key != key;) link = &entry->next;

@@ -62,7 +62,7 @@ static void use_in_place(partmem_machine *machine) {
     uint32_t first = put_message(last, messages.cache, PARTMEM_NO_PLACE, "world");
     first = put_message(last, messages.cache, first, "hello");
     must(partmem_move(last, 0, &slot), "move");
-    struct message *hello = partmem_object_at(last, messages.cache, first); /* what was lent in the slot is lent again */
+    struct message *hello = partmem_object_at(last, messages.cache, first); /* after the move it has to be lent again */
     check(hello && strcmp(hello->text, "hello") == 0, "the first message");
     struct message *world = partmem_object_at(last, messages.cache, hello->next);
     check(world && strcmp(world->text, "world") == 0 && world->next == PARTMEM_NO_PLACE, "the second message");

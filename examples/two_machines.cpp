@@ -12,7 +12,7 @@ static void must(partmem_status status) {
     if (status != PARTMEM_DONE) throw std::runtime_error(partmem_strerror(status));
 }
 
-// A booted machine, which stays where it is.
+// A booted machine, which cannot be copied or moved.
 class Booted {
 public:
     explicit Booted(partmem_config config) { must(partmem_boot(&machine, &config)); }
