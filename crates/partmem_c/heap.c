@@ -9,16 +9,16 @@ enum {
     STEP = PARTMEM_HEAP_STEP,
     STEPS = PARTMEM_FRAME_BYTES / PARTMEM_HEAP_STEP,
     MOST_CACHE_ALIGN = 256,
-    KEPT_BYTES = 64, /* a piece that has no more is not made smaller */
+    KEPT_BYTES = 64, /* a piece of at most this size is not made smaller */
     NO_ROW = PARTMEM_MOST_SUPERBLOCKS,
-    /* Entries of run[] that are no number of superblocks: of a slot inside a run; and while a run is looked for, of a slot that
-     * may be part of it, and of one that may not. */
+    /* Entries of run[] that are no number of superblocks. IN_RUN is for a slot inside a run. While a row of slots is searched,
+     * FOUND is for an allocated slot that may be part of it, and ASIDE for one that may not. */
     IN_RUN = 0xffff,
     FOUND = 0xfffe,
     ASIDE = 0xfffd
 };
 
-/* Their slabs leave few bytes unused: docs/heap.md has how many. */
+/* The slabs of these sizes leave few bytes unused. docs/heap.md says how many. */
 static const uint16_t default_sizes[] = {16,  32,  48,  64,   80,   96,   128,  176,  224,  256,  336,  448,
                                          576, 816, 1024, 1168, 1360, 1632, 2048, 2336, 2720, 3264, 3568, 4096};
 
@@ -32,8 +32,8 @@ static uint32_t order_for(size_t bytes)
 
 /* ---- Initialisation ----------------------------------------------------------------------------------------------------- */
 
-/* Returns the alignment of a class. Caches have up to 256. An object whose size is a power of two from 512 on begins at a
- * multiple of its size, since the slabs of such a cache have no bytes left for colours. */
+/* Returns the alignment of a class. Caches have alignments up to 256. An object whose size is a power of two from 512 on begins
+ * at a multiple of its size all the same, since the slabs of its cache have no bytes left for colours. */
 static uint32_t alignment_of(uint32_t size)
 {
     const uint32_t power = size & -size;
@@ -228,7 +228,7 @@ static bool is_own(const partmem_heap *heap, const partmem_object *object)
     return class && heap->size[class - 1] == object->bytes;
 }
 
-/* Finds the piece that begins at an address. A run counts as a page block here, of all its bytes. */
+/* Finds the piece that begins at an address. A run counts as one page block here, with the bytes of all its superblocks. */
 static partmem_status find_piece(const partmem_heap *heap, const void *at, partmem_object *piece)
 {
     uint32_t place;

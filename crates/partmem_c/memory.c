@@ -6,15 +6,15 @@
 
 #include "booting.h"
 
-#define PIECE_BYTES ((size_t)16) /* the sizes and the alignment of allocations in the tables */
+#define PIECE_BYTES ((size_t)16) /* allocations in the tables begin at a multiple of it, and have a multiple of it */
 
 /* A machine's memory. A copy lies at the beginning of the tables, and held[2] of the machine is its address. The tables may be an
  * array of char, in which C allows no object of another type: so the copy is made and read by memcpy, and never used in place. */
 struct state {
     uint8_t *ram;
-    uint8_t *next; /* the free bytes of the tables, and how many there are */
-    size_t left;
-    size_t unit; /* of a superblock, in bytes */
+    uint8_t *next; /* the first free byte of the tables */
+    size_t left;   /* how many bytes are free from there on */
+    size_t unit;   /* of a superblock, in bytes */
     uint32_t superblocks, tenants;
     uint32_t allocated; /* how many superblocks are allocated by now */
     void (*release)(void *memory);

@@ -68,9 +68,9 @@
  *     take that makes a slab                                      2          4          6          6           7
  *
  * An alloc or take that finds a block only in frames of empty slabs first zeroes all empty slabs of the tenant. A kernel that
- * cannot wait so long has small orders and tenants, reaps a tenant after every 64 of its gives (only a give empties a slab, and
- * when it reaps may depend on that tenant's calls alone), and makes the call in the tenant's own time slice. The last helps
- * only if the kernel can interrupt a call: Linux with preempt=full can; with preempt=voluntary or none others wait for its end.
+ * cannot wait so long has small orders and tenants. It reaps a tenant after every 64 of the tenant's gives, since only a give
+ * empties a slab; when it reaps may depend only on that tenant's calls. It makes the call in the tenant's own time slice. That
+ * helps only if the kernel can interrupt a call: Linux with preempt=full can; with preempt=voluntary or none others wait.
  *
  * PROCESSOR. x86-64-v2, with the System V calling convention. On an older processor a call may end in an illegal instruction.
  * With gcc and clang `__builtin_cpu_supports("sse4.2") && __builtin_cpu_supports("popcnt")` tests for it.
@@ -332,9 +332,9 @@ PARTMEM_CHECKED partmem_status partmem_lend(partmem_tenant tenant, uint32_t plac
 /* Lends the live object of a cache that begins at the place. Returns NO_CACHE, NOT_AN_OBJECT. */
 PARTMEM_CHECKED partmem_status partmem_lend_object(partmem_tenant tenant, uint32_t cache, uint32_t place, partmem_lent *object);
 
-/* Lends the whole live page block around a place: with partmem_alloc the only source of frames to map (duty 11), and before a
- * free the way to learn what to unmap (duty 12). partmem_lend is no such source: its bytes may be an object's, whose frame later
- * belongs to another tenant. Returns OUT_OF_REACH, for an object's place too. */
+/* Lends the whole live page block around a place. Only this function and partmem_alloc return frames that may be mapped (duty
+ * 11). Before a free it says what to unmap (duty 12). Never map the bytes of partmem_lend: they may be an object's, whose frame
+ * later belongs to another tenant. Returns OUT_OF_REACH, for an object's place too. */
 PARTMEM_CHECKED partmem_status partmem_lend_block(partmem_tenant tenant, uint32_t place, partmem_lent *block);
 
 /* Returns the address of bytes that partmem_lend lends, or NULL. */
@@ -403,7 +403,7 @@ typedef struct partmem_order_row {
     uint32_t taken;
 } partmem_order_row;
 
-/* The slabs of a cache by how many of their objects are live, and its live objects. */
+/* How many slabs of a cache are full, partial and empty, and how many of its objects are live. */
 typedef struct partmem_cache_row {
     uint32_t cache; /* its number */
     uint32_t full;
@@ -472,7 +472,7 @@ enum {
     PARTMEM_FIGURES = 16 /* frames, live, free, order of a largest free block plus 1 (0 without one), split */
 };
 
-/* An event: its kind, the tenant that makes it or (for the administrator's) that it is about, and its numbers. */
+/* An event: its kind, its tenant, and its numbers. The tenant makes the event, or is the one that the administrator names. */
 typedef struct partmem_request {
     uint32_t kind;
     uint32_t tenant;

@@ -14,15 +14,15 @@
  * - A constructor with arguments of a machine, tenant, cache or heap, result<T>::value() and partmem::check() throw a
  *   partmem::error, which is a std::system_error. For each such constructor there is a function with the same arguments, boot()
  *   or open(), that returns a status instead.
- * With -fno-exceptions, what would throw calls std::abort. At exhaustion a std::pmr container does so too, and only a heap's
- * try_allocate and make return.
+ * With -fno-exceptions, everything that would throw calls std::abort, also a std::pmr container that gets no memory. Only a
+ * heap's try_allocate and make return then.
  *
  * ORDER. Declare a machine before its tenants, a tenant before its caches and heaps, and these before what is made in them:
- * destructors run the other way round. Before tenant::reset() destroy what was made for the tenant, its containers too, or a
- * destructor frees what another has by then. After tenant::reset() open() the tenant's caches and heaps again.
+ * destructors run the other way round. Before tenant::reset() destroy what was made for the tenant, its containers too. Otherwise
+ * a destructor frees what belongs to another object by then. After tenant::reset() open() the tenant's caches and heaps again.
  *
- * A machine and a heap stay where they are. Tenants, caches, page blocks and pointers are moved, and not copied. After
- * tenant::move() the addresses of objects, pieces and blocks in that slot are stale; page_block::data() lends again.
+ * A machine and a heap can be neither copied nor moved. Tenants, caches, page blocks and pointers can be moved, but not copied.
+ * After tenant::move() the addresses of objects, pieces and blocks in that slot are stale; page_block::data() lends again.
  *
  * DUTIES. Those of partmem.h and partmem_heap.h. A container stores addresses in its tenant's memory; partmem_heap.h says what is
  * lost by that. Make one call at a time on a machine: with partmem::locked a container locks a mutex. For what is not here, call
@@ -217,7 +217,7 @@ public:
 private:
     partmem_tenant tenant_;
     std::uint32_t place_;
-    std::uint32_t bytes_; /* 0 if another has the block */
+    std::uint32_t bytes_; /* 0 if the block was moved to another page_block */
 };
 
 /* A tenant of a machine. Its destructor resets it. A number has only one tenant at a time. On an object that is no tenant
@@ -234,8 +234,8 @@ public:
     }
     ~tenant() { static_cast<void>(reset()); }
 
-    /* Makes this the tenant of a number, and grants it this number of superblocks more. If there are too few, it is reset and is
-     * no tenant. Returns has_machine if this is a tenant already, no_machine, no_tenant, pool_empty. */
+    /* Makes this the tenant with this number, and grants it `superblocks` more superblocks. If there are too few, the tenant is
+     * reset, and this is no tenant. Returns has_machine if this is a tenant already, no_machine, no_tenant, pool_empty. */
     status open(machine &machine, std::uint32_t number, std::uint32_t superblocks = 0) noexcept
     {
         if (tenant_.machine) return status::has_machine;
@@ -261,7 +261,7 @@ public:
     /* Takes back an unused slot. Returns no_slot, slot_busy. */
     status take_back(std::uint32_t slot) noexcept { return status_of(partmem_take_back(tenant_, slot)); }
 
-    /* Puts another superblock under a slot. What was lent there then has another address. Returns no_slot, pool_empty. */
+    /* Moves a slot to another superblock. What was lent in it has another address then. Returns no_slot, pool_empty. */
     result<partmem_slot> move(std::uint32_t slot) noexcept
     {
         partmem_slot moved;
@@ -349,7 +349,8 @@ public:
         if (tenant_.machine) static_cast<void>(!partmem_destroy_cache(tenant_, cache_));
     }
 
-    /* Makes a cache of the tenant. Unless refused, what this was before is forgotten. Returns no_machine, no_cache_slot. */
+    /* Makes this a new cache of the tenant. The cache that it was before is forgotten, unless the new one is refused. Returns
+     * no_machine, no_cache_slot. */
     status open(const tenant &tenant) noexcept
     {
         partmem_cache made;
@@ -381,7 +382,7 @@ public:
     std::uint32_t number() const noexcept { return cache_; }
 
 private:
-    /* Gives an object back, unless its constructor has returned. */
+    /* Gives an object back if its constructor throws. */
     struct unfinished {
         partmem_tenant tenant;
         std::uint32_t cache, place;
@@ -422,8 +423,8 @@ public:
     heap(const heap &) = delete;
     heap &operator=(const heap &) = delete;
 
-    /* Makes this the heap of a tenant. What it was before is forgotten, also after bad_config and bad_memory, which it returns
-     * besides no_machine. */
+    /* Makes this the heap of a tenant. The heap that it was before is forgotten, even if bad_config or bad_memory is returned.
+     * Returns no_machine, bad_config, bad_memory. */
     status open(const tenant &tenant, const partmem_heap_config &config = {}) noexcept
     {
         if (!tenant.get().machine) return status::no_machine;
@@ -451,7 +452,7 @@ public:
         return pointer<T>(made, deleter<T>(*this));
     }
 
-    /* Returns the place of an address, which the tenant may store and see; PARTMEM_NO_PLACE if it is not the tenant's. */
+    /* Returns the place of an address, or PARTMEM_NO_PLACE if it is not the tenant's. The tenant may store and see the place. */
     std::uint32_t place(const void *at) const noexcept { return partmem_heap_place(&heap_, at); }
 
     /* Returns the heap for functions in C. */

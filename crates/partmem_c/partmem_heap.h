@@ -58,8 +58,8 @@
  * of a second one count as direct calls. Before partmem_heap_init, after a reset of the tenant and after the machine's end, a
  * heap is not used until it is initialised, unless all of it is 0.
  *
- * PROVED: what each command of the heap does. TESTED: all of heap.c, and partmem_find_place and partmem_superblock_address,
- * which it uses and which are C. docs/heap.md says how, and what it costs. */
+ * PROVED: what each command of the heap does. TESTED: all of heap.c, and the functions in C that it uses, partmem_find_place and
+ * partmem_superblock_address. docs/heap.md says how, and what a heap costs. */
 #ifndef PARTMEM_HEAP_H
 #define PARTMEM_HEAP_H
 
@@ -100,9 +100,9 @@ typedef struct partmem_heap {
  * BAD_MEMORY if the tenant has no slot, or if its slots are not 0, 1, 2 .. with superblocks that follow each other in RAM. */
 PARTMEM_CHECKED partmem_status partmem_heap_init(partmem_heap *heap, partmem_tenant tenant, const partmem_heap_config *config);
 
-/* Allocates at least `bytes` bytes, and at least 1, at a multiple of 16. They have any values. Returns NULL if no free block is
- * large enough (with runs: no row of free superblocks), even after all empty slabs were given back, for a request that is too
- * large, and for a heap that is all 0. A refused request may have made the cache of its class, and with runs it may have given
+/* Allocates at least `bytes` bytes, and at least 1, at a multiple of 16. They have any values. Returns NULL for a heap that is
+ * all 0, for a request that is too large, and if no free block is large enough (with runs: no row of free superblocks), even
+ * after all empty slabs were given back. A refused request may have made the cache of its class, and with runs it may have given
  * back the tenant's empty slabs. */
 void *partmem_heap_malloc(partmem_heap *heap, size_t bytes);
 

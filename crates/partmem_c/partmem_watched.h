@@ -20,9 +20,10 @@
  * LEAKS. If the environment has PARTMEM_LEAKS, with any value, and something is still live, partmem_end prints it on standard
  * error (at most 100 lines, and how many blocks and objects there are), and then calls abort.
  *
- * NOT SEEN: a load or store in bytes that are lent to somebody else, a stale one in what has been lent again, or one by a device;
- * with AddressSanitizer, one from code that is not compiled for it, except functions such as memcpy; breaches of duty 6 (flows).
- * After the end of a machine in memory of the caller's, all of that memory may be used. A machine's tables are not watched.
+ * NOT SEEN: a load or store in bytes that are lent to somebody else, by a stale address in bytes that were lent again, or by a
+ * device; with AddressSanitizer, also by code that is not compiled for it, except functions such as memcpy. Breaches of duty 6
+ * (flows) are not seen either. After the end of a machine in memory of the caller's, all of that memory may be used. A machine's
+ * tables are not watched.
  *
  * ARCHIVE. AddressSanitizer checks the arguments of memcpy, memmove and memset, whoever calls them. So libpartmem_watched.a is
  * the code of libpartmem.a with three such functions of its own. valgrind sees each access of the library; its reports are off
@@ -219,8 +220,8 @@ PARTMEM_INLINE void partmem_watched_print_leak(uint32_t tenant, const partmem_ob
     else fprintf(stderr, ", an object of cache %u\n", (unsigned)object->cache);
 }
 
-/* Prints what is live in a slot, unless `pieces`, the number found before, has reached 100. Returns how many have then been
- * found. Objects begin at multiples of 8. */
+/* Prints what is live in a slot, but at most 100 lines in all. `pieces` is how many pieces were found in the slots before.
+ * Returns how many have been found now. Objects begin at multiples of 8. */
 PARTMEM_INLINE uint32_t partmem_watched_print_slot(partmem_tenant tenant, uint32_t slot, uint32_t slot_bytes, uint32_t pieces)
 {
     enum { MOST_LINES = 100 };
@@ -281,7 +282,7 @@ PARTMEM_INLINE partmem_status partmem_watched_end(partmem_machine *machine)
 typedef struct partmem_watched_ending {
     partmem_tenant tenant;
     uint32_t place;
-    partmem_watched_piece piece; /* that begins there; of 0 bytes if there is none */
+    partmem_watched_piece piece; /* the live one that contains the place; it has 0 bytes if there is none */
     uint32_t slots;
     partmem_slot slot[PARTMEM_MOST_SUPERBLOCKS];
 } partmem_watched_ending;
@@ -305,7 +306,7 @@ PARTMEM_INLINE void partmem_watched_note_place(partmem_watched_ending *ending, u
 }
 
 /* Notes what a command may end, before it is run. `kind` and the numbers are those of a partmem_request. A direct call that frees
- * or gives back has a place, as PARTMEM_GIVE has. */
+ * or gives back passes PARTMEM_GIVE and its place. */
 PARTMEM_INLINE void partmem_watched_before(partmem_watched_ending *ending, partmem_tenant tenant, uint32_t kind, uint32_t first,
                                            uint32_t second)
 {
@@ -407,8 +408,8 @@ PARTMEM_INLINE partmem_status partmem_watched_event(partmem_machine *machine, co
     return status;
 }
 
-/* Reads what a line may end: the numbers of a request, of kind 0 for a line that ends nothing. Nothing is poisoned unless it has
- * ended, so the line may be faulty. */
+/* Reads from a line what it may end. Returns a request, whose kind is 0 if the line ends nothing. The line may be faulty, since
+ * nothing is poisoned unless it has ended. */
 PARTMEM_INLINE partmem_request partmem_watched_read(const char *line, size_t line_len)
 {
     static const struct {
@@ -521,7 +522,7 @@ PARTMEM_INLINE void *partmem_watched_object_at(partmem_tenant tenant, uint32_t c
     return partmem_watched_lend_object(tenant, cache, place, &object) == PARTMEM_DONE ? object.at : NULL;
 }
 
-/* The bytes of reads and writes pass through a copy, since the tools see nothing of what the library does with the caller's. */
+/* Reads and writes pass their bytes through a copy, since the tools do not see what the library does with the caller's bytes. */
 PARTMEM_INLINE partmem_status partmem_watched_read_bytes(partmem_tenant tenant, uint32_t place, void *to, size_t bytes)
 {
     unsigned char copy[PARTMEM_MOST_BYTES];
