@@ -1,4 +1,4 @@
--- Blocks and their numbers. A block is clear if all its frames pass a test.
+-- The numbers of blocks and of their nodes, and which blocks are clear. A block is clear if all its frames pass the test `ok`.
 use Rattle.std.proofs.Common.{◌≡◌, ℕ, zero, suc, ◌+◌, ◌-◌, ◌*◌, ◌/◌, ◌^◌, ◌<◌, ◌≤◌, Bool, true, false, ◌⊎◌, inl, inr, refl, sym, ap, subst, ◌∙◌, arith}
 use Rattle.std.proofs.lemmas.Bool.{and_parts, and_left, cases_Bool, both_ways, cases_eq}
 use Rattle.std.proofs.lemmas.Nat.{shr_below, div_below, pow_pos}
@@ -11,7 +11,8 @@ use Rattle.model_core.proofs.BlocksByNumber.{number_is}
 pub halves : (p q : ℕ) → q / 2 ≡ p → (q ≡ 2 * p) ⊎ (q ≡ 2 * p + 1)
 halves p q e = elim (cases_eq q (2 * p)) [ inl h ↦ inl h | inr h ↦ inr (omega (arith, h)) ]
 
--- the number of the block of order k + n around a frame follows from the number of the block of order k around it
+-- if the number of the block of order k around frame x is halved n times, the result is the number of the block of order k + n
+-- around x
 pub number_above : (n k m x : ℕ) → k + n ≡ m → number_at n (number_at k x) ≡ number_at m x
 number_above zero k m x e = ap (λ i. number_at i x) (let h : k ≡ m = omega arith in h)
 number_above (suc n) k zero x e = absurd (omega arith)
@@ -29,24 +30,24 @@ inside_clear ok zero k m q e h = subst (λ i. is_clear ok i q ≡ true) (let s :
 inside_clear ok (suc n) k zero q e h = absurd (omega arith)
 inside_clear ok (suc n) k (suc m) q e h = inside_clear ok n k m q (omega arith) (half_clear ok m _ (number_at n q) h refl)
 
--- a block with a frame that does not pass is not clear
+-- a block is not clear if one of its frames does not pass the test
 pub frame_not_clear : (ok : ℕ → Bool) (k x : ℕ) → ok x ≡ false → is_clear ok k (number_at k x) ≡ false
 frame_not_clear ok k x h = elim (cases_Bool (is_clear ok k (number_at k x))) [ inl t ↦ absurd (both_ways (ok x) h (clear_at ok k x t)) | inr f ↦ f ]
 
--- a block in which no frame passes is not clear
+-- a block is not clear if none of its frames passes the test
 pub none_clear : (ok : ℕ → Bool) (k q : ℕ) → ((x : ℕ) → number_at k x ≡ q → ok x ≡ false) → is_clear ok k q ≡ false
 none_clear ok zero q h = h q refl
 none_clear ok (suc k) q h = and_left _ _ (none_clear ok k (2 * q) (λ x e. h x (omega arith)))
 
--- the block of order k around a frame of a superblock of order d + k has a number below 2 ^ d
+-- in a superblock of order d + k, each block of order k has a number below 2 ^ d
 pub number_below : (d k x : ℕ) → x < 2 ^ (d + k) → number_at k x < 2 ^ d
 number_below d k x h = subst (λ n. n < 2 ^ d) (sym (number_is k x)) (shr_below x d k h)
 
--- the block of order k around a frame of a superblock of order k has number 0
+-- in a superblock of order k, the only block of order k has number 0
 pub number_whole : (k x : ℕ) → x < 2 ^ k → number_at k x ≡ 0
 number_whole k x h = let below = div_below x (2 ^ k) 1 (pow_pos k) (omega arith) in omega (arith, number_is k x)
 
--- the node of the block of order k around a frame is the frame's own node, shifted right by k
+-- the node of the block of order k around a frame is the frame's own node, shifted right by k bits
 pub number_node : (d k f : ℕ) → number_at k (2 ^ (d + k) + f) ≡ 2 ^ d + number_at k f
 number_node d zero f = ap (λ i. 2 ^ i + f) (let e : d + 0 ≡ d = omega arith in e)
 number_node d (suc k) f =

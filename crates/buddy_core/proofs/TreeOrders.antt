@@ -1,4 +1,5 @@
--- The orders in the word of one block.
+-- Bit j of the orders of a block is 1 if and only if a block of order j is open in it. The outer block is seen alone, as if there
+-- were no frames around it. A block is clear if all its frames pass the test `ok`.
 use Rattle.std.proofs.Common.{◌≡◌, ℕ, zero, suc, ◌+◌, ◌*◌, ◌/◌, ◌^◌, ◌<◌, Bool, true, false, ◌&&◌, ◌⊎◌, inl, inr, refl, sym, ap, subst, ◌∙◌, arith, cond}
 use Rattle.std.specs.Prelude.{bit_or, nat_lt}
 use Rattle.std.specs.Int.{bit_at}
@@ -10,16 +11,16 @@ use Rattle.buddy_core.specs.Tree.{orders, word, HasOpen}
 use Rattle.model_core.proofs.BlockHalves.{clear_same}
 use Rattle.buddy_core.proofs.TreeNumbers.{halves, number_above, inside_clear, none_clear}
 
--- a clear block has only its own order
+-- if a block of order k is clear, bit k is the only bit of its orders that is 1
 pub orders_clear : (ok : ℕ → Bool) (k q : ℕ) → is_clear ok k q ≡ true → orders ok k q ≡ 2 ^ k
 orders_clear ok zero q h = cond-true (ok q) 1 0 h
 orders_clear ok (suc k) q h = cond-true (is_clear ok (suc k) q) _ _ h
 
--- any other block has the orders of its halves
+-- if a block is not clear, its orders are the orders of both halves, combined by OR
 pub orders_halves : (ok : ℕ → Bool) (k q : ℕ) → is_clear ok (suc k) q ≡ false → orders ok (suc k) q ≡ bit_or (orders ok k (2 * q)) (orders ok k (2 * q + 1))
 orders_halves ok k q h = cond-false (is_clear ok (suc k) q) _ _ h
 
--- a block has no order greater than its own
+-- in the orders of a block of order k, no bit above bit k is 1
 pub orders_small : (ok : ℕ → Bool) (k q : ℕ) → orders ok k q < 2 ^ suc k
 orders_small ok zero q = elim (cases_Bool (ok q)) [ inl t ↦ subst (λ n. n < 2 ^ 1) (sym (cond-true (ok q) 1 0 t)) (omega arith) | inr f ↦ subst (λ n. n < 2 ^ 1) (sym (cond-false (ok q) 1 0 f)) (omega arith) ]
 orders_small ok (suc k) q =
@@ -27,14 +28,14 @@ orders_small ok (suc k) q =
     let both = or_lt (suc k) (orders ok k (2 * q)) (orders ok k (2 * q + 1)) (orders_small ok k (2 * q)) (orders_small ok k (2 * q + 1)) in
     elim (cases_Bool (is_clear ok (suc k) q)) [ inl t ↦ omega (arith, orders_clear ok (suc k) q t) | inr f ↦ omega (arith, orders_halves ok k q f) ]
 
--- only a clear block has its own order and no other
+-- if bit k is the only bit that is 1 in the orders of a block of order k, the block is clear
 pub orders_whole : (ok : ℕ → Bool) (k q : ℕ) → orders ok k q ≡ 2 ^ k → is_clear ok k q ≡ true
 orders_whole ok zero q h = elim (cases_Bool (ok q)) [ inl t ↦ t | inr f ↦ let none = cond-false {A = ℕ} (ok q) 1 0 f in absurd (omega arith) ]
 orders_whole ok (suc k) q h =
     let both = or_lt (suc k) (orders ok k (2 * q)) (orders ok k (2 * q + 1)) (orders_small ok k (2 * q)) (orders_small ok k (2 * q + 1)) in
     elim (cases_Bool (is_clear ok (suc k) q)) [ inl t ↦ t | inr f ↦ absurd (omega (arith, orders_halves ok k q f)) ]
 
--- a block in which no frame passes has no order
+-- the orders of a block are 0 if none of its frames passes the test
 pub orders_none : (ok : ℕ → Bool) (k q : ℕ) → ((x : ℕ) → number_at k x ≡ q → ok x ≡ false) → orders ok k q ≡ 0
 orders_none ok zero q h = cond-false (ok q) 1 0 (h q refl)
 orders_none ok (suc k) q h =
@@ -42,7 +43,7 @@ orders_none ok (suc k) q h =
     let high = orders_none ok k (2 * q + 1) (λ x e. h x (omega arith)) in
     orders_halves ok k q (none_clear ok (suc k) q h) ∙ ap (λ n. bit_or n (orders ok k (2 * q + 1))) low ∙ ap (λ n. bit_or 0 n) high
 
--- tests that agree on the block's frames give the same orders
+-- if two tests agree on all frames of a block, the block has the same orders with both
 pub orders_same : (a b : ℕ → Bool) (k q : ℕ) → ((x : ℕ) → number_at k x ≡ q → a x ≡ b x) → orders a k q ≡ orders b k q
 orders_same a b zero q h = ap (λ t. cond t 1 0) (h q refl)
 orders_same a b (suc k) q h =
@@ -55,15 +56,15 @@ orders_same a b (suc k) q h =
     orders_both : (ℕ → Bool) → ℕ → ℕ → ℕ
     orders_both a k q = bit_or (orders a k (2 * q)) (orders a k (2 * q + 1))
 
--- The word of the whole superblock has its orders. The word of a smaller block does too, or is 0 if the larger block around is
--- clear.
+-- The word of the whole superblock is its orders. The word of a smaller block is 0 if the next larger block around it is clear.
+-- If not, the word is the orders of the smaller block.
 pub word_whole : (ok : ℕ → Bool) (k q : ℕ) → word ok k k q ≡ orders ok k q
 word_whole ok k q = cond-false (nat_lt k k && is_clear ok (suc k) (q / 2)) 0 _ (and_left _ _ (le-ltb k k (omega arith)))
 
 pub word_inside : (ok : ℕ → Bool) (top k q : ℕ) → k < top → word ok top k q ≡ cond (is_clear ok (suc k) (q / 2)) 0 (orders ok k q)
 word_inside ok top k q h = ap (λ t. cond (t && is_clear ok (suc k) (q / 2)) 0 (orders ok k q)) (lt-ltb k top h)
 
--- a power of two has only one bit that is 1
+-- if bit j of 2 ^ k is 1, j is k
 pub bit_apart : (k j : ℕ) → bit_at (2 ^ k) j ≡ 1 → j ≡ k
 bit_apart k j h = elim (cases_eq j k) [ inl e ↦ e | inr ne ↦ absurd (omega (arith, bit_at-pow_other k j ne)) ]
 
@@ -77,7 +78,7 @@ either_bit a b j h =
 whole_open : (ok : ℕ → Bool) (k q j : ℕ) → is_clear ok k q ≡ true → j ≡ k → HasOpen ok k k q j
 whole_open ok k q j h e = (0, q, omega arith, refl, (omega arith, subst (λ i. is_clear ok i q ≡ true) (sym e) h, inl e))
 
--- a block that is open in a half is open in the whole, if the whole is not clear
+-- if block q is not clear, each block that is open in one of its halves is open in block q too
 open_above : (ok : ℕ → Bool) (k q r j : ℕ) → is_clear ok (suc k) q ≡ false → r / 2 ≡ q → HasOpen ok k k r j → HasOpen ok (suc k) (suc k) q j
 open_above ok k q r j h e (n, p, s, a, (small, clear, around)) =
     (suc n, p, omega arith, ap (λ i. i / 2) a ∙ e, (omega arith, clear, elim around [ inl t ↦ inr (not_clear n s a t) | inr f ↦ inr f ]))
@@ -99,7 +100,7 @@ orders_tell ok (suc k) q j h = elim (cases_Bool (is_clear ok (suc k) q)) [
   ]
 ]
 
--- a block that is open inside a clear block is that block
+-- if a block of order j is open in a clear block of order k, j is k
 open_whole : (ok : ℕ → Bool) (k q j : ℕ) → is_clear ok k q ≡ true → HasOpen ok k k q j → j ≡ k
 open_whole ok k q j h (n, p, s, a, (small, clear, around)) = go n s a
   where
@@ -107,7 +108,7 @@ open_whole ok k q j h (n, p, s, a, (small, clear, around)) = go n s a
     go zero s a = omega arith
     go (suc n) s a = elim around [ inl e ↦ e | inr f ↦ absurd (both_ways (is_clear ok (suc j) (p / 2)) f (inside_clear ok n (suc j) k (p / 2) (omega arith) (subst (λ i. is_clear ok k i ≡ true) (sym (number_above n 1 (suc n) p (omega arith) ∙ a)) h))) ]
 
--- a block that is open in one that is not clear is open in the half that it lies in
+-- if a block is not clear, each block that is open in it is open in one of its halves
 open_below : (ok : ℕ → Bool) (k q j : ℕ) → is_clear ok (suc k) q ≡ false → HasOpen ok (suc k) (suc k) q j → (r : ℕ) × (r / 2 ≡ q) × HasOpen ok k k r j
 open_below ok k q j h (n, p, s, a, (small, clear, around)) = go n s a
   where

@@ -1,4 +1,4 @@
--- The way down from the first word to the free block of an order with the least first frame.
+-- The search of a tree goes down from the root to the free block of an order that has the least first frame.
 use Rattle.std.proofs.Common.{◌≡◌, ℕ, suc, ◌+◌, ◌-◌, ◌*◌, ◌/◌, ◌%◌, ◌^◌, ◌<◌, ◌≤◌, Bool, true, false, List, length, get_or, ◌⊎◌, inl, inr, refl, sym, ap, subst, ◌∙◌, arith}
 use Rattle.std.specs.Prelude.{slice_index}
 use Rattle.std.specs.Int.{bit_at}
@@ -12,13 +12,14 @@ use Rattle.model_core.proofs.BlocksByNumber.{number_is}
 use Rattle.buddy_core.proofs.TreeOrders.{orders_clear, orders_halves, bit_apart, either_bit, orders_tell, orders_told, word_whole, word_inside}
 use Rattle.buddy_core.proofs.TreeNodes.{low_node}
 
--- block q of order k has the free block of order j with the least first frame inside
+-- A free block of order j lies inside block q of order k, and no free block of order j lies before block q. Block q is the whole
+-- superblock, or the next larger block around it is not clear.
 pub record Leads (ok : ℕ → Bool) (top j k q : ℕ) : Type 0 where
   pub bit : bit_at (orders ok k q) j ≡ 1
   pub around : (k ≡ top) ⊎ (is_clear ok (suc k) (q / 2) ≡ false)
   pub least : (n p : ℕ) → j + n ≡ k → p < 2 ^ (top - j) → IsOpen ok top j p → q ≤ number_at n p
 
--- the root word has the orders of the whole superblock
+-- the root word is the orders of the whole superblock
 pub first_word : (ok : ℕ → Bool) (top : ℕ) (words : List ℕ) → Shows top ok words → slice_index words 0 ≡ orders ok top 0
 first_word ok top words shows = shows.each 0 top 0 (omega arith) (omega arith) ∙ word_whole ok top 0
 
@@ -34,7 +35,8 @@ not_whole : (ok : ℕ → Bool) (k q j : ℕ) → j ≤ k → bit_at (orders ok 
 not_whole ok k q j h b = false_from_ne_true _ (λ t.
     let whole = bit_apart (suc k) j (subst (λ n. bit_at n j ≡ 1) (orders_clear ok (suc k) q t) b) in omega arith)
 
--- if the search is at the block of order k + 1 and has to go on, the stored word of its lower half has that half's orders
+-- if the search is at a block of order k + 1 and j is at most k, the stored word of the block's lower half is the orders of that
+-- half
 pub low_word : (ok : ℕ → Bool) (top j k q d : ℕ) (words : List ℕ) → Shows top ok words → suc d + k ≡ top → q < 2 ^ d → j ≤ k → Leads ok top j (suc k) q
     → (n : ℕ) → n ≡ 2 ^ d + q → slice_index words (2 * n - 1) ≡ orders ok k (2 * q)
 low_word ok top j k q d words shows s b h l n e =
@@ -67,14 +69,14 @@ leads_high ok top j k q h lt l off =
     inner : (p : ℕ) → IsOpen ok top j p → IsOpen ok k j p
     inner p (small, clear, around) = (h, clear, elim around [ inl e ↦ absurd (omega arith) | inr f ↦ inr f ])
 
--- if the search is at a block of order j, this is the free block of order j with the least first frame
+-- if the search reaches a block of order j, this block is free, and no free block of order j has a smaller number
 pub leads_last : (ok : ℕ → Bool) (top j q : ℕ) → j ≤ top → Leads ok top j j q → IsLeast ok top j q
 leads_last ok top j q h l = ((h, clear (orders_tell ok j q j l.bit), l.around), λ p small o. l.least 0 p (omega arith) small o)
   where
     clear : HasOpen ok j j q j → is_clear ok j q ≡ true
     clear (n, p, s, a, (small, c, around)) = subst (λ i. is_clear ok j i ≡ true) (subst (λ i. number_at i p ≡ q) (let z : n ≡ 0 = omega arith in z) a) c
 
--- after d steps down the search is at node n, and the free block with the least first frame lies inside the node's block
+-- After d steps down the search is at node n. If bit j of the root word is 1, `Leads` holds for the block of node n.
 pub record Reached (top j d n : ℕ) (words : List ℕ) : Type 0 where
   pub least : 2 ^ d ≤ n
   pub depth : n < 2 * 2 ^ d
@@ -91,7 +93,8 @@ at_depth ok top j d k q n e a b s l =
 below_top : (top d : ℕ) → d < top → top - d ≡ suc (top - suc d)
 below_top top d h = omega arith
 
--- a step down to node m + x, the lower or the upper half, if that half leads on
+-- x is 0 for the lower half and 1 for the upper half: if `Leads` passes from a block to its half x, `Reached` passes from node n
+-- to node m + x
 stepped_down : (top j d n m e x : ℕ) (words : List ℕ) → x < 2 → d + j < top → e ≡ d + 1 → m ≡ n * 2
     → ((ok : ℕ → Bool) (k q : ℕ) → j ≤ k → k < top → Leads ok top j (suc k) q → slice_index words (m - 1) ≡ orders ok k (2 * q) → Leads ok top j k (2 * q + x))
     → Reached top j d n words → Reached top j e (m + x) words
@@ -120,7 +123,7 @@ pub reached_high : (top j d n m e : ℕ) (words : List ℕ) → d + j < top → 
 reached_high top j d n m e words h a s off r =
     stepped_down top j d n m e 1 words (omega arith) h a s (λ ok k q le lt l same. leads_high ok top j k q le lt l (λ b. off (subst (λ i. bit_at i j ≡ 1) (sym same) b))) r
 
--- the halves of a node on the way are stored
+-- if the search is at node n after fewer than top steps, the words of both halves of node n are stored
 pub reached_stored : (top j d n : ℕ) (words : List ℕ) → length words + 1 ≡ 2 ^ (top + 1) → d < top → Reached top j d n words → 2 * n + 1 ≤ length words
 reached_stored top j d n words size h r =
     let least = r.least in
@@ -128,7 +131,8 @@ reached_stored top j d n words size h r =
     let deep = pow_mono {i = suc (suc d)} {j = top + 1} (omega arith) in
     omega (arith, pow-suc 2 d, pow-suc 2 (suc d))
 
--- in the code, the shifts of the last node give the first frame of its block
+-- The code shifts the last node n left by j and subtracts 2 ^ top. Neither shift overflows, and the difference is the first frame
+-- of the node's block.
 pub first_of : (top j n : ℕ) → j ≤ top → top ≤ 8 → 2 ^ (top - j) ≤ n → n < 2 * 2 ^ (top - j)
     → (1 * 2 ^ top % 4294967296 ≡ 2 ^ top) × (n * 2 ^ j % 4294967296 ≡ 2 ^ top + (n - 2 ^ (top - j)) * 2 ^ j) × ((n - 2 ^ (top - j)) * 2 ^ j < 2 ^ top)
 first_of top j n h small least depth =
@@ -155,12 +159,12 @@ reached_first top j d words e =
       leads = λ ok shows root. subst (λ i. Leads ok top j i 0) (let whole : top ≡ top - 0 = omega arith in whole) (leads_first ok top j words shows root);
     })
 
--- if `level` is top, the search is at a node of order j
+-- if `level` is top, the search has made top - j steps down
 pub reached_last : (top j level n : ℕ) (words : List ℕ) → level ≡ top → Reached top j (level - j) n words → Reached top j (top - j) n words
 reached_last top j level n words e way = subst (λ i. Reached top j (i - j) n words) e way
 
--- if node n at depth d is at most the last node of an order above j, its order is above j; if it is greater (next lemma), its
--- order is j
+-- `len / 2 ^ (j + 1)` is the last node of an order above j. If node n at depth d is at most this node, its order is above j. If n
+-- is greater and its order is at least j, its order is j (next lemma).
 pub inner_above : (top j d n len : ℕ) → len + 1 ≡ 2 ^ (top + 1) → n ≤ len / 2 ^ (j + 1) → 2 ^ d ≤ n → d + j < top
 inner_above top j d n len size test least = elim (cases_lt (d + j) top) [
   | inl lt ↦ lt

@@ -1,5 +1,5 @@
--- The words of a superblock and the free blocks of the tenant that has it in slot u. Frame x of the superblock is the tenant's
--- frame u * 2 ^ top + x.
+-- The words of the superblock in slot u of a tenant show which free blocks the tenant has there. Frame x of the superblock is the
+-- tenant's frame u * 2 ^ top + x.
 use Rattle.std.proofs.Common.{◌≡◌, ◌↔◌, ℕ, zero, suc, ◌+◌, ◌-◌, ◌*◌, ◌/◌, ◌%◌, ◌^◌, ◌<◌, ◌≤◌, Bool, true, false, ◌&&◌, cond, List, inl, inr, sym, ap, subst, ◌∙◌, arith}
 use Rattle.std.specs.Prelude.{slice_index}
 use Rattle.std.specs.Int.{bit_at}
@@ -17,9 +17,10 @@ use Rattle.buddy_core.specs.Tree.{orders, word, Shows, IsLess, HasOpen, IsLeast}
 use Rattle.buddy_core.proofs.TreeNumbers.{number_above, number_below, number_whole, inside_clear}
 use Rattle.buddy_core.proofs.TreeOrders.{orders_same, orders_tell, orders_told, word_whole, word_inside}
 
--- bit j of each stored word is 1 if and only if a free block of order j is inside the node's block ----------
+-- bit j of a node's word is 1 if and only if a free block of order j lies inside the node's block -------------
 
--- a block that is open in a part of the superblock is open in the superblock, if the part is not itself inside a clear block
+-- if the next larger block around block q is not clear, a block that is open in block q, seen alone, is open in the superblock
+-- too
 widen : (ok : ℕ → Bool) (top k q j : ℕ) → k < top → is_clear ok (suc k) (q / 2) ≡ false → HasOpen ok k k q j → HasOpen ok top k q j
 widen ok top k q j lt off (n, p, s, a, (small, clear, around)) =
     (n, p, s, a, (omega arith, clear, inr (elim around [ inl e ↦ own n s a e | inr f ↦ f ])))
@@ -67,7 +68,7 @@ pub node_tells : (ok : ℕ → Bool) (top d k q j : ℕ) (words : List ℕ) → 
 node_tells ok top d k q j words shows s b =
     subst (λ w. (bit_at w j ≡ 1) ↔ HasOpen ok top k q j) (sym (shows.each d k q s b)) (word_tells ok top k q j (omega arith))
 
--- tests that agree on the superblock's frames have the same words ------------------------------------------
+-- if two tests agree on the superblock's frames, words that show one of them also show the other ------------
 
 frame_within : (top d k q x : ℕ) → d + k ≡ top → q < 2 ^ d → number_at k x ≡ q → x < 2 ^ top
 frame_within top d k q x s b e =
@@ -98,7 +99,7 @@ shows_same a b top words shows same = record {
     half : (d k q : ℕ) → d + k ≡ top → q < 2 ^ d → k < top → q / 2 < 2 ^ (top - suc k)
     half d k q s h lt = let deep : 2 ^ d ≡ 2 ^ suc (top - suc k) = ap (λ i. 2 ^ i) (omega arith) in omega (arith, pow-suc 2 (top - suc k))
 
--- frames of a slot ----------------------------------------------------------------------------------------
+-- the number of a block in its superblock, and its number among all frames of the tenant ---------------------
 
 regroup : (u a : ℕ) → u * (a * 2) ≡ u * a * 2
 regroup u a = omega arith
@@ -126,7 +127,8 @@ around_slot ok u top d k q e =
     let wide : u * 2 ^ suc d ≡ u * 2 ^ d * 2 = ap (λ n. u * n) (pow-suc 2 d) ∙ regroup u (2 ^ d) in
     clear_slot ok u top d (suc k) (q / 2) (omega arith) ∙ ap (λ i. is_clear ok (suc k) i) (let s : u * 2 ^ d + q / 2 ≡ (u * 2 ^ suc d + q) / 2 = omega arith in s)
 
--- a block that is open in the superblock of slot u is open among the tenant's frames
+-- block q of order k is open in slot u if and only if block u * 2 ^ d + q of order k is open among all frames of the tenant (two
+-- lemmas)
 pub open_of_slot : (ok : ℕ → Bool) (u top d k q : ℕ) → d + k ≡ top → IsOpen (λ x. ok (u * 2 ^ top + x)) top k q → IsOpen ok top k (u * 2 ^ d + q)
 open_of_slot ok u top zero k q e (small, clear, around) = (small, sym (clear_slot ok u top 0 k q e) ∙ clear, inl (omega arith))
 open_of_slot ok u top (suc d) k q e (small, clear, around) =
@@ -137,7 +139,7 @@ open_in_slot ok u top zero k q e (small, clear, around) = (small, clear_slot ok 
 open_in_slot ok u top (suc d) k q e (small, clear, around) =
     (small, clear_slot ok u top (suc d) k q e ∙ clear, elim around [ inl s ↦ inl s | inr f ↦ inr (around_slot ok u top d k q e ∙ f) ])
 
--- block p of order j of slot u begins at a multiple of its size
+-- block p of order j in slot u begins at a multiple of 2 ^ j
 first_in : (u top d j p : ℕ) → d + j ≡ top → u * 2 ^ top + p * 2 ^ j ≡ (u * 2 ^ d + p) * 2 ^ j
 first_in u top d j p e =
     let whole : 2 ^ d * 2 ^ j ≡ 2 ^ top = sym (pow-add 2 d j) ∙ ap (λ i. 2 ^ i) e in
@@ -161,7 +163,7 @@ module _ (top : ℕ) (held : ℕ → Bool) (taken : Taken) (u : ℕ) where
       open_is_free top held taken (block f j) (ap (λ n. n % 2 ^ j) at ∙ aligned_first (u * 2 ^ (top - j) + p) j)
       (subst (λ n. IsOpen (is_available top held taken) top j n) (sym number) (open_of_slot (is_available top held taken) u top (top - j) j p e o))
 
-  -- a frame f of slot u is frame f % 2 ^ top of that slot
+  -- if frame f of the tenant is in slot u, it is frame f % 2 ^ top of that slot
   split : (f : ℕ) → f / 2 ^ top ≡ u → f ≡ u * 2 ^ top + f % 2 ^ top
   split f e = sym (shr_split f top) ∙ ap (λ n. n * 2 ^ top + f % 2 ^ top) e
 
@@ -174,7 +176,7 @@ module _ (top : ℕ) (held : ℕ → Bool) (taken : Taken) (u : ℕ) where
       open_in_slot (is_available top held taken) u top (top - j) j (number_at j (f % 2 ^ top)) (omega arith)
       (subst (λ n. IsOpen (is_available top held taken) top j n) number o)
 
-  -- bit j of a node is 1 if and only if a free block of order j is inside the node's block
+  -- bit j of a node's word is 1 if and only if the tenant has a free block of order j inside the node's block
   pub slot_tells : (words : List ℕ) → Shows top in_slot words → (d q j : ℕ) → d ≤ top → q < 2 ^ d
       → (bit_at (slice_index words (2 ^ d + q - 1)) j ≡ 1)
       ↔ ((f : ℕ) × IsFree top held taken (block f j) × ((u * 2 ^ top + q * 2 ^ (top - d) ≤ f) × (f + 2 ^ j ≤ u * 2 ^ top + q * 2 ^ (top - d) + 2 ^ (top - d))))
@@ -213,7 +215,7 @@ module _ (top : ℕ) (held : ℕ → Bool) (taken : Taken) (u : ℕ) where
           let here : number_at k x ≡ q = number_of_frame (q * 2 ^ k) k x (aligned_first q k) (omega arith, omega arith) ∙ number_first q k in
           (k - j, number_at j x, omega arith, number_above (k - j) j k x (omega arith) ∙ here, open_of j f slot free)
 
-  -- bit j of the root word is 1 if and only if a free block of order j is in the slot
+  -- bit j of the root word is 1 if and only if the tenant has a free block of order j in slot u
   pub root_tells : (words : List ℕ) → Shows top in_slot words → (j : ℕ)
       → (bit_at (slice_index words 0) j ≡ 1) ↔ ((f : ℕ) × IsFree top held taken (block f j) × (f / 2 ^ top ≡ u))
   root_tells words shows j = (λ bit. forth (tells.0 bit), λ w. tells.1 (back w))
@@ -233,7 +235,7 @@ module _ (top : ℕ) (held : ℕ → Bool) (taken : Taken) (u : ℕ) where
           let small = free.0.0 in
           (top - j, number_at j x, omega arith, number_above (top - j) j top x (omega arith) ∙ number_whole top x (mod_below f (2 ^ top) (pow_pos top)), open_of j f slot free)
 
-  -- what `search` finds is the free block of that order in the slot with the least first frame
+  -- a free block of order j begins at the frame that `search` returns, and no free block of order j in the slot begins before it
   pub least_free : (j r : ℕ) → number_at j r * 2 ^ j ≡ r → IsLeast in_slot top j (number_at j r)
       → IsFree top held taken (block (u * 2 ^ top + r) j) × ((g : ℕ) → IsFree top held taken (block g j) → g / 2 ^ top ≡ u → u * 2 ^ top + r ≤ g)
   least_free j r e (o, least) = (subst (λ i. IsFree top held taken (block (u * 2 ^ top + i) j)) e (free_of j (number_at j r) o), later)
@@ -251,7 +253,8 @@ module _ (top : ℕ) (held : ℕ → Bool) (taken : Taken) (u : ℕ) where
           let size : p * 2 ^ j ≡ x / 2 ^ j * 2 ^ j = ap (λ i. i * 2 ^ j) (number_is j x) in
           omega arith
 
--- if a block is taken out of one slot, its superblock loses these frames, and the other superblocks lose none
+-- if a block in slot u is taken, its frames become unavailable in the superblock of slot u, and nothing changes in the other
+-- slots
 module _ (large small : ℕ → Bool) (top u r k j : ℕ) (out : TakesOut large small top (u * 2 ^ top + r) k j) where
   order_within : k ≤ top
   order_within = let a = out.order in let b = out.open_block.0 in omega arith

@@ -1,4 +1,5 @@
--- The steps of the loops over a tree, in the words of the code: from the block of order k around frame f to the next.
+-- One step of each loop over a tree, in terms of the code: it goes from the block of order k around frame f to the block of order
+-- k + 1 around f.
 use Rattle.std.proofs.Common.{◌≡◌, ℕ, suc, ◌+◌, ◌-◌, ◌*◌, ◌/◌, ◌^◌, ◌<◌, ◌≤◌, Bool, List, length, get_or, set, sym, ap₂, subst, ◌∙◌, arith, add-one}
 use Rattle.std.specs.Prelude.{bit_or}
 use Rattle.std.proofs.lemmas.Nat.{pow_pos}
@@ -31,7 +32,7 @@ node_is top k f node le b e =
         let high = node_below top (suc d) k (2 * number_at (suc k) f + 1) (omega arith) (omega (arith, pow-suc 2 d)) in
         (omega (arith, pow-suc 2 d, pow_pos d), omega (arith, pow-suc 2 d))
 
--- the nodes of the blocks around a frame are shifts of the frame's own node
+-- the node of the block of order k around a frame is the frame's own node, shifted right by k bits
 pub node_shifted : (top k f leaf node : ℕ) → k ≤ top → f < 2 ^ top → leaf ≡ 2 ^ top + f → node ≡ leaf / 2 ^ k → IsNode top k f node
 node_shifted top k f leaf node le b at e = node_is top k f node le b (e ∙ node_from_frame top k f leaf le at)
 
@@ -49,7 +50,7 @@ module _ (top k f node : ℕ) (b : f < 2 ^ top) (lt : k < top) (at : IsNode top 
   up : node / 2 ≡ 2 ^ depth + number_at (suc k) f
   up = let e = is in omega (arith, pow-suc 2 depth)
 
-  -- half the node is the node of the next larger block around the frame
+  -- node / 2 is the node of the block of order k + 1 around frame f
   pub node_up : IsNode top (k + 1) f (node / 2)
   node_up = node_is top (k + 1) f (node / 2) (omega arith) b
       (subst (λ j. node / 2 ≡ 2 ^ (top - j) + number_at j f) (sym (add-one k)) (subst (λ j. node / 2 ≡ 2 ^ j + number_at (suc k) f) (let e : depth ≡ top - suc k = (let d = deep in omega arith) in e) up))
@@ -58,7 +59,7 @@ module _ (top k f node : ℕ) (b : f < 2 ^ top) (lt : k < top) (at : IsNode top 
   rise old new after m = subst (λ i. Mended top i f old new after) (sym (add-one k)) m
 
   module _ (words : List ℕ) (size : length words + 1 ≡ 2 ^ (top + 1)) (other : ℕ) (pair : other + node ≡ 4 * (node / 2) + 1) where
-    -- the number of the other half of the block of order k + 1 around frame f
+    -- the block of order k + 1 around frame f has two halves: this is the number of the half without frame f
     half : ℕ
     half = 4 * number_at (suc k) f + 1 - number_at k f
 

@@ -1,7 +1,8 @@
 use Rattle.std.proofs.Common.{◌≡◌, ◌⊎◌, ℕ, ◌+◌, ◌<◌, ◌≤◌, length, get_or}
 use Rattle.buddy_core.proofs.tenant.Tenant.count_reserved.Given as goal
 
--- the halves below `level` are counted, and no other order changes
+-- Since the loop began, the count of free blocks of each order from `order` to `level` - 1 has increased by 1, and nothing else
+-- has changed.
 abbrev pub invariant-loop-level : goal.invariant-loop-level
 invariant-loop-level l =
     (length l.self-inside.free.items ≡ length l.initial.self-inside.free.items)

@@ -13,7 +13,8 @@ use Rattle.buddy_core.proofs.TreeNodes.{tree_is, written_back}
 use Rattle.buddy_core.proofs.TreeSteps.{node_is, node_up, node_shifted, step_climb}
 use Rattle.buddy_core.proofs.tree.Tree.climb.Goals as goal
 
--- the words of the two halves may be those of the node and its sibling, whichever of them is the lower half
+-- If v is the OR of the words of both halves of node / 2, it is the OR of the words of `node` and of its sibling. `node` may be
+-- either half.
 halves : (words : List ℕ) (node v : ℕ) → 1 < node → v ≡ bit_or (get_or words (2 * (node / 2) - 1) 0) (get_or words (2 * (node / 2)) 0)
     → v ≡ bit_or (get_or words (node - 1) 0) (get_or words (4 * (node / 2) + 1 - node - 1) 0)
 halves words node v more e = elim (cases_lt 0 (node % 2)) [
@@ -27,13 +28,13 @@ halves words node v more e = elim (cases_lt 0 (node % 2)) [
       e ∙ ap₂ (λ i j. bit_or (get_or words i 0) (get_or words j 0)) own other
 ]
 
--- the node of the whole is 1, so nothing is around it
+-- if k is top, the node of the block of order k is 1, and node / 2 is 0
 nothing_around : (top k f node : ℕ) → f < 2 ^ top → k ≡ top → IsNode top k f node → node / 2 ≡ 0
 nothing_around top k f node small same n =
     let whole = n.at 0 (omega arith) ∙ ap (λ i. 2 ^ 0 + number_at i f) same ∙ ap (λ i. 2 ^ 0 + i) (number_whole top f small) in
     omega arith
 
--- `around` is the parent of the node of the block of order k around f
+-- the block of order k around frame f has a node whose parent is `around`
 record IsInside (top k f around : ℕ) : Type 0 where
   node : ℕ
   is : IsNode top k f node
@@ -51,7 +52,7 @@ room_around top k f around small lt next =
     let i = inside top k f around small lt next in
     subst (λ n. 2 * n + 1 < 2 ^ (top + 1)) i.half (i.is.half lt)
 
--- one step up writes the word of `around`; the words are then mended up to the block of order k + 1
+-- if `Mended` and `IsConfined` hold for order k, they hold for order k + 1 after the loop writes the word of `around`
 climbed : (top k f around : ℕ) (words : List ℕ) (old new : ℕ → Bool) → f < 2 ^ top → k < top → IsNode top (k + 1) f around → length words + 1 ≡ 2 ^ (top + 1)
     → Mended top k f old new words × IsConfined top k f old new
     → Mended top (k + 1) f old new (set words (around - 1) (bit_or (get_or words (2 * around - 1) 0) (get_or words (2 * around) 0))) × IsConfined top (k + 1) f old new
@@ -63,14 +64,14 @@ climbed top k f around words old new small lt next size so_far =
     subst (λ n. Mended top (k + 1) f old new (set words (n - 1) v) × IsConfined top (k + 1) f old new) i.half
     (step_climb top k f i.node small lt i.is words size (4 * (i.node / 2) + 1 - i.node) (omega arith) old new v both so_far)
 
--- if the loop's test passes, the block is not yet the whole superblock
+-- if `around` is above 0, order k is below the order of the superblock
 rises : (top k around : ℕ) → k ≤ top → (k ≡ top → around ≡ 0) → 0 < around → k < top
 rises top k around le last more = elim (cases_lt k top) [
   | inl lt ↦ lt
   | inr ge ↦ absurd (let none = last (omega arith) in omega arith)
 ]
 
--- if the block is the whole superblock, the node of a larger block around it is 0
+-- if k is top, the node that `node_of` returns for order k + 1 is 0
 none_larger : (top k f leaf node : ℕ) → f < 2 ^ top → leaf ≡ 2 ^ top + f → node ≡ leaf / 2 ^ (k + 1) → k ≡ top → node ≡ 0
 none_larger top k f leaf node small at e same =
     let whole = pow_mono {i = suc top} {j = top + 1} (omega arith) in

@@ -2,8 +2,8 @@ use Rattle.std.proofs.Common.{◌≡◌, ℕ, ◌+◌, ◌*◌, ◌^◌, ◌<◌
 use Rattle.buddy_core.specs.Tree.{Mended, IsConfined, IsNode}
 use Rattle.buddy_core.proofs.tree.Tree.climb.Given as goal
 
--- the words inside the block of order `level` show the new availability, as a tree of their own; the next node is that of the
--- block around it, if there is one
+-- Inside the block of order `level` around frame `first`, the words are those of a separate tree for the new availability. The
+-- words outside this block are unchanged. `around` is the node of the next larger block, or 0 if there is none.
 abbrev pub invariant-loop-around : goal.invariant-loop-around
 invariant-loop-around l = record {
   size : length l.words + 1 ≡ 2 ^ (l.fn.self.order + 1);

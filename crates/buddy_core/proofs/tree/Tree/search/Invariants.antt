@@ -2,7 +2,7 @@ use Rattle.std.proofs.Common.{◌-◌, ◌≤◌}
 use Rattle.buddy_core.proofs.TreeSearch.{Reached}
 use Rattle.buddy_core.proofs.tree.Tree.search.Given as goal
 
--- after `level` - `order` steps down, the node is at that depth, and the block that is searched for lies inside the node's block
+-- the search has reached `node` after `level` - `order` steps down, and `level` is at most the order of the superblock
 abbrev pub invariant-loop-node : goal.invariant-loop-node
 invariant-loop-node l = record {
   from : l.order ≤ l.level;

@@ -3,7 +3,8 @@ use Rattle.model_core.specs.Numbered.{number_at, IsOpen}
 use Rattle.buddy_core.specs.Tree.{Shows, IsLess, Mended, IsNode}
 use Rattle.buddy_core.proofs.tree.Tree.split.Given as goal
 
--- the words inside the block of order `level` show the new availability, as a tree of their own
+-- Inside the block of order `level` around frame `first`, the words are those of a separate tree for the new availability. The
+-- words outside this block are unchanged.
 abbrev pub invariant-loop-level : goal.invariant-loop-level
 invariant-loop-level l = record {
   size : length l.words + 1 ≡ 2 ^ (l.fn.self.order + 1);
