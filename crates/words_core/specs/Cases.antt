@@ -1,5 +1,5 @@
--- The eight cases of a line, in the order in which they are tested: the first that applies decides. Cases 2 to 8 say
--- what the words of the line mean. A law says that each line is in exactly one case.
+-- The eight cases of a line, with the meaning of the line in each. They are tested in order, and the first that applies decides.
+-- A law says that each line is in exactly one case.
 use Rattle.std.specs.Prelude.{◌≡◌, ◌<◌, ◌≤◌, ◌⊎◌, ℕ, List, [], ◌∷◌, length, slice_index, codes, Option, Some, None, Result, Ok, Err}
 use Rattle.std.specs.List.{Contains}
 use Rattle.std.specs.Str.Lines.{strip_carriage_return}
@@ -55,7 +55,7 @@ pub data CaseOfWords : ℕ → List (List ℕ) → Result (Option Event) LineFau
   wrong_count : {first word : List ℕ} {arguments : List (List ℕ)} (actor : Actor) → Names first actor
       → (row : CommandRow (CommandOf actor)) → AsksFor actor word row → ¬ (length arguments ≡ length row.forms)
       → CaseOfWords 6 (first ∷ word ∷ arguments) (Err LineFault.Words)
-  -- 7. some argument does not have its form: the first one from the left determines the fault
+  -- 7. some argument does not have its form: the first such argument from the left determines the fault
   faulty : {first word : List ℕ} {arguments : List (List ℕ)} {fault : LineFault} (actor : Actor) → Names first actor
       → (row : CommandRow (CommandOf actor)) → AsksFor actor word row → length arguments ≡ length row.forms
       → FirstFault row.forms arguments fault → CaseOfWords 7 (first ∷ word ∷ arguments) (Err fault)
@@ -65,9 +65,10 @@ pub data CaseOfWords : ℕ → List (List ℕ) → Result (Option Event) LineFau
       → AllMake row.forms row.makes arguments command
       → CaseOfWords 8 (first ∷ word ∷ arguments) (Ok (Some (event_by actor command)))
 
--- the line, without a carriage return at its end, is in the case with this number and has this meaning
+-- a line whose bytes these are, after one carriage return at its end is removed, is in the case with this number and has this
+-- meaning
 pub data CaseOfBytes : ℕ → List ℕ → Result (Option Event) LineFault → Type 0 where
-  -- 1. the line is too long, even if it is a comment: the fault is `Long`
+  -- 1. the line has more than 255 bytes, even if it is a comment: the fault is `Long`
   too_long : {bytes : List ℕ} → MOST_LINE_BYTES < length bytes → CaseOfBytes 1 bytes (Err LineFault.Long)
   -- 2 to 8: the case of the line's words
   of_words : {number : ℕ} {bytes : List ℕ} {reading : Result (Option Event) LineFault} → length bytes ≤ MOST_LINE_BYTES

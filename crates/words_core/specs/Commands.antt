@@ -11,7 +11,7 @@ use Rattle.words_core.specs.declared.event.Command.{Command}
 use Rattle.words_core.specs.declared.event.Event.{Event}
 use Rattle.words_core.specs.declared.event.LineFault.{LineFault}
 
--- the number if one was found, else this fault
+-- the number, or this fault if there is no number
 abbrev pub or_fault : Option ℕ → LineFault → Result ℕ LineFault
 or_fault (Some number) fault = Ok number
 or_fault None fault = Err fault
@@ -30,17 +30,17 @@ abbrev pub bytes_argument : ℕ → List ℕ → Result (ArrayVec ℕ) LineFault
 bytes_argument most word =
     if nat_le 2 (length word) && nat_le (length word) (2 * most) then bytes_or_fault (decode_of word) else Err LineFault.Hex
 
--- the form of an argument: a number, or at most this number of bytes in hex
+-- the form of an argument: `number` is a number, and `hex most` is 1 to `most` bytes in hex
 pub data Form : Type 0 where
   number : Form
   hex : ℕ → Form
 
--- the type of an argument of this form
+-- the type of the value of an argument of this form
 abbrev pub Given : Form → Type 0
 Given number = ℕ
 Given (hex most) = ArrayVec ℕ
 
--- an argument read in this form, or its fault
+-- the value of an argument that has this form, or the argument's fault
 abbrev pub read_as : (form : Form) → List ℕ → Result (Given form) LineFault
 read_as number word = argument word
 read_as (hex most) word = bytes_argument most word

@@ -10,7 +10,8 @@ use Rattle.words_core.specs.Words.{words_of}
 use Rattle.words_core.specs.declared.event.Event.{Event}
 use Rattle.words_core.specs.declared.event.LineFault.{LineFault}
 
--- The `?` operator of the logic: if the first step found no fault, the second step is applied to its value.
+-- The `?` operator for definitions. If the first step has a value, the second step is applied to it. If the first step has a
+-- fault, this fault is the result.
 infixl 10 ◌>>=◌
 abbrev pub ◌>>=◌ : {A B : Type 0} → Result A LineFault → (A → Result B LineFault) → Result B LineFault
 Ok x >>= f = f x
@@ -23,7 +24,7 @@ are_as_many (form ∷ forms) (word ∷ words) = are_as_many forms words
 are_as_many [] (_ ∷ _) = false
 are_as_many (_ ∷ _) [] = false
 
--- the command that words of these forms make; the words are read from left to right
+-- the command that these arguments make, or the fault of the first argument that does not have its form
 abbrev pub made_of : {C : Type 0} (forms : List Form) → Maker forms C → List (List ℕ) → Result C LineFault
 made_of [] makes words = Ok makes
 made_of (form ∷ forms) makes [] = Err LineFault.Words
@@ -31,17 +32,17 @@ made_of (form ∷ forms) makes (word ∷ words) = do
   value ← read_as form word
   made_of forms (makes value) words
 
--- the command of this row with these arguments, or the fault
+-- the command that this row makes from the arguments, or the fault, which is `Words` if the number of arguments is wrong
 abbrev pub command_by : {C : Type 0} → CommandRow C → List (List ℕ) → Result C LineFault
 command_by row arguments = if are_as_many row.forms arguments then made_of row.forms row.makes arguments else Err LineFault.Words
 
--- the command that this word names, with these arguments, or the fault
+-- the command that this word names, with these arguments, or the fault, which is `Unknown` if no row has the word
 abbrev pub command_of : {C : Type 0} → List (CommandRow C) → List ℕ → List (List ℕ) → Result C LineFault
 command_of [] word arguments = Err LineFault.Unknown
 command_of (row ∷ rows) word arguments =
     if bytes_eq word row.word then command_by row arguments else command_of rows word arguments
 
--- the command that the words after the first word make, or the fault
+-- the command that the words after the first word make, or the fault, which is `Words` if there are none
 abbrev pub command_in_words : {C : Type 0} → List (CommandRow C) → List (List ℕ) → Result C LineFault
 command_in_words rows [] = Err LineFault.Words
 command_in_words rows (word ∷ arguments) = command_of rows word arguments
@@ -64,7 +65,7 @@ event_of first rest = do
   command ← command_in_words (command_rows actor) rest
   Ok (event_by actor command)
 
--- the meaning of words; byte 35 is `#`
+-- the meaning of the words of a line that is not too long; byte 35 is `#`
 unfoldable pub reading_of_words : List (List ℕ) → Result (Option Event) LineFault
 reading_of_words [] = Ok None
 reading_of_words (first ∷ rest) =

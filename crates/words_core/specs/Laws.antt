@@ -1,4 +1,4 @@
--- The law of lines.
+-- The law of lines: each line is in exactly one case and has exactly one meaning.
 use Rattle.std.specs.Prelude.{◌≡◌, ℕ, List, Option, Result}
 use Rattle.words_core.specs.declared.event.Event.{Event}
 use Rattle.words_core.specs.declared.event.LineFault.{LineFault}

@@ -4,7 +4,7 @@ use Rattle.std.specs.List.{list_all}
 use Rattle.std.specs.Char.{is_ascii_digit}
 use Rattle.words_core.specs.declared.numbers.TheConstants.{MOST_DIGITS}
 
--- the value of a row of decimal digits
+-- the value of a sequence of decimal digits
 abbrev pub value_of : List ℕ → ℕ
 value_of digits = fold (λ value digit. value * 10 + (digit - 48)) 0 digits
 

@@ -9,14 +9,15 @@ abbrev pub top_text : Option ℕ → List ℕ
 top_text None = codes "none"
 top_text (Some order) = decimal order
 
--- the line about the frames: the numbers of all, taken and free frames, the greatest order of a free block, and the split share
+-- the line about the frames: the numbers of all, taken and free frames, the greatest order of a free block, and `split` of the
+-- report
 abbrev pub frames_text : List ℕ → Report → List ℕ
 frames_text front report =
     front ++ codes "frames " ++ decimal report.frames ++ codes " live " ++ decimal report.live ++ codes " free "
     ++ decimal report.free
     ++ codes " top " ++ top_text report.top ++ codes " split " ++ decimal report.split
 
--- the numbers of free and taken blocks of this order
+-- the line of an order: the numbers of its free and taken blocks
 abbrev pub order_text : List ℕ → ℕ → OrderRow → List ℕ
 order_text front order row =
     front ++ codes "order " ++ decimal order ++ codes " free " ++ decimal row.free ++ codes " taken " ++ decimal row.taken
@@ -26,7 +27,7 @@ abbrev pub order_texts : List ℕ → ℕ → List OrderRow → List (List ℕ)
 order_texts front order [] = []
 order_texts front order (row ∷ rows) = order_text front order row ∷ order_texts front (order + 1) rows
 
--- the numbers of full, partial and empty slabs of a cache, and of its live objects
+-- the line of a cache: the numbers of its full, partial and empty slabs and of its live objects
 abbrev pub cache_text : List ℕ → CacheRow → List ℕ
 cache_text front row =
     front ++ codes "cache " ++ decimal row.cache ++ codes " full " ++ decimal row.full ++ codes " partial " ++ decimal row.partial

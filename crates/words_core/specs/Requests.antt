@@ -1,4 +1,5 @@
--- The command or reply that each of the borrowed forms `Request`, `Answer` and `Table` stands for, and tests of these forms.
+-- The command that equals a `Request`, the reply that equals an `Answer` or a `Table`, and tests of these three types. The types
+-- borrow their bytes or rows.
 use Rattle.std.specs.Prelude.{◌≡◌, ℕ, ◌≤◌, Bool, true, false, if◌then◌else◌, length}
 use Rattle.model_core.specs.declared.limits.TheConstants.{MOST_BYTES, MOST_SUPERBLOCKS}
 use Rattle.model_core.specs.Layouts.{is_pattern}
@@ -72,12 +73,12 @@ abbrev pub reply_of_table : Table → Reply
 reply_of_table (Table.Owners owners) = record { addressee = Addressee.Admin; body = Body.Owners (record { items = owners.now }) }
 reply_of_table (Table.Report tenant report) = record { addressee = Addressee.Tenant tenant; body = Body.Report report.now }
 
--- the table has no more superblocks than a machine may have
+-- a table of owners has no more rows than a machine may have superblocks
 abbrev pub HasFewRows : Table → Type 0
 HasFewRows (Table.Owners owners) = length owners.now ≤ MOST_SUPERBLOCKS
 HasFewRows (Table.Report tenant report) = Unit {0}
 
--- if the answer has bytes that were read, there are at most 64
+-- if the answer has bytes that were read, it has at most 64 of them
 abbrev pub HasFewBytes : Answer → Type 0
 HasFewBytes (Answer.Bytes bytes) = length bytes.now ≤ MOST_BYTES
 HasFewBytes (Answer.Frame frame) = Unit {0}
@@ -150,7 +151,7 @@ has_bytes (Answer.WasReset tenant superblocks) = false
 has_bytes (Answer.Moved tenant slot superblock) = false
 has_bytes (Answer.Fault fault) = false
 
--- the text of the answer may need the large buffer: it has bytes that were read, or is about a new cache or about superblocks
+-- the text may need the large buffer: the answer has bytes that were read, or is about a new cache or about superblocks
 abbrev pub is_long : Answer → Bool
 is_long (Answer.Bytes bytes) = true
 is_long (Answer.Cache cache chunk order objects colours) = true

@@ -51,7 +51,7 @@ name_of_fault LineFault.Words = codes "Words"
 name_of_fault LineFault.Number = codes "Number"
 name_of_fault LineFault.Hex = codes "Hex"
 
--- the beginning of each line of a reply
+-- the beginning of each line of a reply to this addressee
 abbrev pub addressee_text : Addressee → List ℕ
 addressee_text Addressee.Admin = codes "admin> "
 addressee_text Addressee.Nobody = codes "!> "

@@ -22,11 +22,11 @@ IsBlank b = is_blank b ≡ true
 abbrev pub IsLetter : ℕ → Type 0
 IsLetter b = is_blank b ≡ false
 
--- a run of blanks, which may be empty
+-- the bytes are a run of blanks, which may be empty
 abbrev pub IsBlanks : List ℕ → Type 0
 IsBlanks bytes = All IsBlank bytes
 
--- at least one byte, none of them a blank
+-- the word has at least one byte, and none of its bytes is a blank
 abbrev pub IsWord : List ℕ → Type 0
 IsWord word = (0 < length word) × All IsLetter word
 

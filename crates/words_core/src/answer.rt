@@ -13,8 +13,8 @@ use crate::window::{put_front, put_labelled, put_number, put_number_quickly, put
 use arrayvec::ArrayVec;
 use model_core::limits::MOST_BYTES;
 
-/// What a one-line reply says: a [`Body`] that borrows its bytes. A report and the table of owners have several lines, so they are
-/// not answers.
+/// The body of a one-line reply: a [`Body`] in a form that borrows its bytes. A report and the table of owners have several
+/// lines, so they are not answers.
 #[derive(Clone, Copy, Debug)]
 pub enum Answer<'a> {
     Frame(u32),
@@ -51,7 +51,8 @@ pub enum Answer<'a> {
     Fault(LineFault),
 }
 
-/// Size in bytes of a buffer for the text of any answer, including its line feed. The longest text has 64 bytes that were read.
+/// Size in bytes of a buffer for the text of any answer, including its line feed. The longest text is the answer to a read of 64
+/// bytes.
 pub const MOST_ANSWER_BYTES: usize = 160;
 
 /// Size in bytes of a buffer for the text of an answer that is not long (see [`Answer::is_long`]).
@@ -232,7 +233,7 @@ pub fn write_answer(tenant: u8, answer: Answer<'_>, out: &mut [u8]) -> usize
     put_text(b"\n", end, out)
 }
 
-/// Writes the other answers for [`write_answer`]: those that are rare, or are not one word and one number.
+/// Writes the answers that [`write_answer`] leaves to it: they are rare, or do not consist of one word and one number.
 #[inline(always)]
 fn write_other(tenant: u8, answer: Answer<'_>, out: &mut [u8]) -> usize
     requires few { HasFewBytes answer }
@@ -364,7 +365,7 @@ pub(crate) fn put_answer(answer: Answer<'_>, at: usize, out: &mut [u8]) -> usize
     }
 }
 
-/// Writes the bytes that were read, in hex.
+/// Writes the word `bytes`, and then the bytes that were read, in hex.
 fn put_bytes(bytes: &[u8], at: usize, out: &mut [u8]) -> usize
     requires few { length bytes.now ≤ MOST_BYTES }
     requires front { at ≤ MOST_FRONT_BYTES }
@@ -386,7 +387,7 @@ fn put_digits(bytes: &[u8], at: usize, out: &mut [u8]) -> usize
     put_hex(bytes, at, out)
 }
 
-/// Writes a tenant, one of its slots, and the superblock in that slot.
+/// Writes the numbers of a tenant, of one of its slots, and of the superblock in that slot.
 #[cold]
 #[inline(never)]
 fn put_slot(tenant: u8, slot: u16, superblock: u16, at: usize, out: &mut [u8]) -> usize

@@ -32,7 +32,7 @@ fn bytes_argument<const N: usize>(word: &[u8]) -> Result<ArrayVec<u8, N>, LineFa
     }
 }
 
-/// Reads `grant TENANT`: gives a superblock to a tenant.
+/// Reads `grant TENANT`, which gives a superblock to a tenant.
 pub fn grant_of(arguments: &[&[u8]]) -> Result<AdminCommand, LineFault>
     ensures { result ≡ command_by grant_row (map (λ word. word.now) arguments.now) }
 {
@@ -43,7 +43,7 @@ pub fn grant_of(arguments: &[&[u8]]) -> Result<AdminCommand, LineFault>
     Ok(AdminCommand::Grant { tenant })
 }
 
-/// Reads `takeback TENANT SLOT`: returns the superblock in a slot to the pool.
+/// Reads `takeback TENANT SLOT`, which returns the superblock in a slot to the pool.
 pub fn take_back_of(arguments: &[&[u8]]) -> Result<AdminCommand, LineFault>
     ensures { result ≡ command_by take_back_row (map (λ word. word.now) arguments.now) }
 {
@@ -55,7 +55,7 @@ pub fn take_back_of(arguments: &[&[u8]]) -> Result<AdminCommand, LineFault>
     Ok(AdminCommand::TakeBack { tenant, slot })
 }
 
-/// Reads `reset TENANT`: takes away everything that a tenant has.
+/// Reads `reset TENANT`, which takes back everything that a tenant has.
 pub fn reset_of(arguments: &[&[u8]]) -> Result<AdminCommand, LineFault>
     ensures { result ≡ command_by reset_row (map (λ word. word.now) arguments.now) }
 {
@@ -66,7 +66,7 @@ pub fn reset_of(arguments: &[&[u8]]) -> Result<AdminCommand, LineFault>
     Ok(AdminCommand::Reset { tenant })
 }
 
-/// Reads `move TENANT SLOT`: replaces the superblock in a slot.
+/// Reads `move TENANT SLOT`, which moves a slot to another superblock.
 pub fn move_of(arguments: &[&[u8]]) -> Result<AdminCommand, LineFault>
     ensures { result ≡ command_by move_row (map (λ word. word.now) arguments.now) }
 {
@@ -78,7 +78,7 @@ pub fn move_of(arguments: &[&[u8]]) -> Result<AdminCommand, LineFault>
     Ok(AdminCommand::Move { tenant, slot })
 }
 
-/// Reads `pool`: lists the owner of each superblock.
+/// Reads `pool`, which lists the owner of each superblock.
 pub fn pool_of(arguments: &[&[u8]]) -> Result<AdminCommand, LineFault>
     ensures { result ≡ command_by pool_row (map (λ word. word.now) arguments.now) }
 {
@@ -88,7 +88,7 @@ pub fn pool_of(arguments: &[&[u8]]) -> Result<AdminCommand, LineFault>
     Ok(AdminCommand::Pool)
 }
 
-/// Reads `alloc ORDER`: allocates a page block of `2^ORDER` frames.
+/// Reads `alloc ORDER`, which allocates a page block of `2^ORDER` frames.
 pub fn alloc_of(arguments: &[&[u8]]) -> Result<Command, LineFault>
     ensures { result ≡ command_by alloc_row (map (λ word. word.now) arguments.now) }
 {
@@ -99,7 +99,7 @@ pub fn alloc_of(arguments: &[&[u8]]) -> Result<Command, LineFault>
     Ok(Command::Alloc { order })
 }
 
-/// Reads `free FRAME`: frees the page block that begins at a frame.
+/// Reads `free FRAME`, which frees the page block that begins at a frame.
 pub fn free_of(arguments: &[&[u8]]) -> Result<Command, LineFault>
     ensures { result ≡ command_by free_row (map (λ word. word.now) arguments.now) }
 {
@@ -110,7 +110,7 @@ pub fn free_of(arguments: &[&[u8]]) -> Result<Command, LineFault>
     Ok(Command::Free { frame })
 }
 
-/// Reads `read PLACE LEN`: reads bytes.
+/// Reads `read PLACE LEN`, which reads `LEN` bytes from a place on.
 pub fn read_of(arguments: &[&[u8]]) -> Result<Command, LineFault>
     ensures { result ≡ command_by read_row (map (λ word. word.now) arguments.now) }
 {
@@ -122,7 +122,7 @@ pub fn read_of(arguments: &[&[u8]]) -> Result<Command, LineFault>
     Ok(Command::Read { place, len })
 }
 
-/// Reads `write PLACE HEX`: writes bytes.
+/// Reads `write PLACE HEX`, which writes bytes from a place on.
 pub fn write_of(arguments: &[&[u8]]) -> Result<Command, LineFault>
     ensures { result ≡ command_by write_row (map (λ word. word.now) arguments.now) }
 {
@@ -134,7 +134,7 @@ pub fn write_of(arguments: &[&[u8]]) -> Result<Command, LineFault>
     Ok(Command::Write { place, bytes })
 }
 
-/// Reads `cache SIZE ALIGN HEX`: makes a cache whose objects have a pattern.
+/// Reads `cache SIZE ALIGN HEX`, which makes a cache whose constructed objects are filled with a pattern.
 pub fn cache_of(arguments: &[&[u8]]) -> Result<Command, LineFault>
     ensures { result ≡ command_by cache_row (map (λ word. word.now) arguments.now) }
 {
@@ -151,7 +151,7 @@ pub fn cache_of(arguments: &[&[u8]]) -> Result<Command, LineFault>
     })
 }
 
-/// Reads `destroy CACHE`: destroys a cache and frees its slabs.
+/// Reads `destroy CACHE`, which destroys a cache and frees its slabs.
 pub fn destroy_of(arguments: &[&[u8]]) -> Result<Command, LineFault>
     ensures { result ≡ command_by destroy_row (map (λ word. word.now) arguments.now) }
 {
@@ -162,7 +162,7 @@ pub fn destroy_of(arguments: &[&[u8]]) -> Result<Command, LineFault>
     Ok(Command::Destroy { cache })
 }
 
-/// Reads `take CACHE`: takes an object from a cache.
+/// Reads `take CACHE`, which takes an object from a cache.
 pub fn take_of(arguments: &[&[u8]]) -> Result<Command, LineFault>
     ensures { result ≡ command_by take_row (map (λ word. word.now) arguments.now) }
 {
@@ -173,7 +173,7 @@ pub fn take_of(arguments: &[&[u8]]) -> Result<Command, LineFault>
     Ok(Command::Take { cache })
 }
 
-/// Reads `give CACHE PLACE`: gives an object back to its cache.
+/// Reads `give CACHE PLACE`, which gives an object back to its cache.
 pub fn give_of(arguments: &[&[u8]]) -> Result<Command, LineFault>
     ensures { result ≡ command_by give_row (map (λ word. word.now) arguments.now) }
 {
@@ -185,7 +185,7 @@ pub fn give_of(arguments: &[&[u8]]) -> Result<Command, LineFault>
     Ok(Command::Give { cache, place })
 }
 
-/// Reads `reap`: frees all empty slabs.
+/// Reads `reap`, which frees all empty slabs of the tenant.
 pub fn reap_of(arguments: &[&[u8]]) -> Result<Command, LineFault>
     ensures { result ≡ command_by reap_row (map (λ word. word.now) arguments.now) }
 {
@@ -195,7 +195,7 @@ pub fn reap_of(arguments: &[&[u8]]) -> Result<Command, LineFault>
     Ok(Command::Reap)
 }
 
-/// Reads `report`: reports the figures of the tenant's memory.
+/// Reads `report`, which reports the figures of the tenant's memory.
 pub fn report_of(arguments: &[&[u8]]) -> Result<Command, LineFault>
     ensures { result ≡ command_by report_row (map (λ word. word.now) arguments.now) }
 {

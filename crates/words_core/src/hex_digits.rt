@@ -5,8 +5,8 @@ ghost use Rattle.hex.specs.Hex.{encode_lower};
 
 use crate::window::put_text;
 
-/// Writes the bytes in hex after the first `at` bytes of `out` and returns the index of the end. Four bytes are converted at a
-/// time, so that their eight digits need only one store.
+/// Writes the bytes in hex after the first `at` bytes of `out` and returns the index of the end of the digits. Four bytes are
+/// converted at a time, so that their eight digits need only one store.
 #[inline(always)]
 pub fn put_hex(bytes: &[u8], at: usize, out: &mut [u8]) -> usize
     requires { at + 2 * length bytes.now ≤ length out.old }

@@ -1,4 +1,4 @@
-//! The law of lines. It is the contract of an empty function, which a function calls if its proof needs the law.
+//! The law of lines, as the contract of an empty function. A function calls it if its proof needs the law.
 
 ghost use Rattle.words_core.specs.Laws.{EachLineHasACase, NoLineHasTwo};
 

@@ -28,8 +28,8 @@ pub struct Report {
     pub free: u32,
     /// The greatest order of a free block, if there is one.
     pub top: Option<u8>,
-    /// The share of the free frames that are outside the largest free block, in thousandths, rounded up. If several blocks are
-    /// the largest, one of them counts. The share is 0 if there is no free block.
+    /// The share of the free frames that are outside the largest free block, in thousandths, rounded up. If several free blocks
+    /// have the greatest order, only one of them counts as the largest. The share is 0 if there is no free block.
     pub split: u32,
     /// The numbers of free and taken blocks of each order, from order 0 on.
     pub orders: ArrayVec<OrderRow, ORDERS>,
@@ -57,7 +57,7 @@ pub(crate) fn put_report(report: &Report, row: usize, at: usize, out: &mut [u8])
     }
 }
 
-/// Writes the figures of the frames.
+/// Writes the line about the frames.
 #[inline(never)]
 fn put_frames(report: &Report, at: usize, out: &mut [u8]) -> usize
     requires front { at ≤ MOST_FRONT_BYTES }
@@ -84,7 +84,7 @@ fn put_top(top: Option<u8>, at: usize, out: &mut [u8]) -> usize
     }
 }
 
-/// Writes the numbers of free and taken blocks of an order.
+/// Writes the line of an order: the numbers of its free and taken blocks.
 #[inline(never)]
 fn put_order(order: u32, row: OrderRow, at: usize, out: &mut [u8]) -> usize
     requires front { at ≤ MOST_FRONT_BYTES }
@@ -97,7 +97,7 @@ fn put_order(order: u32, row: OrderRow, at: usize, out: &mut [u8]) -> usize
     put_labelled(b" taken ", row.taken, at, out)
 }
 
-/// Writes the numbers of slabs and objects of a cache.
+/// Writes the line of a cache: the numbers of its full, partial and empty slabs and of its live objects.
 #[inline(never)]
 fn put_cache_row(row: CacheRow, at: usize, out: &mut [u8]) -> usize
     requires front { at ≤ MOST_FRONT_BYTES }

@@ -78,7 +78,8 @@ impl Table<'_> {
         }
     }
 
-    /// Writes one line of this reply, as [`write_row`] does.
+    /// Writes one line of this reply, with its line feed, to the front of a slice. Returns the length of the line in bytes. Rows
+    /// are counted from 0.
     pub fn write_row(self, row: usize, out: &mut [u8]) -> usize
         requires rows { HasFewRows self }
         requires row { row < length (lines_of (reply_of_table self)) }
@@ -153,7 +154,7 @@ fn put_owners(owners: &[Option<Owner>], row: usize, at: usize, out: &mut [u8]) -
     }
 }
 
-/// Writes the owner of a superblock.
+/// Writes the line of a superblock: its owner and the owner's slot, or `free`.
 #[inline(never)]
 fn put_owner(superblock: u32, owner: Option<Owner>, at: usize, out: &mut [u8]) -> usize
     requires front { at ≤ MOST_FRONT_BYTES }

@@ -18,7 +18,7 @@ pub fn put_text(text: &[u8], at: usize, out: &mut [u8]) -> usize
     end
 }
 
-/// The number of bytes in which each front of a line is stored. A shorter front is padded.
+/// Size in bytes of each stored front, that is, of the beginning of a line. A shorter front is padded.
 const FRONT_BYTES: usize = 16;
 
 /// Writes the number of a tenant, and then bytes 1 to `len - 1` of `front`. Returns the index of the end. Byte 0 of `front` is a
@@ -155,8 +155,8 @@ fn put_five(number: u32, at: usize, out: &mut [u8]) -> usize
     put_two(rest % 100, at, out)
 }
 
-/// Writes a number in fewer instructions than [`put_number`], for the frequent lines. It is always inlined, and is called only
-/// once: with several calls, the function around them grows too large to be inlined.
+/// Writes a number in fewer instructions than [`put_number`], for the frequent lines. This function is always inlined, and is
+/// called only once: with several calls, the function around them grows too large to be inlined.
 #[tactic(auto, using(crate::proofs::DigitLemmas::digit_rules))]
 #[inline(always)]
 pub fn put_number_quickly(number: u32, at: usize, out: &mut [u8]) -> usize
