@@ -1,4 +1,5 @@
--- Each line is in exactly one case. A number and a meaning are computed for the line, and any case of the line has both of them.
+-- Each line is in exactly one case. The proofs compute a case number and a meaning from the line, and every case that the line is
+-- in has this number and meaning.
 use Rattle.std.proofs.Common.{◌≡◌, ◌^◌, ◌⊎◌, inl, inr, ℕ, suc, Bool, true, false, ◌&&◌, nat_lt, nat_le, zero, ◌==◌, if◌then◌else◌, List, [], ◌∷◌, codes, length, slice_index, Option, Some, None, Result, Ok, Err, refl, sym, ◌∙◌, ap, subst, arith}
 use Rattle.std.specs.Bool.{Decides}
 use Rattle.std.specs.List.{All, Contains}
@@ -31,7 +32,7 @@ made_case (Err fault) = 7
 abbrev row_case : {C : Type 0} → List (List ℕ) → CommandRow C → ℕ
 row_case arguments row = if are_as_many row.forms arguments then made_case (made_of row.forms row.makes arguments) else 6
 
--- `found` of the row of this word, or `none` if there is no such row
+-- `found` of the first row with this word, or `none` if no row has it
 abbrev at_row : {C D : Type 0} → List (CommandRow C) → List ℕ → (CommandRow C → D) → D → D
 at_row [] word found none = none
 at_row (row ∷ rows) word found none = if bytes_eq word row.word then found row else at_row rows word found none
@@ -77,7 +78,7 @@ number_is_not_admin : (word : List ℕ) (t : ℕ) → number_of word ≡ Some t 
 number_is_not_admin word t number admin =
     let both : None ≡ Some t = sym (ap number_of admin) ∙ number in cc
 
--- if the first word is not `admin`, its actor is the tenant with its number, or the fault if it is not a number
+-- if the first word is not `admin`, its actor is the tenant with this number, or a fault if the word is not a number
 actor_of-other : (word : List ℕ) (number : Option ℕ) → (word ≡ codes "admin" → ⊥) → number_of word ≡ number
     → actor_of word ≡ (or_fault number (nobody_fault word) >>= (λ t. Ok (tenant t)))
 actor_of-other word number other is =
@@ -129,7 +130,7 @@ module _ {D : Type 0} (none : D) where
   at_row-tenant found = All-from_recursion (λ (row : CommandRow Command). at_row tenant_rows row.word found none ≡ found row) tenant_rows
       (refl, (refl, (refl, (refl, (refl, (refl, (refl, (refl, (refl, (refl, tt))))))))))
 
-  -- if a row of the actor's table has this word, `at_row` finds this row
+  -- if a row of the actor's table has this word, `at_row` returns `found` of this row
   at_row-found : (actor : Actor) (word : List ℕ) (row : CommandRow (CommandOf actor)) (found : CommandRow (CommandOf actor) → D)
       → AsksFor actor word row → at_row (command_rows actor) word found none ≡ found row
   at_row-found administrator word row found (has, is) =

@@ -1,4 +1,4 @@
--- The text of a number, two digits at a time.
+-- The decimal text of a number is its first one or two digits and then pairs of digits.
 use Rattle.std.proofs.Common.{◌≡◌, ℕ, zero, suc, ◌+◌, ◌*◌, ◌/◌, ◌%◌, ◌^◌, ◌<◌, ◌≤◌, Option, Some, None, List, [], ◌∷◌, ◌++◌, get_or, length, take, drop, map, refl, sym, ◌∙◌, ap, arith, append_assoc, length-append}
 use Rattle.std.proofs.Math.Nat.{pow-suc, one-le-pow}
 use Rattle.std.proofs.Math.Seq.{take-append_seam}
@@ -79,13 +79,14 @@ length_more (suc k) n low high fits =
     ap length (decimal_step n (omega (arith, one-le-pow k 10 (omega arith))) fits) ∙ length-append _ _ in
     omega (arith, step, length_more k (n / 10) (omega arith) (omega arith) (omega arith))
 
--- the number of digits of n is its decimal logarithm plus 1; 0, which has no logarithm, has one digit
+-- the number of digits of n is its decimal logarithm, rounded down, plus 1; 0 has no logarithm and one digit
 pub digits_counted : (n : ℕ) (log : Option ℕ) → n < 2 ^ 64 → IfNone log (n ≡ 0) → IfSome log (λ k. 10 ^ k ≤ n) → IfSome log (λ k. n < 10 * 10 ^ k)
     → unwrap_or log 0 + 1 ≡ length (decimal n)
 digits_counted n None fits none low high = sym (ap length (decimal_digit n (omega arith)))
 digits_counted n (Some k) fits none low high = length_more k n low high fits
 
--- if digits were written up to `end` and the bytes before the digits did not change, the digits follow the first `at` old bytes
+-- If the digits were written up to `end` and no byte before them changed, the first `end` bytes are the first `at` old bytes and
+-- then the digits. `at` is the index at which the digits begin.
 pub written_before : (start at end : ℕ) (digits old new : List ℕ) → start + length digits ≡ end → at + length digits ≡ end → end ≤ length old
     → take start new ≡ take start old → drop start new ≡ digits ++ drop end old → take end new ≡ take at old ++ digits
 written_before start at end digits old new starts ends within before written =

@@ -1,4 +1,4 @@
--- Bytes that are written in hex, one after another.
+-- If bytes are written in hex one part after another, the digits of the parts together are the digits of all bytes.
 use Rattle.std.proofs.Common.{◌≡◌, ℕ, ◌+◌, ◌/◌, ◌%◌, ◌<◌, List, [], ◌∷◌, ◌++◌, length, get_or, take, map, refl, sym, ◌∙◌, ap, arith, append_assoc, append-nil}
 use Rattle.std.specs.List.{range_with_len}
 use Rattle.std.proofs.lemmas.List.{take_more}
@@ -34,7 +34,8 @@ hex_more new old front bytes pair i within new_is old_is pair_is =
     ∙ ap (λ text. front ++ text)
     (sym (encode_append (take i bytes) (get_or bytes i 0 ∷ [])) ∙ ap encode_lower (sym (take_more bytes i 0 within)))
 
--- if a part moves from the rest to what is written, the written digits and the digits of the rest together stay the same
+-- The written text and the digits of the rest are together `all`. This is still true if a part of the rest is written and
+-- `behind` is the new rest.
 pub hex_part : (new old all rest part behind : List ℕ) → new ≡ old ++ encode_lower part → rest ≡ part ++ behind
     → old ++ encode_lower rest ≡ all → new ++ encode_lower behind ≡ all
 hex_part new old all rest part behind new_is rest_is is =

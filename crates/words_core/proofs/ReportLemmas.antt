@@ -1,4 +1,4 @@
--- The line in each row of a report.
+-- The rows of a report are the line about the frames, then a line for each order, then a line for each cache.
 use Rattle.std.proofs.Common.{◌≡◌, ◌<◌, ◌+◌, ℕ, zero, suc, List, [], ◌∷◌, ◌++◌, length, map, get_or, Some, slice_get, refl, sym, ◌∙◌, ap, arith, add-zero, length-append}
 use Rattle.std.specs.Prelude.{option_map}
 use Rattle.std.proofs.lemmas.List.{length-map}
@@ -16,7 +16,7 @@ pub length-order_texts : (front : List ℕ) (first : ℕ) (rows : List OrderRow)
 length-order_texts front first [] = refl
 length-order_texts front first (row ∷ rows) = ap suc (length-order_texts front (first + 1) rows)
 
--- line k of the orders' lines is the line of order `first` + k, whatever follows them
+-- among the lines of the orders from `first` on, line k is the line of order `first` + k, whatever lines follow them
 row-order_texts : (front : List ℕ) (first k : ℕ) (rows : List OrderRow) (rest : List (List ℕ)) (d : OrderRow) → k < length rows
     → slice_get (order_texts front first rows ++ rest) k ≡ Some (order_text front (first + k) (get_or rows k d))
 row-order_texts front first k [] rest d within = absurd (omega arith)
@@ -40,7 +40,7 @@ order_row_of front report row k orders d orders_are row_is within =
     ∙ ap (λ n. Some (order_text front n (get_or report.orders.items k d))) (omega arith)
     ∙ ap (λ rows. Some (order_text front k (get_or rows k d))) (sym orders_are)
 
--- after the line of the frames and the lines of the orders, line k is the line of cache row k
+-- if the report has n orders, row n + 1 + k of the report is the line of the cache at index k
 pub cache_row_of : (front : List ℕ) (report : Report) (row k : ℕ) (caches : List CacheRow) (d : CacheRow) → caches ≡ report.caches.items
     → row ≡ suc (length report.orders.items + k) → k < length caches
     → slice_get (report_texts front report) row ≡ Some (cache_text front (get_or caches k d))

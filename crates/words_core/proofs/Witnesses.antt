@@ -1,4 +1,4 @@
--- The two statements of the law of lines at a line with a command; the second also at a line that is too long.
+-- Instances of the law of lines: both statements for a line with a command, and the second one for a line that is too long.
 use Rattle.std.proofs.Common.{◌≡◌, ℕ, List, codes, Option, Some, Result, Ok, Err, refl, replicate, arith}
 use Rattle.words_core.specs.declared.event.Command.TheVariants.{Free}
 use Rattle.words_core.specs.declared.event.Event.{Event}

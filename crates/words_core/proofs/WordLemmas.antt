@@ -20,7 +20,8 @@ filtered : (word : List ℕ) (parts : List (List ℕ)) → 0 < length word → f
 filtered [] parts some = absurd (omega arith)
 filtered (b ∷ word) parts some = refl
 
--- if a line is a word and then nothing, or bytes that begin with a blank, that word is its first
+-- if a line is a word, followed by nothing or by bytes that begin with a blank, its words are this word and the words of these
+-- bytes
 pub words_of-word : (word bytes : List ℕ) → IsWord word → StartsBlank bytes → words_of (word ++ bytes) ≡ word ∷ words_of bytes
 unfolding words_of
 words_of-word word [] (some, word_bytes) ends =
@@ -32,7 +33,7 @@ words_of-word word (b ∷ bytes) (some, word_bytes) ends =
     ∙ filtered word (slice_split is_blank bytes) some
     ∙ ap (λ words. word ∷ words) (sym (words_of-blank b bytes ends))
 
--- if the relation holds between a line and some words, the function returns these words
+-- if `HasWords` holds for a line and words, `words_of` returns these words
 pub words_of-has : (line : List ℕ) (words : List (List ℕ)) → HasWords line words → words_of line ≡ words
 unfolding words_of
 words_of-has line [] blanks = ap words_of (sym (append-nil line)) ∙ words_of-blanks line [] blanks
@@ -61,7 +62,7 @@ with_blank b line (word ∷ words) blank (rest, begins, has) = (
   has,
 )
 
--- in front of a line that is empty or begins with a blank, a byte other than a blank is a word
+-- if a line is empty or begins with a blank, a byte other than a blank in front of it is a word
 word_before : (b : ℕ) (line : List ℕ) → is_blank b ≡ false → StartsBlank line → BeginsWithWord (b ∷ line) (b ∷ []) line
 word_before b line letter ends = record {
   gap = [];
@@ -71,7 +72,8 @@ word_before b line letter ends = record {
   ends = ends;
 }
 
--- a line with words still has words if a byte other than a blank is put in front: a new word, or a longer first word
+-- if a line has words, it still has words after a byte other than a blank is put in front: the byte is a new word or makes the
+-- first word longer
 with_letter : (b : ℕ) (line : List ℕ) (words : List (List ℕ)) → is_blank b ≡ false → HasWords line words → (more : List (List ℕ)) × HasWords (b ∷ line) more
 with_letter b line [] letter has = ((b ∷ []) ∷ [], (line, word_before b line letter (starts line has), has))
 with_letter b line (word ∷ words) letter (rest, begins, has) = from_gap begins.gap begins.split begins.blanks where
@@ -93,7 +95,7 @@ with_letter b line (word ∷ words) letter (rest, begins, has) = from_gap begins
   from_gap (g ∷ gap) split blanks =
       ((b ∷ []) ∷ word ∷ words, (line, word_before b line letter (subst StartsBlank (sym split) (All-head IsBlank g gap blanks)), (rest, begins, has)))
 
--- for every line there are words for which the relation holds
+-- for every line there are words for which `HasWords` holds
 has_some : (line : List ℕ) → (words : List (List ℕ)) × HasWords line words
 has_some [] = ([], All-nil IsBlank)
 has_some (b ∷ line) = let (words, has) = has_some line in
@@ -102,7 +104,7 @@ has_some (b ∷ line) = let (words, has) = has_some line in
       | false ↦ λ letter. with_letter b line words letter has
     ] refl
 
--- the relation holds between every line and its words
+-- `HasWords` holds for every line and the words that `words_of` returns
 pub has-words_of : (line : List ℕ) → HasWords line (words_of line)
 has-words_of line = let (words, has) = has_some line in subst (HasWords line) (sym (words_of-has line words has)) has
 
@@ -123,7 +125,7 @@ words_of-after_blanks line blanks fits each =
     ap words_of (sym (take-append-drop blanks line))
     ∙ words_of-blanks (take blanks line) (drop blanks line) (all_below IsBlank line blanks fits each)
 
--- if the first `size` bytes are not blanks, and the bytes end there or a blank follows, they are the first word
+-- if the first `size` bytes are not blanks, and the bytes end there or a blank follows, these `size` bytes are the first word
 pub words_of-first : (bytes : List ℕ) (size : ℕ) → 0 < size → size ≤ length bytes
     → ((k : ℕ) → k < size → IsLetter (slice_index bytes k)) → (size < length bytes → IsBlank (slice_index bytes size))
     → words_of bytes ≡ take size bytes ∷ words_of (drop size bytes)
@@ -146,7 +148,8 @@ positive (suc n) not_zero = omega arith
 letter_or_blank : (b : ℕ) → IsLetter b → IsBlank b → ⊥
 letter_or_blank b letter blank = cc
 
--- the first word of a line is found by counting the blanks at its front, and then the bytes before the next blank
+-- `blanks` is the number of blanks at the front of a line, and `size` is the number of bytes from there to the next blank or to
+-- the end of the line. If bytes follow the blanks, the first word is these `size` bytes.
 pub first_word : (line bytes word after : List ℕ) (blanks size : ℕ) → blanks ≤ length line
     → ((k : ℕ) → k < blanks → IsBlank (slice_index line k))
     → (blanks < length line → IsLetter (slice_index line blanks))
@@ -168,7 +171,8 @@ first_word line bytes word after blanks size fits each letter is some size_fits 
     ∙ words_of-first bytes size size_some size_fits letters stops
     ∙ (λ i. sym word_is i ∷ words_of (sym after_is i))
 
--- if one more word was found and one less remains to be found, the found words and those to be found are together the same
+-- if one more word is found and one fewer is still to be found, the found words and those still to be found are together
+-- unchanged
 pub one_more : {X Y : Type 0} (f : X → Y) (old new : List X) (x : X) (rest more : List Y) (n k : ℕ)
     → new ≡ old ++ x ∷ [] → rest ≡ f x ∷ more → n ≡ suc k → map f new ++ take k more ≡ map f old ++ take n rest
 one_more f old new x rest more n k new_is rest_is n_is =

@@ -2,7 +2,7 @@ use Rattle.std.proofs.Common.{◌≡◌, ◌+◌, ◌*◌, ◌++◌, take}
 use Rattle.hex.specs.Hex.{encode_lower}
 use Rattle.words_core.proofs.hex_digits.put_hex_singly.Given as goal
 
--- the digits of the bytes before the index are written
+-- the digits of the first `byte-index` bytes are written after the first `at` bytes of `out`
 abbrev pub invariant-loop-byte : goal.invariant-loop-byte
 invariant-loop-byte l = record {
   text : take l.end l.out ≡ take l.at l.initial.out ++ encode_lower (take l.byte-index l.bytes);

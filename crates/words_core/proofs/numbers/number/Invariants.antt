@@ -4,7 +4,7 @@ use Rattle.std.specs.Char.{is_ascii_digit}
 use Rattle.words_core.specs.Numbers.{value_of}
 use Rattle.words_core.proofs.numbers.number.Given as goal
 
--- the value so far is the value of the digits that were read so far
+-- all bytes read so far are digits, and `value` is the value of these digits
 abbrev pub invariant-loop-digit : goal.invariant-loop-digit
 invariant-loop-digit l = record {
   value : l.value ≡ value_of (take l.digit-index l.word);
