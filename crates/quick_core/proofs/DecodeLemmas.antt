@@ -1,4 +1,4 @@
--- Pairs of hex digits that are decoded one after another, and the meaning of a line that ends with them.
+-- Hex digits can be decoded one part after another, and a line that ends with hex digits reads as a `write`.
 use Rattle.std.proofs.Common.{◌≡◌, ℕ, ◌+◌, ◌-◌, ◌*◌, ◌<◌, ◌≤◌, true, nat_le, ◌&&◌, if◌then◌else◌, List, [], ◌∷◌, ◌++◌, codes, length, get_or, take, drop, map, Option, Some, None, Result, Ok, Err, refl, sym, ◌∙◌, ap, arith}
 use Rattle.std.specs.List.{range_with_len, slice_range}
 use Rattle.std.specs.Result.{result_unwrap_or}
@@ -21,7 +21,7 @@ use Rattle.quick_core.proofs.WindowLemmas.{cut, front}
 
 -- ---- the tables
 
--- the entry of a table: `f` of the value, or 1024 if the byte is not a digit
+-- the entry of a table for a byte: `f` of its value as a hex digit, or 1024 if it is not a hex digit
 abbrev tabled : (ℕ → ℕ) → Option ℕ → ℕ
 tabled f (Some value) = f value
 tabled f None = 1024
@@ -79,7 +79,7 @@ high_few c byte = omega (arith, high_at c byte, high_small (hex_digit_value c) c
 pub low_few : (c : ℕ) → c < 256 → get_or LOW_VALUES c 0 ≤ 1024
 low_few c byte = omega (arith, low_at c byte, low_small (hex_digit_value c) c refl)
 
--- ---- pairs that are decoded in one part of a text after another
+-- ---- parts of a text that are decoded one after another
 
 pub decodes_none : (text : List ℕ) (from end : ℕ) → end ≤ from → Decodes text from end []
 unfolding decode_pairs
@@ -118,7 +118,8 @@ decode_append i (x ∷ y ∷ text) more bytes others is are =
       step (Ok byte) (Err e) new longer is = absurd cc
       step (Err e) old new longer is = absurd cc
 
--- if two adjacent parts of a text are decoded, both together decode to the bytes of the first and then those of the second
+-- if two adjacent parts of a text decode to bytes, both parts together decode to the bytes of the first part and then those of
+-- the second
 pub decodes_more : (text : List ℕ) (from mid stop end : ℕ) (bytes others all : List ℕ) → from ≤ mid → mid ≤ stop → end ≡ stop
     → Decodes text from mid bytes → Decodes text mid stop others → all ≡ bytes ++ others → Decodes text from end all
 decodes_more text from mid stop end bytes others all low high end_is first second all_is i =

@@ -1,4 +1,4 @@
--- The meaning and the end of a line whose words are separated by single blanks.
+-- A line whose words are separated by single spaces reads as the command that its words make.
 use Rattle.std.proofs.Common.{◌≡◌, inl, inr, not, position, length-append, ℕ, ◌+◌, ◌-◌, ◌^◌, ◌<◌, ◌≤◌, Bool, true, false, ◌&&◌, nat_lt, nat_le, ◌==◌, if◌then◌else◌, List, [], ◌∷◌, ◌++◌, codes, length, get_or, take, Option, Some, None, Result, Ok, refl, sym, ◌∙◌, ap, subst, arith, append-nil}
 use Rattle.std.specs.List.{All, Contains, list_all, slice_range}
 use Rattle.std.specs.Char.{is_ascii_digit}
@@ -29,7 +29,7 @@ use Rattle.quick_core.proofs.WindowLemmas.{cut, front, one_more, first_line_feed
 abbrev pub IsPlain : ℕ → Type 0
 IsPlain b = 32 < b
 
--- at least one byte, all of them plain
+-- the word has at least one byte, and all its bytes are plain
 abbrev pub IsPlainWord : List ℕ → Type 0
 IsPlainWord word = (0 < length word) × All IsPlain word
 
@@ -74,7 +74,7 @@ plain_number word n is = (
   digits true false c d all = absurd cc
   digits false b c d all = absurd cc
 
--- ---- words, each after one blank
+-- ---- words, each after one space
 
 abbrev pub spaced : List (List ℕ) → List ℕ
 spaced [] = []
@@ -134,7 +134,7 @@ no_carriage_return (b ∷ bytes) all =
     let test : (get_or (b ∷ bytes) (length (b ∷ bytes) - 1) 0 == 13) ≡ false = grind (arith, nat_tests) in
     ap (λ t. if t then take (length (b ∷ bytes) - 1) (b ∷ bytes) else (b ∷ bytes)) test
 
--- if a carriage return is put after a line, `strip_carriage_return` gives the line back
+-- `strip_carriage_return` removes a carriage return that is put after a line
 carriage_return : (line : List ℕ) → strip_carriage_return (line ++ 13 ∷ []) ≡ line
 carriage_return line =
     let size : length (line ++ 13 ∷ []) - 1 ≡ length line = omega (arith, length-append line (13 ∷ [])) in
@@ -187,7 +187,7 @@ ended_line window e len ends all = elim ends.ended [
     | inr last ↦ ap (λ n. not (get_or window n 0 == 10)) (omega arith) ∙ ap (λ b. not (b == 10)) at
   ]
 
--- ---- the meaning of a line with single blanks
+-- ---- the meaning of a line with single spaces
 
 -- each line is in a case, and its meaning there is `reading_of` of the line
 abbrev pub SomeCase : Type 0
@@ -197,7 +197,8 @@ abbrev pub OneCase : Type 0
 OneCase = (line : List ℕ) (number other : ℕ) (reading second : Result (Option Event) LineFault)
     → Case number line reading → Case other line second → (other ≡ number) × (second ≡ reading)
 
--- a line with a tenant's number, a command's word and this command's arguments reads as this command of this tenant
+-- If a line has at most 255 bytes and is a tenant's number, a command's word and arguments, with single spaces between them, it
+-- reads as the command of this tenant that the arguments make.
 pub event_said : SomeCase → OneCase → (line first : List ℕ) (arguments : List (List ℕ)) (t : ℕ) (row : CommandRow Command) (command : Command)
     → strip_carriage_return line ≡ first ++ spaced (row.word ∷ arguments)
     → number_of first ≡ Some t → Contains tenant_rows row → IsPlainWord row.word → All IsPlainWord arguments
@@ -213,9 +214,10 @@ event_said some only line first arguments t row command text first_is has plain_
     (event (tenant t) first_is row (has, refl) command make)) in
     (only line 8 (some line).0 (Ok (Some (Tenant t command))) (reading_of line) case (some line).1).1
 
--- ---- a line with single blanks in a window
+-- ---- a line with single spaces in a window
 
--- if the window begins with a line that has these words and a line end, that line is read as this command of this tenant
+-- if the window begins with these words, with single spaces between them, and then a line end, this line reads as this command of
+-- this tenant
 pub is_read : SomeCase → OneCase → (window first : List ℕ) (arguments : List (List ℕ)) (e len t : ℕ) (row : CommandRow Command) (command : Command)
     → e ≤ length window → e ≤ 255 → EndsLine window e len → take e window ≡ first ++ spaced (row.word ∷ arguments)
     → number_of first ≡ Some t → Contains tenant_rows row → IsPlainWord row.word → All IsPlainWord arguments
@@ -239,7 +241,7 @@ blank_first : (window : List ℕ) (i next e : ℕ) → next ≡ i + 1 → i < e 
 blank_first window i next e next_is some fits is =
     front window i e 32 some fits is ∙ ap (λ k. 32 ∷ slice_range window k e) (sym next_is)
 
--- if there are blanks at a and b, the text up to e is three words: the bytes up to a, from i to b, and from j to e
+-- if there are spaces at a and b, the text up to e is three words: the bytes up to a, from i to b, and from j to e
 two_words : (window : List ℕ) (a i b j e : ℕ) → i ≡ a + 1 → i < b → j ≡ b + 1 → j < e → e ≤ length window
     → get_or window a 0 ≡ 32 → get_or window b 0 ≡ 32
     → take e window ≡ slice_range window 0 a ++ spaced (slice_range window i b ∷ slice_range window j e ∷ [])
@@ -252,7 +254,7 @@ two_words window a i b j e i_is ib j_is je fits blank_a blank_b =
     ∙ ap (λ rest. slice_range window i b ++ rest) (blank_first window b j e j_is (omega arith) fits blank_b
     ∙ ap (λ rest. 32 ∷ rest) (sym (append-nil (slice_range window j e))))))
 
--- if there are blanks at a, b and d, the text up to e is four words: the bytes up to a, from i to b, from j to d, and from k to e
+-- if there are spaces at a, b and d, the text up to e is four words: the bytes up to a, from i to b, from j to d, and from k to e
 pub three_words : (window : List ℕ) (a i b j d k e : ℕ) → i ≡ a + 1 → i < b → j ≡ b + 1 → j < d → k ≡ d + 1 → k < e → e ≤ length window
     → get_or window a 0 ≡ 32 → get_or window b 0 ≡ 32 → get_or window d 0 ≡ 32
     → take e window ≡ slice_range window 0 a ++ spaced (slice_range window i b ∷ slice_range window j d ∷ slice_range window k e ∷ [])
@@ -267,7 +269,8 @@ three_words window a i b j d k e i_is ib j_is jd k_is ke fits blank_a blank_b bl
     ∙ ap (λ rest. slice_range window j d ++ rest) (blank_first window d k e k_is (omega arith) fits blank_d
     ∙ ap (λ rest. 32 ∷ rest) (sym (append-nil (slice_range window k e))))))))
 
--- a line is read as a command with one number if the command's word ends at b and its number begins at j
+-- a line reads as a command with one number if the command's word is followed by a space at b and by the last number of the line,
+-- from j on
 pub is_read_one : SomeCase → OneCase → (window : List ℕ) (named : ReadNumber) (b j n len : ℕ) (row : CommandRow Command) (command : Command)
     → 32 ≤ length window → NamesTenant window named → named.end + 1 < b → b ≤ named.end + 6 → j ≡ b + 1
     → slice_range window (named.end + 1) b ≡ row.word → get_or window b 0 ≡ 32 → (last : IsLastNumber window j n len)
@@ -283,7 +286,8 @@ is_read_one some only window named b j n len row command size names ib near j_is
     (All-cons IsPlainWord (slice_range window j e) [] (plain_number (slice_range window j e) n last.number) (All-nil IsPlainWord))
     make
 
--- a line is read as a command with two numbers if the first number is from j to d and the second begins at k
+-- a line reads as a command with two numbers if the command's word is followed by a space at b, a number from j up to d, a space
+-- at d, and the last number of the line, from k on
 pub is_read_two : SomeCase → OneCase → (window : List ℕ) (named : ReadNumber) (b j d k m n len : ℕ) (row : CommandRow Command) (command : Command)
     → 32 ≤ length window → NamesTenant window named → named.end + 1 < b → b ≤ named.end + 6 → j ≡ b + 1 → j < d → d ≤ j + 9 → k ≡ d + 1
     → slice_range window (named.end + 1) b ≡ row.word → get_or window b 0 ≡ 32

@@ -1,4 +1,4 @@
--- Numbers that are read one digit after another.
+-- If one more digit of a number is read, the new value is ten times the old value plus the digit.
 use Rattle.std.proofs.Common.{◌≡◌, ℕ, ◌+◌, ◌-◌, ◌*◌, ◌^◌, ◌<◌, ◌≤◌, true, ◌&&◌, List, [], ◌∷◌, ◌++◌, length, get_or, sym, ◌∙◌, ap, arith}
 use Rattle.std.specs.List.{list_all, slice_range}
 use Rattle.std.specs.Char.{is_ascii_digit}

@@ -1,4 +1,4 @@
--- Parts of a window, and the end of its first line.
+-- How parts of a list are joined, and the index of the first line feed in a list of bytes.
 use Rattle.std.proofs.Common.{◌≡◌, ℕ, ◌+◌, ◌-◌, ◌<◌, ◌≤◌, true, not, ◌==◌, nat_lt, if◌then◌else◌, List, [], ◌∷◌, ◌++◌, length, get_or, take, drop, Some, None, sym, ◌∙◌, ap, arith}
 use Rattle.std.specs.List.{slice_range, position}
 use Rattle.std.proofs.lemmas.Bool.Decides.{nat_tests}
@@ -30,7 +30,7 @@ pub one_more : (xs : List ℕ) (i e b : ℕ) (part : List ℕ) → i ≤ e → e
     → slice_range xs i (e + 1) ≡ part ++ b ∷ []
 one_more xs i e b part low within part_is is = between_more xs i e 0 low within ∙ (λ t. part_is t ++ is t ∷ [])
 
--- if no byte before index `e` is a line feed and the byte at `e` is one, `e` is the first position
+-- if no byte before index `e` is a line feed and the byte at `e` is one, the first line feed is at index `e`
 pub first_line_feed : (bytes : List ℕ) (e : ℕ) → e < length bytes → ((k : ℕ) → k < e → not (get_or bytes k 0 == 10) ≡ true)
     → get_or bytes e 0 ≡ 10 → position (λ b. b == 10) bytes ≡ Some e
 first_line_feed bytes e within before at =

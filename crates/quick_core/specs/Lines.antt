@@ -1,4 +1,4 @@
--- What it means that a line was read from the front of some bytes.
+-- What bytes begin with: a line that reads as a command of a tenant, or a part of this line.
 use Rattle.std.specs.Prelude.{◌≡◌, ◌⊎◌, ◌+◌, ◌-◌, ◌<◌, ◌≤◌, ◌==◌, ℕ, List, length, take, slice_index, slice_range, Some, Ok}
 use Rattle.std.specs.List.{position}
 use Rattle.words_core.specs.Grammar.{reading_of}
@@ -9,7 +9,7 @@ use Rattle.quick_core.specs.declared.request.TheConstants.{MOST_TENANT_DIGITS}
 use Rattle.quick_core.specs.declared.number.TheConstants.{MOST_READ_DIGITS}
 use Rattle.quick_core.specs.declared.number.Number.{Number}
 
--- the first line feed (byte 10) ends a line of `len` bytes, line feed included, which reads as this command of this tenant
+-- The first line feed (byte 10) is at index `len` - 1. The line before it reads as this command of this tenant.
 pub record ReadsAs (bytes : List ℕ) (tenant : ℕ) (command : Command) (len : ℕ) : Type 0 where
   pub some : 0 < len
   pub within : len ≤ length bytes
@@ -30,13 +30,13 @@ pub record IsLastNumber (bytes : List ℕ) (from value len : ℕ) : Type 0 where
   pub short : end ≤ from + MOST_READ_DIGITS
   pub ended : EndsLine bytes end len
 
--- the bytes begin with the number of a tenant and a blank
+-- the bytes begin with the number of a tenant, which has at most three digits, and a space
 pub record NamesTenant (bytes : List ℕ) (tenant : Number) : Type 0 where
   pub number : number_of (slice_range bytes 0 tenant.end) ≡ Some tenant.value
   pub short : tenant.end ≤ MOST_TENANT_DIGITS
   pub blank : slice_index bytes tenant.end ≡ 32
 
--- the bytes begin with the number of a tenant and a blank, followed by these first four letters of a command
+-- the bytes begin with the number of a tenant, a space, and these four bytes, which are the first four letters of a command
 pub record BeginsLine (bytes : List ℕ) (tenant : Number) (four : List ℕ) : Type 0 where
   pub names : NamesTenant bytes tenant
   pub letters : slice_range bytes (tenant.end + 1) (tenant.end + 5) ≡ four

@@ -3,10 +3,10 @@
 ghost use Rattle.std.specs.Prelude.{◌+◌, ◌<◌, IfSome, length, if◌then◌else◌};
 ghost use Rattle.quick_core.specs.Lines.{EndsLine};
 
-/// Lines that end in LF alone.
+/// The value of `RETURNS` for lines that end in LF alone.
 pub const LF: bool = false;
 
-/// Lines that end in CR LF.
+/// The value of `RETURNS` for lines that end in CR LF.
 pub const CR_LF: bool = true;
 
 /// Returns the length in bytes of a line whose end begins at index `end`: LF, or CR LF if `RETURNS`. The length includes the end.

@@ -1,4 +1,4 @@
-//! Reads numbers with few digits.
+//! Reads numbers of at most nine digits.
 
 ghost use Rattle.std.specs.Prelude.{◌≡◌, true, ◌+◌, ◌-◌, ◌<◌, ◌≤◌, Some, IfSome, length, slice_range};
 ghost use Rattle.std.specs.Char.{is_ascii_digit};
@@ -17,7 +17,7 @@ pub struct Number {
     pub end: usize,
 }
 
-/// Reads at most `most` digits from index `from` on as a number. Returns `None` if there is no digit.
+/// Reads the digits from index `from` on as a number, but at most `most` digits. Returns `None` if there is no digit.
 #[inline(always)]
 pub fn number_at(bytes: &[u8], from: usize, most: usize) -> Option<Number>
     requires few { most ≤ MOST_READ_DIGITS }

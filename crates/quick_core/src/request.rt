@@ -23,14 +23,14 @@ pub struct RequestLine<'a> {
     pub len: usize,
 }
 
-/// The number of bytes that must be available, from the beginning of a line on, for the line to be read here. Every line that is
-/// read here fits into them with its line end, except a `write`, whose hex digits and line end may lie beyond them.
+/// The number of bytes that must be available from the beginning of a line on. If there are fewer, the line is not read here.
+/// These bytes contain the whole line and its line end, except for a `write`, whose hex digits and line end may lie beyond them.
 pub const WINDOW: usize = 32;
 
 /// The largest number of digits in a tenant's number that is read here.
 pub const MOST_TENANT_DIGITS: usize = 3;
 
-/// The bytes `allo` as a little-endian number. The other constants are formed likewise.
+/// The bytes `allo` as a little-endian number. The next five constants are the first four bytes of the other commands.
 const ALLO: u32 = 0x6f6c_6c61;
 
 const FREE: u32 = 0x6565_7266;
@@ -43,9 +43,10 @@ const READ: u32 = 0x6461_6572;
 
 const WRIT: u32 = 0x7469_7277;
 
-/// Reads the line at the front of these bytes, if it is an `alloc`, `free`, `take`, `give`, `read` or `write` with single blanks
-/// between its words and a line feed at its end. The bytes of a write are then in `buffer`. Returns `None` for any other line,
-/// for a number with too many digits, and if there are fewer than [`WINDOW`] bytes.
+/// Reads the line at the front of these bytes, if it is an `alloc`, `free`, `take`, `give`, `read` or `write` with single spaces
+/// between its words and LF alone at its end. The bytes of a `write` are decoded into `buffer`. Returns `None` for any other
+/// line, for a tenant's number of more than [`MOST_TENANT_DIGITS`] digits, for another number of more than nine digits, and if
+/// there are fewer than [`WINDOW`] bytes.
 #[inline(always)]
 pub fn read_request<'a>(bytes: &[u8], buffer: &'a mut [u8; MOST_BYTES]) -> Option<RequestLine<'a>>
     ensures reads { IfSome result (λ line. ReadsAs bytes.now line.tenant (command_of line.request) line.len) }
@@ -73,7 +74,7 @@ pub fn may_begin_request(bytes: &[u8]) -> bool {
     matches!(bytes, [b'0'..=b'9', ..])
 }
 
-/// Reads the number of a tenant, followed by a blank, at the front of these bytes. Returns `None` if they do not begin like that,
+/// Reads the number of a tenant, followed by a space, at the front of these bytes. Returns `None` if they do not begin like that,
 /// if the number has more than [`MOST_TENANT_DIGITS`] digits, or if there are fewer than [`WINDOW`] bytes.
 #[inline(always)]
 pub fn read_tenant(bytes: &[u8]) -> Option<Number>
@@ -239,7 +240,7 @@ fn read_line<const RETURNS: bool>(bytes: &[u8], tenant: Number) -> Option<Reques
     })
 }
 
-/// Reads a `write`. Its bytes are then in `buffer`.
+/// Reads a `write` and decodes its bytes into `buffer`.
 #[inline(always)]
 fn write_line<'a, const RETURNS: bool>(
     bytes: &[u8],

@@ -4,7 +4,7 @@ use Rattle.std.specs.Char.{is_ascii_digit}
 use Rattle.words_core.specs.Numbers.{value_of}
 use Rattle.quick_core.proofs.number.number_at.Given as goal
 
--- the value so far is the value of the digits that were read so far
+-- the `count` bytes from `from` on are digits, and `value` is the value of these digits
 abbrev pub invariant-loop-count : goal.invariant-loop-count
 invariant-loop-count l = record {
   value : l.value ≡ value_of (slice_range l.bytes l.from (l.from + l.count));
