@@ -1,4 +1,4 @@
--- The tables of all tenants' caches. A slab is named by the machine frame at which it begins.
+-- The tables of the caches and slabs of all tenants. A slab is named by the machine frame at which it begins.
 use Rattle.std.specs.Prelude.{◌≡◌, ℕ, ◌+◌, ◌*◌, ◌/◌, ◌%◌, ◌^◌, ◌<◌, ◌≤◌, ◌==◌, Bool, true, false, nat_lt, if◌then◌else◌, List, [], ◌∷◌, Option, Some, None, length, replicate, slice_index, slice_index_or}
 use Rattle.model_core.specs.declared.limits.TheConstants.{MOST_CACHES, MOST_ORDER}
 use Rattle.model_core.specs.Layouts.{Layout, IsLayout, is_size, is_alignment, is_pattern}
@@ -17,7 +17,7 @@ pub record Content : Type 0 where
   pub lists : Placed
   -- for each machine frame, the stored state of the slab that begins there, if one does
   pub kept : List Kept
-  -- for each tenant and cache number, the cache
+  -- for each tenant and cache number, the cache, if there is one
   pub caches : List (Option Cache)
   -- for each tenant and cache number, how many objects of the cache are live
   pub live : List ℕ
@@ -62,7 +62,8 @@ kind_number Kind.Empty = 2
 abbrev pub head_of : ℕ → ℕ → ℕ → ℕ
 head_of t c kind = 3 * index_of_cache t c + kind
 
--- the stored state of a slab fits the layout of its cache, and the list with number `head` has the slab's kind
+-- A slab with the stored state `kept` has a colour of its cache's layout, and no more live objects than a slab of the cache has
+-- objects. List `head` is a list for slabs of this kind.
 pub record IsListed (kept : Kept) (cache : Cache) (head : ℕ) : Type 0 where
   pub kind : head % 3 ≡ kind_of (layout_numbers cache).count kept.live
   pub few : kept.live ≤ (layout_numbers cache).count
@@ -99,7 +100,7 @@ pub record IsSlabs (s : Content) : Type 0 where
       → (c : Cache) × (cache_in s.caches (head / 3) ≡ Some c) × IsListed (kept_at s.kept n) c head
   pub counted : (n : ℕ) → n < length s.caches → slice_index s.live n ≡ live_total n s.lists.places s.kept
 
--- for each tenant, `below` has a number, at most 32, that is greater than the numbers of all its caches
+-- for each tenant, `below` has a number, at most 32, that is greater than the number of each of the tenant's caches
 pub record AreBelow (caches : List (Option Cache)) (below : List ℕ) : Type 0 where
   pub tenants : length caches ≡ MOST_CACHES * length below
   pub few : (t : ℕ) → slice_index below t ≤ MOST_CACHES
@@ -120,7 +121,7 @@ empty_tables top superblocks tenants = record {
   live = replicate (MOST_CACHES * tenants) 0;
 }
 
--- a slab of cache c of tenant t begins at frame `first`, whose machine frame is n
+-- a slab of cache c of tenant t begins at frame `first` of the tenant, which is machine frame n
 pub record IsPlacedIn (s : Content) (t c first n : ℕ) : Type 0 where
   pub kind : ℕ
   pub few : kind < 3
