@@ -57,6 +57,6 @@ far_half d p r n e q s a b h off t =
 pub tree_is : (order : ℕ) (words : List ℕ) (tree : StoredTree) → record { order = order; words = words } ≡ tree → IsTree order words → IsTree tree.order tree.words
 tree_is order words tree e is = subst (λ (t : StoredTree). IsTree t.order t.words) e is
 
--- if `len` is the number of words, the first `len` items of `words ++ rest` are the words
+-- if `len` is the number of words, the first `len` items of `words ++ rest` are `words`
 pub written_back : (words rest : List ℕ) (len : ℕ) → len ≡ length words → take len (words ++ rest) ≡ words
 written_back words rest len e = ap (λ n. take n (words ++ rest)) e ∙ take-append_seam words rest

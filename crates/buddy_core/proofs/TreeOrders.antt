@@ -1,5 +1,5 @@
--- Bit j of the orders of a block is 1 if and only if a block of order j is open in it. The outer block is seen alone, as if there
--- were no frames around it. A block is clear if all its frames pass the test `ok`.
+-- Bit j of the orders of a block is 1 if and only if a block of order j is open in this block. All frames outside the block are
+-- ignored here, as if there were none. A block is clear if all its frames pass the test `ok`.
 use Rattle.std.proofs.Common.{◌≡◌, ℕ, zero, suc, ◌+◌, ◌*◌, ◌/◌, ◌^◌, ◌<◌, Bool, true, false, ◌&&◌, ◌⊎◌, inl, inr, refl, sym, ap, subst, ◌∙◌, arith, cond}
 use Rattle.std.specs.Prelude.{bit_or, nat_lt}
 use Rattle.std.specs.Int.{bit_at}
@@ -57,7 +57,7 @@ orders_same a b (suc k) q h =
     orders_both a k q = bit_or (orders a k (2 * q)) (orders a k (2 * q + 1))
 
 -- The word of the whole superblock is its orders. The word of a smaller block is 0 if the next larger block around it is clear.
--- If not, the word is the orders of the smaller block.
+-- Otherwise it is the orders of the smaller block.
 pub word_whole : (ok : ℕ → Bool) (k q : ℕ) → word ok k k q ≡ orders ok k q
 word_whole ok k q = cond-false (nat_lt k k && is_clear ok (suc k) (q / 2)) 0 _ (and_left _ _ (le-ltb k k (omega arith)))
 

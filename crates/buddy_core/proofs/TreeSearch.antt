@@ -93,8 +93,8 @@ at_depth ok top j d k q n e a b s l =
 below_top : (top d : ℕ) → d < top → top - d ≡ suc (top - suc d)
 below_top top d h = omega arith
 
--- x is 0 for the lower half and 1 for the upper half: if `Leads` passes from a block to its half x, `Reached` passes from node n
--- to node m + x
+-- If `Leads` holds for half x of a block whenever it holds for the block, `Reached` holds after a step from node n to node m + x.
+-- Half 0 is the lower half, and half 1 the upper one.
 stepped_down : (top j d n m e x : ℕ) (words : List ℕ) → x < 2 → d + j < top → e ≡ d + 1 → m ≡ n * 2
     → ((ok : ℕ → Bool) (k q : ℕ) → j ≤ k → k < top → Leads ok top j (suc k) q → slice_index words (m - 1) ≡ orders ok k (2 * q) → Leads ok top j k (2 * q + x))
     → Reached top j d n words → Reached top j e (m + x) words
@@ -131,8 +131,8 @@ reached_stored top j d n words size h r =
     let deep = pow_mono {i = suc (suc d)} {j = top + 1} (omega arith) in
     omega (arith, pow-suc 2 d, pow-suc 2 (suc d))
 
--- The code shifts the last node n left by j and subtracts 2 ^ top. Neither shift overflows, and the difference is the first frame
--- of the node's block.
+-- For the last node n, the code computes (n << j) - (1 << top). Neither shift overflows, and the difference is the first frame of
+-- the block of node n, which is below 2 ^ top.
 pub first_of : (top j n : ℕ) → j ≤ top → top ≤ 8 → 2 ^ (top - j) ≤ n → n < 2 * 2 ^ (top - j)
     → (1 * 2 ^ top % 4294967296 ≡ 2 ^ top) × (n * 2 ^ j % 4294967296 ≡ 2 ^ top + (n - 2 ^ (top - j)) * 2 ^ j) × ((n - 2 ^ (top - j)) * 2 ^ j < 2 ^ top)
 first_of top j n h small least depth =

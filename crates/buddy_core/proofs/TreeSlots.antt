@@ -253,8 +253,7 @@ module _ (top : ℕ) (held : ℕ → Bool) (taken : Taken) (u : ℕ) where
           let size : p * 2 ^ j ≡ x / 2 ^ j * 2 ^ j = ap (λ i. i * 2 ^ j) (number_is j x) in
           omega arith
 
--- if a block in slot u is taken, its frames become unavailable in the superblock of slot u, and nothing changes in the other
--- slots
+-- if a block in slot u is taken, its frames become unavailable in the superblock of slot u, and no other frame changes
 module _ (large small : ℕ → Bool) (top u r k j : ℕ) (out : TakesOut large small top (u * 2 ^ top + r) k j) where
   order_within : k ≤ top
   order_within = let a = out.order in let b = out.open_block.0 in omega arith

@@ -64,7 +64,7 @@ climbed top k f around words old new small lt next size so_far =
     subst (λ n. Mended top (k + 1) f old new (set words (n - 1) v) × IsConfined top (k + 1) f old new) i.half
     (step_climb top k f i.node small lt i.is words size (4 * (i.node / 2) + 1 - i.node) (omega arith) old new v both so_far)
 
--- if `around` is above 0, order k is below the order of the superblock
+-- while `around` is above 0, k is below top: at the top, `around` is 0
 rises : (top k around : ℕ) → k ≤ top → (k ≡ top → around ≡ 0) → 0 < around → k < top
 rises top k around le last more = elim (cases_lt k top) [
   | inl lt ↦ lt
