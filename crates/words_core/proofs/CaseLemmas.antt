@@ -1,5 +1,5 @@
--- Each line is in exactly one case. The proofs compute a case number and a meaning from the line, and every case that the line is
--- in has this number and meaning.
+-- Each line is in exactly one case. Functions compute the number of a case and a meaning from the line, and every case that the
+-- line is in has this number and meaning.
 use Rattle.std.proofs.Common.{◌≡◌, ◌^◌, ◌⊎◌, inl, inr, ℕ, suc, Bool, true, false, ◌&&◌, nat_lt, nat_le, zero, ◌==◌, if◌then◌else◌, List, [], ◌∷◌, codes, length, slice_index, Option, Some, None, Result, Ok, Err, refl, sym, ◌∙◌, ap, subst, arith}
 use Rattle.std.specs.Bool.{Decides}
 use Rattle.std.specs.List.{All, Contains}
@@ -78,7 +78,7 @@ number_is_not_admin : (word : List ℕ) (t : ℕ) → number_of word ≡ Some t 
 number_is_not_admin word t number admin =
     let both : None ≡ Some t = sym (ap number_of admin) ∙ number in cc
 
--- if the first word is not `admin`, its actor is the tenant with this number, or a fault if the word is not a number
+-- if the first word is not `admin`, `actor_of` returns the tenant with this number, or a fault if the word is not a number
 actor_of-other : (word : List ℕ) (number : Option ℕ) → (word ≡ codes "admin" → ⊥) → number_of word ≡ number
     → actor_of word ≡ (or_fault number (nobody_fault word) >>= (λ t. Ok (tenant t)))
 actor_of-other word number other is =

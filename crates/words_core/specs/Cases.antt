@@ -14,7 +14,7 @@ use Rattle.words_core.specs.declared.event.LineFault.{LineFault}
 abbrev pub IsComment : List ℕ → Type 0
 IsComment word = slice_index word 0 ≡ 35
 
--- the first word of a line names its actor: it is `admin`, or the number of a tenant
+-- the word names this actor: it is `admin` for the administrator, or the number of the tenant
 abbrev pub Names : List ℕ → Actor → Type 0
 Names word administrator = word ≡ codes "admin"
 Names word (tenant t) = number_of word ≡ Some t
@@ -48,10 +48,10 @@ pub data CaseOfWords : ℕ → List (List ℕ) → Result (Option Event) LineFau
       → CaseOfWords 3 (first ∷ rest) (Err (nobody_fault first))
   -- 4. there is no second word: the fault is `Words`
   alone : {first : List ℕ} (actor : Actor) → Names first actor → CaseOfWords 4 (first ∷ []) (Err LineFault.Words)
-  -- 5. the second word is not a command of that actor: the fault is `Unknown`
+  -- 5. the second word is not a command of the actor that the first word names: the fault is `Unknown`
   no_command : {first word : List ℕ} {arguments : List (List ℕ)} (actor : Actor) → Names first actor
       → ((row : CommandRow (CommandOf actor)) → ¬ AsksFor actor word row) → CaseOfWords 5 (first ∷ word ∷ arguments) (Err LineFault.Unknown)
-  -- 6. the command takes a different number of arguments: the fault is `Words`
+  -- 6. the line does not have as many arguments as the command takes: the fault is `Words`
   wrong_count : {first word : List ℕ} {arguments : List (List ℕ)} (actor : Actor) → Names first actor
       → (row : CommandRow (CommandOf actor)) → AsksFor actor word row → ¬ (length arguments ≡ length row.forms)
       → CaseOfWords 6 (first ∷ word ∷ arguments) (Err LineFault.Words)
@@ -65,12 +65,12 @@ pub data CaseOfWords : ℕ → List (List ℕ) → Result (Option Event) LineFau
       → AllMake row.forms row.makes arguments command
       → CaseOfWords 8 (first ∷ word ∷ arguments) (Ok (Some (event_by actor command)))
 
--- a line whose bytes these are, after one carriage return at its end is removed, is in the case with this number and has this
--- meaning
+-- The bytes are a line without the carriage return that may end it. The line is in the case with this number and has this
+-- meaning.
 pub data CaseOfBytes : ℕ → List ℕ → Result (Option Event) LineFault → Type 0 where
   -- 1. the line has more than 255 bytes, even if it is a comment: the fault is `Long`
   too_long : {bytes : List ℕ} → MOST_LINE_BYTES < length bytes → CaseOfBytes 1 bytes (Err LineFault.Long)
-  -- 2 to 8: the case of the line's words
+  -- 2 to 8. the line has at most 255 bytes: it is in the case of its words
   of_words : {number : ℕ} {bytes : List ℕ} {reading : Result (Option Event) LineFault} → length bytes ≤ MOST_LINE_BYTES
       → (words : List (List ℕ)) → HasWords bytes words → CaseOfWords number words reading → CaseOfBytes number bytes reading
 

@@ -25,7 +25,7 @@ abbrev pub bytes_or_fault : Result (List ℕ) FromHexError → Result (ArrayVec 
 bytes_or_fault (Ok bytes) = Ok (record { items = bytes })
 bytes_or_fault (Err _) = Err LineFault.Hex
 
--- an argument read as 1 to `most` bytes in hex, each written as two digits of either case, or the fault `Hex`
+-- an argument read as 1 to `most` bytes in hex, or the fault `Hex`; each byte is two digits, in upper or lower case
 abbrev pub bytes_argument : ℕ → List ℕ → Result (ArrayVec ℕ) LineFault
 bytes_argument most word =
     if nat_le 2 (length word) && nat_le (length word) (2 * most) then bytes_or_fault (decode_of word) else Err LineFault.Hex
@@ -130,6 +130,6 @@ abbrev pub event_by : (actor : Actor) → CommandOf actor → Event
 event_by administrator command = Event.Admin command
 event_by (tenant t) command = Event.Tenant t command
 
--- the fault of a line whose first word names nobody
+-- the fault of a line whose first word names nobody: `Number` if the word begins with a digit, or else `Unknown`
 abbrev pub nobody_fault : List ℕ → LineFault
 nobody_fault word = if is_ascii_digit (slice_index word 0) then LineFault.Number else LineFault.Unknown

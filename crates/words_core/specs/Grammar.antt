@@ -47,11 +47,11 @@ abbrev pub command_in_words : {C : Type 0} → List (CommandRow C) → List (Lis
 command_in_words rows [] = Err LineFault.Words
 command_in_words rows (word ∷ arguments) = command_of rows word arguments
 
--- the number of the tenant that the first word names, or the fault
+-- the number of the tenant that the first word names, or the fault if it names no tenant
 abbrev pub tenant_of : List ℕ → Result ℕ LineFault
 tenant_of word = or_fault (number_of word) (nobody_fault word)
 
--- the actor that the first word names, or the fault
+-- the actor that the first word names, or the fault if it names nobody
 abbrev pub actor_of : List ℕ → Result Actor LineFault
 actor_of word =
     if bytes_eq word (codes "admin") then Ok administrator
@@ -74,7 +74,7 @@ reading_of_words (first ∷ rest) =
       event ← event_of first rest
       Ok (Some event))
 
--- the meaning of the words of a line of `size` bytes
+-- the meaning of a line of `size` bytes with these words, which is the fault `Long` if it has more than 255 bytes
 abbrev pub reading_within : ℕ → List (List ℕ) → Result (Option Event) LineFault
 reading_within size words = if nat_lt MOST_LINE_BYTES size then Err LineFault.Long else reading_of_words words
 

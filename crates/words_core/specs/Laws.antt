@@ -5,7 +5,7 @@ use Rattle.words_core.specs.declared.event.LineFault.{LineFault}
 use Rattle.words_core.specs.Cases.{Case}
 use Rattle.words_core.specs.Grammar.{reading_of}
 
--- each line is in a case, and its meaning there is `reading_of` of the line
+-- each line is in some case with the meaning `reading_of line`
 abbrev pub EachLineHasACase : Type 0
 EachLineHasACase = (line : List ℕ) → (number : ℕ) × Case number line (reading_of line)
 

@@ -1,5 +1,5 @@
--- The command that equals a `Request`, the reply that equals an `Answer` or a `Table`, and tests of these three types. The types
--- borrow their bytes or rows.
+-- The command that a `Request` stands for, the reply that an `Answer` or a `Table` stands for, and tests of these three types.
+-- Values of these types borrow their bytes or rows.
 use Rattle.std.specs.Prelude.{◌≡◌, ℕ, ◌≤◌, Bool, true, false, if◌then◌else◌, length}
 use Rattle.model_core.specs.declared.limits.TheConstants.{MOST_BYTES, MOST_SUPERBLOCKS}
 use Rattle.model_core.specs.Layouts.{is_pattern}
@@ -68,7 +68,7 @@ reply_to addressee answer = record { addressee = addressee; body = body_of_answe
 abbrev pub reply_of_answer : ℕ → Answer → Reply
 reply_of_answer tenant answer = record { addressee = Addressee.Tenant tenant; body = body_of_answer answer }
 
--- a table as a reply
+-- the reply that this table stands for
 abbrev pub reply_of_table : Table → Reply
 reply_of_table (Table.Owners owners) = record { addressee = Addressee.Admin; body = Body.Owners (record { items = owners.now }) }
 reply_of_table (Table.Report tenant report) = record { addressee = Addressee.Tenant tenant; body = Body.Report report.now }

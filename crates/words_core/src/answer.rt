@@ -233,7 +233,7 @@ pub fn write_answer(tenant: u8, answer: Answer<'_>, out: &mut [u8]) -> usize
     put_text(b"\n", end, out)
 }
 
-/// Writes the answers that [`write_answer`] leaves to it: they are rare, or do not consist of one word and one number.
+/// Writes the answers that [`write_answer`] does not write itself: they are rare, or do not consist of one word and one number.
 #[inline(always)]
 fn write_other(tenant: u8, answer: Answer<'_>, out: &mut [u8]) -> usize
     requires few { HasFewBytes answer }

@@ -29,10 +29,10 @@ pub enum AdminCommand {
     Pool,
 }
 
-/// A command of a tenant. Its arguments are as written, and may be out of range.
+/// A command of a tenant. Its arguments are as written in the line, and may be out of range.
 #[derive(Debug, Drop, PartialEq, Eq)]
 pub enum Command {
-    /// `T alloc K`: allocates a page block of `2^order` frames.
+    /// `T alloc K`: allocates a page block of order K, which has `2^K` frames.
     Alloc {
         order: u32,
     },

@@ -115,7 +115,7 @@ fn admin_command_of(name: &[u8], arguments: &[&[u8]]) -> Result<AdminCommand, Li
 fn tenant_command_of(name: &[u8], arguments: &[&[u8]]) -> Result<Command, LineFault>
     ensures { result ≡ command_of tenant_rows name.now (map (λ word. word.now) arguments.now) }
 {
-    // This is a chain of tests, because the prover expands a match on ten byte strings to a tree with more than thirty leaves.
+    // This is a chain of tests, because the prover expands a match on ten byte strings into a tree with more than thirty leaves.
     if name == b"alloc".as_slice() {
         alloc_of(arguments)
     } else if name == b"free".as_slice() {

@@ -23,7 +23,7 @@ pub struct Reply {
 pub enum Addressee {
     /// The administrator.
     Admin,
-    /// Nobody in particular: the line was faulty, or its tenant does not exist.
+    /// Nobody in particular: the line was faulty, or was a command of a tenant that does not exist.
     Nobody,
     /// The tenant with this number.
     Tenant(u8),

@@ -18,7 +18,7 @@ pub fn put_text(text: &[u8], at: usize, out: &mut [u8]) -> usize
     end
 }
 
-/// Size in bytes of each stored front, that is, of the beginning of a line. A shorter front is padded.
+/// Size in bytes of a stored front: the beginning of a line, padded if it is shorter.
 const FRONT_BYTES: usize = 16;
 
 /// Writes the number of a tenant, and then bytes 1 to `len - 1` of `front`. Returns the index of the end. Byte 0 of `front` is a
