@@ -1,4 +1,5 @@
--- Hex digits can be decoded one part after another, and a line that ends with hex digits reads as a `write`.
+-- Hex digits can be decoded one part after another, and a `write` line that ends with hex digits reads as a write of the decoded
+-- bytes.
 use Rattle.std.proofs.Common.{◌≡◌, ℕ, ◌+◌, ◌-◌, ◌*◌, ◌<◌, ◌≤◌, true, nat_le, ◌&&◌, if◌then◌else◌, List, [], ◌∷◌, ◌++◌, codes, length, get_or, take, drop, map, Option, Some, None, Result, Ok, Err, refl, sym, ◌∙◌, ap, arith}
 use Rattle.std.specs.List.{range_with_len, slice_range}
 use Rattle.std.specs.Result.{result_unwrap_or}

@@ -36,7 +36,7 @@ pub record NamesTenant (bytes : List ℕ) (tenant : Number) : Type 0 where
   pub short : tenant.end ≤ MOST_TENANT_DIGITS
   pub blank : slice_index bytes tenant.end ≡ 32
 
--- the bytes begin with the number of a tenant, a space, and these four bytes, which are the first four letters of a command
+-- the bytes begin with the number of a tenant, a space, and these four letters
 pub record BeginsLine (bytes : List ℕ) (tenant : Number) (four : List ℕ) : Type 0 where
   pub names : NamesTenant bytes tenant
   pub letters : slice_range bytes (tenant.end + 1) (tenant.end + 5) ≡ four

@@ -30,7 +30,8 @@ pub const WINDOW: usize = 32;
 /// The largest number of digits in a tenant's number that is read here.
 pub const MOST_TENANT_DIGITS: usize = 3;
 
-/// The bytes `allo` as a little-endian number. The next five constants are the first four bytes of the other commands.
+/// The bytes `allo` as a little-endian number. The next five constants are the first four letters of the other commands, in the
+/// same form.
 const ALLO: u32 = 0x6f6c_6c61;
 
 const FREE: u32 = 0x6565_7266;
