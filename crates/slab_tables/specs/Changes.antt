@@ -26,7 +26,7 @@ with_new_slab s t c cache first n = record s {
 }
 
 -- The tables after the number of live objects of the slab at machine frame n is set to `count`. The slab moves to the list of its
--- new kind, and the count of live objects of its cache changes with it.
+-- new kind, and the count of live objects of its cache changes by the same difference.
 abbrev pub with_count : Content → ℕ → ℕ → Cache → ℕ → ℕ → ℕ → Content
 with_count s t c cache first n count = record s {
   lists = record s.lists { places = slice_set s.lists.places n (Some (head_of t c (kind_of (layout_numbers cache).count count), first)) };
@@ -38,7 +38,7 @@ with_count s t c cache first n count = record s {
 abbrev pub with_outside : Content → ℕ → ℕ → Content
 with_outside s n outside = record s { kept = slice_set s.kept n (record (kept_at s.kept n) { outside = outside }) }
 
--- the tables after the slab at machine frame n is removed
+-- the tables after the slab at machine frame n is removed from its list
 abbrev pub without_slab : Content → ℕ → Content
 without_slab s n = record s { lists = removed s.lists n }
 
@@ -66,14 +66,14 @@ pub record IsEmptied (s s' : Placed) (h : ℕ) : Type 0 where
   pub machine_frames : length s'.places ≡ length s.places
   pub places : (n : ℕ) → place_at s'.places n ≡ (if is_in h (place_at s.places n) then None else place_at s.places n)
 
--- A place `Some (list, first frame)` of a slab, or `None` if the cache that has this list is removed. The indexes of the removed
--- caches satisfy `gone`.
+-- The place of a slab, `Some (list, first frame)`, becomes `None` if the cache that has this list is removed. The indexes of the
+-- removed caches satisfy `gone`.
 abbrev pub unless_gone : (ℕ → Bool) → Option (ℕ × ℕ) → Option (ℕ × ℕ)
 unless_gone gone None = None
 unless_gone gone (Some p) = if gone (p.0 / 3) then None else Some p
 
--- In s', the caches whose indexes satisfy `gone` are removed with their slabs. All else is as in s, but nothing is said of the
--- counts `live`.
+-- In s', the caches whose indexes satisfy `gone` are removed with their slabs. Everything else is as in s, except that `live` may
+-- differ.
 pub record IsCleared (s s' : Content) (gone : ℕ → Bool) : Type 0 where
   pub top : s'.top ≡ s.top
   pub heads : s'.lists.heads ≡ s.lists.heads
@@ -83,7 +83,7 @@ pub record IsCleared (s s' : Content) (gone : ℕ → Bool) : Type 0 where
   pub tenants : length s'.caches ≡ length s.caches
   pub caches : (n : ℕ) → cache_in s'.caches n ≡ (if gone n then None else cache_in s.caches n)
 
--- In s', tenant t has no cache and no slab. All else is as in s, but nothing is said of the counts `live`.
+-- In s', tenant t has no cache and no slab. Everything else is as in s, except that `live` may differ.
 abbrev pub IsReset : Content → Content → ℕ → Type 0
 IsReset s s' t = IsCleared s s' (λ n. n / MOST_CACHES == t)
 
