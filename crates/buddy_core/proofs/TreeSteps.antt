@@ -1,5 +1,5 @@
--- One step of each loop over a tree, in terms of the code: it goes from the block of order k around frame f to the block of order
--- k + 1 around f.
+-- One step of the loops of `climb`, `split` and `join`, in terms of the code. The step goes from the block of order k around
+-- frame f to the block of order k + 1 around f.
 use Rattle.std.proofs.Common.{◌≡◌, ℕ, suc, ◌+◌, ◌-◌, ◌*◌, ◌/◌, ◌^◌, ◌<◌, ◌≤◌, Bool, List, length, get_or, set, sym, ap₂, subst, ◌∙◌, arith, add-one}
 use Rattle.std.specs.Prelude.{bit_or}
 use Rattle.std.proofs.lemmas.Nat.{pow_pos}

@@ -1,4 +1,4 @@
--- When a part of a text consists of pairs of hex digits that encode given bytes.
+-- Parts of a text that consist of pairs of hex digits, and the bytes that they encode.
 use Rattle.std.specs.Prelude.{◌≡◌, ℕ, List, Ok, slice_range}
 use Rattle.hex.specs.Hex.{decode_pairs}
 

@@ -1,4 +1,4 @@
--- Examples of lines with their meanings, and of replies with their texts. Each holds by computation.
+-- Examples of lines with their meanings, and of replies with their texts. Each example is proved by computation.
 use Rattle.std.specs.Prelude.{◌≡◌, ℕ, List, [], ◌∷◌, ◌++◌, codes, map, replicate, Option, Some, None, Result, Ok, Err, refl}
 use Rattle.std.specs.Fmt.{digits}
 use Rattle.hex.proofs.OnLiterals.{hex_on_literals}

@@ -1,4 +1,4 @@
-//! Numbers in decimal.
+//! Reads decimal numbers, and counts the digits of a number.
 
 ghost use Rattle.std.specs.Prelude.{◌≡◌, ◌≤◌, decimal, length};
 ghost use Rattle.words_core.specs.Numbers.{number_of};

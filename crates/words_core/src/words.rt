@@ -1,4 +1,4 @@
-//! The words of a line: runs of bytes other than blanks.
+//! Splits a line into words, which are runs of bytes other than blanks.
 
 ghost use Rattle.std.specs.Prelude.{◌≡◌, ◌<◌, ◌≤◌, ℕ, [], ◌∷◌, false, true, length, map, take, slice_index, MatchOption};
 ghost use Rattle.words_core.specs.Words.{is_blank, words_of};
