@@ -2,8 +2,8 @@
 
 ghost use Rattle.words_core.specs.Laws.{EachLineHasACase, NoLineHasTwo};
 
-/// Each line is in exactly one of the eight cases of `words_core/specs/Cases`, and has exactly one meaning: an event, nothing, or
-/// a fault.
+/// Each line is in exactly one of the eight cases, and has exactly one meaning: an event, nothing, or a
+/// fault.
 pub fn one_case()
     ensures some { EachLineHasACase }
     ensures only { NoLineHasTwo }
