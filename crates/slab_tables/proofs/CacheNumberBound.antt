@@ -1,4 +1,5 @@
--- Changes of caches keep `AreBelow`: it has, for each tenant, a number that is greater than the numbers of all its caches.
+-- For each tenant, `AreBelow` has a bound: a number that is greater than the numbers of all its caches. Changes of caches keep
+-- it.
 use Rattle.std.proofs.Common.{◌≡◌, ℕ, ◌*◌, ◌/◌, ◌%◌, ◌<◌, ◌≤◌, List, Option, Some, None, length, get_or, set, replicate, sym, ap, ◌∙◌, inl, inr, arith}
 use Rattle.std.proofs.lemmas.Bool.{cases_eq}
 use Rattle.std.proofs.lemmas.List.{length-set, length-replicate, get_or-set_same, get_or-set_other}
@@ -7,8 +8,8 @@ use Rattle.model_core.proofs.Lists.{everywhere}
 use Rattle.slab_tables.specs.declared.cache.Cache.{Cache}
 use Rattle.slab_tables.specs.Content.{AreBelow, cache_in, index_of_cache}
 
--- `AreBelow` holds after entry i of the table of caches is replaced, if the new entry is `None` whenever its cache number is not
--- below its tenant's number
+-- `AreBelow` holds after entry i of the table of caches is replaced by o, if o is `None` or its cache number is below the bound
+-- of its tenant
 pub below_cache : (cs : List (Option Cache)) (bs : List ℕ) (i : ℕ) (o : Option Cache) → i < length cs → (get_or bs (i / MOST_CACHES) 0 ≤ i % MOST_CACHES → o ≡ None)
     → AreBelow cs bs → AreBelow (set cs i o) bs
 below_cache cs bs i o lt none a = record {
@@ -20,12 +21,13 @@ below_cache cs bs i o lt none a = record {
   ];
 }
 
--- the number of an existing cache is below its tenant's number
+-- the number of an existing cache is below its tenant's bound, so `below_cache` allows any new entry o for this cache
 pub below_standing : (cs : List (Option Cache)) (bs : List ℕ) (i : ℕ) (c : Cache) → cache_in cs i ≡ Some c → AreBelow cs bs
     → (o : Option Cache) → get_or bs (i / MOST_CACHES) 0 ≤ i % MOST_CACHES → o ≡ None
 below_standing cs bs i c is a o le = absurd (let f : ◌≡◌ {A = Option Cache} None (Some c) = sym (a.none i le) ∙ is in cc)
 
--- `AreBelow` holds after the number of tenant t is replaced by b, if the tenant has no cache with number b or above
+-- if tenant t has no cache with number b or above, and b is at most `MOST_CACHES`, `AreBelow` holds after its bound is replaced
+-- by b
 pub below_number : (cs : List (Option Cache)) (bs : List ℕ) (t b : ℕ) → t < length bs → b ≤ MOST_CACHES
     → ((c : ℕ) → b ≤ c → c < MOST_CACHES → cache_in cs (index_of_cache t c) ≡ None) → AreBelow cs bs → AreBelow cs (set bs t b)
 below_number cs bs t b lt few none a = record {
@@ -43,25 +45,25 @@ below_number cs bs t b lt few none a = record {
   ];
 }
 
--- a cache's index divided by `MOST_CACHES` is its tenant
+-- a cache's index divided by `MOST_CACHES` is the number of its tenant
 own_number : (t c : ℕ) → c < MOST_CACHES → index_of_cache t c / MOST_CACHES ≡ t
 own_number t c less = omega arith
 
--- `AreBelow` holds after a cache's entry is replaced, if the cache's number is below its tenant's number
+-- `AreBelow` holds after the entry of a cache is replaced, if the cache's number is below its tenant's bound
 pub below_used : (cs : List (Option Cache)) (bs : List ℕ) (t c : ℕ) (o : Option Cache) → t < length bs → c < get_or bs t 0 → c < MOST_CACHES
     → AreBelow cs bs → AreBelow (set cs (index_of_cache t c) o) bs
 below_used cs bs t c o lt below less a =
     below_cache cs bs (index_of_cache t c) o (omega (arith, lt, less, a.tenants))
     (λ le. let here = ap (λ j. get_or bs j 0) (own_number t c less) in absurd (omega (arith, le, here, below, less))) a
 
--- `AreBelow` holds after the entry of cache c is replaced and its tenant's number is raised to b, which is above c
+-- `AreBelow` holds after the entry of cache c is replaced and the bound of its tenant is raised to b, if b is above c
 pub below_more : (cs : List (Option Cache)) (bs : List ℕ) (t c b : ℕ) (o : Option Cache) → t < length bs → c < b → get_or bs t 0 ≤ b → b ≤ MOST_CACHES
     → AreBelow cs bs → AreBelow (set cs (index_of_cache t c) o) (set bs t b)
 below_more cs bs t c b o lt over from few a =
     below_used cs (set bs t b) t c o (omega (arith, lt, length-set bs t b)) (omega (arith, over, get_or-set_same bs t b 0 lt)) (omega (arith, over, few))
     (below_number cs bs t b lt few (λ d le less. a.none (index_of_cache t d) (let at = ap (λ j. get_or bs j 0) (own_number t d less) in omega (arith, at, from, le))) a)
 
--- `AreBelow` holds for tables without caches, with 0 for each tenant
+-- `AreBelow` holds for tables without caches, if each tenant's bound is 0
 pub below_opening : (tenants : ℕ) → AreBelow (replicate (MOST_CACHES * tenants) None) (replicate tenants 0)
 below_opening tenants = record {
   tenants = length-replicate (MOST_CACHES * tenants) uncached ∙ ap (λ n. MOST_CACHES * n) (sym (length-replicate tenants zero_of));

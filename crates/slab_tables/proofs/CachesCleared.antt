@@ -1,4 +1,4 @@
--- Removing caches with all their slabs.
+-- Removing a cache with all its slabs keeps the invariant of the tables. Removing all caches of a tenant resets the tenant.
 use Rattle.std.proofs.Common.{◌≡◌, ℕ, ◌+◌, ◌*◌, ◌/◌, ◌%◌, ◌<◌, ◌≤◌, ◌⊎◌, Bool, true, false, cond, eqb, ltb, ◌&&◌, ◌||◌, Option, Some, None, length, get_or, set, refl, sym, ap, ◌∙◌, inl, inr, arith}
 use Rattle.std.proofs.lemmas.Bool.{cases_eq, cases_lt, eqb-true, eqb-false, eq-eqb, ne_eqb, lt-ltb, le-ltb}
 use Rattle.std.proofs.lemmas.List.{length-set, get_or-set_same, get_or-set_other}
@@ -12,7 +12,7 @@ use Rattle.slab_tables.proofs.LiveTotals.{total_along, total_none}
 abbrev pub this : ℕ → ℕ → Bool
 this i n = eqb n i
 
--- emptying the three lists of a cache removes exactly its slabs
+-- emptying the three lists of a cache removes all its slabs and no others
 
 abbrev without : ℕ → Option (ℕ × ℕ) → Option (ℕ × ℕ)
 without h o = cond (is_in h o) None o
@@ -47,7 +47,7 @@ pub emptied_all : (s a b z : Placed) (i : ℕ) → IsEmptied s a (3 * i) → IsE
 emptied_all s a b z i x y w n =
     w.places n ∙ (ap (without (3 * i + 2)) (y.places n) ∙ (ap (λ o. without (3 * i + 2) (without (3 * i + 1) o)) (x.places n) ∙ emptied_thrice i (place_at s.places n)))
 
--- the place is `Some (head, key)`, and the cache of this list is not removed
+-- the place is `Some (head, key)`, and the cache that has list `head` is not removed
 pub record IsLeft (gone : ℕ → Bool) (o : Option (ℕ × ℕ)) (head key : ℕ) : Type 0 where
   pub here : o ≡ Some (head, key)
   pub stays : gone (head / 3) ≡ false
@@ -78,7 +78,7 @@ index_stays i n (Some (g, k)) ne = go (eqb (g / 3) i) refl
     go true q = sym (ne_eqb (g / 3) n (λ e. ne (sym e ∙ eqb-true (g / 3) i q)))
     go false q = refl
 
--- the tables with these lists, without the cache at index i, and with 0 as its total
+-- the tables with these lists and without the cache at index i, whose count of live objects is set to 0
 abbrev pub cleared : Content → ℕ → Placed → Content
 cleared s i lists = record { top = s.top; lists = lists; kept = s.kept; caches = set s.caches i None; live = set s.live i 0 }
 
@@ -191,7 +191,7 @@ one_more t c lt n = elim (cases_eq (n / MOST_CACHES) t) [
           ]
         ]
 
--- once all caches with numbers below c are removed, the tenant is reset, if it had no cache with number c or above
+-- if tenant t has no cache with number c or above, removing all its caches with numbers below c resets the tenant
 pub cleared_all : (s s' : Content) (t c : ℕ) → IsSlabs s → ((d : ℕ) → c ≤ d → cache_at s t d ≡ None) → IsCleared s s' (those_below t c) → IsReset s s' t
 cleared_all s s' t c w none a = record {
   top = a.top;

@@ -1,4 +1,4 @@
--- Each change keeps the invariant of the tables.
+-- Each change of the tables keeps their invariant.
 use Rattle.std.proofs.Common.{◌≡◌, ℕ, ◌+◌, ◌-◌, ◌*◌, ◌/◌, ◌%◌, ◌^◌, ◌<◌, ◌≤◌, Bool, true, false, cond, List, Option, Some, None, length, get_or, set, replicate, refl, sym, ap, ◌∙◌, subst, inl, inr, arith}
 use Rattle.std.proofs.Math.Nat.{pow-le-pow_right, mul-le-mul}
 use Rattle.std.proofs.lemmas.Bool.{cases_eq, eq-eqb, ne_eqb, lt-ltb}
@@ -27,8 +27,8 @@ with_machine_frame s machine_frame p k live = record {
   live = live;
 }
 
--- the invariant holds after the place and the state at one machine frame are replaced, if the new ones are in order and each
--- total changes by the same amount as the machine frame's part of it
+-- Let the place and the state at one machine frame be replaced by p and k. The invariant still holds if `InOrder` holds for p and
+-- k, and if each total changes by as much as the machine frame's part of that total.
 pub slabs_machine_frame : (s : Content) (machine_frame : ℕ) (p : Option (ℕ × ℕ)) (k : Kept) (live : List ℕ) → IsSlabs s → machine_frame < length s.lists.places → InOrder s p k
     → length live ≡ length s.live
     → ((n : ℕ) → n < length s.live → get_or live n 0 + part n (place_at s.lists.places machine_frame) (kept_at s.kept machine_frame) ≡ get_or s.live n 0 + part n p k)
@@ -65,8 +65,8 @@ slabs_machine_frame s machine_frame p k live w lt stands size counts = record {
         let t = total_set n machine_frame p k s.lists.places s.kept lt (omega (arith, w.paired)) in
         omega (arith, t, counts n (omega (arith, w.totals)), w.counted n below)
 
--- the invariant holds after entry i of the caches is replaced, if the new cache is valid and fits all slabs of the old one; if
--- there is no new cache, the old one must have no slab
+-- The invariant holds after entry i of the caches is replaced by a valid cache that fits all slabs of the old one. It also holds
+-- after the entry is replaced by `None`, if the old cache has no slab.
 pub slabs_cache : (s : Content) (i : ℕ) (o : Option Cache) → IsSlabs s → i < length s.caches → ((c : Cache) → o ≡ Some c → IsTableCache c)
     → ((machine_frame head key : ℕ) → place_at s.lists.places machine_frame ≡ Some (head, key) → head / 3 ≡ i → (c : Cache) × (o ≡ Some c) × IsListed (kept_at s.kept machine_frame) c head)
     → IsSlabs (record s { caches = set s.caches i o })
@@ -103,7 +103,7 @@ slabs_outside s machine_frame outside w lt =
         → (c : Cache) × (cache_in s.caches (head / 3) ≡ Some c) × IsListed (record (kept_at s.kept machine_frame) { outside = outside }) c head
     stands head key e = let x = w.standing machine_frame head key e in (x.0, x.1, record { kind = x.2.kind; few = x.2.few; colour = x.2.colour })
 
--- a slab without live objects adds nothing to a total
+-- a slab without live objects adds 0 to every total
 part_zero : (n : ℕ) (p : Option (ℕ × ℕ)) (k : Kept) → k.live ≡ 0 → part n p k ≡ 0
 part_zero n p k e = zero_either (is_of_index n p)
   where
@@ -177,14 +177,14 @@ slabs_more s t c cache w lt below vacant fit = slabs_cache s (index_of_cache t c
     let gone : cache_in s.caches (index_of_cache t c) ≡ None = sym (ap (λ b. cond b (cache_in s.caches (index_of_cache t c)) None) (lt-ltb c MOST_CACHES lt)) ∙ vacant in
     absurd (let f : ◌≡◌ {A = Option Cache} None (Some x.0) = sym gone ∙ (sym (ap (cache_in s.caches) is) ∙ x.1) in cc))
 
--- a slab adds its live objects to the total of its own cache, and nothing to the total of another
+-- a slab adds its live objects to the total of its own cache, and nothing to the total of any other cache
 part_here : (t c kind first n : ℕ) (k : Kept) → kind < 3 → n ≡ index_of_cache t c → part n (Some (head_of t c kind, first)) k ≡ k.live
 part_here t c kind first n k lt is = ap (λ b. cond b k.live 0) (eq-eqb (head_of t c kind / 3) n ((head_parts t c kind lt).0 ∙ sym is))
 
 part_elsewhere : (t c kind first n : ℕ) (k : Kept) → kind < 3 → (n ≡ index_of_cache t c → ⊥) → part n (Some (head_of t c kind, first)) k ≡ 0
 part_elsewhere t c kind first n k lt ne = ap (λ b. cond b k.live 0) (ne_eqb (head_of t c kind / 3) n (λ e. ne (sym e ∙ (head_parts t c kind lt).0)))
 
--- a cache's total is at least the number of live objects in each of its slabs, and at most 2 ^ 24
+-- the total of cache c is at least the number of live objects in the slab at the machine frame, and at most 2 ^ 24
 pub record IsTotal (s : Content) (t c machine_frame : ℕ) : Type 0 where
   pub at_least : (kept_at s.kept machine_frame).live ≤ get_or s.live (index_of_cache t c) 0
   pub at_most : get_or s.live (index_of_cache t c) 0 ≤ 256 * 2 ^ 16
@@ -205,7 +205,8 @@ counted_kept s machine_frame count = record (kept_at s.kept machine_frame) { liv
 abbrev counted_live : Content → ℕ → ℕ → ℕ → List ℕ
 counted_live s n machine_frame count = set s.live n (get_or s.live n 0 + count - (kept_at s.kept machine_frame).live)
 
--- the invariant holds after the number of live objects in a slab is set
+-- the invariant holds after the number of live objects in a slab is set, if the new number is at most the slab's number of
+-- objects
 pub slabs_count : (s : Content) (t c : ℕ) (cache : Cache) (first machine_frame count : ℕ) → IsSlabs s → cache_at s t c ≡ Some cache → index_of_cache t c < length s.caches
     → IsPlacedIn s t c first machine_frame → count ≤ (layout_numbers cache).count → IsSlabs (with_count s t c cache first machine_frame count)
 slabs_count s t c cache first machine_frame count w e below p few =
@@ -261,8 +262,9 @@ kept_read s t c first machine_frame k w p read =
     let lt = placed_within s.lists.places machine_frame (head_of t c p.kind, first) p.placed in
     get_or_read s.kept machine_frame k (omega (arith, w.paired)) read blank
 
--- when the code sets a slab's number of live objects, it has read the total of the cache and the stored state of the slab; the
--- new total neither overflows nor underflows
+-- The code sets a slab's number of live objects to `count`. The `total` that it read is the cache's number of live objects, and
+-- the k that it read is the slab's stored state. Adding `count` to `total` does not overflow, and subtracting `k.live` then does
+-- not underflow.
 pub record IsCounting (s : Content) (t c machine_frame count total : ℕ) (k : Kept) : Type 0 where
   pub total_is : total ≡ get_or s.live (index_of_cache t c) 0
   pub kept_is : k ≡ kept_at s.kept machine_frame
@@ -286,7 +288,7 @@ counting s t c cache first machine_frame count total k w tenant e p few read rea
       enough = omega (arith, x.at_least, ap (λ (y : Kept). y.live) same_kept);
     }
 
--- the invariant holds for tables without caches and slabs
+-- the invariant holds for tables that have no caches and no slabs
 pub slabs_opening : (top superblocks tenants : ℕ) → top ≤ MOST_ORDER → superblocks ≤ MOST_SUPERBLOCKS → tenants ≤ MOST_TENANTS → IsSlabs (empty_tables top superblocks tenants)
 slabs_opening top superblocks tenants order few_superblocks few_tenants = record {
   order = order;

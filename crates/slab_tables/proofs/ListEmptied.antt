@@ -1,4 +1,4 @@
--- Emptying a list slab by slab.
+-- Removing the slabs of a list one by one until none is left empties the list, and changes nothing else.
 use Rattle.std.proofs.Common.{◌≡◌, ℕ, true, cond, Option, Some, None, length, set, refl, sym, ap, ◌∙◌, ◌⊎◌, inl, inr}
 use Rattle.std.proofs.lemmas.Bool.{cases_eq, cases_Bool, eq-eqb, eqb-true, false≢true}
 use Rattle.std.proofs.lemmas.List.{length-set, get_or-set_same, get_or-set_other}
@@ -6,7 +6,7 @@ use Rattle.klist_core.specs.Places.{Placed, place_at, is_in, IsEmpty, removed}
 use Rattle.klist_core.proofs.PlacesChanged.{placed_within}
 use Rattle.slab_tables.specs.Changes.{IsEmptied}
 
--- some slabs of list h have been removed, and all else is as before
+-- `s'` is `s` after some slabs of list h are removed
 pub record IsEmptying (s s' : Placed) (h : ℕ) : Type 0 where
   pub heads : s'.heads ≡ s.heads
   pub machine_frames : length s'.places ≡ length s.places

@@ -1,4 +1,4 @@
--- The number of live objects of a cache, as the places and the stored states of slabs change.
+-- The total of a cache is the number of its live objects. It is the sum of the parts of all machine frames.
 use Rattle.std.proofs.Common.{◌≡◌, ℕ, zero, suc, ◌+◌, ◌*◌, ◌/◌, ◌<◌, ◌≤◌, false, cond, eqb, List, [], ◌∷◌, Option, Some, None, length, set, refl, ap, ◌∙◌, subst, arith}
 use Rattle.std.proofs.lemmas.Bool.{cond_both}
 use Rattle.std.proofs.lemmas.List.{set-get_or}
@@ -6,11 +6,11 @@ use Rattle.klist_core.specs.Places.{place_at}
 use Rattle.slab_tables.specs.declared.cache.Kept.{Kept}
 use Rattle.slab_tables.specs.Content.{blank, kept_at, is_of_index, live_total}
 
--- what a machine frame adds to the total of the cache with index n
+-- a machine frame's part of the total of cache index n: the live objects of its slab if the slab is in that cache, or else 0
 abbrev pub part : ℕ → Option (ℕ × ℕ) → Kept → ℕ
 part n p k = cond (is_of_index n p) k.live 0
 
--- if the place and the state at machine frame i are replaced, the total and the frame's part of it change by the same amount
+-- if the place and the state at machine frame i are replaced, the total and the part of frame i change by the same amount
 pub total_set : (n i : ℕ) (p : Option (ℕ × ℕ)) (k : Kept) (ps : List (Option (ℕ × ℕ))) (ks : List Kept) → i < length ps → i < length ks
     → live_total n (set ps i p) (set ks i k) + part n (place_at ps i) (kept_at ks i) ≡ live_total n ps ks + part n p k
 total_set n i p k [] ks lt there = absurd (omega arith)
@@ -18,7 +18,7 @@ total_set n i p k (q ∷ ps) [] lt there = absurd (omega arith)
 total_set n zero p k (q ∷ ps) (l ∷ ks) lt there = omega arith
 total_set n (suc i) p k (q ∷ ps) (l ∷ ks) lt there = let h = total_set n i p k ps ks (omega arith) (omega arith) in omega (arith, h)
 
--- if only the place at machine frame i is replaced, the total and the frame's part of it change by the same amount
+-- if only the place at machine frame i is replaced, the total and the part of frame i change by the same amount
 pub total_placed : (n i : ℕ) (p : Option (ℕ × ℕ)) (ps : List (Option (ℕ × ℕ))) (ks : List Kept) → i < length ps → i < length ks
     → live_total n (set ps i p) ks + part n (place_at ps i) (kept_at ks i) ≡ live_total n ps ks + part n p (kept_at ks i)
 total_placed n i p ps ks lt there =
@@ -31,7 +31,7 @@ pub part_within : (n i : ℕ) (ps : List (Option (ℕ × ℕ))) (ks : List Kept)
     → part n (place_at ps i) (kept_at ks i) ≤ live_total n ps ks
 part_within n i ps ks lt there = let h = total_placed n i None ps ks lt there in omega (arith, h)
 
--- the total does not change if the slabs of the cache begin at the same machine frames
+-- the total stays the same if the slabs of the cache still begin at the same machine frames
 pub total_along : (n : ℕ) (ps qs : List (Option (ℕ × ℕ))) (ks : List Kept) → length qs ≡ length ps
     → ((i : ℕ) → is_of_index n (place_at qs i) ≡ is_of_index n (place_at ps i)) → live_total n qs ks ≡ live_total n ps ks
 total_along n [] [] ks same along = refl
@@ -43,7 +43,7 @@ total_along n (p ∷ ps) (q ∷ qs) (k ∷ ks) same along =
     let rest = total_along n ps qs ks (omega arith) (λ i. along (suc i)) in
     ap (λ b. cond b k.live 0 + live_total n qs ks) here ∙ ap (λ x. cond (is_of_index n p) k.live 0 + x) rest
 
--- the total is 0 if no slab of the cache begins at any machine frame
+-- the total is 0 if the cache has no slab
 pub total_none : (n : ℕ) (ps : List (Option (ℕ × ℕ))) (ks : List Kept) → ((i : ℕ) → is_of_index n (place_at ps i) ≡ false) → live_total n ps ks ≡ 0
 total_none n [] ks none = refl
 total_none n (p ∷ ps) [] none = refl

@@ -1,4 +1,4 @@
--- Moving slabs to other machine frames.
+-- The invariant holds while the slabs of one superblock are moved to another, and afterwards all of them are moved.
 use Rattle.std.proofs.Common.{◌≡◌, ℕ, ◌+◌, ◌*◌, ◌/◌, ◌%◌, ◌^◌, ◌<◌, ◌≤◌, Option, Some, None, length, set, refl, sym, ap, ◌∙◌, ◌⊎◌, subst, inl, inr, arith}
 use Rattle.std.proofs.Math.Nat.{pow-le-pow_right, add-mul}
 use Rattle.std.proofs.lemmas.Bool.{cases_eq}
@@ -27,7 +27,7 @@ module _ (s : Content) (a b : ℕ) (paired : length s.kept ≡ length s.lists.pl
   pub kept_stays : (n : ℕ) → (n ≡ b → ⊥) → kept_at (with_slab_moved s a b).kept n ≡ kept_at s.kept n
   kept_stays n off = get_or-set_other s.kept b n (kept_at s.kept a) blank off
 
-  -- the total stays the same: the machine frame's part is subtracted at the old frame and added at the new one
+  -- no total changes: the slab's part is subtracted at its old machine frame a and added at its new machine frame b
   total_stays : (n : ℕ) → live_total n (with_slab_moved s a b).lists.places (with_slab_moved s a b).kept ≡ live_total n s.lists.places s.kept
   total_stays n =
       let less = set s.lists.places a None in
@@ -66,11 +66,11 @@ module _ (s : Content) (a b : ℕ) (paired : length s.kept ≡ length s.lists.pl
               let x = w.standing n head key (sym (stays n off_a off) ∙ e) in
               (x.0, x.1, subst (λ (k : Kept). IsListed k x.0 head) (sym (kept_stays n off)) x.2)
 
--- machine frames of different superblocks differ
+-- a machine frame of superblock x is not a machine frame of another superblock y
 pub apart : (z x y i j : ℕ) → (x ≡ y → ⊥) → i < z → j < z → x * z + i ≡ y * z + j → ⊥
 apart z x y i j ne lt lt' e = ne (sym (div-mul-add x z i lt) ∙ (ap (λ n. n / z) e ∙ div-mul-add y z j lt'))
 
--- the slabs at the first i machine frames of superblock `from` are moved
+-- the slabs at the first i machine frames of superblock `from` are moved to superblock `to`, and all else is as before
 pub record IsMoving (s s' : Content) (from to i : ℕ) : Type 0 where
   pub top : s'.top ≡ s.top
   pub heads : s'.lists.heads ≡ s.lists.heads
@@ -102,12 +102,12 @@ module _ (s s' : Content) (from to i : ℕ) (ne : from ≡ to → ⊥) (lt : i <
   off_own : (x j k : ℕ) → (j ≡ k → ⊥) → x * 2 ^ s.top + j ≡ x * 2 ^ s.top + k → ⊥
   off_own x j k off e = off (omega arith)
 
-  -- the next machine frame of superblock `from` is unchanged so far
+  -- the place and the stored state at machine frame i of superblock `from` are still unchanged
   from_stays : (place_at s'.lists.places (from * 2 ^ s.top + i) ≡ place_at s.lists.places (from * 2 ^ s.top + i))
       × (kept_at s'.kept (from * 2 ^ s.top + i) ≡ kept_at s.kept (from * 2 ^ s.top + i))
   from_stays = m.others (from * 2 ^ s.top + i) (λ j below. off_own from i j (λ e. omega arith)) (λ j below. apart (2 ^ s.top) from to i j ne lt (omega arith))
 
-  -- the place at the next machine frame of superblock `to` is unchanged so far
+  -- the place at machine frame i of superblock `to` is still unchanged
   pub to_stays : place_at s'.lists.places (to * 2 ^ s.top + i) ≡ place_at s.lists.places (to * 2 ^ s.top + i)
   to_stays = (m.others (to * 2 ^ s.top + i) (λ j below. apart (2 ^ s.top) to from i j (λ e. ne (sym e)) lt (omega arith)) (λ j below. off_own to i j (λ e. omega arith))).0
 
@@ -153,7 +153,7 @@ module _ (s s' : Content) (from to i : ℕ) (ne : from ≡ to → ⊥) (lt : i <
           ∙ (kept_here s' (from * 2 ^ s.top + i) (to * 2 ^ s.top + i) m.paired a_lt b_lt differ free ∙ (from_stays.1 ∙ ap (λ x. kept_at s.kept (from * 2 ^ s.top + x)) (sym is)))
       kept j below (inr off) = kept_stays s' (from * 2 ^ s.top + i) (to * 2 ^ s.top + i) m.paired a_lt b_lt differ free (to * 2 ^ s.top + j) (off_own to j i off) ∙ m.kept j (omega arith)
 
--- if the slabs at the first 2 ^ top machine frames of superblock `from` are moved, all its slabs are moved
+-- if the slabs at the first 2 ^ top machine frames of superblock `from` are moved, all slabs of the superblock are moved
 pub moving_all : (s s' : Content) (from to i : ℕ) → i ≡ 2 ^ s.top → IsMoving s s' from to i → IsMoved s s' from to
 moving_all s s' from to i all m = record {
   top = m.top;
@@ -170,8 +170,8 @@ moving_all s s' from to i all m = record {
     off : (n x : ℕ) → (n / 2 ^ s.top ≡ x → ⊥) → (j : ℕ) → j < i → n ≡ x * 2 ^ s.top + j → ⊥
     off n x ne j lt e = ne (ap (λ y. y / 2 ^ s.top) e ∙ div-mul-add x (2 ^ s.top) j (omega arith))
 
--- when the code moves the slab at frame i, a and b are the machine frames of frame i in the two superblocks, and both are in
--- range
+-- when the code moves the slab at frame i of superblock `from`, a is the machine frame of this frame, b is the machine frame of
+-- frame i of superblock `to`, and both are in range
 pub record IsStep (s s' : Content) (from to i a b : ℕ) : Type 0 where
   pub lt : i < 2 ^ s.top
   pub from_is : a ≡ from * 2 ^ s.top + i

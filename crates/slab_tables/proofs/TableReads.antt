@@ -1,4 +1,4 @@
--- The content of the tables, read by tenant, number and machine frame.
+-- Lookups in the tables by tenant and cache number, and by machine frame.
 use Rattle.std.proofs.Common.{◌≡◌, ℕ, ◌/◌, ◌%◌, ◌<◌, ◌≤◌, Bool, true, false, cond, eqb, Option, Some, None, length, sym, ap, ◌∙◌, subst, inl, inr, arith}
 use Rattle.std.specs.Prelude.{IsSome}
 use Rattle.std.proofs.lemmas.Bool.{cases_lt, lt-ltb, le-ltb, ne_eqb, false≢true}
@@ -12,7 +12,7 @@ use Rattle.slab_tables.specs.Content.{Content, IsSlabs, IsListed, IsTenant, IsPl
 abbrev pub shown : Inside → Content
 shown a = record { top = a.order; lists = a.lists; kept = a.kept.items; caches = a.caches.items; live = a.live.items }
 
--- two results of one lookup are the same
+-- if one lookup returns both c and d, they are equal
 pub same_cache : {c d : Cache} {o : Option Cache} → o ≡ Some c → o ≡ Some d → c ≡ d
 same_cache {c} {d} {o} a b = cc
 
@@ -30,7 +30,7 @@ cached s t c cache e = elim (cases_lt c MOST_CACHES) [
   | inr ge ↦ let none : cache_at s t c ≡ None = ap (λ b. cond b (cache_in s.caches (index_of_cache t c)) None) (le-ltb c MOST_CACHES ge) in absurd (let f : ◌≡◌ {A = Option Cache} None (Some cache) = sym none ∙ e in cc)
 ]
 
--- the number of a list, divided by 3, is the index of its cache; the remainder is its kind
+-- dividing the number of a list by 3 gives the index of its cache, and the remainder is the kind of its slabs
 pub head_parts : (t c kind : ℕ) → kind < 3 → (head_of t c kind / 3 ≡ index_of_cache t c) × (head_of t c kind % 3 ≡ kind)
 head_parts t c kind lt = (omega arith, omega arith)
 
@@ -40,7 +40,7 @@ placed_at s t c head key machine_frame e is =
     let parts : head ≡ head_of t c (head % 3) = omega arith in
     record { kind = head % 3; few = omega arith; placed = e ∙ ap (λ (x : ℕ). Some (x, key)) parts }
 
--- the index of each cache number of a tenant lies within the table of caches
+-- each cache number of a tenant has an index within the table of caches
 pub cache_within : (s : Content) (t c : ℕ) → IsTenant s t → c < MOST_CACHES → index_of_cache t c < length s.caches
 cache_within s t c tenant lt = omega (arith, tenant)
 
@@ -72,7 +72,7 @@ few_live s w i head key e =
     let fit = ((w.fits (head / 3) k.0 k.1).layout.fits 0).few in
     omega (arith, k.2.few)
 
--- there are three kinds, and a slab without live objects is empty
+-- the number of a kind is below 3, and a slab without live objects is empty
 pub kind_below : (count live : ℕ) → kind_of count live < 3
 kind_below count live = kind (eqb live count) (eqb live 0)
   where

@@ -6,21 +6,21 @@ ghost use Rattle.model_core.specs.declared.limits.TheConstants.{MOST_ORDER};
 use model_core::limits::{MOST_CACHES, MOST_SUPERBLOCKS};
 use std::alloc::{AllocError, Global};
 
-/// The order of a group of frames. If superblocks have a lower order, a group has that order, so it always lies in one slot.
+/// The order of a group of frames. If superblocks have a lower order, a group has that order, so a group always lies in one slot.
 const GROUP_ORDER: u8 = 5;
 
-/// Hints about where slabs begin. Each list that is kept in groups has one bit for each group of its tenant's frames: 1 if a slab
-/// of the list begins there. Each slot of a tenant has a superblock: the one that it had when a slab was last made in the slot or
-/// moved with it.
+/// Hints about where slabs begin. A list that is kept in groups has one bit for each group of its tenant's frames. The bit is 1
+/// if a slab of the list begins in the group. For each slot of a tenant there is also a superblock: the one that the slot had
+/// when a slab was last made there, or when the slot's slabs last moved to another superblock.
 #[derive(Debug, Drop)]
 pub(crate) struct Groups {
     /// A superblock has `2^order` frames.
     order: u8,
     /// A group has `2^group` frames.
     group: u8,
-    /// The mask of the bits of a frame's number that give the frame's index in its group.
+    /// The mask that reduces a frame's number to the frame's index in its group.
     inside: u32,
-    /// A list has `2^span` words.
+    /// A list has `2^span` of the `words`.
     span: u8,
     words: Vec<u64>,
     /// For each list, true if it is kept in groups.
@@ -32,7 +32,8 @@ pub(crate) struct Groups {
 }
 
 impl Groups {
-    /// Makes the hints for a machine without slabs, which has `superblocks` superblocks of `2^order` frames and `tenants` tenants.
+    /// Makes the hints for a machine of `superblocks` superblocks of `2^order` frames and `tenants` tenants, which has no slabs
+    /// yet.
     pub(crate) fn new(
         alloc: Global,
         order: u8,
@@ -64,7 +65,7 @@ impl Groups {
         1 << self.group
     }
 
-    /// Returns the index of a frame in its group.
+    /// Returns the index of the frame in its group.
     #[inline(always)]
     pub(crate) fn before_in_group(&self, frame: u32) -> u32
         ensures { result ≤ frame }
@@ -84,7 +85,7 @@ impl Groups {
         i < self.kept.len() && self.kept[i]
     }
 
-    /// Begins to keep the list in groups, and clears all its bits.
+    /// Begins to keep the list in groups, and sets all its bits to 0.
     pub(crate) fn keep(&mut self, list: u32) {
         let i = list as usize;
         if i < self.kept.len() {
@@ -123,7 +124,7 @@ impl Groups {
         }
     }
 
-    /// Notes the superblock of the frame's slot: the one that contains the machine frame. The frame belongs to the list's tenant.
+    /// Notes that the frame's slot has the superblock of this machine frame. The frame is in the numbering of the list's tenant.
     pub(crate) fn see(&mut self, list: u32, frame: u32, machine_frame: u32) {
         let i = self.slot_of(list, frame);
         if i < self.superblocks.len() {
@@ -132,7 +133,7 @@ impl Groups {
     }
 
     /// Returns the first frame of the last group that comes before the frame's group and has a slab of the list. Returns `None`
-    /// if there is no such group.
+    /// if no such group exists.
     pub(crate) fn before(&self, list: u32, frame: u32) -> Option<u32> {
         let group = frame >> self.group;
         let own = self.word(list, group / 64) & !(u64::MAX << (group % 64));
@@ -148,8 +149,8 @@ impl Groups {
         None
     }
 
-    /// Returns the machine frame that the frame has if its slot still has the superblock that was last noted. Returns `None` if
-    /// the slot is out of range.
+    /// Returns the machine frame of the frame, if the frame's slot still has the superblock that was last noted for it. Returns
+    /// `None` if the slot is out of range.
     pub(crate) fn seen_at(&self, list: u32, frame: u32) -> Option<u32> {
         let superblock = *self.superblocks.get(self.slot_of(list, frame))?;
         Some(superblock << self.order | frame % (1 << self.order))
@@ -163,7 +164,7 @@ impl Groups {
         64 * i + last << self.group
     }
 
-    /// Returns word `i` of the list, or 0 if there is none.
+    /// Returns word `i` of the list, or 0 if the index is out of range.
     fn word(&self, list: u32, i: u32) -> u64 {
         let i = self.word_of(list, i);
         if i < self.words.len() {
@@ -178,7 +179,7 @@ impl Groups {
         (list as usize) << self.span | i as usize
     }
 
-    /// Returns the index of the frame's slot among the slots of all tenants. The frame belongs to the list's tenant.
+    /// Returns the index of the frame's slot among the slots of all tenants. The frame is in the numbering of the list's tenant.
     fn slot_of(&self, list: u32, frame: u32) -> usize {
         let tenant = list as usize / (3 * usize::from(MOST_CACHES));
         usize::from(MOST_SUPERBLOCKS) * tenant + (frame >> self.order) as usize

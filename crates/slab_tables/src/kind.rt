@@ -41,7 +41,7 @@ impl Kind {
     }
 }
 
-/// The number of objects of a slab, and how many of them are live before and after a change.
+/// The number of objects of a slab, and how many of them are live before a change and after it.
 #[derive(Clone, Copy)]
 pub(crate) struct Counts {
     pub(crate) total: u32,
@@ -54,8 +54,8 @@ impl Counts {
 
     /// Returns true if the slab is partial before and after the change.
     ///
-    /// A take adds 1 and a give subtracts 1. So after inlining the compiler knows which count is less, and two comparisons
-    /// remain.
+    /// A take adds 1 to the number of live objects, and a give subtracts 1. So after inlining the compiler knows which of the two
+    /// counts is less, and two comparisons remain.
     #[inline(always)]
     pub(crate) fn stay_partial(self) -> bool
         ensures before { result ≡ true → kind_of self.total self.before ≡ 1 }

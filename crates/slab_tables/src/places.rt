@@ -31,7 +31,7 @@ pub(crate) fn machine_frame_at(order: u8, superblock: u16, i: u32) -> u32
     (u32::from(superblock) << order) + i
 }
 
-/// A list with fewer slabs than this is walked, without a search for a nearby slab.
+/// In a list with fewer slabs than this, a slab's position is found by a walk, without a search for a nearby slab.
 const SHORT: u32 = 8;
 
 /// A list that grows to this number of slabs is kept in groups. For fewer slabs a walk costs no more than a lookup in the groups.
@@ -57,7 +57,7 @@ impl Model for SlabLists {
 }
 
 impl SlabLists {
-    /// Makes three empty lists for each cache of each tenant. No slab begins at any machine frame.
+    /// Makes three empty lists for each tenant and each cache number. No slab begins at any machine frame.
     pub(crate) fn new(
         alloc: Global,
         order: u8,
@@ -84,7 +84,7 @@ impl SlabLists {
         &self.lists
     }
 
-    /// Returns the same as [`Lists::any`].
+    /// Returns the machine frame of some slab of the list, or `None` if the list is empty.
     pub(crate) fn any(&self, head: u32) -> Option<u32>
         requires { head < self.now.heads }
         ensures { MatchOption result (IsEmpty self.now.places head) (λ n. is_in head (place_at self.now.places n) ≡ true) }
@@ -92,7 +92,7 @@ impl SlabLists {
         self.lists.any(head)
     }
 
-    /// Does the same as [`Lists::insert`] for a list that is not loose, and keeps the hints up to date.
+    /// Inserts a slab into a list that is not loose, as [`Lists::insert`] does, and keeps the hints up to date.
     pub(crate) fn insert(&mut self, head: u32, machine_frame: u32, key: u32)
         requires head { head < self.old.heads }
         requires by_key { IsByKey head }
@@ -106,7 +106,7 @@ impl SlabLists {
         self.note(head, key);
     }
 
-    /// Does the same as [`Lists::remove`], and keeps the hints up to date.
+    /// Removes the slab from its list, as [`Lists::remove`] does, and keeps the hints up to date.
     #[inline(always)]
     pub(crate) fn remove(&mut self, machine_frame: u32)
         requires machine_frame { machine_frame < length self.old.places }
@@ -123,7 +123,7 @@ impl SlabLists {
         self.lists.remove(machine_frame);
     }
 
-    /// Notes that a slab is in the list under the key, if the list is kept in groups or has become long.
+    /// Notes in the hints that the list has a slab under the key, if the list is kept in groups or has become long.
     #[inline(always)]
     fn note(&mut self, head: u32, key: u32)
         requires head { head < self.old.heads }
@@ -150,7 +150,7 @@ impl SlabLists {
         }
     }
 
-    /// Notes that the slab is about to leave the list, which is kept in groups.
+    /// Updates the hints for a slab that is about to leave the list. The list is kept in groups.
     #[inline(never)]
     fn forget(&mut self, list: u32, machine_frame: u32, key: u32)
         requires list { list < self.old.heads }
@@ -165,7 +165,7 @@ impl SlabLists {
         }
     }
 
-    /// Returns true if neither of the slab's neighbours in its list is in its group. `key` is the slab's first frame.
+    /// Returns true if neither of the slab's neighbours in its list is in the slab's group. `key` is the slab's first frame.
     fn is_alone(&self, machine_frame: u32, key: u32) -> bool
         requires machine_frame { machine_frame < length self.now.places }
         requires placed { IsPlacedByKey self.now.places machine_frame }
@@ -181,10 +181,11 @@ impl SlabLists {
         }
     }
 
-    /// Moves a slab of cache `c` of tenant `t` from the list of its kind before the change to the list of its kind after it, under
-    /// the same key.
+    /// Moves a slab of cache `c` of tenant `t` to the list of its new kind, under the same key. `counts` has the slab's numbers
+    /// of objects and of live objects.
     ///
-    /// Most slabs stay partial, and then nothing is done. The counts alone show this, so no list number is computed for them.
+    /// A slab that stays partial is not moved. Most slabs do, and the counts alone show this, so no list number is computed for
+    /// them.
     ///
     /// `slab` is the order of the slab. Only the cost depends on it.
     #[inline(always)]
@@ -214,8 +215,8 @@ impl SlabLists {
 
     /// Moves the slab from its list to the list `head` under the same key.
     ///
-    /// If the list is loose, the slab is appended. A short list is walked, unless the slab belongs at an end of it. In a longer
-    /// list the function first searches for a nearby slab that comes before this one.
+    /// If list `head` is loose, the slab is appended. If it is short, it is walked, unless the slab belongs at one of its ends.
+    /// In a longer list the function first searches for a nearby slab, from which a walk is short.
     #[inline(never)]
     fn move_to(&mut self, head: u32, machine_frame: u32, key: u32, slab: u8)
         requires head { head < self.old.heads }
@@ -235,8 +236,8 @@ impl SlabLists {
         }
     }
 
-    /// Does the same as [`Lists::insert`] for a list that is not short. The search for the slab's position begins at a nearby slab
-    /// of the list, if the function finds one.
+    /// Does the same as [`Lists::insert`] for a list that is not short. If the function finds a nearby slab of the list, the walk
+    /// to the new slab's position begins there. `step` is the number of frames in a slab.
     #[inline(always)]
     fn insert_among(&mut self, head: u32, machine_frame: u32, key: u32, step: u32)
         requires head { head < self.old.heads }
@@ -255,12 +256,12 @@ impl SlabLists {
         }
     }
 
-    /// Returns the machine frame of a slab of the list, most likely one whose key is a little below `key`. Returns `None` if it
-    /// finds none.
+    /// Returns the machine frame of a slab of the list, most likely of one whose key is a little below `key`. Returns `None` if
+    /// the search finds no slab.
     ///
-    /// It first searches below `machine_frame` in the same group. The number of frames that it tries there is at most a quarter of
-    /// the list's length, since a walk over a short list costs less. Then, if the list is kept in groups, it searches the last
-    /// earlier group with a slab of the list.
+    /// The search first tries every `step`-th machine frame below `machine_frame` in the same group. It tries at most a quarter
+    /// as many as the list has slabs, since a walk over a short list costs less. Then, if the list is kept in groups, it searches
+    /// the last earlier group with a slab of the list.
     fn near(&self, head: u32, machine_frame: u32, key: u32, step: u32) -> Option<u32>
         requires head { head < self.now.heads }
         requires machine_frame { machine_frame < length self.now.places }
@@ -278,8 +279,8 @@ impl SlabLists {
         self.near_in_groups(head, key, step)
     }
 
-    /// Searches the last group that comes before the key's and has a slab of the list, beginning at the end of that group. Returns
-    /// the machine frame of the first slab of the list that it finds, or `None` if it finds none.
+    /// Searches the last group that comes before the group of `key` and has a slab of the list, from the end of that group down.
+    /// Returns the machine frame of the first slab of the list that the search finds, or `None` if it finds none.
     #[inline(never)]
     fn near_in_groups(&self, head: u32, key: u32, step: u32) -> Option<u32>
         requires head { head < self.now.heads }
@@ -295,7 +296,8 @@ impl SlabLists {
         near_below(&self.lists, head, end, step, size, size)
     }
 
-    /// Replaces machine frame `from`, if it is in a list, by machine frame `to`, which is in none.
+    /// Replaces machine frame `from` in its list by machine frame `to`, which is in no list. Does nothing if `from` is in no
+    /// list.
     pub(crate) fn replace(&mut self, from: u32, to: u32)
         requires from { from < length self.old.places }
         requires to { to < length self.old.places }
@@ -320,7 +322,7 @@ impl SlabLists {
     }
 }
 
-/// Keeps the list in groups from now on. It has at most `LONG` slabs.
+/// Keeps the list in groups from now on. The list has at most `LONG` slabs.
 #[cold]
 #[inline(never)]
 fn keep(lists: &Lists, groups: &mut Groups, head: u32)

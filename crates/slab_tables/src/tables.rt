@@ -1,4 +1,4 @@
-//! The tables as callers use them.
+//! The tables with the operations that callers use.
 
 ghost use Rattle.std.specs.Prelude.{◌≡◌, ◌≢◌, ℕ, ◌<◌, ◌≤◌, ◌==◌, ◌^◌, ◌*◌, ◌+◌, Some, None, length, is_none, slice_index, option_map, IfOk, IfSome, IfNone, IsSome, MatchOption};
 ghost use Rattle.klist_core.specs.Places.{ArePlaces, IsEmpty, IsFirst, place_at, inserted};
@@ -25,7 +25,7 @@ pub struct Tables {
     kept: Vec<Kept>,
     caches: Vec<Option<Cache>>,
     live: Vec<u32>,
-    /// For each tenant, a number that is greater than the numbers of all its caches.
+    /// For each tenant, a number that is greater than the numbers of all the tenant's caches.
     below: Vec<u8>,
 }
 
@@ -40,8 +40,8 @@ impl Model for Tables {
 }
 
 impl Tables {
-    /// Makes tables without caches or slabs, for `superblocks` superblocks of `2^order` frames and `tenants` tenants. The three
-    /// numbers are at most `MOST_SUPERBLOCKS`, `MOST_ORDER` and `MOST_TENANTS`.
+    /// Makes tables without caches or slabs, for `superblocks` superblocks of `2^order` frames and `tenants` tenants.
+    /// `superblocks` is at most `MOST_SUPERBLOCKS`, `order` at most `MOST_ORDER`, and `tenants` at most `MOST_TENANTS`.
     ///
     /// Allocates all memory that will ever be used. Returns `AllocError` if the allocator refuses it.
     pub fn new(
@@ -72,7 +72,7 @@ impl Tables {
         })
     }
 
-    /// A law: the invariants of all tables and of their lists. The call does nothing.
+    /// A law: the invariants of all tables and of their lists. This function itself does nothing.
     pub fn laws(&self)
         ensures slabs { IsSlabs self.now }
         ensures table { ArePlaces self.now.lists }
@@ -95,7 +95,7 @@ impl Tables {
         self.lists.lists()
     }
 
-    /// Returns cache `c` of tenant `t`, if there is one. `c` may be any number.
+    /// Returns cache `c` of tenant `t`, or `None` if there is no such cache. `c` may be any number.
     pub fn cache(&self, t: u8, c: u32) -> Option<&Cache>
         requires { IsTenant self.now t }
         ensures { option_map (λ x. x.now) result ≡ cache_at self.now t c }
@@ -116,7 +116,7 @@ impl Tables {
         u32::from(self.below[usize::from(t)])
     }
 
-    /// Returns the state of the slab that begins at the machine frame.
+    /// Returns the stored state of the slab that begins at the machine frame. If no slab begins there, the result means nothing.
     pub fn kept_of(&self, machine_frame: u32) -> Kept
         requires { machine_frame < length self.now.lists.places }
         ensures { result ≡ kept_at self.now.kept machine_frame }
@@ -132,8 +132,8 @@ impl Tables {
         self.lists.lists().place_of(machine_frame)
     }
 
-    /// Returns the first frame and the first machine frame of the first slab of this kind in cache `c` of tenant `t`, or `None` if
-    /// there is none. For full slabs it searches all machine frames.
+    /// Returns the first frame of the first slab of this kind in cache `c` of tenant `t`, and the machine frame of that frame.
+    /// Returns `None` if the cache has no slab of this kind. For full slabs the function searches all machine frames.
     pub fn first(&self, t: u8, c: u32, kind: Kind) -> Option<(u32, u32)>
         requires tenant { IsTenant self.now t }
         requires cache { c < MOST_CACHES }
@@ -166,7 +166,7 @@ impl Tables {
         self.live[index_of(t, c)]
     }
 
-    /// Makes a cache without slabs for tenant `t` and returns its number: the least that no other cache of the tenant has.
+    /// Makes a cache without slabs for tenant `t` and returns its number: the least number that no other cache of the tenant has.
     /// Returns `None` and changes nothing if all numbers are used.
     pub fn create(&mut self, t: u8, layout: Layout, pattern: Pattern) -> Option<u8>
         requires { IsTenant self.old t }
@@ -174,7 +174,7 @@ impl Tables {
         ensures created { IfSome result (λ c. self.new ≡ with_cache self.old t c (Some (new_cache layout pattern))) }
         ensures full { IfNone result (self.new ≡ self.old) }
     {
-        // The laws of the layout and the pattern, for the invariant.
+        // These two calls give the laws of the layout and the pattern, which the invariant needs.
         layout.laws();
         let _bytes = pattern.as_slice();
         let c = self.free_number(t)?;
@@ -213,7 +213,8 @@ impl Tables {
         self.caches[index_of(t, c)] = None;
     }
 
-    /// Lowers [`Tables::caches_below`] of tenant `t` to one more than its highest cache number, or to 0 if it has no cache.
+    /// Lowers [`Tables::caches_below`] of tenant `t` to one more than the tenant's highest cache number, or to 0 if it has no
+    /// cache.
     pub fn lower(&mut self, t: u8)
         requires { IsTenant self.old t }
         ensures { self.new ≡ self.old }
@@ -225,8 +226,8 @@ impl Tables {
         self.below[usize::from(t)] = below;
     }
 
-    /// Adds the next slab of cache `c` of tenant `t`, which is empty, at frame `first`. The machine frame of `first` is
-    /// `machine_frame`. The cache has then made one more slab, so `cache`, which was read before, is out of date.
+    /// Adds a new, empty slab to cache `c` of tenant `t`. The slab begins at frame `first`, whose machine frame is
+    /// `machine_frame`. The call changes the cache's count of made slabs, so `cache`, which was read before, is then out of date.
     pub fn add_slab(&mut self, t: u8, c: u32, cache: &Cache, first: u32, machine_frame: u32)
         requires tenant { IsTenant self.old t }
         requires cache { cache_at self.old t c ≡ Some cache.now }
@@ -243,9 +244,9 @@ impl Tables {
         self.caches[index_of(t, c)] = Some(Cache { made, ..*cache });
     }
 
-    /// Sets the number of live objects in the slab of cache `c` of tenant `t` at frame `first`. The machine frame of `first` is
-    /// `machine_frame`. If the slab's kind changes, the slab moves to the list of the new kind, in a number of steps that does not
-    /// grow with the list.
+    /// Sets the number of live objects to `count` in the slab of cache `c` of tenant `t` that begins at frame `first`. The
+    /// machine frame of `first` is `machine_frame`. If the slab's kind changes, the slab moves to the list of the new kind, in a
+    /// number of steps that does not grow with the list.
     #[inline(always)]
     pub fn set_count(
         &mut self,
@@ -279,8 +280,8 @@ impl Tables {
         self.live[i] = self.live[i] + count - before;
     }
 
-    /// Sets the bits that show which objects of the slab at the machine frame are live. They are used only if the objects are
-    /// large.
+    /// Sets the bits that show which objects of the slab at the machine frame are live. These bits are used only if the objects
+    /// are large.
     pub fn set_outside(&mut self, machine_frame: u32, outside: u16)
         requires { machine_frame < length self.old.lists.places }
         ensures { self.new ≡ with_outside self.old machine_frame outside }
@@ -322,8 +323,8 @@ impl Tables {
         self.caches[i] = None;
     }
 
-    /// Moves all slabs of superblock `from`, with their state, to the same frames of superblock `to`, which has no slabs. Their
-    /// frames in the numbering of their tenant stay the same.
+    /// Moves all slabs of superblock `from`, with their stored states, to the same frames of superblock `to`, which has no slabs.
+    /// The first frame of each slab in its tenant's numbering stays the same.
     pub fn move_slot(&mut self, from: u16, to: u16)
         requires from { (from + 1) * 2 ^ self.old.top ≤ length self.old.lists.places }
         requires to { (to + 1) * 2 ^ self.old.top ≤ length self.old.lists.places }

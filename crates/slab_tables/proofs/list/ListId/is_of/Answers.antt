@@ -2,7 +2,7 @@ use Rattle.std.proofs.Common.{◌≡◌, ℕ, ◌+◌, ◌-◌, ◌*◌, ◌/◌
 use Rattle.std.proofs.lemmas.Bool.{cases_eq, eq-eqb, ne_eqb, lt-ltb, le-ltb}
 use Rattle.slab_tables.proofs.list.ListId.is_of.Goals as goal
 
--- n - 3 * i, which wraps around, is less than 3 if and only if n / 3 is i
+-- the wrapping difference of n and 3 * i is less than 3 if and only if n / 3 is i
 third_is : (n i : ℕ) → n < 4294967296 → i < 8192 → ltb ((n + (4294967296 - 3 * i)) % 4294967296) 3 ≡ eqb (n / 3) i
 third_is n i fits few = elim (cases_eq (n / 3) i) [
   | inl is ↦ lt-ltb ((n + (4294967296 - 3 * i)) % 4294967296) 3 (omega (arith, is)) ∙ sym (eq-eqb (n / 3) i is)

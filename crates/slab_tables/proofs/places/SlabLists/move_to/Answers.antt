@@ -3,7 +3,7 @@ use Rattle.std.proofs.lemmas.List.{set-set}
 use Rattle.klist_core.specs.Places.{Placed, inserted, removed}
 use Rattle.slab_tables.proofs.places.SlabLists.move_to.Goals as goal
 
--- removing a slab from its list first does not change the result of inserting it
+-- inserting a slab into list h gives the same result whether or not the slab is first removed from its old list
 put_anew : (s t : Placed) (h i k : ℕ) → t ≡ removed s i → inserted t h i k ≡ inserted s h i k
 put_anew s t h i k e =
     let with_places : List (Option (ℕ × ℕ)) → Placed = λ xs. record { heads = s.heads; places = xs } in

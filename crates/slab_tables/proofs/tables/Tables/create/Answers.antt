@@ -17,7 +17,7 @@ slabs c =
     (cache_within (shown c.self.inside) c.args.t c.in_ok-c.c (rw (← c.self.view_is) at c.requires) (free c).below) (free c).vacant
     (record { size = c.laws.ensures.size; align = c.laws.ensures.align; layout = c.laws.ensures.fits; pattern = c.as_slice-bytes.ensures.pattern; made = c.laws.ensures.fits.colours })
 
--- the number read is the tenant's entry in `below` before the call
+-- the number that the code reads from `below` is the tenant's entry before the call
 was : (c : After-index-below) → (c.args.t < length c.self.inside.below.items) × (c.index-below.result.now ≡ get_or c.self.inside.below.items c.args.t 0)
 was c =
     let tenant : c.args.t < length c.self.inside.below.items = omega (arith, c.self.invariant.ends.tenants, rw (← c.self.view_is) at c.requires) in
