@@ -1,4 +1,4 @@
--- The control records of slabs of small objects, as bytes of the machine frames.
+-- The control record of a slab of small objects shows which objects are live in the machine.
 use Rattle.std.proofs.Common.{◌≡◌, ℕ, ◌+◌, ◌*◌, ◌/◌, ◌%◌, ◌^◌, ◌<◌, ◌≤◌, Bool, true, false, cond, Some, get_or, sym, ap, ◌∙◌, subst, ⊎_elim, arith}
 use Rattle.std.specs.Prelude.{slice_index}
 use Rattle.std.proofs.lemmas.Bool.{cases_lt}
@@ -19,7 +19,7 @@ use Rattle.machine_changes.proofs.ObjectFlags.{length_flags, flag_at}
 use Rattle.machine_changes.proofs.SteadyParts.{placed_as}
 use Rattle.machine_changes.specs.Pages.{record_at, RecordMeets}
 
--- byte `off` of frame f lies in the slot of the frame, at the byte's offset in that slot
+-- if a slot has z frames and `unit` bytes, byte `off` of frame f is byte `off` of frame f % z in slot f / z
 record IsPlacedIn (unit z f off : ℕ) : Type 0 where
   slot : (4096 * f + off) / unit ≡ f / z
   offset : (4096 * f + off) % unit ≡ 4096 * (f % z) + off
@@ -37,7 +37,7 @@ placed_in unit z f off size some less =
           ∙ (ap (λ p. p % (4096 * z)) (sym whole) ∙ mod-mul-add (f / z) (4096 * z) (4096 * (f % z) + off) inside);
     }
 
--- the control record in frame f of tenant t is the control record in the machine frame of f
+-- byte i of the control record in frame f of tenant t is byte i of the control record in the machine frame of f
 record_stands : (r : spaces.Content) (s : Content) (t f n i : ℕ) → r.unit ≡ 4096 * 2 ^ s.top → machine_frame_of s.top r.slots t f ≡ Some n → i < 32
     → record_byte r t f i ≡ record_at r s n i
 record_stands r s t f n i unit under less =

@@ -1,4 +1,5 @@
--- Parts in which a tenant has nothing show the empty machine. The parts before the first event show it for every tenant.
+-- If a tenant has no slots, taken blocks or caches, the parts show the empty machine for it. Before the first event this holds
+-- for every tenant.
 use Rattle.std.proofs.Common.{◌≡◌, ℕ, ◌*◌, ◌^◌, ◌≤◌, Bool, true, false, cond, ltb, length, None, refl, sym, ap, ◌∙◌, ⊎_elim, arith}
 use Rattle.std.specs.Prelude.{Option, is_some, option_map, replicate, slice_index_or, []}
 use Rattle.std.proofs.lemmas.Bool.{cases_lt}

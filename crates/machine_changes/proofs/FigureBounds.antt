@@ -17,7 +17,7 @@ use Rattle.buddy_core.specs.Content as buddies
 use Rattle.machine_changes.specs.Figures.{frames_below, FiguresFit}
 use Rattle.machine_changes.proofs.FigureOrders.{size, sizes_by_order, frames_rise}
 
--- Counts below a number
+-- How many numbers below a bound pass a test
 
 -- n more numbers add n to the count if all of them pass the test, and 0 if none of them does
 count_run : (p : ℕ → Bool) (v : Bool) (a n : ℕ) → ((x : ℕ) → a ≤ x → x < a + n → p x ≡ v) → count_below p (a + n) ≡ count_below p a + n * bit v
@@ -36,7 +36,7 @@ count_rise p n (suc m) le = ⊎_elim
     (λ past. let same : n ≡ suc m = omega arith in let e : count_below p n ≡ count_below p (suc m) = ap (count_below p) same in omega arith)
     (cases_lt n (suc m))
 
--- counting the entries of a table by index or along the list gives the same number
+-- the number of indexes below n at which a table has an entry is the number of entries among its first n elements
 count_table : (table : List (Option ℕ)) (n : ℕ) → n ≤ length table → count_below (λ u. is_some (get_or table u None)) n ≡ count_by is_some (take n table)
 count_table table zero le = refl
 count_table table (suc n) le =
@@ -45,7 +45,7 @@ count_table table (suc n) le =
     let next : count_by is_some (take (suc n) table) ≡ count_by is_some (take (n + 1) table) = ap (λ k. count_by is_some (take k table)) (sym (add-one n)) in
     omega arith
 
--- each slot that passes the test has 2 ^ top frames
+-- among the first n slots, the number of frames in slots that pass the test is 2 ^ top times the number of these slots
 count_slots : (top : ℕ) (held : ℕ → Bool) (n : ℕ) → count_below (λ x. held (x / 2 ^ top)) (n * 2 ^ top) ≡ count_below held n * 2 ^ top
 count_slots top held zero = ap (count_below (λ x. held (x / 2 ^ top))) (zero-mul (2 ^ top)) ∙ sym (zero-mul (2 ^ top))
 count_slots top held (suc n) =
@@ -70,11 +70,11 @@ module _ (top superblocks : ℕ) (h : buddies.Holding) (long : length h.slots �
   pub orders_below : (f k : ℕ) → get_or h.taken f None ≡ Some k → k < top + 1
   orders_below f k e = let le : k ≤ top = (sound.placed f k e).0.0 in omega arith
 
-  -- whether frame x lies in a held slot
+  -- frame x lies in a held slot
   abbrev inside : ℕ → Bool
   inside x = buddies.is_held h (x / 2 ^ top)
 
-  -- all 2 ^ k frames of a taken block of order k lie in held slots, so the count includes them
+  -- a taken block of order k lies in a held slot, so the count of frames in held slots rises by 2 ^ k over the block
   count_block : (f k : ℕ) → get_or h.taken f None ≡ Some k → count_below inside (f + 2 ^ k) ≡ count_below inside f + 2 ^ k
   count_block f k e =
       let placed = sound.placed f k e in
@@ -82,7 +82,7 @@ module _ (top superblocks : ℕ) (h : buddies.Holding) (long : length h.slots �
       ap (buddies.is_held h) (same_slot top k x f placed.0.0 (number_of_frame f k x placed.0.1 (low, high))) ∙ placed.1) in
       omega (arith, run, mul-one (2 ^ k))
 
-  -- taken blocks that begin below n and end at or below e have at most as many frames as the held slots below e
+  -- if all taken blocks that begin below n end at or below e, they have at most as many frames as held slots have below e
   sizes_within : (n e : ℕ) → n ≤ length h.taken → ((f k : ℕ) → f < n → get_or h.taken f None ≡ Some k → f + 2 ^ k ≤ e)
       → sum_by size (take n h.taken) ≤ count_below inside e
   sizes_within zero e le ends = omega arith
@@ -91,7 +91,7 @@ module _ (top superblocks : ℕ) (h : buddies.Holding) (long : length h.slots �
       more : sum_by size (take (suc j) h.taken) ≡ sum_by size (take j h.taken) + size (get_or h.taken j None)
       more = ap (λ n. sum_by size (take n h.taken)) (sym (add-one j)) ∙ sum_by_more size h.taken j None (omega arith)
 
-      -- a taken block that begins below j ends at or below j, if one begins at j
+      -- if a taken block begins at frame j, every taken block that begins below j ends at or below j
       before : (k f i : ℕ) → get_or h.taken j None ≡ Some k → f < j → get_or h.taken f None ≡ Some i → f + 2 ^ i ≤ j
       before k f i is less e = ⊎_elim
           (λ (past : j < f + 2 ^ i). let one : f ≡ j = sound.apart f i j k j e is (omega arith, past) (has_first (block j k)) in absurd (omega arith))
@@ -159,7 +159,7 @@ figures_fit b t w tenant = record {
     h : buddies.Holding
     h = buddies.holding_of t b
 
-    -- all superblocks have at most 65,536 frames
+    -- all superblocks together have at most 65,536 frames
     all : b.superblocks * 2 ^ b.top ≤ 65536
     all =
         let few = w.sizes.few in

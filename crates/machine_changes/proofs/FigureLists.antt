@@ -1,4 +1,4 @@
--- The lists of a machine contain what the tenant's tables contain: no two of its taken blocks begin at one frame.
+-- No two taken blocks of a tenant's machine begin at the same frame.
 use Rattle.std.proofs.Common.{◌≡◌, ◌≢◌, ℕ, ◌+◌, ◌≤◌, true, cond, List, [], ◌∷◌, map, Some, None, sym, ap, ◌∙◌, inl, inr, refl, arith}
 use Rattle.std.specs.Prelude.{flat_map, option_map}
 use Rattle.model_core.specs.Blocks.{Block}
@@ -35,7 +35,7 @@ module _ (r : spaces.Content) (b : buddies.Content) (s : Content) (t : ℕ) (m :
       let slab = map_in (slab_block cache.0) z cache.0.slabs cache.2 in
       record { cache = cache.0; slab = slab.0; cache_in = cache.1; slab_in = slab.1; same = slab.2 }
 
-  -- slabs that begin at one frame are of the same cache
+  -- two slabs of the machine that begin at the same frame belong to the same cache
   one_cache : (x x' : Cache) (y y' : Slab) → IsIn x m.caches → IsIn x' m.caches → IsIn y x.slabs → IsIn y' x'.slabs → y'.first ≡ y.first
       → x'.number ≡ x.number
   one_cache x x' y y' i i' j j' same =

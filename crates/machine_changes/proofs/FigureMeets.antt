@@ -1,4 +1,4 @@
--- The figures of a tenant's machine are those of the tenant in the buddy system.
+-- The figures of a tenant's machine equal the tenant's figures in the buddy system.
 use Rattle.std.proofs.Common.{◌≡◌, ℕ, ◌+◌, ◌*◌, ◌^◌, ◌<◌, false, cond, eqb, List, [], ◌∷◌, map, length, get_or, Option, Some, None, refl, sym, ap, ◌∙◌, subst, inl, inr, arith}
 use Rattle.std.specs.Prelude.{is_some}
 use Rattle.std.specs.List.{list_any, sum_by, count_by}
@@ -26,7 +26,7 @@ use Rattle.machine_changes.proofs.FigureOrders.{size, sizes_by_order, frames_sum
 use Rattle.machine_changes.proofs.FigureLists.{first, blocks_keyed}
 use Rattle.machine_changes.proofs.FigureBounds.{held_within, orders_below}
 
--- if all blocks of a list have different first frames, a lookup of a block's first frame returns its order
+-- if all blocks of a list have different first frames, a lookup of the first frame of block z returns the order of z
 keyed_told : (bs : List Block) (z : Block) → AreKeyed first bs → IsIn z bs → order_in bs z.first ≡ Some z.order
 keyed_told [] z k i = elim i [ ]
 keyed_told (y ∷ bs) z (one, k) (inl same) =
@@ -39,14 +39,15 @@ ones [] = refl
 ones (x ∷ xs) = let rest = ones xs in omega (arith, sum_by-cons (λ z. 1) x xs)
 
 module _ (bs : List Block) (keyed : AreKeyed first bs) (table : List (Option ℕ)) (told : (f : ℕ) → order_in bs f ≡ get_or table f None) where
-  -- a sum over the blocks equals the sum over the table
+  -- if the table has the orders of the blocks, and `None` has weight 0, the weights of the table and of the blocks have the same
+  -- sum
   blocks_tabled : (weight : Option ℕ → ℕ) → weight None ≡ 0 → sum_by weight table ≡ sum_by (λ z. weight (Some z.order)) bs
   blocks_tabled weight light = sum_tabled None weight light first (λ z. weight (Some z.order)) bs table keyed (record {
     there = λ z i. ap weight (sym (told z.first) ∙ keyed_told bs z keyed i);
     others = λ f off. ap weight (sym (told f) ∙ order_none bs f off) ∙ light;
   })
 
--- a list of different held slots is as long as the number of entries in the table of slots
+-- if a list has exactly the slots at which the table has an entry, each slot once, its length is the number of these entries
 slots_tabled : (slots : List ℕ) (table : List (Option ℕ)) → AreKeyed (λ u. u) slots
     → ((u : ℕ) → list_any (λ v. eqb v u) slots ≡ is_some (get_or table u None)) → length slots ≡ count_by is_some table
 slots_tabled slots table keyed same =

@@ -1,4 +1,4 @@
--- The frames of blocks, summed by their orders.
+-- The number of frames in blocks, added up order by order.
 use Rattle.std.proofs.Common.{◌≡◌, ℕ, zero, suc, ◌+◌, ◌*◌, ◌^◌, ◌<◌, ◌≤◌, eqb, Option, Some, None, List, [], ◌∷◌, get_or, refl, sym, ap, ap₂, ◌∙◌, ⊎_elim, add-one, arith}
 use Rattle.std.specs.List.{sum_by, count_by}
 use Rattle.std.proofs.Math.Nat.{add-mul, zero-mul}
@@ -10,11 +10,11 @@ use Rattle.model_core.proofs.CountBelow.{bit}
 use Rattle.buddy_core.specs.Content.{has_order}
 use Rattle.machine_changes.specs.Figures.{frames_in}
 
--- one more order, n, has count n * 2 ^ n frames more
+-- counting the blocks of order n too adds `count n * 2 ^ n` frames
 pub frames_more : (count : ℕ → ℕ) (n : ℕ) → frames_in count (n + 1) ≡ frames_in count n + count n * 2 ^ n
 frames_more count n = ap (frames_in count) (add-one n)
 
--- more orders have at least as many frames
+-- if n ≤ k, the blocks of orders below k have at least as many frames as the blocks of orders below n
 pub frames_rise : (count : ℕ → ℕ) (n k : ℕ) → n ≤ k → frames_in count n ≤ frames_in count k
 frames_rise count n zero le = let same : n ≡ 0 = omega arith in let e = ap (frames_in count) same in omega arith
 frames_rise count n (suc k) le = ⊎_elim
@@ -67,7 +67,7 @@ size_by_order : (o : Option ℕ) (n : ℕ) → ((k : ℕ) → o ≡ Some k → k
 size_by_order None n below = sym (frames_none (λ k. 0) n (λ k less. refl))
 size_by_order (Some j) n below = sym (frames_one j n (below j refl))
 
--- if all entries have orders below n, their frames are those of the blocks of the orders below n
+-- if every order in the table is below n, adding up the frames entry by entry gives the same number as order by order
 pub sizes_by_order : (table : List (Option ℕ)) (n : ℕ) → ((f k : ℕ) → get_or table f None ≡ Some k → k < n)
     → sum_by size table ≡ frames_in (λ k. count_by (has_order k) table) n
 sizes_by_order [] n below = sym (frames_none (λ k. count_by (has_order k) []) n (λ k less. refl))

@@ -1,4 +1,4 @@
--- Sums over a table in which each element of a list is at its key, and nothing else is.
+-- The sum over a table equals the sum over a list, if each element of the list is in the table at its key, and nothing else is.
 use Rattle.std.proofs.Common.{◌≡◌, ◌≢◌, ℕ, suc, ◌+◌, ◌≤◌, List, [], ◌∷◌, ◌++◌, map, length, get_or, set, refl, sym, ap, ◌∙◌, subst, inl, inr, ⊎_elim, arith}
 use Rattle.std.specs.Prelude.{⊤}
 use Rattle.std.specs.List.{sum_by}
@@ -58,7 +58,7 @@ module _ {Y : Type 0} (none : Y) (weight : Y → ℕ) (light : weight none ≡ 0
       (cases_lt f (length table))
 
   module _ {X : Type 0} (key value : X → ℕ) where
-    -- the entry at an element's key has the element's weight, and all other entries have weight 0
+    -- the weight of the entry at each element's key is the element's value, and all other entries have weight 0
     pub record IsTabled (xs : List X) (table : List Y) : Type 0 where
       pub there : (x : X) → IsIn x xs → weight (get_or table (key x) none) ≡ value x
       pub others : (f : ℕ) → ((x : X) → IsIn x xs → key x ≢ f) → weight (get_or table f none) ≡ 0

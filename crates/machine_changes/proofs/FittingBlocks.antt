@@ -1,4 +1,4 @@
--- A block would fit without the empty slabs if and only if the reaped machine has a free block for it.
+-- A block would fit without the empty slabs if and only if the reaped machine has a free block that is large enough.
 use Rattle.std.proofs.Common.{◌≡◌, ◌≢◌, ℕ, ◌/◌, ◌^◌, Bool, true, false, not, List, map, ◌++◌, Some, None, refl, sym, ap, ◌∙◌, subst, ◌⊎◌, inl, inr, ⊎_elim}
 use Rattle.std.specs.Prelude.{Option, option_map, is_some, filter, flat_map, ◌==◌}
 use Rattle.std.proofs.lemmas.Bool.{false≢true, not-true, eq-eqb, ne_eqb, cases_eq}
@@ -84,7 +84,7 @@ module _ (r : spaces.Content) (b : buddies.Content) (s : Content) (t : ℕ) (m :
     there : IsSlabThere r b s t st f
     empty : (kept_at s.kept there.machine_frame).live ≡ 0
 
-  -- after reaping, the block of an empty slab is not taken
+  -- after reaping, no taken block begins at the first frame of an empty slab
   given_back : (c f n : ℕ) (cache : own.Cache) → IsSlab r s t c f n cache → (kept_at s.kept n).live ≡ 0 → after f ≡ None
   given_back c f n cache q empty =
       order_of_none r b s t m st h left_list (λ z i. (left_tells z i).of) f (has_it r s t c f n cache q) (λ z i same.
@@ -92,7 +92,7 @@ module _ (r : spaces.Content) (b : buddies.Content) (s : Content) (t : ℕ) (m :
       let one = one_slab r s t c f n is.of.number z.first is.of.machine_frame cache is.of.cache q is.of.slab same in
       is.busy (ap (λ x. (kept_at s.kept x).live) one.machine_frame ∙ empty))
 
-  -- an empty slab begins at the frame, or the same block begins there after reaping as before
+  -- an empty slab begins at the frame, or reaping does not change which taken block begins there
   sorted : (f : ℕ) → IsEmptySlab f ⊎ (after f ≡ taken f)
   sorted f = go (has_slab s (machine_frame_of s.top r.slots t f)) refl
     where

@@ -1,4 +1,4 @@
--- The live objects of the machine are those of the tables, at the same places.
+-- The machine and the tables have the same live objects, at the same places.
 use Rattle.std.proofs.Common.{◌≡◌, ◌≢◌, ℕ, zero, suc, ◌+◌, ◌*◌, ◌/◌, ◌^◌, ◌<◌, ◌≤◌, Bool, true, false, cond, List, [], ◌∷◌, Some, None, length, get_or, refl, sym, ap, ◌∙◌, subst, inl, inr, arith}
 use Rattle.std.specs.Prelude.{Option, find, Ok, ◌==◌}
 use Rattle.std.proofs.Math.Nat.{mul-div_cancel}
@@ -26,7 +26,7 @@ use Rattle.machine_changes.proofs.SlabFacts.{one_slab, cache_shown, slab_in, sla
 use Rattle.machine_changes.proofs.ObjectFlags.{length_flags, flag_at}
 use Rattle.machine_changes.proofs.SearchResults.{some_found}
 
--- object i of a slab
+-- object i of slab y of cache c, with its place
 abbrev pub object_of : Cache → Slab → ℕ → LiveObject
 object_of c y i = record { slab = y; index = i; place = object_place (layout c) y.first y.colour i }
 
@@ -102,7 +102,7 @@ module _ (r : spaces.Content) (b : buddies.Content) (s : Content) (t c : ℕ) (s
       }
 
   module _ (m : Machine) (h : ShowsMachine r b s t m) where
-    -- live object w of the machine is also a live object of the tables, and its slab is one of cache x
+    -- live object w of the machine is also a live object of the tables, and its slab is in cache x of the machine
     pub record IsObjectKept (place : ℕ) (x : Cache) (w : LiveObject) : Type 0 where
       pub kept : own.Cache
       pub machine_frame : ℕ
@@ -130,7 +130,7 @@ module _ (r : spaces.Content) (b : buddies.Content) (s : Content) (t c : ℕ) (s
           standing = standing;
         }
 
-    -- the object that a lookup by place finds is one of the tables
+    -- the object that a lookup by place finds in the machine is also a live object of the tables
     pub found_kept : (place : ℕ) (x : Cache) (w : LiveObject) → cache_of m c ≡ Some x → find (λ z. z.place == place) (live_objects x) ≡ Some w → IsObjectKept place x w
     found_kept place x w ex e =
         let there = find_in (λ z. z.place == place) w (live_objects x) e in

@@ -1,4 +1,4 @@
--- Lookups by key in lists in which one element is replaced, inserted, or removed.
+-- Lookups by key in a list after elements are replaced, changed, inserted or removed.
 use Rattle.std.proofs.Common.{◌≡◌, ◌≢◌, ℕ, Bool, true, false, not, cond, eqb, ltb, List, [], ◌∷◌, map, Some, None, refl, sym, ap, ◌∙◌, ⊎_elim}
 use Rattle.std.specs.Prelude.{find, filter, Option, option_map}
 use Rattle.std.proofs.lemmas.Bool.{false≢true, eqb-true, eq-eqb, ne_eqb, cases_eq}
@@ -12,7 +12,7 @@ some_none {A} {x} e = cc
 pub some_same : {A : Type 0} {x y : A} → Some x ≡ Some y → x ≡ y
 some_same {A} {x} {y} e = cc
 
--- a function of a conditional is a conditional of the function's values
+-- applying a function to a conditional is the same as applying it to both branches
 pub through : {A B : Type 0} (f : A → B) (v : Bool) (x y : A) → f (cond v x y) ≡ cond v (f x) (f y)
 through f true x y = refl
 through f false x y = refl
@@ -27,19 +27,19 @@ eq_turned a b =
     ⊎_elim (λ e. eq-eqb a b e ∙ sym (eq-eqb b a (sym e))) (λ differ. ne_eqb a b differ ∙ sym (ne_eqb b a (λ e. differ (sym e)))) (cases_eq a b)
 
 module _ {X : Type 0} (key : X → ℕ) where
-  -- the first element with this key
+  -- the first element with key n, or None
   abbrev pub at : ℕ → List X → Option X
   at n xs = find (λ x. eqb (key x) n) xs
 
-  -- the list in which the new element replaces the element with its key
+  -- the list in which `new` replaces each element that has its key
   abbrev pub replaced : X → List X → List X
   replaced new xs = map (λ x. cond (eqb (key x) (key new)) new x) xs
 
-  -- the element found has the key
+  -- an element that a lookup finds has the key of the lookup
   pub found_key : (n : ℕ) (xs : List X) (x : X) → at n xs ≡ Some x → key x ≡ n
   found_key n xs x e = eqb-true (key x) n (find_in (λ y. eqb (key y) n) x xs e).1
 
-  -- the head of a list is found if it has the key
+  -- a lookup finds the head of a list if the head has the key
   pub at_here : (n : ℕ) (x : X) (xs : List X) → key x ≡ n → at n (x ∷ xs) ≡ Some x
   at_here n x xs e = ap (λ b. cond b (Some x) (at n xs)) (eq-eqb (key x) n e)
 
@@ -50,13 +50,13 @@ module _ {X : Type 0} (key : X → ℕ) where
   same_key new x true is = sym (eqb-true (key x) (key new) is)
   same_key new x false is = refl
 
-  -- a replacement keeps the keys
+  -- a replacement does not change the keys of the list
   pub keys_replaced : (new : X) (xs : List X) → map key (replaced new xs) ≡ map key xs
   keys_replaced new [] = refl
   keys_replaced new (x ∷ xs) =
       ap (λ k. k ∷ map key (replaced new xs)) (same_key new x (eqb (key x) (key new)) refl) ∙ ap (λ ks. key x ∷ ks) (keys_replaced new xs)
 
-  -- a lookup of the new element's key finds it, if the key was in the list before
+  -- after a replacement, a lookup of the key of `new` finds `new`, if the list had an element with this key
   pub found_new : (new old : X) (xs : List X) → at (key new) xs ≡ Some old → at (key new) (replaced new xs) ≡ Some new
   found_new new old [] e = absurd (some_none (sym e))
   found_new new old (x ∷ xs) e = go (eqb (key x) (key new)) refl e (found_new new old xs)
@@ -67,7 +67,7 @@ module _ {X : Type 0} (key : X → ℕ) where
       go true is _ _ = at_here (key new) new (replaced new xs) refl
       go false is e more = at_past (key new) x (replaced new xs) (λ same. false≢true (sym is ∙ eq-eqb (key x) (key new) same)) ∙ more e
 
-  -- a lookup of another key is unchanged
+  -- after a replacement, a lookup of any other key finds the same as before
   pub found_other : (new : X) (n : ℕ) (xs : List X) → n ≢ key new → at n (replaced new xs) ≡ at n xs
   found_other new n [] differ = refl
   found_other new n (x ∷ xs) differ = go (eqb (key x) (key new)) refl (found_other new n xs differ)
@@ -79,7 +79,7 @@ module _ {X : Type 0} (key : X → ℕ) where
           ∙ sym (at_past n x xs (λ same. differ (sym same ∙ eqb-true (key x) (key new) is)))
       go false is more = ap (λ o. cond (eqb (key x) n) (Some x) o) more
 
-  -- if a change of the elements keeps their keys, a lookup finds the changed element
+  -- if a change of the elements keeps their keys, a lookup finds the same element as before, but changed
   pub found_mapped : (g : X → X) (n : ℕ) (xs : List X) → ((x : X) → key (g x) ≡ key x) → at n (map g xs) ≡ option_map g (at n xs)
   found_mapped g n [] same = refl
   found_mapped g n (x ∷ xs) same =
@@ -98,7 +98,7 @@ module _ {X : Type 0} (key : X → ℕ) where
   none_either true = refl
   none_either false = refl
 
-  -- after the elements with some keys are removed, a lookup of these keys finds nothing, and other lookups are unchanged
+  -- after the elements with some keys are removed, a lookup of one of these keys finds nothing, and other lookups are unchanged
   pub found_kept : (gone : ℕ → Bool) (n : ℕ) (xs : List X) → at n (filter (λ x. not (gone (key x))) xs) ≡ cond (gone n) None (at n xs)
   found_kept gone n [] = none_either (gone n)
   found_kept gone n (x ∷ xs) = ⊎_elim (here (found_kept gone n xs)) (elsewhere (found_kept gone n xs)) (cases_eq (key x) n)

@@ -1,4 +1,5 @@
--- No slab lies on a superblock without an owner. If the parts hold together, the premise of the laws holds for each tenant.
+-- No slab begins on a superblock without an owner. If `HoldTogether` is true of the parts, the premise of the laws holds for each
+-- tenant.
 use Rattle.std.proofs.Common.{◌≡◌, ℕ, ◌+◌, ◌*◌, ◌/◌, ◌%◌, ◌^◌, ◌<◌, Some, None, length, refl, sym, ap, ◌∙◌, arith}
 use Rattle.std.specs.Prelude.{Option}
 use Rattle.std.proofs.lemmas.Nat.{div-mul-add}
@@ -22,7 +23,7 @@ module _ (r : spaces.Content) (b : buddies.Content) (s : Content) (h : HoldToget
   pub tenant_of : (t : ℕ) → t < length r.slots → t < length b.tenants
   tenant_of t tenant = let same : length r.slots ≡ length b.tenants = h.agree.rows in omega arith
 
-  -- the entry of machine frame n in the lists is a slab of this cache, and the parts agree on it
+  -- the entry of machine frame n in the lists is a slab of this cache, and the parts agree on this slab
   pub record IsThere (n head key : ℕ) : Type 0 where
     pub cache : own.Cache
     pub cached : cache_in s.caches (head / 3) ≡ Some cache

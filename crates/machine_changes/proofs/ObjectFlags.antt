@@ -1,4 +1,4 @@
--- Flags of objects, indexed by number, and how many of them are set.
+-- What each flag of a list of flags is, and how many flags are set.
 use Rattle.std.proofs.Common.{◌≡◌, ℕ, zero, suc, ◌+◌, ◌<◌, ◌≤◌, Bool, true, false, not, cond, List, [], ◌∷◌, length, get_or, refl, sym, ap, ◌∙◌, ⊎_elim, arith}
 use Rattle.std.specs.Prelude.{◌==◌}
 use Rattle.std.specs.List.{list_any, list_all}
@@ -39,7 +39,7 @@ any_counts [] = refl
 any_counts (true ∷ bs) = sym (ne_eqb (1 + count_true bs) 0 (λ e. absurd (omega arith)))
 any_counts (false ∷ bs) = any_counts bs ∙ ap (λ n. n == 0) (omega arith)
 
--- all flags are set if and only if the count is their number
+-- all flags are set if and only if the count is the number of flags
 pub all_counts : (live : List Bool) → list_all (λ b. b) live ≡ (count_true live == length live)
 all_counts [] = refl
 all_counts (true ∷ bs) = all_counts bs ∙ same_next (count_true bs) (length bs)

@@ -1,4 +1,4 @@
--- What the calls change in one tenant's part of the memory, the buddy systems and the tables, frame by frame.
+-- What the calls change for one tenant in the memory, the buddy systems and the tables of caches.
 use Rattle.std.specs.Prelude.{◌≡◌, ◌≢◌, ℕ, ◌+◌, ◌-◌, ◌*◌, ◌%◌, ◌<◌, Bool, true, false, not, if◌then◌else◌, List, Some, None, map, filter, flat_map, slice_set}
 use Rattle.model_core.specs.declared.limits.TheConstants.{FRAME_BYTES, RECORD_BYTES, RECORD_OFFSET}
 use Rattle.model_core.specs.Blocks.{Block, with_taken}
@@ -25,8 +25,9 @@ pub record Found : Type 0 where
 abbrev pub found : own.Cache → ℕ → ℕ → ℕ → Found
 found cache first machine_frame index = record { cache = cache; first = first; machine_frame = machine_frame; index = index }
 
--- Object o of cache c of tenant t is marked live, or free if v is false. Apart from that, only the slab's control record, its
--- number of live objects and the list that it is in may change.
+-- Object o of cache c of tenant t becomes live if v is true, or free if v is false. Apart from this, only the slab's control
+-- record, its stored state without the colour, and the list that the slab is in may change. If the objects are large, the control
+-- record does not change either.
 pub record IsMarked (r r' : spaces.Content) (s s' : Content) (t c : ℕ) (o : Found) (v : Bool) : Type 0 where
   pub top : s'.top ≡ s.top
   pub slots : (u : ℕ) → spaces.superblock_at r'.slots t u ≡ spaces.superblock_at r.slots t u
@@ -42,7 +43,8 @@ pub record IsMarked (r r' : spaces.Content) (s s' : Content) (t c : ℕ) (o : Fo
   pub large : is_small (layout_numbers o.cache).chunk ≢ true → (place : ℕ) → byte_at r' t place ≡ byte_at r t place
 
 -- The slabs of tenant t whose first frames `gone` selects are freed: they are in no list, their blocks are not taken, and their
--- bytes are zero. They may be one slab, slabs of one cache, or slabs of all caches.
+-- bytes are zero. All other slabs, blocks and bytes of t are unchanged. The freed slabs may be one slab, slabs of one cache, or
+-- slabs of several caches.
 pub record IsReturned (r r' : spaces.Content) (b b' : buddies.Content) (s s' : Content) (t : ℕ) (gone : ℕ → Bool) : Type 0 where
   pub top : s'.top ≡ s.top
   pub slots : (u : ℕ) → spaces.superblock_at r'.slots t u ≡ spaces.superblock_at r.slots t u
@@ -59,7 +61,7 @@ pub record IsReturned (r r' : spaces.Content) (b b' : buddies.Content) (s s' : C
       → ((c f n : ℕ) (cache : own.Cache) → IsSlab r s t c f n cache → gone f ≡ true → is_inside place f cache ≡ false)
       → byte_at r' t place ≡ byte_at r t place
 
--- `returned` makes the same change to the private machine
+-- `returned gone m` is the private machine m after the slabs that `gone` selects are freed
 
 abbrev pub kept_slabs : (ℕ → Bool) → Cache → Cache
 kept_slabs gone c = record c { slabs = filter (λ s. not (gone s.first)) c.slabs }
@@ -73,8 +75,9 @@ returned gone m = record m {
   bytes = zeroed (flat_map (gone_blocks gone) m.caches) m.bytes;
 }
 
--- The block at frame f, machine frame n, becomes the next slab of cache c of tenant t. The slab is empty, its record is clear,
--- and every object is constructed. All bytes outside the slab are unchanged.
+-- The block at frame f, whose machine frame is n, becomes the next slab of cache c of tenant t. The slab is empty, and every
+-- object has the cache's pattern. If the objects are small, the slab's control record is all zeros. The bytes outside the slab
+-- are unchanged.
 pub record IsGrown (r r' : spaces.Content) (b b' : buddies.Content) (s s' : Content) (t c : ℕ) (cache : own.Cache) (f n : ℕ) : Type 0 where
   pub top : s'.top ≡ s.top
   pub slots : (u : ℕ) → spaces.superblock_at r'.slots t u ≡ spaces.superblock_at r.slots t u

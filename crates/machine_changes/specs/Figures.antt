@@ -1,4 +1,4 @@
--- How the figures of a report follow from the parts.
+-- The figures of a report about a tenant's machine follow from the buddy system.
 use Rattle.std.specs.Prelude.{◌≡◌, ℕ, zero, suc, ◌+◌, ◌*◌, ◌^◌, ◌<◌, ◌≤◌, length}
 use Rattle.model_core.specs.Machine.{Machine}
 use Rattle.model_core.specs.Reports.{frames_held, frames_taken, free_count, taken_count}
@@ -17,14 +17,14 @@ frames_in count (suc k) = frames_in count k + count k * 2 ^ k
 abbrev pub frames_below : buddies.Holding → ℕ → ℕ
 frames_below h n = frames_in (λ k. buddies.taken_block_count k h) n
 
--- the figures of the machine are those of tenant t in the buddy system
+-- the machine has as many held frames, taken frames, and free and taken blocks of each order as tenant t has in the buddy system
 pub record HasFigures (b : buddies.Content) (t : ℕ) (m : Machine) : Type 0 where
   pub held : frames_held b.top m ≡ buddies.held_slots (buddies.holding_of t b) * 2 ^ b.top
   pub free : (k : ℕ) → free_count b.top m k ≡ buddies.free_block_count b.top b.superblocks k (buddies.holding_of t b)
   pub taken : (k : ℕ) → taken_count m k ≡ buddies.taken_block_count k (buddies.holding_of t b)
   pub frames : frames_taken m ≡ frames_below (buddies.holding_of t b) (b.top + 1)
 
--- if the parts show a machine for a tenant, the machine's figures are those of the tenant in the buddy system
+-- if the parts show a machine for a tenant, the machine's figures equal the tenant's figures in the buddy system
 abbrev pub FiguresMeet : Type 0
 FiguresMeet = (r : spaces.Content) (b : buddies.Content) (s : Content) (t : ℕ) (m : Machine)
     → Agree r b s → IsSteady r b s t → buddies.BuddyLaws b → t < length b.tenants → ShowsMachine r b s t m → HasFigures b t m

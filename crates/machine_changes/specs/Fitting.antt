@@ -17,7 +17,7 @@ pub record IsIdle (r : spaces.Content) (s : Content) (t x : ℕ) : Type 0 where
   pub empty : (kept_at s.kept machine_frame).live ≡ 0
   pub within : HasFrame (block first (layout_numbers cache).order) x
 
--- some aligned block of order k in a held slot of tenant t has no taken frame outside empty slabs
+-- tenant t holds a slot with an aligned block of order k whose taken frames are all in empty slabs
 pub record WouldFit (r : spaces.Content) (b : buddies.Content) (s : Content) (t k : ℕ) : Type 0 where
   pub first : ℕ
   pub aligned : IsAligned s.top (block first k)

@@ -7,7 +7,8 @@ use Rattle.buddy_core.specs.Content as buddies
 use Rattle.slab_tables.specs.Content.{Content, kept_at, cache_at}
 use Rattle.machine_changes.specs.Shows.{machine_frame_of}
 
--- tenant t has the same caches, and each machine frame in its slots has the same slab with the same stored state
+-- tenant t has the same caches as before, and each machine frame in its slots has the same slab, if any, and the same stored
+-- state
 pub record IsSameCaches (t : ℕ) (r : spaces.Content) (s s' : Content) : Type 0 where
   pub top : s'.top ≡ s.top
   pub caches : (c : ℕ) → cache_at s' t c ≡ cache_at s t c
@@ -20,8 +21,8 @@ pub record Keeps (r r' : spaces.Content) (b b' : buddies.Content) (s s' : Conten
   pub buddy : buddies.holding_of t b' ≡ buddies.holding_of t b
   pub slabs : IsSameCaches t r s s'
 
--- A call for tenant t changes nothing that other tenants have. In the memory it changes only bytes, and no byte of a superblock
--- without an owner. It changes no buddy system other than that of t.
+-- A call for tenant t changes nothing that other tenants have. In the memory, the call changes only bytes, but none of a
+-- superblock without an owner. Of the buddy systems, the call changes only the one of t.
 pub record Spares (t : ℕ) (r r' : spaces.Content) (b b' : buddies.Content) (s s' : Content) : Type 0 where
   pub others : (u : ℕ) → u ≢ t → Keeps r r' b b' s s' u
   pub space : r' ≡ record r { banks = r'.banks }

@@ -1,4 +1,4 @@
--- Objects and their places, and the slab that a take uses.
+-- Live objects, ranges inside them, and the slab that a take uses.
 use Rattle.std.specs.Prelude.{◌≡◌, ℕ, ◌+◌, ◌<◌, ◌≤◌, ◌⊎◌, true}
 use Rattle.model_core.specs.Layouts.{object_place}
 use Rattle.klist_core.specs.Places.{IsEmpty, IsFirst}
@@ -25,7 +25,7 @@ pub record Standing : Type 0 where
   pub first : ℕ
   pub machine_frame : ℕ
 
--- the slab of cache c that a take uses: the first partial one, or the first empty one if none is partial
+-- the slab of cache c that a take uses: the first partial slab, or the first empty slab if no slab is partial
 pub record IsToUse (r : spaces.Content) (s : Content) (t c : ℕ) (cache : own.Cache) (o : Standing) : Type 0 where
   pub slab : IsSlab r s t c o.first o.machine_frame cache
   pub first : IsFirst s.lists.places (head_of t c (kind_number Partial)) o.first o.machine_frame

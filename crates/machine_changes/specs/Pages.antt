@@ -22,16 +22,16 @@ use Rattle.machine_changes.specs.Steady.{IsSteady}
 use Rattle.machine_changes.specs.Changes.{Found}
 use Rattle.machine_changes.specs.Objects.{HasRange}
 
--- the buddy systems with the taken block of tenant t at frame f released
+-- the buddy systems after the release of the block of tenant t that begins at frame f
 abbrev pub released : ℕ → ℕ → buddies.Content → buddies.Content
 released t f b = buddies.with_holding t (buddies.without_block f (buddies.holding_of t b)) b
 
--- releasing a block removes the page block from the machine
+-- after the block at frame f is released, the parts show the old machine without the page block at f
 abbrev pub ReleasedShows : Type 0
 ReleasedShows = (r : spaces.Content) (b : buddies.Content) (s : Content) (t f : ℕ) (m : Machine)
     → ShowsMachine r b s t m → ShowsMachine r (released t f b) s t (without_block f m)
 
--- if the block is not a slab, the parts still agree after its release, and other tenants keep everything
+-- if the block at frame f is not a slab, the parts still agree after its release, and other tenants keep everything
 abbrev pub ReleasedAgrees : Type 0
 ReleasedAgrees = (r : spaces.Content) (b : buddies.Content) (s : Content) (t f : ℕ)
     → Agree r b s → has_slab s (machine_frame_of s.top r.slots t f) ≡ false
@@ -51,25 +51,25 @@ pub record IsInReach (r : spaces.Content) (b : buddies.Content) (s : Content) (t
   pub some : 0 < len
   pub inside : IsInPage r b s t place len ⊎ ((o : Found) × HasRange r s t place len o)
 
--- a range is in reach of the machine if and only if it is in reach according to the parts
+-- a range is in reach in the machine if and only if it is in reach according to the parts
 abbrev pub ReachMeets : Type 0
 ReachMeets = (r : spaces.Content) (b : buddies.Content) (s : Content) (t place len : ℕ) (m : Machine)
     → IsSteady r b s t → ShowsMachine r b s t m → (in_reach m place len ≡ true) ↔ IsInReach r b s t place len
 
--- if the first frame of a range is in a taken block, the range lies inside a page block if and only if that block is not a slab
--- and the range ends inside it
+-- Let a range that is not empty begin in a taken block. The range lies inside a page block if and only if this taken block is not
+-- a slab and the range ends inside it.
 abbrev pub BlockDecides : Type 0
 BlockDecides = (r : spaces.Content) (b : buddies.Content) (s : Content) (t place len first order : ℕ)
     → IsSteady r b s t → 0 < len → buddies.taken_of (buddies.holding_of t b) first ≡ Some order → HasFrame (block first order) (place / FRAME_BYTES)
     → IsInPage r b s t place len
     ↔ ((has_slab s (machine_frame_of s.top r.slots t first) ≡ false) × (place + len ≤ FRAME_BYTES * (first + 2 ^ order)))
 
--- if the first frame of a range is in no taken block, the range lies inside no page block
+-- if a range that is not empty begins in no taken block, the range lies inside no page block
 abbrev pub NoBlockDecides : Type 0
 NoBlockDecides = (r : spaces.Content) (b : buddies.Content) (s : Content) (t place len : ℕ)
     → 0 < len → (IsTaken (buddies.taken_of (buddies.holding_of t b)) (place / FRAME_BYTES) → ⊥) → IsInPage r b s t place len → ⊥
 
--- a range in reach lies in one held slot
+-- a range in reach lies in one slot of the tenant
 abbrev pub ReachHeld : Type 0
 ReachHeld = (r : spaces.Content) (b : buddies.Content) (s : Content) (t place len : ℕ)
     → Agree r b s → IsSteady r b s t → IsInReach r b s t place len → IsSome (home_of r t place len)
@@ -80,7 +80,7 @@ ReachBytes = (r : spaces.Content) (b : buddies.Content) (s : Content) (t place l
     → IsSteady r b s t → ShowsMachine r b s t m → IsInReach r b s t place len
     → (p : ℕ) → place ≤ p → p < place + len → m.bytes p ≡ byte_at r t p
 
--- reading a range in reach of the machine returns the memory's bytes
+-- a read of a range in reach returns, in the machine, the bytes that the memory has there
 abbrev pub ReachReads : Type 0
 ReachReads = (r : spaces.Content) (b : buddies.Content) (s : Content) (t place len : ℕ) (bytes : List ℕ) (m : Machine)
     → IsSteady r b s t → ShowsMachine r b s t m → IsInReach r b s t place len
@@ -90,7 +90,7 @@ ReachReads = (r : spaces.Content) (b : buddies.Content) (s : Content) (t place l
 abbrev pub stored : ℕ → ℕ → List ℕ → spaces.Content → spaces.Content
 stored t place new r = with_window r t place (length new) new
 
--- writing bytes over a range in reach of tenant t writes them in the machine of t
+-- after tenant t writes bytes over a range in reach, the parts show the old machine with these bytes written
 abbrev pub WrittenShows : Type 0
 WrittenShows = (r : spaces.Content) (b : buddies.Content) (s : Content) (t place : ℕ) (new : List ℕ) (m : Machine)
     → SpaceLaws r → Agree r b s → IsSteady r b s t → IsInReach r b s t place (length new)
@@ -103,7 +103,7 @@ pub record IsWritten (r r' : spaces.Content) (b : buddies.Content) (s : Content)
   pub agree : Agree r' b s
   pub spares : Spares t r r' b b s s
 
--- after a write over a range in reach, the live objects are the same, the parts agree, and other tenants keep everything
+-- after a write over a range in reach, the slabs have the same live objects, the parts agree, and other tenants keep everything
 abbrev pub WrittenAgrees : Type 0
 WrittenAgrees = (r : spaces.Content) (b : buddies.Content) (s : Content) (t place : ℕ) (new : List ℕ)
     → IsSlabs s → SpaceLaws r → Agree r b s → IsSteady r b s t → IsInReach r b s t place (length new)
@@ -118,7 +118,8 @@ OneMachine = (r : spaces.Content) (b : buddies.Content) (s : Content) (t : ℕ) 
 abbrev pub record_at : spaces.Content → Content → ℕ → ℕ → ℕ
 record_at r s n i = slice_index (spaces.bank r.banks (n / 2 ^ s.top)) (FRAME_BYTES * (n % 2 ^ s.top) + RECORD_OFFSET + i)
 
--- the control record of a slab of small objects has a 1 for each live object of the machine's slab, and zeros elsewhere
+-- in the control record of a slab of small objects, the bit of each object that is live in the machine is 1, and all other bits
+-- are 0
 abbrev pub RecordMeets : Type 0
 RecordMeets = (r : spaces.Content) (b : buddies.Content) (s : Content) (t c f n : ℕ) (cache : own.Cache) (m : Machine) (x : Cache) (y : Slab)
     → Agree r b s → ShowsMachine r b s t m → IsSlab r s t c f n cache → is_small (layout_numbers cache).chunk ≡ true

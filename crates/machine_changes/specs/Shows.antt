@@ -15,7 +15,7 @@ use Rattle.slab_tables.specs.declared.cache.Kept.{Kept}
 use Rattle.slab_tables.specs.Content.{Content, kept_at, cache_in, cache_at, index_of_cache, layout_numbers}
 use Rattle.machine_changes.specs.Records.{is_set, flags, count_true}
 
--- the machine frame of frame f, if this superblock or none is in the slot of f
+-- the machine frame of frame f in the superblock of its slot, or None if the slot has no superblock
 abbrev pub frame_under : ℕ → ℕ → Option ℕ → Option ℕ
 frame_under top f None = None
 frame_under top f (Some m) = Some (m * 2 ^ top + f % 2 ^ top)
@@ -41,7 +41,7 @@ is_live r t c kept f i =
 abbrev pub live_of : spaces.Content → ℕ → own.Cache → Kept → ℕ → List Bool
 live_of r t c kept f = flags (layout_numbers c).count (is_live r t c kept f)
 
--- the list entry is a slab of the cache with index n, and the slab begins at frame f
+-- the list entry is a slab of the cache with index n, and this slab begins at frame f
 abbrev pub is_of_cache : ℕ → ℕ → Option (ℕ × ℕ) → Bool
 is_of_cache n f None = false
 is_of_cache n f (Some p) = p.0 / 3 == n && p.1 == f
@@ -55,29 +55,29 @@ slab_under r s t n c f None = None
 slab_under r s t n c f (Some x) =
     slab_placed (live_of r t c (kept_at s.kept x) f) (kept_at s.kept x).colour f (is_of_cache n f (place_at s.lists.places x))
 
--- the slab of cache c of tenant t that begins at frame f, or `None`
+-- the slab of cache c of tenant t that begins at frame f, or `None` if no slab of the cache begins there
 abbrev pub slab_at : spaces.Content → Content → ℕ → ℕ → own.Cache → ℕ → Option Slab
 slab_at r s t c cache f = slab_under r s t (index_of_cache t c) cache f (machine_frame_of s.top r.slots t f)
 
--- a slab begins at the machine frame
+-- a machine frame is given, and a slab begins there
 abbrev pub has_slab : Content → Option ℕ → Bool
 has_slab s None = false
 has_slab s (Some n) = is_some (place_at s.lists.places n)
 
--- the cache without its slabs
+-- the private machine's cache with this number and no slabs
 abbrev pub bare : ℕ → own.Cache → Cache
 bare number c = record { number = number; size = c.layout.size; align = c.layout.align; pattern = c.pattern; made = c.made; slabs = [] }
 
 abbrev pub without_slabs : Cache → Cache
 without_slabs c = record c { slabs = [] }
 
--- a slab of cache c of tenant t begins at frame f, machine frame n
+-- a slab of cache c of tenant t begins at frame f, whose machine frame is n
 pub record IsSlab (r : spaces.Content) (s : Content) (t c f n : ℕ) (cache : own.Cache) : Type 0 where
   pub cached : cache_at s t c ≡ Some cache
   pub under : machine_frame_of s.top r.slots t f ≡ Some n
   pub listed : is_of_cache (index_of_cache t c) f (place_at s.lists.places n) ≡ true
 
--- the place lies in a slab of the cache that begins at frame f
+-- the place lies in the block of a slab of the cache, if that slab begins at frame f
 abbrev pub is_inside : ℕ → ℕ → own.Cache → Bool
 is_inside place f cache = in_block place (block f (layout_numbers cache).order)
 
@@ -106,7 +106,7 @@ pub record IsAgreed (r : spaces.Content) (b : buddies.Content) (s : Content) (n 
   pub under : machine_frame_of s.top r.slots (head / 3 / MOST_CACHES) key ≡ Some n
   pub taken : buddies.taken_of (buddies.holding_of (head / 3 / MOST_CACHES) b) key ≡ Some (layout_numbers cache).order
   pub counted : (kept_at s.kept n).live ≡ count_true (live_of r (head / 3 / MOST_CACHES) cache (kept_at s.kept n) key)
-  -- no object past the last one is live, so all bits of the record past the last object are 0
+  -- no index from the number of objects on is live, so the bits of the control record after those of the objects are 0
   pub rest : (i : ℕ) → (layout_numbers cache).count ≤ i → i < 256 → is_live r (head / 3 / MOST_CACHES) cache (kept_at s.kept n) key i ≡ false
 
 -- the memory, the buddy systems and the tables agree on their sizes, on the superblock in each slot of each tenant, and on each

@@ -21,15 +21,15 @@ pub record HoldTogether (r : spaces.Content) (b : buddies.Content) (s : Content)
   pub slabs : IsSlabs s
   pub agree : Agree r b s
 
--- The parts change only for tenant t: they still agree, and all other tenants keep everything. If they showed a machine for t,
--- they now show `change` of that machine.
+-- The parts change only for tenant t: they still agree, and all other tenants keep everything. If the parts showed a machine for
+-- t, they now show `change` of that machine.
 pub record ChangesFor (t : ℕ) (r r' : spaces.Content) (b b' : buddies.Content) (s s' : Content) (change : Machine → Machine) : Type 0 where
   pub agree : Agree r' b' s'
   pub others : (u : ℕ) → u ≢ t → Keeps r r' b b' s s' u
   pub shows : (m : Machine) → ShowsMachine r b s t m → ShowsMachine r' b' s' t (change m)
 
--- if superblock m, which has no owner, is granted to tenant t as slot u, the lowest that t does not hold, the parts change only
--- for t, whose machine becomes `after_grant` of the old one
+-- Let superblock m, which has no owner, be granted to tenant t as slot u, the lowest slot that t does not hold. Then the parts
+-- change only for t, and show `after_grant` of the old machine for it.
 abbrev pub GrantedShows : Type 0
 GrantedShows = (r : spaces.Content) (b : buddies.Content) (s : Content) (t u m : ℕ)
     → HoldTogether r b s → t < length r.slots → IsLeastSlot r.slots t u → u < length r.owners
@@ -41,8 +41,8 @@ abbrev pub NextMeets : Type 0
 NextMeets = (r : spaces.Content) (b : buddies.Content) (s : Content) (t u : ℕ) (m : Machine)
     → ShowsMachine r b s t m → IsLeastSlot r.slots t u → next_slot m ≡ u
 
--- if superblock m is taken back from slot u of tenant t, in which no frame is taken, the parts change only for t, whose machine
--- becomes `after_take_back` of the old one
+-- Let superblock m be taken back from slot u of tenant t, in which no frame is taken. Then the parts change only for t, and show
+-- `after_take_back` of the old machine for it.
 abbrev pub TakenBackShows : Type 0
 TakenBackShows = (r : spaces.Content) (b : buddies.Content) (s : Content) (t u m : ℕ)
     → HoldTogether r b s → t < length r.slots → spaces.superblock_at r.slots t u ≡ Some m
@@ -82,7 +82,7 @@ pub record HasGivenUp (t : ℕ) (r r' : spaces.Content) : Type 0 where
   pub slots : (u : ℕ) → spaces.superblock_at r'.slots t u ≡ None
   pub others : (u : ℕ) → u ≢ t → IsSameFor u r r'
 
--- if all that tenant t has is removed, the parts change only for t, whose machine becomes the empty machine
+-- if everything that tenant t has is removed, the parts change only for t, and show the empty machine for it
 abbrev pub EmptiedShows : Type 0
 EmptiedShows = (r r' : spaces.Content) (b : buddies.Content) (s s' : Content) (t : ℕ)
     → HoldTogether r b s → t < length r.slots → HasGivenUp t r r' → IsReset s s' t
