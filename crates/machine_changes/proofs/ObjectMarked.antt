@@ -1,4 +1,4 @@
--- If an object is marked live or free in the parts, it is live or free in the machine too.
+-- After an object is marked live or free, the parts show the old machine with this object live or free.
 use Rattle.std.proofs.Common.{◌≡◌, ◌≢◌, ℕ, ◌+◌, ◌-◌, ◌*◌, ◌/◌, ◌%◌, ◌^◌, ◌<◌, ◌≤◌, Bool, true, false, cond, ltb, leb, List, map, Some, None, refl, sym, ap, ◌∙◌, subst, ◌⊎◌, inl, inr, ⊎_elim, arith}
 use Rattle.std.specs.Prelude.{Option, option_map, is_some, slice_set, ◌&&◌}
 use Rattle.std.proofs.lemmas.Bool.{false≢true, cases_eq, and_parts, ltb-true, false_from_ne_true}
@@ -30,7 +30,7 @@ none_above colour offset count chunk size some past =
     let less = ltb-true ((offset - colour) / chunk) count second.0 in
     absurd (omega arith))
 
--- there is no object at or past the end of the last one
+-- an offset at or past the end of the slab's last chunk is in no object
 pub not_object : (l : Layout) (size colour offset : ℕ) → 16 ≤ l.chunk → colour + l.count * l.chunk ≤ offset → in_object l size colour offset ≡ false
 not_object l size colour offset wide past = none_above colour offset l.count l.chunk size (omega arith) past
 
@@ -67,7 +67,7 @@ module _ (r r' : spaces.Content) (b : buddies.Content) (s s' : Content) (t c : �
     listed = listed_same (index_of_cache t d) f n ∙ p.listed;
   }
 
-  -- a slab begins at a machine frame if and only if one did before
+  -- a slab begins at a machine frame if and only if one began there before
   has_same_at : (machine_frame : ℕ) → is_some (place_at s'.lists.places machine_frame) ≡ is_some (place_at s.lists.places machine_frame)
   has_same_at machine_frame =
       ⊎_elim
@@ -88,12 +88,12 @@ module _ (r r' : spaces.Content) (b : buddies.Content) (s s' : Content) (t c : �
   pub has_same : (f : ℕ) → has_slab s' (machine_frame_of s'.top r'.slots t f) ≡ has_slab s (machine_frame_of s.top r.slots t f)
   has_same f = ap (has_slab s') (machine_frame_same f) ∙ has_same_under (machine_frame_of s.top r.slots t f)
 
-  -- the control records of other slabs are unchanged
+  -- the control records of slabs other than the slab of o are unchanged
   record_stays : (f : ℕ) → f ≢ o.first → (j : ℕ) → j < 32 → record_byte r' t f j ≡ record_byte r t f j
   record_stays f differ j less =
       ap byte_or_zero (k.bytes (4096 * f + 4064 + j) (λ i few same. differ (omega arith)))
 
-  -- slabs other than the marked one are unchanged
+  -- slabs other than the slab of o are unchanged
   pub slab_other : (d f : ℕ) (cache : own.Cache) → cache_at s t d ≡ Some cache → f ≢ o.first → slab_at r' s' t d cache f ≡ slab_at r s t d cache f
   slab_other d f cache cached differ =
       same_slab r r' s s' t d f cache (machine_frame_same f) (λ n under. listed_same (index_of_cache t d) f n)
@@ -104,7 +104,7 @@ module _ (r r' : spaces.Content) (b : buddies.Content) (s s' : Content) (t c : �
             (λ small j less. record_stays f differ j less),
       ))
 
-  -- no other cache has a slab at the marked slab's frame, before or after the change
+  -- no cache other than c has a slab at the first frame of the slab of o, before or after the change
   pub slab_none : (d : ℕ) (cache : own.Cache) → d ≢ c → slab_at r' s' t d cache o.first ≡ slab_at r s t d cache o.first
   slab_none d cache differ =
       let unlisted : is_of_cache (index_of_cache t d) o.first (place_at s.lists.places o.machine_frame) ≡ false =
@@ -118,7 +118,7 @@ module _ (r r' : spaces.Content) (b : buddies.Content) (s s' : Content) (t c : �
       ∙ sym (ap (slab_under r s t (index_of_cache t d) cache o.first) q.under
       ∙ ap (slab_placed (live_of r t cache (kept_at s.kept o.machine_frame) o.first) (kept_at s.kept o.machine_frame).colour o.first) unlisted)
 
-  -- before the change, the parts show the marked slab at its frame
+  -- before the change, the parts show the slab of o at its first frame
   pub slab_before : slab_at r s t c o.cache o.first ≡ Some (shown r s t c o.cache q.cached o.first o.machine_frame)
   slab_before = slab_shown r s t c o.cache q.cached o.first o.machine_frame q
 
@@ -134,7 +134,7 @@ module _ (r r' : spaces.Content) (b : buddies.Content) (s s' : Content) (t c : �
       slab : List Bool → ℕ → Slab
       slab live colour = record { first = o.first; colour = colour; live = live }
 
-  -- a place at which the machine has a byte is not in the control record
+  -- a place at which the machine has a byte is not in the control record of the slab of o
   off_record : (m : Machine) → ShowsMachine r b s t m → is_small (layout_numbers o.cache).chunk ≡ true → (place byte : ℕ) → m.bytes place ≡ Some byte
       → (j : ℕ) → j < 32 → place ≢ 4096 * o.first + 4064 + j
   off_record m h small place byte e j less same =
@@ -165,7 +165,7 @@ module _ (r r' : spaces.Content) (b : buddies.Content) (s s' : Content) (t c : �
     first_is : y.first ≡ o.first
     first_is = found_key (λ z. z.first) o.first x.slabs y ey
 
-    -- the machine's slab is the one that the parts show
+    -- y, the machine's slab at this frame, is the slab that the parts show there
     y_is : y ≡ shown r s t c o.cache q.cached o.first o.machine_frame
     y_is = some_same (sym ey ∙ h.slabs c o.first x o.cache ex q.cached ∙ slab_before)
 
@@ -177,7 +177,7 @@ module _ (r r' : spaces.Content) (b : buddies.Content) (s s' : Content) (t c : �
     cache_other : (d : ℕ) → d ≢ c → cache_of marked d ≡ cache_of m d
     cache_other d differ = found_other (λ z. z.number) marked_cache d m.caches (λ same. differ (same ∙ number_is))
 
-    -- a cache of the marked machine is the marked cache or one of the others, which are unchanged
+    -- z is the marked cache, or it is a cache with another number, which is unchanged
     abbrev WasCache : ℕ → Cache → Type 0
     WasCache d z = ((d ≡ c) × (z ≡ marked_cache)) ⊎ ((d ≢ c) × (cache_of m d ≡ Some z))
 
@@ -206,7 +206,7 @@ module _ (r r' : spaces.Content) (b : buddies.Content) (s s' : Content) (t c : �
         (λ (other : (d ≢ c) × (cache_of m d ≡ Some z)). h.slabs_rise d z other.1)
         (was_cache d z e)
 
-    -- the parts show the slabs of the marked cache
+    -- at each frame, the marked cache has the slab that the parts show there after the change
     own_slabs : (f : ℕ) → slab_of marked_cache f ≡ slab_at r' s' t c o.cache f
     own_slabs f =
         ⊎_elim

@@ -1,4 +1,4 @@
--- The parts show at most one machine.
+-- The memory, the buddy systems and the tables of caches show at most one machine for each tenant.
 use Rattle.std.proofs.Common.{◌≡◌, ◌≢◌, ℕ, zero, suc, ◌-◌, ◌*◌, ◌/◌, ◌<◌, Bool, true, false, List, map, Some, None, refl, sym, ap, ◌∙◌, subst, ◌⊎◌, inl, inr, ⊎_elim, arith, eqb}
 use Rattle.std.specs.Prelude.{Option, option_map, is_some, ◌==◌}
 use Rattle.std.proofs.lemmas.Bool.{false≢true, eqb-true, and_parts, cases_eq, false_from_ne_true}
@@ -23,7 +23,7 @@ use Rattle.machine_changes.proofs.SlabFacts.{one_slab, cache_kept}
 use Rattle.machine_changes.proofs.PageReserved.{order_found}
 use Rattle.machine_changes.specs.Pages.{OneMachine}
 
--- two rising lists with the same results of all lookups are equal
+-- two lists with rising keys are equal if every lookup by key returns the same from both
 same_found : {X : Type 0} (key : X → ℕ) (xs ys : List X) → RisesFrom 0 (map key xs) → RisesFrom 0 (map key ys) → ((k : ℕ) → at key k xs ≡ at key k ys) → xs ≡ ys
 same_found {X} key xs ys rises rises' same =
     same_keyed key 0 xs ys rises rises' (carried xs ys rises same) (carried ys xs rises' (λ k. sym (same k)))
@@ -31,7 +31,7 @@ same_found {X} key xs ys rises rises' same =
     carried : (ws zs : List X) → RisesFrom 0 (map key ws) → ((k : ℕ) → at key k ws ≡ at key k zs) → (x : X) → IsIn x ws → IsIn x zs
     carried ws zs r e x i = (find_in (λ y. eqb (key y) (key x)) x zs (sym (e (key x)) ∙ in_found key 0 x ws r i)).0
 
--- the block found at a frame begins there and has the order that the lookup returns
+-- a lookup of the first frame f returns the block at f with the order that `order_in` returns, or None if there is none
 block_found : (bs : List Block) (f : ℕ) → at (λ z. z.first) f bs ≡ option_map (block f) (order_in bs f)
 block_found bs f = go (at (λ z. z.first) f bs) refl ∙ ap (option_map (block f)) (sym (order_found bs f))
   where
@@ -57,7 +57,7 @@ module _ (r : spaces.Content) (s : Content) (t place : ℕ) where
   abbrev IsApart : ℕ → Type 0
   IsApart f = (c n : ℕ) (cache : own.Cache) → IsSlab r s t c f n cache → is_inside place f cache ≡ false
 
-  -- the number of the tenant's cache whose list the place is in
+  -- for an entry of a slab list, the number of the tenant's cache that has this list; 0 for None
   number_in : Option (ℕ × ℕ) → ℕ
   number_in None = 0
   number_in (Some p) = p.0 / 3 - MOST_CACHES * t
@@ -73,7 +73,7 @@ module _ (r : spaces.Content) (s : Content) (t place : ℕ) where
     abbrev c : ℕ
     c = number_in (place_at s.lists.places n)
 
-    -- a slab that begins at the frame is of this cache
+    -- a slab that begins at frame f belongs to cache c, and its machine frame is n
     only : (d x : ℕ) (cache : own.Cache) → IsSlab r s t d f x cache → (d ≡ c) × IsSlab r s t c f n cache
     only d x cache q =
         let machine_frame : x ≡ n = some_same (sym q.under ∙ under) in
@@ -126,7 +126,7 @@ module _ (r : spaces.Content) (s : Content) (t place : ℕ) where
       false≢true (sym (none f (omega arith) c n cache q) ∙ inside))))
       (below (suc (place / 4096)))
 
--- Machines
+-- Two machines that the parts show for the same tenant
 
 cache_parts : (x y : Cache) → without_slabs x ≡ without_slabs y → x.slabs ≡ y.slabs → x ≡ y
 cache_parts x y same slabs = ap {A = Cache} (λ z. record z { slabs = x.slabs }) same ∙ ap {A = List Slab} (λ ss. record y { slabs = ss }) slabs

@@ -1,4 +1,4 @@
--- If the taken blocks of one tenant change, the holdings of other tenants stay, and the parts still agree.
+-- If page blocks of one tenant change, the holdings of all other tenants stay the same, and the parts still agree.
 use Rattle.std.proofs.Common.{◌≡◌, ◌≢◌, ℕ, ◌*◌, ◌/◌, true, cond, List, None, Some, length, get_or, set, refl, sym, ap, ◌∙◌, subst, ⊎_elim, get_or-set_same, get_or-set_other, arith}
 use Rattle.std.specs.Prelude.{Option, is_some, ◌==◌, slice_index_or}
 use Rattle.std.proofs.lemmas.Bool.{cases_eq, cases_lt, eq-eqb, ne_eqb}
@@ -17,7 +17,8 @@ use Rattle.machine_changes.proofs.Lookups.{some_none}
 other_holding : (t u : ℕ) (h : buddies.Holding) (c : buddies.Content) → u ≢ t → buddies.holding_of u (buddies.with_holding t h c) ≡ buddies.holding_of u c
 other_holding t u h c other = get_or-set_other c.tenants t u h buddies.no_tenant other
 
--- after the holding of tenant t is replaced by the changed one, t has the changed one, if `change` leaves `no_tenant` as it is
+-- Let the holding of tenant t be replaced by `change` of this holding. If `change` keeps `no_tenant`, t then has the changed
+-- holding.
 pub own_changed : (t : ℕ) (change : buddies.Holding → buddies.Holding) (c : buddies.Content) → change buddies.no_tenant ≡ buddies.no_tenant
     → buddies.holding_of t (buddies.with_holding t (change (buddies.holding_of t c)) c) ≡ change (buddies.holding_of t c)
 own_changed t change c nothing =
@@ -28,7 +29,7 @@ own_changed t change c nothing =
     ∙ sym (ap change (get_or_past c.tenants t buddies.no_tenant past) ∙ nothing))
     (cases_lt t (length c.tenants))
 
--- after an entry is cleared, a lookup of it returns None, and other lookups are unchanged
+-- after entry i is set to None, a lookup of i returns None, and all other lookups are unchanged
 pub set_none : (xs : List (Option ℕ)) (i j : ℕ) → get_or (set xs i None) j None ≡ cond (j == i) None (get_or xs j None)
 set_none xs i j =
     ⊎_elim
@@ -48,7 +49,7 @@ same_space t r = record { slots = λ u. refl; banks = λ u m here. refl; bytes =
 pub same_caches : (t : ℕ) (r : spaces.Content) (s : Content) → IsSameCaches t r s s
 same_caches t r s = record { top = refl; caches = λ c. refl; lists = λ f n under. refl; kept = λ f n under. refl }
 
--- tenant t now holds h, with the same slots, and with the same taken blocks wherever a slab begins
+-- the holding of tenant t becomes h, which has the same slots as before, and the same taken block at the first frame of each slab
 module _ (r : spaces.Content) (b : buddies.Content) (s : Content) (t : ℕ) (a : Agree r b s) (h : buddies.Holding)
     (is : buddies.holding_of t (buddies.with_holding t h b) ≡ h) (slots : h.slots ≡ (buddies.holding_of t b).slots)
     (stays : (f : ℕ) → has_slab s (machine_frame_of s.top r.slots t f) ≡ true → buddies.taken_of (buddies.holding_of t b) f ≢ None → buddies.taken_of h f ≡ buddies.taken_of (buddies.holding_of t b) f) where

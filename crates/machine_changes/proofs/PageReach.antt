@@ -1,4 +1,4 @@
--- A range is in reach of the machine if and only if it is in reach according to the parts.
+-- A range is in reach in the machine if and only if it is in reach according to the parts.
 use Rattle.std.proofs.Common.{◌≡◌, ℕ, ◌+◌, ◌<◌, ◌≤◌, Bool, true, false, eqb, Some, refl, sym, ap, ◌∙◌, inl, inr, ⊎_elim, length, arith}
 use Rattle.std.specs.Prelude.{nat_lt, nat_le, ◌||◌}
 use Rattle.std.specs.List.{list_any}
@@ -24,7 +24,7 @@ use Rattle.machine_changes.specs.Pages.{IsInReach, ReachMeets}
 use Rattle.machine_changes.proofs.PageReachByBlock.{page_tells, page_from}
 
 module _ (r : spaces.Content) (b : buddies.Content) (s : Content) (t place len : ℕ) (m : Machine) (st : IsSteady r b s t) (h : ShowsMachine r b s t m) where
-  -- a range inside a live object of the machine is inside one of the tables
+  -- a range inside a live object of the machine is inside a live object of the tables
   pub object_tells : 0 < len → list_any (within_objects place len) m.caches ≡ true → (o : Found) × HasRange r s t place len o
   object_tells some e =
       let x = some_any (within_objects place len) m.caches e in
@@ -46,7 +46,7 @@ module _ (r : spaces.Content) (b : buddies.Content) (s : Content) (t place len :
         },
       )
 
-  -- conversely, a range inside a live object of the tables is inside one of the machine
+  -- conversely, a range inside a live object of the tables is inside a live object of the machine
   pub object_from : (o : Found) → HasRange r s t place len o → list_any (within_objects place len) m.caches ≡ true
   object_from o g =
       let there = slab_in r b s t m h g.number o.first o.machine_frame o.cache g.object.slab in

@@ -1,4 +1,4 @@
--- A range lies inside a page block if and only if the taken block at its first frame is not a slab and contains the whole range.
+-- A range lies inside a page block if and only if a taken block has its first frame, contains the whole range, and is not a slab.
 use Rattle.std.proofs.Common.{◌≡◌, ℕ, ◌+◌, ◌*◌, ◌/◌, ◌^◌, ◌<◌, ◌≤◌, Bool, true, false, cond, Some, None, refl, sym, ap, ◌∙◌, subst, arith}
 use Rattle.std.specs.Prelude.{nat_le}
 use Rattle.std.specs.List.{list_any}
@@ -44,7 +44,7 @@ module _ (r : spaces.Content) (b : buddies.Content) (s : Content) (t place len :
       (and_from (nat_le (4096 * p.first) place) (nat_le (place + len) (4096 * p.first + 4096 * 2 ^ p.order))
       (le-leb (4096 * p.first) place begins) (le-leb (place + len) (4096 * p.first + 4096 * 2 ^ p.order) (omega arith)))
 
--- the frame of each place of the range is one of the block's
+-- the frame of each place of the range is a frame of the block
 pub frame_in : (first z place len p : ℕ) → 4096 * first ≤ place → place + len ≤ 4096 * (first + z) → place ≤ p → p < place + len
     → (first ≤ p / 4096) × (p / 4096 < first + z)
 frame_in first z place len p begins ends low high = (omega arith, omega arith)

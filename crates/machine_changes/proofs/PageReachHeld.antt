@@ -1,4 +1,4 @@
--- A range in reach lies in a held slot, and the machine has a byte at each of its places.
+-- A range in reach lies in a held slot, and at each place of the range the machine has the memory's byte.
 use Rattle.std.proofs.Common.{◌≡◌, ℕ, suc, ◌+◌, ◌-◌, ◌*◌, ◌/◌, ◌%◌, ◌^◌, ◌<◌, ◌≤◌, true, false, List, [], ◌∷◌, Some, None, length, refl, sym, ap, ◌∙◌, subst, ⊎_elim, arith}
 use Rattle.std.specs.Prelude.{Option, IsSome, is_some, nat_lt, nat_le, slice_index, filter_map}
 use Rattle.std.specs.List.{range_with_len}
@@ -27,7 +27,7 @@ use Rattle.machine_changes.proofs.PageReachByBlock.{frame_in}
 
 -- Objects
 
--- the offset is that of a byte of an object; it lies in the slab, below `room`
+-- an object of the slab has a byte at this offset, which is below `room` and inside the slab
 pub record IsObjectByte (l : Layout) (size colour off z : ℕ) : Type 0 where
   pub below : off < 4096 * z
   pub room : off < l.room
@@ -49,7 +49,7 @@ object_byte l size colour i j off wide inside within sized less few e =
     }
 
 module _ (r : spaces.Content) (b : buddies.Content) (s : Content) (t place len : ℕ) (st : IsSteady r b s t) (o : Found) (g : HasRange r s t place len o) where
-  -- a place of the range is one of the object's bytes
+  -- an object of the slab has a byte at each place of the range
   pub byte_of : (p : ℕ) → place ≤ p → p < place + len
       → (4096 * o.first ≤ p) × IsObjectByte (layout_numbers o.cache) o.cache.layout.size (kept_at s.kept o.machine_frame).colour (p - 4096 * o.first) (2 ^ (layout_numbers o.cache).order)
   byte_of p low high =
@@ -116,7 +116,7 @@ reach_held r b s t place len a st is =
     ⊎_elim (λ page. page_block r b s t place len page) (λ object. object_block r b s t place len st object.0 object.1) is.inside in
     home_some r b s t place len st x is.some a.unit
 
--- Places of a range and slabs
+-- Which places of a range lie in slabs
 
 module _ (r : spaces.Content) (b : buddies.Content) (s : Content) (t place len : ℕ) (st : IsSteady r b s t) where
   -- no place of a range inside a page block lies in a slab
@@ -130,7 +130,7 @@ module _ (r : spaces.Content) (b : buddies.Content) (s : Content) (t place len :
       (in_block-true p (block f (layout_numbers cache).order) inside) frame in
       false≢true (sym g.page ∙ subst (λ x. has_slab s (machine_frame_of s.top r.slots t x) ≡ true) same (has_it r s t c f n cache q)))
 
-  -- each place of a range inside an object lies in the object's slab
+  -- each place of a range inside a live object lies in the object's slab
   pub object_inside : (o : Found) (g : HasRange r s t place len o) (p : ℕ) → place ≤ p → p < place + len → is_inside p o.first o.cache ≡ true
   object_inside o g p low high =
       let is = byte_of r b s t place len st o g p low high in
@@ -170,7 +170,7 @@ reach_bytes r b s t place len m st h is p low high = byte_told r b s t place len
 cons_some : {A : Type 0} (o : Option A) (x : A) (f : ℕ → Option A) (is : List ℕ) → o ≡ Some x → (n : ℕ) → f n ≡ o → filter_map f (n ∷ is) ≡ x ∷ filter_map f is
 cons_some o x f is some n here = rw here (rw some refl)
 
--- reading the range returns these bytes, if they are there in this order
+-- if the bytes at the places from `place` on are xs, reading these places returns xs
 range_reads : (bytes : ℕ → Option ℕ) (place : ℕ) (xs : List ℕ) → ((i : ℕ) → i < length xs → bytes (place + i) ≡ Some (slice_index xs i))
     → filter_map bytes (range_with_len place (length xs)) ≡ xs
 range_reads bytes place [] each = refl

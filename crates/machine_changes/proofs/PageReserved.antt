@@ -1,4 +1,4 @@
--- A new taken block that is not a slab is a new page block in the machine.
+-- After a block is taken that is not a slab, the parts show the old machine with this block as a new page block.
 use Rattle.std.proofs.Common.{◌≡◌, ◌≢◌, ℕ, Bool, true, false, cond, eqb, List, [], ◌∷◌, Some, None, refl, sym, ap, ◌∙◌, arith}
 use Rattle.std.specs.Prelude.{Option, option_map}
 use Rattle.std.proofs.lemmas.Bool.{false≢true, ne_eqb, false_from_ne_true}
@@ -15,7 +15,7 @@ use Rattle.machine_changes.specs.Laws.{ReservedShows}
 use Rattle.machine_changes.proofs.Lookups.{eq_turned, some_none, at, in_found, found_put, through}
 use Rattle.machine_changes.proofs.SlabFacts.{some_slab}
 
--- a lookup of a frame returns the order of the block found there
+-- `order_in` returns the order of the block that a lookup by first frame finds, or None if there is no such block
 pub order_found : (bs : List Block) (f : ℕ) → order_in bs f ≡ option_map (λ b. b.order) (at (λ b. b.first) f bs)
 order_found [] f = refl
 order_found (y ∷ ys) f = go (eqb y.first f) (order_found ys f)
@@ -29,7 +29,8 @@ none_found : (o : Option Block) → option_map (λ b. b.order) o ≡ None → o 
 none_found None e = refl
 none_found (Some b) e = absurd (some_none e)
 
--- after a block is inserted at a new frame, a lookup of this frame returns its order, and other lookups are unchanged
+-- after block z is inserted at a frame where no block begins, a lookup of this frame returns the order of z, and all other
+-- lookups are unchanged
 pub order_put : (z : Block) (bs : List Block) (g : ℕ) → order_in bs z.first ≡ None
     → order_in (put_rising (λ x. x.first) z bs) g ≡ cond (eqb z.first g) (Some z.order) (order_in bs g)
 order_put z bs g absent =

@@ -1,4 +1,4 @@
--- Writing bytes over a range in reach writes them in the machine, and the parts still agree.
+-- After a write over a range in reach, the parts show the old machine with these bytes written, and the parts still agree.
 use Rattle.std.proofs.Common.{◌≡◌, ◌≢◌, ℕ, ◌+◌, ◌-◌, ◌*◌, ◌/◌, ◌%◌, ◌<◌, ◌≤◌, Bool, true, false, cond, List, Some, length, refl, sym, ap, ◌∙◌, subst, ⊎_elim, arith}
 use Rattle.std.specs.Prelude.{IsSome, is_some, nat_lt, nat_le, ◌&&◌, slice_index, slice_get}
 use Rattle.std.proofs.lemmas.Bool.{false≢true, cases_eq, ltb-true, leb-true, and_parts, false_from_ne_true}
@@ -45,7 +45,7 @@ module _ (r : spaces.Content) (b : buddies.Content) (s : Content) (t place : ℕ
       let parts = and_parts (nat_le place p) (nat_lt p (place + length new)) is in
       (leb-true place p parts.0, ltb-true p (place + length new) parts.1)
 
-  -- no byte of a control record is in reach
+  -- no byte of a control record lies in the range
   record_out : (c f n j : ℕ) (cache : own.Cache) → IsSlab r s t c f n cache → is_small (layout_numbers cache).chunk ≡ true → j < 32
       → in_range (4096 * f + 4064 + j) ≡ true → ⊥
   record_out c f n j cache q small less is =
@@ -144,7 +144,7 @@ module _ (r : spaces.Content) (b : buddies.Content) (s : Content) (t place : ℕ
       bytes = byte_told;
     }
 
-  -- The other parts
+  -- The agreement of the parts after the write
 
   -- the control record of an agreed slab of any tenant is unchanged
   agreed_stays : (machine_frame head key : ℕ) (cache : own.Cache) → place_at s.lists.places machine_frame ≡ Some (head, key) → cache_in s.caches (head / 3) ≡ Some cache

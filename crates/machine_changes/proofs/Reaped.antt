@@ -1,4 +1,4 @@
--- Reaping frees the slabs without live objects.
+-- If exactly the slabs without live objects are freed, the parts show the reaped machine.
 use Rattle.std.proofs.Common.{◌≡◌, ℕ, Bool, not, cond, List, [], ◌∷◌, ◌++◌, map, Some, refl, ap, ◌∙◌, subst, inl, inr}
 use Rattle.std.specs.Prelude.{filter, flat_map}
 use Rattle.model_core.specs.Machine.{Slab, Cache, Machine, slab_block}
@@ -10,7 +10,8 @@ use Rattle.machine_changes.specs.Laws.{ReapedShows}
 use Rattle.machine_changes.proofs.Lookups.{in_found}
 use Rattle.machine_changes.proofs.SlabsReturned.{returned_shows}
 
--- tests that agree on each element filter a list alike
+-- two tests that agree on each element of a list keep the same elements, and two functions that agree on each element map it
+-- alike
 
 pub filter_same : {X : Type 0} (p q : X → Bool) (xs : List X) → ((x : X) → IsIn x xs → p x ≡ q x) → filter p xs ≡ filter q xs
 filter_same p q [] same = refl

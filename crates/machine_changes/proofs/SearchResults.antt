@@ -1,4 +1,4 @@
--- The results of searches in lists.
+-- What a search in a list finds.
 use Rattle.std.proofs.Common.{◌≡◌, ◌≢◌, ℕ, ◌+◌, ◌≤◌, Bool, true, false, cond, List, [], ◌∷◌, map, Some, None, refl, sym, ap, ◌∙◌, inl, inr, arith}
 use Rattle.std.specs.Prelude.{find}
 use Rattle.std.proofs.lemmas.Bool.{false≢true}
@@ -6,16 +6,16 @@ use Rattle.model_core.specs.WellFormed.{RisesFrom}
 use Rattle.model_core.specs.Elements.{IsIn}
 use Rattle.model_core.proofs.Lists.{key_above, any_unfound, any_in}
 
--- if an element passes the test, the search finds one
+-- if some element passes the test, the search finds an element
 pub some_found : {X : Type 0} (p : X → Bool) (x : X) (xs : List X) → IsIn x xs → p x ≡ true → find p xs ≢ None
 some_found p x xs i e none = false≢true (sym (any_unfound p xs none) ∙ any_in p x xs i e)
 
--- if no element passes the test, the search finds none
+-- if no element passes the test, the search finds nothing
 pub find_none : {X : Type 0} (p : X → Bool) (xs : List X) → ((x : X) → IsIn x xs → p x ≡ false) → find p xs ≡ None
 find_none p [] none = refl
 find_none p (x ∷ xs) none = ap (λ v. cond v (Some x) (find p xs)) (none x (inl refl)) ∙ find_none p xs (λ y i. none y (inr i))
 
--- in a rising list the search finds the least element that passes the test
+-- in a list with rising keys, the search finds the element with the least key among those that pass the test
 pub find_least : {X : Type 0} (key : X → ℕ) (p : X → Bool) (n : ℕ) (y : X) (xs : List X) → RisesFrom n (map key xs) → IsIn y xs → p y ≡ true
     → ((x : X) → IsIn x xs → p x ≡ true → key y ≤ key x) → find p xs ≡ Some y
 find_least key p n y [] rises i e least = elim i [ ]

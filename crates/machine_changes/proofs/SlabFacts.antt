@@ -1,4 +1,4 @@
--- Facts about a tenant's slabs: which slabs of the machine they are, and that no two share a frame.
+-- The slabs of a tenant in the tables are exactly the slabs of its machine, and no two of them share a place.
 use Rattle.std.proofs.Common.{◌≡◌, ℕ, ◌+◌, ◌*◌, ◌/◌, ◌%◌, ◌^◌, ◌<◌, ◌≤◌, Bool, true, false, cond, zero, suc, ◌∷◌, Some, None, refl, sym, ap, ◌∙◌, subst, arith}
 use Rattle.std.specs.Prelude.{Option, option_map, is_some, ◌==◌}
 use Rattle.std.proofs.lemmas.Bool.{false≢true, eqb-true, and_parts}
@@ -51,7 +51,7 @@ some_listed : (n f : ℕ) (o : Option (ℕ × ℕ)) → is_of_cache n f o ≡ tr
 some_listed n f None e = absurd (false≢true e)
 some_listed n f (Some p) e = refl
 
--- a place in a list determines one cache and one first frame
+-- a list entry belongs to one cache and has one first frame
 pub one_listed : (n f n' f' : ℕ) (o : Option (ℕ × ℕ)) → is_of_cache n f o ≡ true → is_of_cache n' f' o ≡ true → (n' ≡ n) × (f' ≡ f)
 one_listed n f n' f' None e e' = absurd (false≢true e)
 one_listed n f n' f' (Some p) e e' =
@@ -60,11 +60,11 @@ one_listed n f n' f' (Some p) e e' =
     (sym (eqb-true (p.0 / 3) n' there.0) ∙ eqb-true (p.0 / 3) n here.0, sym (eqb-true p.1 f' there.1) ∙ eqb-true p.1 f here.1)
 
 module _ (r : spaces.Content) (s : Content) (t : ℕ) where
-  -- the tables have an entry at the first frame of each slab
+  -- `has_slab` is true at the first frame of each slab
   pub has_it : (c f n : ℕ) (cache : own.Cache) → IsSlab r s t c f n cache → has_slab s (machine_frame_of s.top r.slots t f) ≡ true
   has_it c f n cache q = ap (has_slab s) q.under ∙ some_listed (index_of_cache t c) f (place_at s.lists.places n) q.listed
 
-  -- two slabs that begin at one frame are the same slab
+  -- two slabs of the tenant that begin at the same frame are the same slab
   pub record IsOneSlab (c f n c' f' n' : ℕ) (cache cache' : own.Cache) : Type 0 where
     pub number : c' ≡ c
     pub machine_frame : n' ≡ n
@@ -97,7 +97,7 @@ module _ (r : spaces.Content) (b : buddies.Content) (s : Content) (t : ℕ) (st 
       let slot : f / z ≡ g / z = st.apart (f / z) (g / z) here.0 here.1 (there.1 ∙ ap (λ m. Some m) (sym superblock)) in
       sym (div-add-mod' f z) ∙ ap (λ x. x * z + f % z) slot ∙ ap (λ x. g / z * z + x) frame ∙ div-add-mod' g z
 
-  -- a slab that begins at the frame
+  -- a slab of the tenant begins at frame f
   pub record IsSlabThere (f : ℕ) : Type 0 where
     pub number : ℕ
     pub machine_frame : ℕ
@@ -118,7 +118,7 @@ module _ (r : spaces.Content) (b : buddies.Content) (s : Content) (t : ℕ) (st 
       go None under e = absurd (false≢true e)
       go (Some n) under e = at_machine_frame n under (place_at s.lists.places n) refl e
 
-  -- slabs that share a place begin at one frame
+  -- two slabs of the tenant that share a place begin at the same frame
   pub one_first : (place c f n c' f' n' : ℕ) (cache cache' : own.Cache) → IsSlab r s t c f n cache → IsSlab r s t c' f' n' cache'
       → is_inside place f cache ≡ true → is_inside place f' cache' ≡ true → f' ≡ f
   one_first place c f n c' f' n' cache cache' q q' i i' =
@@ -134,7 +134,7 @@ module _ (r : spaces.Content) (b : buddies.Content) (s : Content) (t : ℕ) (st 
       in_block-from (4096 * f + 4064 + j) (block f (layout_numbers cache).order)
       (subst (λ x. HasFrame (block f (layout_numbers cache).order) x) (sym here) (has_first (block f (layout_numbers cache).order)))
 
--- an object is live as before if its slab's control record is unchanged
+-- whether an object is live does not change if its slab's control record is unchanged
 pub one_stays : (r r' : spaces.Content) (t : ℕ) (cache : own.Cache) (kept : Kept) (f i : ℕ)
     → (is_small (layout_numbers cache).chunk ≡ true → (j : ℕ) → j < 32 → record_byte r' t f j ≡ record_byte r t f j) → i < 256
     → is_live r' t cache kept f i ≡ is_live r t cache kept f i
@@ -153,15 +153,15 @@ all_stay r r' t cache kept f few same =
     same_below 0 (layout_numbers cache).count (is_live r' t cache kept f) (is_live r t cache kept f)
     (λ i low high. one_stays r r' t cache kept f i same (omega arith))
 
--- the tables show no slab at a frame at which none begins
+-- if no slab begins at the frame, the parts show no slab there
 pub no_slab_under : (r : spaces.Content) (s : Content) (t n : ℕ) (cache : own.Cache) (f : ℕ) (o : Option ℕ) → has_slab s o ≡ false → slab_under r s t n cache f o ≡ None
 no_slab_under r s t n cache f None e = refl
 no_slab_under r s t n cache f (Some machine_frame) e =
     ap (λ p. slab_placed (live_of r t cache (kept_at s.kept machine_frame) f) (kept_at s.kept machine_frame).colour f (is_of_cache n f p))
     (none_of (place_at s.lists.places machine_frame) e)
 
--- a frame shows the same slab as before if it has the same machine frame, the same entry there in the cache's lists, the same
--- stored state, and the same live objects
+-- The parts show the same slab at frame f as before if f has the same machine frame, with the same entry in the cache's lists. If
+-- the entry is a slab, its stored state and its live objects must also be the same.
 pub same_slab : (r r' : spaces.Content) (s s' : Content) (t c f : ℕ) (cache : own.Cache) → machine_frame_of s'.top r'.slots t f ≡ machine_frame_of s.top r.slots t f
     → ((n : ℕ) → machine_frame_of s.top r.slots t f ≡ Some n → is_of_cache (index_of_cache t c) f (place_at s'.lists.places n) ≡ is_of_cache (index_of_cache t c) f (place_at s.lists.places n))
     → ((n : ℕ) → machine_frame_of s.top r.slots t f ≡ Some n → is_of_cache (index_of_cache t c) f (place_at s.lists.places n) ≡ true
@@ -187,14 +187,14 @@ same_slab r r' s s' t c f cache machine_frame listed stays =
         ∙ placed n at (is_of_cache (index_of_cache t c) f (place_at s.lists.places n)) refl
 
 module _ (r : spaces.Content) (b : buddies.Content) (s : Content) (t : ℕ) (st : IsSteady r b s t) where
-  -- a slab has the same live objects if its control record is unchanged
+  -- a slab has the same live objects as before if its control record is unchanged
   pub live_stays : (r' : spaces.Content) (kept : Kept) (c f n : ℕ) (cache : own.Cache) → IsSlab r s t c f n cache
       → (is_small (layout_numbers cache).chunk ≡ true → (j : ℕ) → j < 32 → record_byte r' t f j ≡ record_byte r t f j)
       → live_of r' t cache kept f ≡ live_of r t cache kept f
   live_stays r' kept c f n cache q same = all_stay r r' t cache kept f ((st.stands c f n cache q).layout.fits 0).few same
 
 module _ (r : spaces.Content) (s : Content) (t c : ℕ) (cache : own.Cache) (cached : cache_at s t c ≡ Some cache) where
-  -- the slab at frame f, machine frame n, as the parts show it
+  -- the slab at frame f, whose machine frame is n, as the parts show it
   abbrev pub shown : ℕ → ℕ → Slab
   shown f n = record { first = f; colour = (kept_at s.kept n).colour; live = live_of r t cache (kept_at s.kept n) f }
 
@@ -229,7 +229,7 @@ module _ (r : spaces.Content) (s : Content) (t c : ℕ) (cache : own.Cache) (cac
       ∙ ap (slab_placed (live_of r t cache (kept_at s.kept n) f) (kept_at s.kept n).colour f) q.listed
 
 module _ (r : spaces.Content) (b : buddies.Content) (s : Content) (t : ℕ) (m : Machine) (h : ShowsMachine r b s t m) where
-  -- each cache of the tables is one of the machine
+  -- each cache of the tables is also a cache of the machine, with the same layout
   pub record IsCacheShown (c : ℕ) (cache : own.Cache) : Type 0 where
     pub shown : Cache
     pub cached : cache_of m c ≡ Some shown
@@ -244,7 +244,7 @@ module _ (r : spaces.Content) (b : buddies.Content) (s : Content) (t : ℕ) (m :
       let there = mapped_from without_slabs (cache_of m c) (bare c cache) (h.caches c ∙ ap (option_map (bare c)) e) in
       record { shown = there.0; cached = there.1; same = there.2; layout = layout_of_bare c there.0 cache there.2 }
 
-  -- conversely, each cache of the machine is one of the tables
+  -- conversely, each cache of the machine is also a cache of the tables, with the same layout
   pub record IsCacheKept (c : ℕ) (x : Cache) : Type 0 where
     pub kept : own.Cache
     pub cached : cache_at s t c ≡ Some kept
@@ -261,7 +261,7 @@ module _ (r : spaces.Content) (b : buddies.Content) (s : Content) (t : ℕ) (m :
         layout = layout_of_bare c x there.0 (sym there.2);
       }
 
-  -- each slab of the tables is one of the machine
+  -- each slab of the tables is also a slab of the machine
   pub record IsSlabIn (c f n : ℕ) (cache : own.Cache) (cached : cache_at s t c ≡ Some cache) : Type 0 where
     pub there : IsCacheShown c cache
     pub slab : slab_of there.shown f ≡ Some (shown r s t c cache cached f n)
@@ -274,7 +274,7 @@ module _ (r : spaces.Content) (b : buddies.Content) (s : Content) (t : ℕ) (m :
         slab = h.slabs c f there.shown cache there.cached q.cached ∙ slab_shown r s t c cache q.cached f n q;
       }
 
-  -- conversely, each slab of the machine is one of the tables
+  -- conversely, each slab of the machine is also a slab of the tables
   pub record IsSlabKept (c f : ℕ) (x : Cache) (y : Slab) : Type 0 where
     pub kept : own.Cache
     pub machine_frame : ℕ
@@ -297,7 +297,7 @@ slot_inside r b s t place c f n cache st q inside =
     same_slot s.top k (place / 4096) f placed.0.0 (number_of_frame f k (place / 4096) placed.0.1 (in_block-true place (block f k) inside))
 
 module _ (r : spaces.Content) (b : buddies.Content) (s : Content) (t : ℕ) (st : IsSteady r b s t) where
-  -- a slab lies in a held slot
+  -- each place of a slab lies in a held slot
   pub slot_held : (place c f n : ℕ) (cache : own.Cache) → IsSlab r s t c f n cache → is_inside place f cache ≡ true
       → is_some (spaces.superblock_at r.slots t (slot_of s.top place)) ≡ true
   slot_held place c f n cache q inside =

@@ -1,4 +1,4 @@
--- The slab that a take uses is the one that the machine finds.
+-- The slab that a take uses in the parts is the slab that a take finds in the machine.
 use Rattle.std.proofs.Common.{◌≡◌, ℕ, ◌<◌, ◌≤◌, Some, None, sym, ap, ◌∙◌, subst, ⊎_elim, arith}
 use Rattle.std.proofs.lemmas.Bool.{false_from_ne_true}
 use Rattle.std.specs.Prelude.{find}
@@ -15,14 +15,14 @@ use Rattle.machine_changes.proofs.SlabsByKind.{to_list, from_list}
 
 module _ (r : spaces.Content) (b : buddies.Content) (s : Content) (w : IsSlabs s) (a : Agree r b s) (t c kind : ℕ) (less : kind < 3)
     (m : Machine) (x : Cache) (h : ShowsMachine r b s t m) (ex : cache_of m c ≡ Some x) where
-  -- if a list is empty, the machine finds no slab of its kind
+  -- if the cache's list of this kind is empty, a search in the machine's cache finds no slab of this kind
   none_found : IsEmpty s.lists.places (head_of t c kind) → find (is_kind kind) x.slabs ≡ None
   none_found none =
       find_none (is_kind kind) x.slabs (λ y i. false_from_ne_true (is_kind kind y) (λ e.
       let there = to_list r b s w a t c kind less m x h ex y i e in
       none there.machine_frame y.first there.place))
 
-  -- the first slab of a list is the first one of its kind in the machine
+  -- a search in the machine's cache for a slab of this kind finds the slab at frame `first`
   record IsFound (first : ℕ) : Type 0 where
     slab : Slab
     found : find (is_kind kind) x.slabs ≡ Some slab

@@ -1,4 +1,4 @@
--- If a slab is made in the parts, the cache grows by this slab in the machine.
+-- After a slab is made in the parts, the parts show the old machine with the cache grown by this slab.
 use Rattle.std.proofs.Common.{◌≡◌, ◌≢◌, ℕ, ◌+◌, ◌-◌, ◌*◌, ◌/◌, ◌%◌, ◌^◌, ◌<◌, ◌≤◌, Bool, true, false, cond, zero, suc, [], ◌∷◌, map, Some, None, refl, sym, ap, ◌∙◌, subst, ◌⊎◌, inl, inr, ⊎_elim, arith}
 use Rattle.std.specs.Prelude.{Option, option_map, is_some, replicate, ◌&&◌, ◌==◌}
 use Rattle.std.proofs.lemmas.Bool.{eq-eqb, ne_eqb, cases_eq, false_from_ne_true}
@@ -25,7 +25,7 @@ use Rattle.machine_changes.specs.Laws.{GrownShows}
 use Rattle.machine_changes.proofs.Lookups.{some_none, some_same, found_key, keys_replaced, found_new, found_other, in_found, found_put}
 use Rattle.machine_changes.proofs.SlabFacts.{one_listed, one_slab, one_machine_frame, same_slab, live_stays, record_inside, cache_kept}
 
--- if no number passes the test, all flags are false
+-- if none of the n numbers from k on passes the test, all their flags are false
 pub all_down : (k n : ℕ) (p : ℕ → Bool) → ((i : ℕ) → k ≤ i → i < k + n → p i ≡ false) → flags_from k n p ≡ replicate n false
 all_down k zero p down = refl
 all_down k (suc n) p down =
@@ -44,14 +44,14 @@ module _ (r r' : spaces.Content) (b b' : buddies.Content) (s s' : Content) (t c 
   machine_frame_same : (g : ℕ) → machine_frame_of s'.top r'.slots t g ≡ machine_frame_of s.top r.slots t g
   machine_frame_same g = ap (λ top. machine_frame_of top r'.slots t g) k.top ∙ ap (frame_under s.top g) (k.slots (g / 2 ^ s.top))
 
-  -- the new slab's block shares no place with another slab
+  -- the new slab's block shares no place with any older slab
   apart_slab : (place d g x : ℕ) (other : own.Cache) → IsSlab r s t d g x other → is_inside place g other ≡ true → is_inside place f cache ≡ false
   apart_slab place d g x other q inside =
       false_from_ne_true (is_inside place f cache) (λ here.
       apart g (layout_numbers other).order (place / 4096) (st.stands d g x other q).taken
       (in_block-true place (block g (layout_numbers other).order) inside) (in_block-true place (block f (layout_numbers cache).order) here))
 
-  -- the block was not taken before
+  -- no taken block began at frame f before
   untaken : buddies.taken_of (buddies.holding_of t b) f ≡ None
   untaken = go (buddies.taken_of (buddies.holding_of t b) f) refl
     where
@@ -63,7 +63,7 @@ module _ (r r' : spaces.Content) (b b' : buddies.Content) (s s' : Content) (t c 
   not_first d g x other q same =
       some_none (sym (st.stands d g x other q).taken ∙ ap (buddies.taken_of (buddies.holding_of t b)) same ∙ untaken)
 
-  -- another frame has another machine frame
+  -- a frame other than f has a machine frame other than n
   differs : (g x : ℕ) → machine_frame_of s.top r.slots t g ≡ Some x → g ≢ f → x ≢ n
   differs g x under other same = other (one_machine_frame r b s t st g f x under (k.under ∙ ap (λ y. Some y) (sym same)))
 
@@ -169,7 +169,7 @@ module _ (r r' : spaces.Content) (b b' : buddies.Content) (s s' : Content) (t c 
       ∙ ap (λ kept. slab_placed (live_of r' t cache kept f) kept.colour f true) k.fresh
       ∙ ap (λ live. slab_placed live (fresh_kept cache).colour f true) new_live
 
-  -- the new slab is not in a list of another cache
+  -- no cache other than c has a slab at frame f
   none_new : (d : ℕ) (other : own.Cache) → d ≢ c → slab_at r' s' t d other f ≡ None
   none_new d other differ =
       let unlisted : is_of_cache (index_of_cache t d) f (place_at s'.lists.places n) ≡ false =
@@ -210,7 +210,7 @@ module _ (r r' : spaces.Content) (b b' : buddies.Content) (s s' : Content) (t c 
   has_new = ap (has_slab s') (machine_frame_same f ∙ k.under) ∙ ap is_some k.listed
 
   module _ (m : Machine) (x : Cache) (ex : cache_of m c ≡ Some x) (h : ShowsMachine r b s t m) where
-    -- the machine's cache without its slabs is that of the tables
+    -- apart from the slabs, the machine's cache is the cache of the tables
     same : without_slabs x ≡ bare c cache
     same =
         let there = cache_kept r b s t m h c x ex in
@@ -226,7 +226,7 @@ module _ (r r' : spaces.Content) (b b' : buddies.Content) (s s' : Content) (t c 
     inside_is : (place : ℕ) → in_block place (slab_block x (new_slab x f)) ≡ is_inside place f cache
     inside_is place = ap (λ z. in_block place (block f (layout z).order)) same
 
-    -- the byte at a place of the new slab
+    -- the byte that cache z puts at this place of its new slab at frame f, or None if the place is in no object
     abbrev byte_of : Cache → ℕ → Option ℕ
     byte_of z place = cond (in_object (layout z) z.size (colour_offset z.align z.made (layout z)) (place - 4096 * f))
         (Some (pattern_byte z.pattern ((place - 4096 * f - colour_offset z.align z.made (layout z)) % (layout z).chunk))) None
@@ -272,7 +272,7 @@ module _ (r r' : spaces.Content) (b b' : buddies.Content) (s s' : Content) (t c 
         (each_from (λ y. y.first ≢ f) x.slabs (λ y i e.
         some_none (sym (in_found (λ z. z.first) 0 y x.slabs (h.slabs_rise c x ex) i) ∙ ap (slab_of x) e ∙ no_slab)))
 
-    -- a cache of the grown machine is the grown cache or one of the others, which are unchanged
+    -- z is the grown cache, or it is a cache with another number, which is unchanged
     abbrev WasCache : ℕ → Cache → Type 0
     WasCache d z = ((d ≡ c) × (z ≡ grown_cache f x)) ⊎ ((d ≢ c) × (cache_of m d ≡ Some z))
 

@@ -1,4 +1,4 @@
--- The slabs of a kind are those in the list of that kind.
+-- The slabs in a cache's list of one kind are exactly the cache's slabs of that kind.
 use Rattle.std.proofs.Common.{◌≡◌, ℕ, zero, suc, ◌+◌, ◌*◌, ◌/◌, ◌%◌, ◌<◌, Bool, true, false, not, cond, eqb, length, Some, refl, sym, ap, ◌∙◌, subst, arith}
 use Rattle.std.specs.Prelude.{◌==◌, ◌&&◌}
 use Rattle.std.proofs.lemmas.Bool.{eqb-true, eq-eqb, ne_eqb}
@@ -35,7 +35,7 @@ three_kinds (suc (suc zero)) false true apart less = refl
 three_kinds (suc (suc zero)) false false apart less = refl
 three_kinds (suc (suc (suc kind))) full empty apart less = absurd (omega arith)
 
--- the kind of a slab with at least one object is the kind of its number of live objects
+-- a slab's kind follows from its number of objects and its number of live objects, if it has an object
 pub kind_is : (kind : ℕ) (y : Slab) → 0 < length y.live → kind < 3 → is_kind kind y ≡ (kind_of (length y.live) (count_true y.live) == kind)
 kind_is kind y some less =
     ap (λ v. cond (eqb kind 0) v (cond (eqb kind 1) (not v && not (is_empty y)) (is_empty y))) (all_counts y.live)
@@ -73,7 +73,7 @@ module _ (r : spaces.Content) (b : buddies.Content) (s : Content) (w : IsSlabs s
       ∙ ap (λ k. k == kind) (sym kept.2.kind)
 
   module _ (m : Machine) (x : Cache) (h : ShowsMachine r b s t m) (ex : cache_of m c ≡ Some x) where
-    -- the slab is in the list of kind `kind`
+    -- the slab is in the cache's list of kind `kind`
     pub record IsInList (y : Slab) : Type 0 where
       pub machine_frame : ℕ
       pub place : place_at s.lists.places machine_frame ≡ Some (head_of t c kind, y.first)
@@ -90,7 +90,7 @@ module _ (r : spaces.Content) (b : buddies.Content) (s : Content) (w : IsSlabs s
           place = p.place ∙ ap (λ (head : ℕ). Some (head, y.first)) (head_is p.head (index_of_cache t c) kind p.index kind_there);
         }
 
-    -- a slab of kind `kind` begins at the frame
+    -- a slab of kind `kind` of the machine's cache begins at frame `first`
     pub record IsOfKind (first : ℕ) : Type 0 where
       pub slab : Slab
       pub listed : IsIn slab x.slabs

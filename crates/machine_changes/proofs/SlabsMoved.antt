@@ -1,4 +1,5 @@
--- A tenant's slabs are moved to other machine frames, with their stored states. Its bytes are the same.
+-- If a tenant's slabs move to other machine frames with their stored states, and its bytes stay the same, it has the same
+-- machine.
 use Rattle.std.proofs.Common.{◌≡◌, ℕ, ◌+◌, ◌-◌, ◌*◌, cond, Some, None, refl, sym, ap, ◌∙◌, ◌/◌, ◌%◌}
 use Rattle.std.specs.Prelude.{Option, option_map, is_some, ⊤}
 use Rattle.model_core.specs.Layouts.{in_object, is_small}
@@ -15,19 +16,19 @@ use Rattle.machine_changes.specs.Shows.{machine_frame_of, byte_or_zero, live_of,
 use Rattle.machine_changes.proofs.Lookups.{some_none, some_same}
 use Rattle.machine_changes.proofs.SlabFacts.{same_below}
 
--- a slab has the same live objects if its control record is unchanged
+-- a slab has the same live objects as before if its control record is unchanged
 live_same : (r r' : spaces.Content) (t : ℕ) (cache : own.Cache) (kept : Kept) (f : ℕ)
     → ((j : ℕ) → record_byte r' t f j ≡ record_byte r t f j) → live_of r' t cache kept f ≡ live_of r t cache kept f
 live_same r r' t cache kept f same =
     same_below 0 (layout_numbers cache).count (is_live r' t cache kept f) (is_live r t cache kept f)
     (λ i low high. ap (λ x. cond (is_small (layout_numbers cache).chunk) (is_set x (i % 8)) (is_set kept.outside i)) (same (i / 8)))
 
--- the second machine frame has the slab that the first one had
+-- machine frame n' now has the slab and the stored state that machine frame n had before
 pub record IsSameSlab (s s' : Content) (n n' : ℕ) : Type 0 where
   pub place : place_at s'.lists.places n' ≡ place_at s.lists.places n
   pub kept : kept_at s'.kept n' ≡ kept_at s.kept n
 
--- the second machine frame has the slab that the first one had, or there are no machine frames: both are `None`
+-- the new machine frame has the slab and the stored state that the old machine frame had, or both machine frames are `None`
 abbrev pub SameSlab : Content → Content → Option ℕ → Option ℕ → Type 0
 SameSlab s s' None None = ⊤
 SameSlab s s' None (Some n') = ⊥
@@ -65,7 +66,7 @@ module _ (r r' : spaces.Content) (b b' : buddies.Content) (s s' : Content) (t : 
   slab_same : (c f : ℕ) (cache : own.Cache) → slab_at r' s' t c cache f ≡ slab_at r s t c cache f
   slab_same c f cache = slab_same_under (index_of_cache t c) f cache (machine_frame_of s.top r.slots t f) (machine_frame_of s'.top r'.slots t f) (k.machine_frames f)
 
-  -- the slab of before that is now at machine frame n'
+  -- the slab that is now at machine frame n' was at `machine_frame` before
   record WasSlab (c f n' : ℕ) (cache : own.Cache) : Type 0 where
     pub machine_frame : ℕ
     pub slab : IsSlab r s t c f machine_frame cache

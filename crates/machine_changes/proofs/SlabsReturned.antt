@@ -1,4 +1,4 @@
--- If slabs are freed in the parts, they are freed in the machine.
+-- After slabs are freed in the parts, the parts show the old machine with these slabs freed.
 use Rattle.std.proofs.Common.{◌≡◌, ℕ, ◌+◌, ◌-◌, ◌*◌, ◌/◌, ◌^◌, Bool, true, false, not, cond, map, Some, None, refl, sym, ap, ◌∙◌, subst}
 use Rattle.std.specs.Prelude.{Option, option_map, is_some, filter, flat_map}
 use Rattle.std.specs.List.{list_any}
@@ -38,7 +38,7 @@ module _ (r r' : spaces.Content) (b b' : buddies.Content) (s s' : Content) (t : 
   pub has_now : (f : ℕ) → has_slab s' (machine_frame_of s'.top r'.slots t f) ≡ cond (gone f) false (has_slab s (machine_frame_of s.top r.slots t f))
   has_now f = ap (has_slab s') (machine_frame_same f) ∙ has_now_under f (machine_frame_of s.top r.slots t f) refl
 
-  -- after the change, a slab of the cache is listed at the frame if one was before and it is not a freed one
+  -- after the change, a slab of the cache begins at frame f if and only if one did before and `gone` does not select it
   pub listed_now : (d f n : ℕ) → machine_frame_of s.top r.slots t f ≡ Some n
       → is_of_cache d f (place_at s'.lists.places n) ≡ cond (gone f) false (is_of_cache d f (place_at s.lists.places n))
   listed_now d f n under = ap (is_of_cache d f) (k.lists f n under) ∙ through (is_of_cache d f) (gone f) None (place_at s.lists.places n)
@@ -47,7 +47,7 @@ module _ (r r' : spaces.Content) (b b' : buddies.Content) (s s' : Content) (t : 
   true_unless true w e = absurd (false≢true e)
   true_unless false w e = (refl, e)
 
-  -- each slab after the change existed before, and is not one of the freed ones
+  -- each slab after the change existed before, and `gone` does not select it
   pub slab_was : (c f n : ℕ) (cache : own.Cache) → IsSlab r' s' t c f n cache → IsSlab r s t c f n cache × (gone f ≡ false)
   slab_was c f n cache p =
       let under : machine_frame_of s.top r.slots t f ≡ Some n = sym (machine_frame_same f) ∙ p.under in

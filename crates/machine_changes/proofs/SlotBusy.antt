@@ -36,7 +36,7 @@ overlap_tells a b is =
     (λ le. (a.first, (omega arith, omega arith), (le, left)))
     (cases_lt a.first b.first)
 
--- a test that holds of a block which a lookup finds holds of some block of the list
+-- if the block that a lookup finds passes the test, some block of the list passes the test
 any_told : (p : Block → Bool) (bs : List Block) (f k : ℕ) → order_in bs f ≡ Some k → p (block f k) ≡ true → list_any p bs ≡ true
 any_told p [] f k told passes = absurd (some_none (sym told))
 any_told p (z ∷ bs) f k told passes = ⊎_elim here (elsewhere (λ rest. any_told p bs f k rest passes)) (cases_eq z.first f)

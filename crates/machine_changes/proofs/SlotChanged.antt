@@ -1,4 +1,4 @@
--- One slot of a tenant, in which no slab lies, gets a superblock or loses it.
+-- If a slot without slabs gets or loses a superblock, only this slot and its bytes change in the machine that the parts show.
 use Rattle.std.proofs.Common.{◌≡◌, ◌≢◌, ℕ, ◌+◌, ◌*◌, ◌/◌, ◌^◌, ◌<◌, Bool, true, false, cond, eqb, List, Some, None, refl, sym, ap, ◌∙◌, subst, ⊎_elim, arith}
 use Rattle.std.specs.Prelude.{Option, is_some}
 use Rattle.std.proofs.lemmas.Bool.{false≢true, ne_eqb, cases_eq}
@@ -30,8 +30,8 @@ record_slot top f j less =
     let here : (4096 * f + 4064 + j) / 4096 ≡ f = ap (λ x. x / 4096) (omega arith) ∙ div-mul-add f 4096 (4064 + j) (omega arith) in
     ap (λ x. x / 2 ^ top) here
 
--- Slot u of tenant t now has the superblock `under`, or none. Each of its places reads as `byte`, or has no byte. No slab lies
--- in the slot, before or after.
+-- Slot u of tenant t now has the superblock `under`, or none if that is None. Each place of the slot now has the byte `byte`, or
+-- none if that is None. All else that the tenant has is unchanged. No slab lies in the slot, before or after.
 pub record IsReslotted (r r' : spaces.Content) (b b' : buddies.Content) (s : Content) (t u : ℕ) (under byte : Option ℕ) : Type 0 where
   pub slots : (v : ℕ) → spaces.superblock_at r'.slots t v ≡ cond (eqb v u) under (spaces.superblock_at r.slots t v)
   pub bytes : (place : ℕ) → byte_at r' t place ≡ cond (eqb (slot_of s.top place) u) byte (byte_at r t place)
@@ -55,7 +55,7 @@ module _ (r r' : spaces.Content) (b b' : buddies.Content) (s : Content) (t u : �
       ap byte_or_zero (k.bytes place
       ∙ ap (λ v. cond v byte (byte_at r t place)) (ne_eqb (slot_of s.top place) u (λ e. differ (sym (record_slot s.top f j less) ∙ e))))
 
-  -- the tenant's slabs still agree
+  -- the parts still agree on the tenant's slabs
   pub mine_agreed : IsSlabs s → Agree r b s → (n head key : ℕ) (cache : own.Cache) → place_at s.lists.places n ≡ Some (head, key)
       → cache_in s.caches (head / 3) ≡ Some cache → head / 3 / MOST_CACHES ≡ t → IsAgreed r' b' s n head key cache
   mine_agreed w a n head key cache placed cached is =
@@ -73,7 +73,7 @@ module _ (r r' : spaces.Content) (b b' : buddies.Content) (s : Content) (t u : �
       let differ : f / 2 ^ s.top ≢ u = λ e. false≢true (sym (k.was_bare f e) ∙ has_it r s t c f n cache q) in
       record { cached = q.cached; under = machine_frame_same f differ ∙ q.under; listed = q.listed }
 
-  -- each slab lies in another slot
+  -- each slab lies in a slot other than u
   slab_elsewhere : (c f n : ℕ) (cache : own.Cache) → IsSlab r' s t c f n cache → f / 2 ^ s.top ≢ u
   slab_elsewhere c f n cache q e = false≢true (sym (k.is_bare f e) ∙ has_it r' s t c f n cache q)
 
@@ -97,7 +97,7 @@ module _ (r r' : spaces.Content) (b b' : buddies.Content) (s : Content) (t u : �
         )))
         (cases_eq (f / 2 ^ s.top) u)
 
-    -- the parts show the machine with these slots and with the slot's new bytes
+    -- the parts show the old machine with these slots, and with `byte` at each place of slot u
     pub reslotted_shows : (m : Machine) (slots : List ℕ) → RisesFrom 0 slots
         → ((v : ℕ) → has v slots ≡ cond (eqb v u) (is_some under) (has v m.slots)) → is_some byte ≡ is_some under
         → ShowsMachine r b s t m

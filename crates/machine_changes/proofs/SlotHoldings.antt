@@ -1,4 +1,4 @@
--- The slots that a tenant holds after one of them changes.
+-- After one slot of a tenant changes in the buddy system, the other slots still have the superblocks that the memory has.
 use Rattle.std.proofs.Common.{◌≡◌, ℕ, ◌<◌, cond, eqb, length, Some, None, get_or-set_same, get_or-set_other, sym, ap, ◌∙◌, ⊎_elim, arith}
 use Rattle.std.specs.Prelude.{Option, List, slice_index_or, slice_set}
 use Rattle.std.proofs.lemmas.Bool.{eq-eqb, ne_eqb, cases_eq}
@@ -17,7 +17,8 @@ replaced xs u x v below = ⊎_elim
     (λ differ. get_or-set_other xs u v x None differ ∙ sym (ap (λ w. cond w x (slice_index_or xs v None)) (ne_eqb v u differ)))
     (cases_eq v u)
 
--- after slot u of the tenant in the buddy system becomes x, every other slot there has the superblock that the memory has in it
+-- after entry u of the tenant's slots in the buddy system becomes x, every other entry is the superblock that the memory has in
+-- that slot
 pub slots_with : (r : spaces.Content) (b : buddies.Content) (s : Content) → HoldTogether r b s → (t u v : ℕ) (x : Option ℕ) → t < length r.slots → u < length r.owners
     → slice_index_or (slice_set (buddies.holding_of t b).slots u x) v None ≡ cond (eqb v u) x (spaces.superblock_at r.slots t v)
 slots_with r b s h t u v x tenant slot =

@@ -1,4 +1,4 @@
--- Rising lists of held slots after one is added or removed.
+-- A rising list of held slots still rises after a slot is added or removed. Its least missing number is the next slot.
 use Rattle.std.proofs.Common.{◌≡◌, ◌≢◌, ℕ, ◌+◌, ◌<◌, ◌≤◌, Bool, true, false, not, ◌||◌, cond, eqb, List, [], ◌∷◌, Some, None, refl, sym, ap, ◌∙◌, subst, ⊎_elim, arith}
 use Rattle.std.specs.Prelude.{filter, find, Option, is_some}
 use Rattle.std.proofs.lemmas.Bool.{false≢true, eq-eqb, ne_eqb, cases_eq, cases_lt}
@@ -9,7 +9,7 @@ use Rattle.model_core.proofs.Lists.{any_in, each_from, put_rises, filter_rises, 
 use Rattle.model_core.proofs.RisingLists.{has, none_below}
 use Rattle.machine_changes.proofs.Lookups.{eq_turned, found_put, found_kept, through}
 
--- u if it is one of these slots, or None
+-- u if the list has u, or None
 abbrev slot_in : ℕ → List ℕ → Option ℕ
 slot_in u xs = find (λ v. eqb v u) xs
 
@@ -21,7 +21,7 @@ has_is u (x ∷ xs) = go (eqb x u) (has_is u xs)
     go true more = refl
     go false more = more
 
--- The slots with one more
+-- After a slot is added
 
 pub has_put : (u : ℕ) (xs : List ℕ) (v : ℕ) → has u xs ≡ false → has v (put_rising (λ x. x) u xs) ≡ cond (eqb v u) true (has v xs)
 has_put u xs v new =
@@ -37,7 +37,7 @@ put_still_rises u xs rises new =
     (put_rises (λ x. x) 0 u xs (subst (λ ys. RisesFrom 0 ys) (sym (map-id xs)) rises) (omega arith)
     (each_from (λ y. y ≢ u) xs (λ y i same. false≢true (sym new ∙ any_in (λ v. eqb v u) y xs i (eq-eqb y u same)))))
 
--- The slots with one less
+-- After a slot is removed
 
 pub has_less : (u : ℕ) (xs : List ℕ) (v : ℕ) → has v (filter (λ x. not (eqb x u)) xs) ≡ cond (eqb v u) false (has v xs)
 has_less u xs v =
@@ -51,7 +51,7 @@ less_still_rises u xs rises =
     subst (λ ys. RisesFrom 0 ys) (map-id (filter (λ x. not (eqb x u)) xs))
     (filter_rises (λ x. x) (λ x. not (eqb x u)) 0 xs (subst (λ ys. RisesFrom 0 ys) (sym (map-id xs)) rises))
 
--- the least number that is missing in a rising list
+-- if a rising list lacks u and has all numbers from n up to u, its least missing number from n on is u
 pub least_missing_is : (n u : ℕ) (xs : List ℕ) → RisesFrom n xs → n ≤ u → has u xs ≡ false → ((v : ℕ) → n ≤ v → v < u → has v xs ≡ true)
     → least_missing n xs ≡ u
 least_missing_is n u [] rises low missing below =
