@@ -45,7 +45,7 @@ count_table table (suc n) le =
     let next : count_by is_some (take (suc n) table) ≡ count_by is_some (take (n + 1) table) = ap (λ k. count_by is_some (take k table)) (sym (add-one n)) in
     omega arith
 
--- among the first n slots, the number of frames in slots that pass the test is 2 ^ top times the number of these slots
+-- if k of the first n slots pass the test, exactly k * 2 ^ top frames of the first n slots lie in slots that pass
 count_slots : (top : ℕ) (held : ℕ → Bool) (n : ℕ) → count_below (λ x. held (x / 2 ^ top)) (n * 2 ^ top) ≡ count_below held n * 2 ^ top
 count_slots top held zero = ap (count_below (λ x. held (x / 2 ^ top))) (zero-mul (2 ^ top)) ∙ sym (zero-mul (2 ^ top))
 count_slots top held (suc n) =
@@ -82,7 +82,8 @@ module _ (top superblocks : ℕ) (h : buddies.Holding) (long : length h.slots �
       ap (buddies.is_held h) (same_slot top k x f placed.0.0 (number_of_frame f k x placed.0.1 (low, high))) ∙ placed.1) in
       omega (arith, run, mul-one (2 ^ k))
 
-  -- if all taken blocks that begin below n end at or below e, they have at most as many frames as held slots have below e
+  -- if all taken blocks that begin below n end at or below e, together they have at most as many frames as lie in held slots
+  -- below e
   sizes_within : (n e : ℕ) → n ≤ length h.taken → ((f k : ℕ) → f < n → get_or h.taken f None ≡ Some k → f + 2 ^ k ≤ e)
       → sum_by size (take n h.taken) ≤ count_below inside e
   sizes_within zero e le ends = omega arith

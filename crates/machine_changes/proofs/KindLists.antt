@@ -1,4 +1,4 @@
--- The keys of each list of a cache are exactly the first frames of the cache's slabs of one kind.
+-- The keys of a cache's list of each kind are exactly the first frames of the cache's slabs of that kind.
 use Rattle.std.proofs.Common.{ℕ, List, map, subst}
 use Rattle.std.specs.Prelude.{filter}
 use Rattle.model_core.specs.Elements.{IsIn}
@@ -10,7 +10,7 @@ use Rattle.slab_tables.specs.Content.{head_of}
 use Rattle.machine_changes.specs.Laws.{is_kind, KindsHold}
 use Rattle.machine_changes.proofs.SlabsByKind.{to_list, from_list}
 
--- if x is in xs, x is in xs; the lemma only names x and xs
+-- the given fact that x is in xs, with x and xs named
 pub in_among : {X : Type 0} (x : X) (xs : List X) → IsIn x xs → IsIn x xs
 in_among x xs i = i
 

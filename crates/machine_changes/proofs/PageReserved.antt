@@ -1,4 +1,4 @@
--- After a block is taken that is not a slab, the parts show the old machine with this block as a new page block.
+-- After a block is taken as a page block, the parts show the old machine with this page block added.
 use Rattle.std.proofs.Common.{◌≡◌, ◌≢◌, ℕ, Bool, true, false, cond, eqb, List, [], ◌∷◌, Some, None, refl, sym, ap, ◌∙◌, arith}
 use Rattle.std.specs.Prelude.{Option, option_map}
 use Rattle.std.proofs.lemmas.Bool.{false≢true, ne_eqb, false_from_ne_true}

@@ -10,8 +10,8 @@ use Rattle.machine_changes.specs.Laws.{ReapedShows}
 use Rattle.machine_changes.proofs.Lookups.{in_found}
 use Rattle.machine_changes.proofs.SlabsReturned.{returned_shows}
 
--- two tests that agree on each element of a list keep the same elements, and two functions that agree on each element map it
--- alike
+-- two tests that agree on each element of a list keep the same elements, and two functions that agree on each element map the
+-- list alike
 
 pub filter_same : {X : Type 0} (p q : X → Bool) (xs : List X) → ((x : X) → IsIn x xs → p x ≡ q x) → filter p xs ≡ filter q xs
 filter_same p q [] same = refl

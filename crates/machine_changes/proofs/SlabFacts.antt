@@ -1,4 +1,4 @@
--- The slabs of a tenant in the tables are exactly the slabs of its machine, and no two of them share a place.
+-- The slabs of a tenant in the tables are exactly the slabs of the tenant's machine, and no two of them share a place.
 use Rattle.std.proofs.Common.{◌≡◌, ℕ, ◌+◌, ◌*◌, ◌/◌, ◌%◌, ◌^◌, ◌<◌, ◌≤◌, Bool, true, false, cond, zero, suc, ◌∷◌, Some, None, refl, sym, ap, ◌∙◌, subst, arith}
 use Rattle.std.specs.Prelude.{Option, option_map, is_some, ◌==◌}
 use Rattle.std.proofs.lemmas.Bool.{false≢true, eqb-true, and_parts}
@@ -51,7 +51,7 @@ some_listed : (n f : ℕ) (o : Option (ℕ × ℕ)) → is_of_cache n f o ≡ tr
 some_listed n f None e = absurd (false≢true e)
 some_listed n f (Some p) e = refl
 
--- a list entry belongs to one cache and has one first frame
+-- a list entry is a slab of at most one cache, with at most one first frame
 pub one_listed : (n f n' f' : ℕ) (o : Option (ℕ × ℕ)) → is_of_cache n f o ≡ true → is_of_cache n' f' o ≡ true → (n' ≡ n) × (f' ≡ f)
 one_listed n f n' f' None e e' = absurd (false≢true e)
 one_listed n f n' f' (Some p) e e' =
@@ -126,7 +126,7 @@ module _ (r : spaces.Content) (b : buddies.Content) (s : Content) (t : ℕ) (st 
       (st.stands c' f' n' cache' q').taken (st.stands c f n cache q).taken
       (in_block-true place (block f' (layout_numbers cache').order) i') (in_block-true place (block f (layout_numbers cache).order) i)
 
-  -- the control record of a slab of small objects lies in the slab
+  -- the control record, the last 32 bytes of a slab's first frame, lies in the slab
   pub record_inside : (c f n j : ℕ) (cache : own.Cache) → IsSlab r s t c f n cache → j < 32 → is_inside (4096 * f + 4064 + j) f cache ≡ true
   record_inside c f n j cache q less =
       let here : (4096 * f + 4064 + j) / 4096 ≡ f =
@@ -160,8 +160,8 @@ no_slab_under r s t n cache f (Some machine_frame) e =
     ap (λ p. slab_placed (live_of r t cache (kept_at s.kept machine_frame) f) (kept_at s.kept machine_frame).colour f (is_of_cache n f p))
     (none_of (place_at s.lists.places machine_frame) e)
 
--- The parts show the same slab at frame f as before if f has the same machine frame, with the same entry in the cache's lists. If
--- the entry is a slab, its stored state and its live objects must also be the same.
+-- Let frame f have the same machine frame as before, and let a slab of the cache begin at f if and only if one did before. If
+-- this slab has the same stored state and live objects as before, the parts show the same slab at f as before.
 pub same_slab : (r r' : spaces.Content) (s s' : Content) (t c f : ℕ) (cache : own.Cache) → machine_frame_of s'.top r'.slots t f ≡ machine_frame_of s.top r.slots t f
     → ((n : ℕ) → machine_frame_of s.top r.slots t f ≡ Some n → is_of_cache (index_of_cache t c) f (place_at s'.lists.places n) ≡ is_of_cache (index_of_cache t c) f (place_at s.lists.places n))
     → ((n : ℕ) → machine_frame_of s.top r.slots t f ≡ Some n → is_of_cache (index_of_cache t c) f (place_at s.lists.places n) ≡ true

@@ -15,7 +15,7 @@ use Rattle.machine_changes.proofs.SlabsByKind.{to_list, from_list}
 
 module _ (r : spaces.Content) (b : buddies.Content) (s : Content) (w : IsSlabs s) (a : Agree r b s) (t c kind : ℕ) (less : kind < 3)
     (m : Machine) (x : Cache) (h : ShowsMachine r b s t m) (ex : cache_of m c ≡ Some x) where
-  -- if the cache's list of this kind is empty, a search in the machine's cache finds no slab of this kind
+  -- if the cache's list of this kind is empty, a search in the machine's cache for a slab of this kind finds nothing
   none_found : IsEmpty s.lists.places (head_of t c kind) → find (is_kind kind) x.slabs ≡ None
   none_found none =
       find_none (is_kind kind) x.slabs (λ y i. false_from_ne_true (is_kind kind y) (λ e.

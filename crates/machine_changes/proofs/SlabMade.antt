@@ -169,7 +169,7 @@ module _ (r r' : spaces.Content) (b b' : buddies.Content) (s s' : Content) (t c 
       ∙ ap (λ kept. slab_placed (live_of r' t cache kept f) kept.colour f true) k.fresh
       ∙ ap (λ live. slab_placed live (fresh_kept cache).colour f true) new_live
 
-  -- no cache other than c has a slab at frame f
+  -- after the change, no cache other than c has a slab at frame f
   none_new : (d : ℕ) (other : own.Cache) → d ≢ c → slab_at r' s' t d other f ≡ None
   none_new d other differ =
       let unlisted : is_of_cache (index_of_cache t d) f (place_at s'.lists.places n) ≡ false =
@@ -210,7 +210,7 @@ module _ (r r' : spaces.Content) (b b' : buddies.Content) (s s' : Content) (t c 
   has_new = ap (has_slab s') (machine_frame_same f ∙ k.under) ∙ ap is_some k.listed
 
   module _ (m : Machine) (x : Cache) (ex : cache_of m c ≡ Some x) (h : ShowsMachine r b s t m) where
-    -- apart from the slabs, the machine's cache is the cache of the tables
+    -- apart from its slabs, the machine's cache x is cache c of the tables
     same : without_slabs x ≡ bare c cache
     same =
         let there = cache_kept r b s t m h c x ex in

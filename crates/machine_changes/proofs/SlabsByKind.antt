@@ -35,7 +35,7 @@ three_kinds (suc (suc zero)) false true apart less = refl
 three_kinds (suc (suc zero)) false false apart less = refl
 three_kinds (suc (suc (suc kind))) full empty apart less = absurd (omega arith)
 
--- a slab's kind follows from its number of objects and its number of live objects, if it has an object
+-- if a slab has objects, its kind is `kind_of` its number of objects and its number of live objects
 pub kind_is : (kind : ℕ) (y : Slab) → 0 < length y.live → kind < 3 → is_kind kind y ≡ (kind_of (length y.live) (count_true y.live) == kind)
 kind_is kind y some less =
     ap (λ v. cond (eqb kind 0) v (cond (eqb kind 1) (not v && not (is_empty y)) (is_empty y))) (all_counts y.live)

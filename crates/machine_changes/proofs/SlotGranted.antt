@@ -1,4 +1,5 @@
--- If a superblock without an owner is put into the lowest free slot, the parts show the machine after a grant.
+-- After a superblock without an owner is put into the lowest slot that a tenant does not hold, the parts show `after_grant` of
+-- its old machine.
 use Rattle.std.proofs.Common.{◌≡◌, ◌≢◌, ℕ, ◌/◌, ◌%◌, ◌^◌, ◌<◌, false, cond, eqb, length, Some, None, refl, sym, ap, ◌∙◌, subst}
 use Rattle.std.specs.Prelude.{is_some}
 use Rattle.std.proofs.lemmas.Bool.{eq-eqb}

@@ -1,4 +1,4 @@
--- After one slot of a tenant changes in the buddy system, the other slots still have the superblocks that the memory has.
+-- After one slot of a tenant changes in the buddy system, the buddy system and the memory still agree on all its other slots.
 use Rattle.std.proofs.Common.{◌≡◌, ℕ, ◌<◌, cond, eqb, length, Some, None, get_or-set_same, get_or-set_other, sym, ap, ◌∙◌, ⊎_elim, arith}
 use Rattle.std.specs.Prelude.{Option, List, slice_index_or, slice_set}
 use Rattle.std.proofs.lemmas.Bool.{eq-eqb, ne_eqb, cases_eq}

@@ -1,4 +1,4 @@
--- A rising list of held slots still rises after a slot is added or removed. Its least missing number is the next slot.
+-- A rising list of held slots after a slot is added or removed, and the least number that the list lacks.
 use Rattle.std.proofs.Common.{◌≡◌, ◌≢◌, ℕ, ◌+◌, ◌<◌, ◌≤◌, Bool, true, false, not, ◌||◌, cond, eqb, List, [], ◌∷◌, Some, None, refl, sym, ap, ◌∙◌, subst, ⊎_elim, arith}
 use Rattle.std.specs.Prelude.{filter, find, Option, is_some}
 use Rattle.std.proofs.lemmas.Bool.{false≢true, eq-eqb, ne_eqb, cases_eq, cases_lt}
@@ -51,7 +51,7 @@ less_still_rises u xs rises =
     subst (λ ys. RisesFrom 0 ys) (map-id (filter (λ x. not (eqb x u)) xs))
     (filter_rises (λ x. x) (λ x. not (eqb x u)) 0 xs (subst (λ ys. RisesFrom 0 ys) (sym (map-id xs)) rises))
 
--- if a rising list lacks u and has all numbers from n up to u, its least missing number from n on is u
+-- if a rising list lacks u and has all numbers from n to u - 1, u is the least number from n on that it lacks
 pub least_missing_is : (n u : ℕ) (xs : List ℕ) → RisesFrom n xs → n ≤ u → has u xs ≡ false → ((v : ℕ) → n ≤ v → v < u → has v xs ≡ true)
     → least_missing n xs ≡ u
 least_missing_is n u [] rises low missing below =

@@ -21,8 +21,8 @@ pub record Keeps (r r' : spaces.Content) (b b' : buddies.Content) (s s' : Conten
   pub buddy : buddies.holding_of t b' ≡ buddies.holding_of t b
   pub slabs : IsSameCaches t r s s'
 
--- A call for tenant t changes nothing that other tenants have. In the memory, the call changes only bytes, but none of a
--- superblock without an owner. Of the buddy systems, the call changes only the one of t.
+-- A call for tenant t changes nothing that other tenants have. In the memory only bytes change, and no byte of a superblock
+-- without an owner. Of the buddy systems only the tenant's own changes.
 pub record Spares (t : ℕ) (r r' : spaces.Content) (b b' : buddies.Content) (s s' : Content) : Type 0 where
   pub others : (u : ℕ) → u ≢ t → Keeps r r' b b' s s' u
   pub space : r' ≡ record r { banks = r'.banks }

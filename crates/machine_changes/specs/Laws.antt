@@ -54,7 +54,7 @@ GrownShows = (r r' : spaces.Content) (b b' : buddies.Content) (s s' : Content) (
     → ((g k y : ℕ) → buddies.taken_of (buddies.holding_of t b) g ≡ Some k → HasFrame (block g k) y → HasFrame (block f (layout_numbers cache).order) y → ⊥)
     → cache_of m c ≡ Some x → ShowsMachine r b s t m → ShowsMachine r' b' s' t (grown f x m)
 
--- after a block is taken that is not a slab, the parts show the old machine with this block as a new page block
+-- after a block is taken as a page block, the parts show the old machine with this page block added
 abbrev pub ReservedShows : Type 0
 ReservedShows = (r : spaces.Content) (b b' : buddies.Content) (s : Content) (t f k : ℕ) (m : Machine)
     → IsSteady r b s t → buddies.taken_of (buddies.holding_of t b) f ≡ None

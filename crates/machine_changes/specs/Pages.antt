@@ -57,7 +57,7 @@ ReachMeets = (r : spaces.Content) (b : buddies.Content) (s : Content) (t place l
     → IsSteady r b s t → ShowsMachine r b s t m → (in_reach m place len ≡ true) ↔ IsInReach r b s t place len
 
 -- Let a range that is not empty begin in a taken block. The range lies inside a page block if and only if this taken block is not
--- a slab and the range ends inside it.
+-- a slab and the range ends inside this block.
 abbrev pub BlockDecides : Type 0
 BlockDecides = (r : spaces.Content) (b : buddies.Content) (s : Content) (t place len first order : ℕ)
     → IsSteady r b s t → 0 < len → buddies.taken_of (buddies.holding_of t b) first ≡ Some order → HasFrame (block first order) (place / FRAME_BYTES)
@@ -80,7 +80,7 @@ ReachBytes = (r : spaces.Content) (b : buddies.Content) (s : Content) (t place l
     → IsSteady r b s t → ShowsMachine r b s t m → IsInReach r b s t place len
     → (p : ℕ) → place ≤ p → p < place + len → m.bytes p ≡ byte_at r t p
 
--- a read of a range in reach returns, in the machine, the bytes that the memory has there
+-- in the machine, a read of a range in reach returns the bytes that the memory has there
 abbrev pub ReachReads : Type 0
 ReachReads = (r : spaces.Content) (b : buddies.Content) (s : Content) (t place len : ℕ) (bytes : List ℕ) (m : Machine)
     → IsSteady r b s t → ShowsMachine r b s t m → IsInReach r b s t place len
@@ -114,7 +114,7 @@ abbrev pub OneMachine : Type 0
 OneMachine = (r : spaces.Content) (b : buddies.Content) (s : Content) (t : ℕ) (m n : Machine)
     → ShowsMachine r b s t m → ShowsMachine r b s t n → m ≡ n
 
--- byte i of the control record in machine frame n, which is the last 32 bytes of that frame
+-- Byte i of the control record in machine frame n. The control record is the last 32 bytes of the frame.
 abbrev pub record_at : spaces.Content → Content → ℕ → ℕ → ℕ
 record_at r s n i = slice_index (spaces.bank r.banks (n / 2 ^ s.top)) (FRAME_BYTES * (n % 2 ^ s.top) + RECORD_OFFSET + i)
 

@@ -77,7 +77,7 @@ pub record IsSlab (r : spaces.Content) (s : Content) (t c f n : ℕ) (cache : ow
   pub under : machine_frame_of s.top r.slots t f ≡ Some n
   pub listed : is_of_cache (index_of_cache t c) f (place_at s.lists.places n) ≡ true
 
--- the place lies in the block of a slab of the cache, if that slab begins at frame f
+-- a slab of the cache at frame f contains the place
 abbrev pub is_inside : ℕ → ℕ → own.Cache → Bool
 is_inside place f cache = in_block place (block f (layout_numbers cache).order)
 
@@ -106,7 +106,7 @@ pub record IsAgreed (r : spaces.Content) (b : buddies.Content) (s : Content) (n 
   pub under : machine_frame_of s.top r.slots (head / 3 / MOST_CACHES) key ≡ Some n
   pub taken : buddies.taken_of (buddies.holding_of (head / 3 / MOST_CACHES) b) key ≡ Some (layout_numbers cache).order
   pub counted : (kept_at s.kept n).live ≡ count_true (live_of r (head / 3 / MOST_CACHES) cache (kept_at s.kept n) key)
-  -- no index from the number of objects on is live, so the bits of the control record after those of the objects are 0
+  -- all bits after the last object's bit are 0, in the control record or in the stored state
   pub rest : (i : ℕ) → (layout_numbers cache).count ≤ i → i < 256 → is_live r (head / 3 / MOST_CACHES) cache (kept_at s.kept n) key i ≡ false
 
 -- the memory, the buddy systems and the tables agree on their sizes, on the superblock in each slot of each tenant, and on each

@@ -1,5 +1,4 @@
--- For each tenant, `AreBelow` has a bound: a number that is greater than the numbers of all its caches. Changes of caches keep
--- it.
+-- `AreBelow` has a bound for each tenant: a number greater than the numbers of all its caches. Changes of caches keep `AreBelow`.
 use Rattle.std.proofs.Common.{◌≡◌, ℕ, ◌*◌, ◌/◌, ◌%◌, ◌<◌, ◌≤◌, List, Option, Some, None, length, get_or, set, replicate, sym, ap, ◌∙◌, inl, inr, arith}
 use Rattle.std.proofs.lemmas.Bool.{cases_eq}
 use Rattle.std.proofs.lemmas.List.{length-set, length-replicate, get_or-set_same, get_or-set_other}
@@ -8,8 +7,8 @@ use Rattle.model_core.proofs.Lists.{everywhere}
 use Rattle.slab_tables.specs.declared.cache.Cache.{Cache}
 use Rattle.slab_tables.specs.Content.{AreBelow, cache_in, index_of_cache}
 
--- `AreBelow` holds after entry i of the table of caches is replaced by o, if o is `None` or its cache number is below the bound
--- of its tenant
+-- `AreBelow` holds after entry i of the caches is replaced by o, if o is `None` or the entry's cache number is below the bound of
+-- its tenant
 pub below_cache : (cs : List (Option Cache)) (bs : List ℕ) (i : ℕ) (o : Option Cache) → i < length cs → (get_or bs (i / MOST_CACHES) 0 ≤ i % MOST_CACHES → o ≡ None)
     → AreBelow cs bs → AreBelow (set cs i o) bs
 below_cache cs bs i o lt none a = record {
@@ -26,8 +25,8 @@ pub below_standing : (cs : List (Option Cache)) (bs : List ℕ) (i : ℕ) (c : C
     → (o : Option Cache) → get_or bs (i / MOST_CACHES) 0 ≤ i % MOST_CACHES → o ≡ None
 below_standing cs bs i c is a o le = absurd (let f : ◌≡◌ {A = Option Cache} None (Some c) = sym (a.none i le) ∙ is in cc)
 
--- if tenant t has no cache with number b or above, and b is at most `MOST_CACHES`, `AreBelow` holds after its bound is replaced
--- by b
+-- Let b be at most `MOST_CACHES`. If tenant t has no cache with number b or above, `AreBelow` holds after its bound is replaced
+-- by b.
 pub below_number : (cs : List (Option Cache)) (bs : List ℕ) (t b : ℕ) → t < length bs → b ≤ MOST_CACHES
     → ((c : ℕ) → b ≤ c → c < MOST_CACHES → cache_in cs (index_of_cache t c) ≡ None) → AreBelow cs bs → AreBelow cs (set bs t b)
 below_number cs bs t b lt few none a = record {
@@ -56,7 +55,8 @@ below_used cs bs t c o lt below less a =
     below_cache cs bs (index_of_cache t c) o (omega (arith, lt, less, a.tenants))
     (λ le. let here = ap (λ j. get_or bs j 0) (own_number t c less) in absurd (omega (arith, le, here, below, less))) a
 
--- `AreBelow` holds after the entry of cache c is replaced and the bound of its tenant is raised to b, if b is above c
+-- Let b be above c and at most `MOST_CACHES`. `AreBelow` holds after the entry of cache c is replaced and its tenant's bound is
+-- raised to b.
 pub below_more : (cs : List (Option Cache)) (bs : List ℕ) (t c b : ℕ) (o : Option Cache) → t < length bs → c < b → get_or bs t 0 ≤ b → b ≤ MOST_CACHES
     → AreBelow cs bs → AreBelow (set cs (index_of_cache t c) o) (set bs t b)
 below_more cs bs t c b o lt over from few a =

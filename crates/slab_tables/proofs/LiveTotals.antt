@@ -6,7 +6,7 @@ use Rattle.klist_core.specs.Places.{place_at}
 use Rattle.slab_tables.specs.declared.cache.Kept.{Kept}
 use Rattle.slab_tables.specs.Content.{blank, kept_at, is_of_index, live_total}
 
--- a machine frame's part of the total of cache index n: the live objects of its slab if the slab is in that cache, or else 0
+-- a machine frame's part of the total of the cache with index n: its slab's live objects if the slab is in this cache, or else 0
 abbrev pub part : ℕ → Option (ℕ × ℕ) → Kept → ℕ
 part n p k = cond (is_of_index n p) k.live 0
 

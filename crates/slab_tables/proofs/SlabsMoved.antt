@@ -1,4 +1,4 @@
--- The invariant holds while the slabs of one superblock are moved to another, and afterwards all of them are moved.
+-- Moving the slabs of one superblock to another, frame by frame, keeps the invariant and moves all of them.
 use Rattle.std.proofs.Common.{◌≡◌, ℕ, ◌+◌, ◌*◌, ◌/◌, ◌%◌, ◌^◌, ◌<◌, ◌≤◌, Option, Some, None, length, set, refl, sym, ap, ◌∙◌, ◌⊎◌, subst, inl, inr, arith}
 use Rattle.std.proofs.Math.Nat.{pow-le-pow_right, add-mul}
 use Rattle.std.proofs.lemmas.Bool.{cases_eq}

@@ -20,7 +20,7 @@ pub(crate) struct Groups {
     group: u8,
     /// The mask that reduces a frame's number to the frame's index in its group.
     inside: u32,
-    /// A list has `2^span` of the `words`.
+    /// Each list has `2^span` words in `words`.
     span: u8,
     words: Vec<u64>,
     /// For each list, true if it is kept in groups.
@@ -32,8 +32,8 @@ pub(crate) struct Groups {
 }
 
 impl Groups {
-    /// Makes the hints for a machine of `superblocks` superblocks of `2^order` frames and `tenants` tenants, which has no slabs
-    /// yet.
+    /// Makes the hints for a machine with `superblocks` superblocks of `2^order` frames each, and with `tenants` tenants. No list
+    /// is kept in groups.
     pub(crate) fn new(
         alloc: Global,
         order: u8,
@@ -149,8 +149,8 @@ impl Groups {
         None
     }
 
-    /// Returns the machine frame of the frame, if the frame's slot still has the superblock that was last noted for it. Returns
-    /// `None` if the slot is out of range.
+    /// Returns the frame's machine frame in the superblock that was last noted for the frame's slot. Returns `None` if the slot
+    /// is out of range.
     pub(crate) fn seen_at(&self, list: u32, frame: u32) -> Option<u32> {
         let superblock = *self.superblocks.get(self.slot_of(list, frame))?;
         Some(superblock << self.order | frame % (1 << self.order))

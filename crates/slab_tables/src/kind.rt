@@ -2,7 +2,7 @@
 
 ghost use Rattle.std.specs.Prelude.{◌≡◌, true};
 
-/// The kinds of slabs. Each cache has one list for each kind.
+/// The kind of a slab, by how many of its objects are live. Each cache has one list for each kind.
 #[derive(Clone, Copy, Debug, PartialEq, Eq)]
 pub enum Kind {
     /// All objects are live.

@@ -8,8 +8,8 @@ use crate::kind::Kind;
 use crate::places::index_of;
 use model_core::limits::MOST_CACHES;
 
-/// The list of a cache's slabs of one kind. The list of the full slabs has the number `3 * (32 * tenant + cache)`. The list of
-/// the partial slabs has the next number, and the list of the empty slabs has the number after that.
+/// A list with all slabs of one kind in a cache. The list of the full slabs has the number `3 * (32 * tenant + cache)`. The list
+/// of the partial slabs has the next number, and the list of the empty slabs has the number after that.
 ///
 /// Lists whose numbers are multiples of 3 are loose: they are not linked in the order of their keys ([`klist_core`]). The full
 /// slabs have a loose list, because slabs fill up often and no call needs the first full slab.

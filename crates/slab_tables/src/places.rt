@@ -184,8 +184,7 @@ impl SlabLists {
     /// Moves a slab of cache `c` of tenant `t` to the list of its new kind, under the same key. `counts` has the slab's numbers
     /// of objects and of live objects.
     ///
-    /// A slab that stays partial is not moved. Most slabs do, and the counts alone show this, so no list number is computed for
-    /// them.
+    /// Most slabs stay partial. They are not moved, and the counts alone show this, so no list number is computed for them.
     ///
     /// `slab` is the order of the slab. Only the cost depends on it.
     #[inline(always)]
@@ -260,8 +259,8 @@ impl SlabLists {
     /// the search finds no slab.
     ///
     /// The search first tries every `step`-th machine frame below `machine_frame` in the same group. It tries at most a quarter
-    /// as many as the list has slabs, since a walk over a short list costs less. Then, if the list is kept in groups, it searches
-    /// the last earlier group with a slab of the list.
+    /// as many machine frames as the list has slabs, since a walk over a short list costs less. Then, if the list is kept in
+    /// groups, it searches the last group before the group of `key` that has a slab of the list.
     fn near(&self, head: u32, machine_frame: u32, key: u32, step: u32) -> Option<u32>
         requires head { head < self.now.heads }
         requires machine_frame { machine_frame < length self.now.places }
@@ -279,8 +278,8 @@ impl SlabLists {
         self.near_in_groups(head, key, step)
     }
 
-    /// Searches the last group that comes before the group of `key` and has a slab of the list, from the end of that group down.
-    /// Returns the machine frame of the first slab of the list that the search finds, or `None` if it finds none.
+    /// Searches the last group before the group of `key` that has a slab of the list, from the end of that group down. Returns
+    /// the machine frame of the first slab of the list that the search finds, or `None` if it finds none.
     #[inline(never)]
     fn near_in_groups(&self, head: u32, key: u32, step: u32) -> Option<u32>
         requires head { head < self.now.heads }

@@ -124,7 +124,8 @@ impl Tables {
         self.kept[machine_frame as usize]
     }
 
-    /// Returns the list and the first frame of the slab that begins at the machine frame, or `None` if no slab begins there.
+    /// Returns the number of the list and the first frame of the slab that begins at the machine frame, or `None` if none begins
+    /// there.
     pub fn place_of(&self, machine_frame: u32) -> Option<(u32, u32)>
         requires { machine_frame < length self.now.lists.places }
         ensures { result ≡ place_at self.now.lists.places machine_frame }
