@@ -39,8 +39,8 @@ ones [] = refl
 ones (x ∷ xs) = let rest = ones xs in omega (arith, sum_by-cons (λ z. 1) x xs)
 
 module _ (bs : List Block) (keyed : AreKeyed first bs) (table : List (Option ℕ)) (told : (f : ℕ) → order_in bs f ≡ get_or table f None) where
-  -- if the table has the orders of the blocks, and `None` has weight 0, the weights of the table and of the blocks have the same
-  -- sum
+  -- if the table has the orders of the blocks, and `None` has weight 0, the weights of the table's entries and of the blocks have
+  -- the same sum
   blocks_tabled : (weight : Option ℕ → ℕ) → weight None ≡ 0 → sum_by weight table ≡ sum_by (λ z. weight (Some z.order)) bs
   blocks_tabled weight light = sum_tabled None weight light first (λ z. weight (Some z.order)) bs table keyed (record {
     there = λ z i. ap weight (sym (told z.first) ∙ keyed_told bs z keyed i);

@@ -1,5 +1,5 @@
--- A range lies inside a page block if and only if the taken block with its first frame is not a slab and contains the whole
--- range.
+-- A range lies inside a page block if and only if the taken block that has the range's first frame is not a slab and contains the
+-- whole range.
 use Rattle.std.proofs.Common.{◌≡◌, ℕ, ◌+◌, ◌*◌, ◌/◌, ◌^◌, ◌<◌, ◌≤◌, Bool, true, false, cond, Some, None, refl, sym, ap, ◌∙◌, subst, arith}
 use Rattle.std.specs.Prelude.{nat_le}
 use Rattle.std.specs.List.{list_any}

@@ -1,4 +1,5 @@
--- If a tenant's slabs move to other machine frames with their stored states, and its bytes stay the same, so does its machine.
+-- If a tenant's slabs move to other machine frames with their stored states, and its bytes stay the same, its machine is
+-- unchanged.
 use Rattle.std.proofs.Common.{◌≡◌, ℕ, ◌+◌, ◌-◌, ◌*◌, cond, Some, None, refl, sym, ap, ◌∙◌, ◌/◌, ◌%◌}
 use Rattle.std.specs.Prelude.{Option, option_map, is_some, ⊤}
 use Rattle.model_core.specs.Layouts.{in_object, is_small}

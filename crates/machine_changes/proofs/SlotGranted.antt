@@ -1,5 +1,5 @@
 -- After a superblock without an owner is put into the lowest slot that a tenant does not hold, the parts show `after_grant` of
--- its old machine.
+-- the tenant's old machine.
 use Rattle.std.proofs.Common.{◌≡◌, ◌≢◌, ℕ, ◌/◌, ◌%◌, ◌^◌, ◌<◌, false, cond, eqb, length, Some, None, refl, sym, ap, ◌∙◌, subst}
 use Rattle.std.specs.Prelude.{is_some}
 use Rattle.std.proofs.lemmas.Bool.{eq-eqb}

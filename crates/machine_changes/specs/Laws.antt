@@ -40,7 +40,7 @@ abbrev pub ReturnedShows : Type 0
 ReturnedShows = (r r' : spaces.Content) (b b' : buddies.Content) (s s' : Content) (t : ℕ) (gone : ℕ → Bool) (m : Machine)
     → IsReturned r r' b b' s s' t gone → IsSteady r b s t → ShowsMachine r b s t m → ShowsMachine r' b' s' t (returned gone m)
 
--- after exactly the empty slabs are freed, the parts show the reaped machine
+-- if exactly the empty slabs are freed, the parts then show the reaped machine
 abbrev pub ReapedShows : Type 0
 ReapedShows = (r r' : spaces.Content) (b b' : buddies.Content) (s s' : Content) (t : ℕ) (gone : ℕ → Bool) (m : Machine)
     → IsReturned r r' b b' s s' t gone → IsSteady r b s t → ShowsMachine r b s t m
