@@ -1,4 +1,4 @@
--- If a slot moves to another superblock, the parts show the same machine.
+-- If a slot moves to another superblock, the memory, the buddy systems and the tables show the same machine for its tenant.
 use Rattle.std.proofs.Common.{◌≡◌, ◌≢◌, ◌⊎◌, inl, inr, ℕ, ◌+◌, ◌*◌, ◌/◌, ◌%◌, ◌^◌, ◌<◌, cond, eqb, length, Some, None, refl, sym, ap, ◌∙◌, subst, ⊎_elim}
 use Rattle.std.specs.Prelude.{Option, is_some}
 use Rattle.std.proofs.lemmas.Bool.{eq-eqb, ne_eqb, cases_eq}
@@ -53,14 +53,14 @@ module _ (r : spaces.Content) (b : buddies.Content) (s s' : Content) (t u from t
   reads : ReadsSame t r r'
   reads = h.space.own_bytes.move t u from to here below free
 
-  -- the superblock in any other slot is neither of the two
+  -- before the move, superblock `from` is only in slot u of tenant t, and superblock `to` is in no slot
   pub not_from : (v w m : ℕ) → spaces.superblock_at r.slots v w ≡ Some m → ((v ≡ t) × (w ≡ u) → ⊥) → m ≢ from
   not_from v w m under differ e = differ (h.space.apart.slots v w t u m under (here ∙ ap (λ (x : ℕ). Some x) (sym e)))
 
   pub not_to : (v w m : ℕ) → spaces.superblock_at r.slots v w ≡ Some m → m ≢ to
   not_to v w m under e = is_owned r b s h v w to (under ∙ ap (λ (x : ℕ). Some x) e) free
 
-  -- the machine frames of a superblock in any other slot keep their slabs
+  -- in every slot except slot u of tenant t, each machine frame keeps its slab and the slab's stored state
   machine_frame_stays : (v f m : ℕ) → spaces.superblock_at r.slots v (f / size) ≡ Some m → ((v ≡ t) × (f / size ≡ u) → ⊥)
       → IsSameSlab s s' (m * size + f % size) (m * size + f % size)
   machine_frame_stays v f m under differ =
@@ -87,7 +87,7 @@ module _ (r : spaces.Content) (b : buddies.Content) (s s' : Content) (t u from t
           let there = under_is s.top f n (spaces.superblock_at r.slots v (f / size)) e in
           subst (λ x. IsSameSlab s s' x x) (sym there.2) (machine_frame_stays v f there.0 there.1 (λ both. differ both.0))
 
-  -- The tenant
+  -- Tenant t
 
   same_under : (f : ℕ) → f / size ≢ u → (o : Option ℕ) → spaces.superblock_at r.slots t (f / size) ≡ o
       → SameSlab s s' (frame_under s.top f o) (frame_under s.top f o)
@@ -125,7 +125,9 @@ module _ (r : spaces.Content) (b : buddies.Content) (s s' : Content) (t u from t
   pub machine_now : (m : Machine) → ShowsMachine r b s t m → ShowsMachine r' b' s' t m
   machine_now m = carried_shows r r' b b' s s' t carried m
 
-  -- Where each slab was before the move
+  -- the slab that is now at machine frame n, with the list entry p, was at `machine_frame` before the move, with the same stored
+  -- state
+  -- stored state.
 
   record WasAt (n : ℕ) (p : ℕ × ℕ) : Type 0 where
     pub machine_frame : ℕ
@@ -191,7 +193,7 @@ module _ (r : spaces.Content) (b : buddies.Content) (s s' : Content) (t u from t
           ap (frame_under s.top key) (slot_other (key / size) differ ∙ under)
           ∙ ap (λ (x : ℕ). Some x) (sym (stays.1 ∙ machine_frame))
 
-  -- a slab of another tenant was at the same machine frame before
+  -- before the move, each slab of another tenant was at the same machine frame, in the same list
   placed_before : (n head key : ℕ) → place_at s'.lists.places n ≡ Some (head, key) → (head / 3 / MOST_CACHES ≡ t → ⊥)
       → place_at s.lists.places n ≡ Some (head, key)
   placed_before n head key placed differ = go (was_at n (head, key) placed)

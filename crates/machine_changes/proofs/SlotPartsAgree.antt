@@ -1,4 +1,4 @@
--- If the share of one tenant changes, the parts still agree.
+-- Memory, buddy systems and tables still agree after a change for one tenant, if they agree on its slots and slabs.
 use Rattle.std.proofs.Common.{◌≡◌, ◌≢◌, ℕ, ◌+◌, ◌*◌, ◌/◌, ◌%◌, ◌^◌, ◌<◌, ◌≤◌, cond, length, Some, refl, sym, ap, ◌∙◌, subst, ⊎_elim, arith}
 use Rattle.std.proofs.lemmas.Bool.{cases_eq}
 use Rattle.std.proofs.lemmas.List.{length-set}
@@ -18,13 +18,13 @@ use Rattle.machine_changes.specs.Keeps.{Keeps}
 use Rattle.machine_changes.proofs.SlabFacts.{same_below}
 use Rattle.machine_changes.proofs.UntouchedTenant.{machine_frame_same}
 
--- an object is live as before if its slab's control record is unchanged
+-- if the control record in frame f is unchanged, object i is live in r' exactly if it is live in r
 one_same : (r r' : spaces.Content) (t : ℕ) (cache : own.Cache) (kept : Kept) (f i : ℕ)
     → ((j : ℕ) → j < 32 → record_byte r' t f j ≡ record_byte r t f j) → i < 256 → is_live r' t cache kept f i ≡ is_live r t cache kept f i
 one_same r r' t cache kept f i same less =
     ap (λ x. cond (is_small (layout_numbers cache).chunk) (is_set x (i % 8)) (is_set kept.outside i)) (same (i / 8) (omega arith))
 
--- a slab that agreed at its old machine frame agrees at the new one
+-- if a slab has the same block, stored state and control record at its new machine frame, the parts still agree on it
 pub agreed_still : (r r' : spaces.Content) (b b' : buddies.Content) (s s' : Content) (machine_frame machine_frame' head key : ℕ) (cache : own.Cache)
     → (layout_numbers cache).count ≤ 256 → IsAgreed r b s machine_frame head key cache
     → machine_frame_of s'.top r'.slots (head / 3 / MOST_CACHES) key ≡ Some machine_frame'
@@ -44,7 +44,8 @@ agreed_still r r' b b' s s' machine_frame machine_frame' head key cache few g un
       rest = λ i low high. ap (λ k. is_live r' t cache k key i) kept ∙ one_same r r' t cache (kept_at s.kept machine_frame) key i same high ∙ g.rest i low high;
     }
 
--- Only the share of tenant t changed, and t now holds h. All other tenants keep everything. The parts agree on the slabs of t.
+-- The change affects only tenant t: all other tenants keep everything. The new holding of t is h, which has the slots of t in r'.
+-- The parts agree on the slabs of t.
 pub record IsLocal (r r' : spaces.Content) (b : buddies.Content) (h : buddies.Holding) (s s' : Content) (t : ℕ) : Type 0 where
   pub unit : r'.unit ≡ r.unit
   pub superblocks : length r'.owners ≡ length r.owners
@@ -98,7 +99,7 @@ module _ (r r' : spaces.Content) (b : buddies.Content) (h : buddies.Holding) (s 
         ⊎_elim (k.mine n head key cache place cache_now) (other_agreed n head key cache place cache_now) (cases_eq (head / 3 / MOST_CACHES) t);
   }
 
--- tenant u keeps everything if the tables are unchanged and the memory is the same for u
+-- a tenant u other than t keeps everything if its memory and the tables are unchanged, and only the holding of t changes
 pub keeps_untabled : (r r' : spaces.Content) (b : buddies.Content) (h : buddies.Holding) (s : Content) (t u : ℕ) → u ≢ t → IsSameFor u r r'
     → Keeps r r' b (buddies.with_holding t h b) s s u
 keeps_untabled r r' b h s t u differ same = record {

@@ -1,4 +1,4 @@
--- If a superblock is taken back from a slot without taken frames, the parts show the machine after a take-back.
+-- If a superblock is taken back from a slot without taken frames, the parts show `after_take_back` of the tenant's machine.
 use Rattle.std.proofs.Common.{◌≡◌, ◌≢◌, ℕ, ◌+◌, ◌*◌, ◌/◌, ◌%◌, ◌^◌, ◌<◌, false, cond, eqb, length, Some, None, refl, sym, ap, ◌∙◌, subst, arith}
 use Rattle.std.specs.Prelude.{filter, not}
 use Rattle.std.proofs.lemmas.Bool.{eq-eqb, false_from_ne_true}
@@ -25,7 +25,7 @@ use Rattle.machine_changes.proofs.NoSlabOnUnowned.{steady_of, tenant_of}
 use Rattle.machine_changes.proofs.SlotChanged.{IsReslotted, slot_by_unit, mine_agreed, reslotted_shows}
 use Rattle.machine_changes.proofs.SlotHoldings.{slots_with, slot_below}
 
--- a frame lies in the block of its slot
+-- if slot u has frame f, the block that is the whole slot u contains f
 in_slot : (top u f : ℕ) → f / 2 ^ top ≡ u → HasFrame (slot_block top u) f
 in_slot top u f e =
     let split : f / 2 ^ top * 2 ^ top + f % 2 ^ top ≡ f = div-add-mod' f (2 ^ top) in
@@ -48,7 +48,7 @@ module _ (r : spaces.Content) (b : buddies.Content) (s : Content) (t u m : ℕ) 
   slots_now : (v : ℕ) → spaces.superblock_at r'.slots t v ≡ cond (eqb v u) None (spaces.superblock_at r.slots t v)
   slots_now v = h.space.own_slots.take_back t u m here v
 
-  -- no slab begins in the slot, since its block would be taken
+  -- no slab begins in slot u, because its first frame would be taken
   no_slab : (f : ℕ) → f / 2 ^ s.top ≡ u → has_slab s (machine_frame_of s.top r.slots t f) ≡ false
   no_slab f e = false_from_ne_true (has_slab s (machine_frame_of s.top r.slots t f)) (λ has.
       let st : IsSteady r b s t = steady_of r b s h t tenant in

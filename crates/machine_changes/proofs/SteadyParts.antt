@@ -1,4 +1,4 @@
--- If the parts agree, the premise of the laws holds for each tenant.
+-- If the memory, the buddy systems and the tables agree, `IsSteady` holds for each tenant.
 use Rattle.std.proofs.Common.{◌≡◌, ℕ, ◌+◌, ◌*◌, ◌/◌, ◌%◌, ◌^◌, ◌<◌, ◌≤◌, Bool, true, false, cond, ltb, List, Some, None, length, refl, sym, ap, ◌∙◌, subst, ⊎_elim, arith}
 use Rattle.std.specs.Prelude.{Option, is_some, ◌==◌, slice_index_or}
 use Rattle.std.proofs.lemmas.Bool.{false≢true, eqb-true, eq-eqb, ltb-true, lt-ltb, and_parts, and_from, cases_lt}
@@ -20,11 +20,11 @@ use Rattle.machine_changes.specs.Laws.{AreObjectsCounted, AgreeSteady}
 use Rattle.machine_changes.proofs.Lookups.{some_none, some_same}
 use Rattle.machine_changes.proofs.SlabFacts.{superblock_of_machine_frame, frame_of_machine_frame, under_is}
 
--- an index at which an entry is found is below the list's length
+-- if the entry at index i is `Some x`, i is below the length of the list
 pub within : {A : Type 0} (xs : List (Option A)) (i : ℕ) (x : A) → slice_index_or xs i None ≡ Some x → i < length xs
 within xs i x e = ⊎_elim (λ less. less) (λ past. absurd (some_none (sym e ∙ get_or_past xs i None past))) (cases_lt i (length xs))
 
--- each cache of a tenant is an entry of the table
+-- c is below MOST_CACHES, and the table of caches has this cache at the index of cache c of tenant t
 pub record IsInTable (s : Content) (t c : ℕ) (cache : own.Cache) : Type 0 where
   pub number : c < MOST_CACHES
   pub cached : cache_in s.caches (index_of_cache t c) ≡ Some cache
@@ -39,7 +39,7 @@ in_table s t c cache e = go (ltb c MOST_CACHES) refl e
 pub of_table : (s : Content) (t c : ℕ) (cache : own.Cache) → c < MOST_CACHES → cache_in s.caches (index_of_cache t c) ≡ Some cache → cache_at s t c ≡ Some cache
 of_table s t c cache less e = ap (λ v. cond v (cache_in s.caches (index_of_cache t c)) None) (lt-ltb c MOST_CACHES less) ∙ e
 
--- the entry in the lists of the slab of cache c of tenant t that begins at frame f
+-- The lists have an entry at machine frame n. Its key is f, and its list `head` is a list of cache c of tenant t.
 pub record IsPlacedAs (s : Content) (t c f n : ℕ) (cache : own.Cache) : Type 0 where
   pub head : ℕ
   pub place : place_at s.lists.places n ≡ Some (head, f)
@@ -48,7 +48,7 @@ pub record IsPlacedAs (s : Content) (t c f n : ℕ) (cache : own.Cache) : Type 0
   pub number : c < MOST_CACHES
   pub cached : cache_in s.caches (head / 3) ≡ Some cache
 
--- if a cache has the index n and a number c below MOST_CACHES, n / MOST_CACHES is its tenant
+-- if n is the index of cache c of tenant t, and c is below MOST_CACHES, n / MOST_CACHES is t
 pub tenant_is : (n t c : ℕ) → n ≡ MOST_CACHES * t + c → c < MOST_CACHES → n / MOST_CACHES ≡ t
 tenant_is n t c e less = omega arith
 
@@ -72,7 +72,7 @@ placed_as r s t c f n cache q = go (place_at s.lists.places n) refl q.listed
           cached = ap (cache_in s.caches) index ∙ there.cached;
         }
 
--- conversely, an entry of the lists under a cache of the tenant is a slab of that cache
+-- conversely, if the entry at the machine frame of frame f has key f in a list of cache c of tenant t, a slab of c begins at f
 pub slab_from : (r : spaces.Content) (s : Content) (t c f n head : ℕ) (cache : own.Cache) → c < MOST_CACHES → head / 3 ≡ index_of_cache t c
     → cache_in s.caches (head / 3) ≡ Some cache → machine_frame_of s.top r.slots t f ≡ Some n → place_at s.lists.places n ≡ Some (head, f)
     → IsSlab r s t c f n cache
@@ -82,7 +82,7 @@ slab_from r s t c f n head cache less index cached under place = record {
   listed = ap (is_of_cache (index_of_cache t c) f) place ∙ and_from (head / 3 == index_of_cache t c) (f == f) (eq-eqb (head / 3) (index_of_cache t c) index) (eq-eqb f f refl);
 }
 
--- a machine frame belongs to at most one frame of one tenant
+-- if frame f of tenant t and frame g of tenant u have the same machine frame, u is t and g is f
 pub record IsOneOwner (t f u g : ℕ) : Type 0 where
   pub tenant : u ≡ t
   pub frame : g ≡ f
@@ -103,7 +103,7 @@ one_owner r top t f u g n apart e e' =
     }
 
 module _ (r : spaces.Content) (b : buddies.Content) (s : Content) (w : IsSlabs s) (a : Agree r b s) where
-  -- the parts agree on each slab
+  -- the parts agree on each slab of each tenant
   pub agreed : (t c f n : ℕ) (cache : own.Cache) → IsSlab r s t c f n cache → (p : IsPlacedAs s t c f n cache) → IsAgreed r b s n p.head f cache
   agreed t c f n cache q p = a.slabs n p.head f cache p.place p.cached
 
@@ -123,7 +123,7 @@ module _ (r : spaces.Content) (b : buddies.Content) (s : Content) (w : IsSlabs s
       let p = placed_as r s t c f n cache q in
       subst (λ u. (kept_at s.kept n).live ≡ count_true (live_of r u cache (kept_at s.kept n) f)) p.tenant (agreed t c f n cache q p).counted
 
-  -- each entry of a list in a slot of the tenant is a slab of the tenant
+  -- if the machine frame of frame f of tenant t is in a list of slabs, a slab of t begins at f
   pub slab_listed : (t f n head key : ℕ) → IsOneToOne r → machine_frame_of s.top r.slots t f ≡ Some n → place_at s.lists.places n ≡ Some (head, key)
       → (c : ℕ) × (cache : own.Cache) × IsSlab r s t c f n cache
   slab_listed t f n head key apart under place =

@@ -1,4 +1,4 @@
--- The taken blocks of the buddy system are those of the machine.
+-- The taken blocks of a tenant's buddy system are the page blocks and the slabs' blocks of its machine.
 use Rattle.std.proofs.Common.{◌≡◌, ℕ, Bool, true, false, cond, eqb, List, [], ◌∷◌, ◌++◌, Some, None, refl, sym, ap, ◌∙◌, subst, inl, inr, ⊎_elim}
 use Rattle.std.specs.Prelude.{flat_map}
 use Rattle.std.proofs.lemmas.Bool.{false≢true, eq-eqb, ne_eqb, cases_eq}
@@ -53,7 +53,7 @@ order_before (x ∷ xs) ys f none = ap (λ o. cond (eqb x.first f) (Some x.order
 -- Slabs and their blocks
 
 module _ (r : spaces.Content) (b : buddies.Content) (s : Content) (t : ℕ) (m : Machine) (st : IsSteady r b s t) (h : ShowsMachine r b s t m) where
-  -- z is the block of a slab
+  -- z is the block of a slab of tenant t
   pub record IsOfSlab (z : Block) : Type 0 where
     pub number : ℕ
     pub machine_frame : ℕ
@@ -61,7 +61,7 @@ module _ (r : spaces.Content) (b : buddies.Content) (s : Content) (t : ℕ) (m :
     pub slab : IsSlab r s t number z.first machine_frame cache
     pub order : z.order ≡ (layout_numbers cache).order
 
-  -- each slab of the machine is one of the tables
+  -- the tables have each slab of machine m
   pub slab_kept : (x : Cache) (y : Slab) → IsIn x m.caches → IsIn y x.slabs → IsSlabKept r b s t m h x.number y.first x y
   slab_kept x y i j =
       let ex : cache_of m x.number ≡ Some x = in_found (λ z. z.number) 0 x m.caches h.caches_rise i in
@@ -73,13 +73,14 @@ module _ (r : spaces.Content) (b : buddies.Content) (s : Content) (t : ℕ) (m :
       let is = slab_kept x y i j in
       record { number = x.number; machine_frame = is.machine_frame; cache = is.kept; slab = is.slab; order = ap (λ l. l.order) is.layout }
 
-  -- the list `bs` contains blocks of slabs
+  -- every block in the list `bs` is the block of a slab of tenant t
   module _ (bs : List Block) (tells : (z : Block) → IsIn z bs → IsOfSlab z) where
-    -- no page block begins at the first frame of a slab
+    -- no page block of m begins at the first frame of a slab
     no_page : (f : ℕ) → has_slab s (machine_frame_of s.top r.slots t f) ≡ true → order_in m.blocks f ≡ None
     no_page f has = h.blocks f ∙ ap (λ v. cond v None (buddies.taken_of (buddies.holding_of t b) f)) has
 
-    -- if the block of a slab is in `bs`, a lookup of its first frame returns the order of the taken block
+    -- if the block of the slab at frame f is in `bs`, a lookup of f in the page blocks and `bs` returns the order of the taken
+    -- block
     pub order_of_slab : (c f n : ℕ) (cache : own.Cache) → IsSlab r s t c f n cache → IsIn (block f (layout_numbers cache).order) bs
         → order_in (m.blocks ++ bs) f ≡ buddies.taken_of (buddies.holding_of t b) f
     order_of_slab c f n cache q i =
@@ -89,12 +90,12 @@ module _ (r : spaces.Content) (b : buddies.Content) (s : Content) (t : ℕ) (m :
         is.order ∙ ap (λ x. (layout_numbers x).order) (one_slab r s t c f n is.number z.first is.machine_frame cache is.cache q is.slab same).same)
         ∙ sym (st.stands c f n cache q).taken
 
-    -- if a slab begins at frame f, but no block of `bs` does, a lookup of f returns None
+    -- if a slab begins at frame f, but no block of `bs` does, a lookup of f in the page blocks and `bs` returns None
     pub order_of_none : (f : ℕ) → has_slab s (machine_frame_of s.top r.slots t f) ≡ true → ((z : Block) → IsIn z bs → z.first ≡ f → ⊥)
         → order_in (m.blocks ++ bs) f ≡ None
     order_of_none f has none = order_past m.blocks bs f (no_page f has) ∙ order_none bs f none
 
-    -- if no slab begins at frame f, a lookup of f returns the order of the taken block
+    -- if no slab begins at frame f, this lookup returns the order of the taken block that begins at f, or None if there is none
     pub order_of_page : (f : ℕ) → has_slab s (machine_frame_of s.top r.slots t f) ≡ false
         → order_in (m.blocks ++ bs) f ≡ buddies.taken_of (buddies.holding_of t b) f
     order_of_page f none =

@@ -1,4 +1,4 @@
--- If all that a tenant has is removed, the parts show the empty machine for it.
+-- If everything that a tenant has is removed, the parts show the empty machine for the tenant.
 use Rattle.std.proofs.Common.{◌≡◌, ◌≢◌, ℕ, ◌*◌, ◌/◌, ◌^◌, ◌<◌, ◌≤◌, Bool, true, false, cond, eqb, ltb, length, Some, None, refl, sym, ap, ◌∙◌, ⊎_elim, arith}
 use Rattle.std.specs.Prelude.{Option}
 use Rattle.std.proofs.lemmas.Bool.{false≢true, eq-eqb, ne_eqb, cases_lt, le-ltb, lt-ltb}
@@ -19,7 +19,7 @@ use Rattle.machine_changes.proofs.SlotPartsAgree.{IsLocal, agree_of}
 use Rattle.machine_changes.proofs.NoSlabOnUnowned.{tenant_of, slab_there}
 use Rattle.machine_changes.proofs.EmptyTenant.{empty_shows, none_in}
 
--- another tenant has the same caches, if only table entries of t changed
+-- if only table entries of tenant t changed, any other tenant v has the same cache c as before
 pub same_cache : (s' s : Content) (t v c : ℕ) → ((i : ℕ) → (i / MOST_CACHES ≡ t → ⊥) → cache_in s'.caches i ≡ cache_in s.caches i) → v ≢ t → cache_at s' v c ≡ cache_at s v c
 same_cache s' s t v c stays differ = ⊎_elim below above (cases_lt c MOST_CACHES)
   where
@@ -32,7 +32,7 @@ same_cache s' s t v c stays differ = ⊎_elim below above (cases_lt c MOST_CACHE
         ap (λ w. cond w (cache_in s'.caches (index_of_cache v c)) None) (le-ltb c MOST_CACHES more)
         ∙ sym (ap (λ w. cond w (cache_in s.caches (index_of_cache v c)) None) (le-ltb c MOST_CACHES more))
 
--- a place that is left was there before, and the index of its cache is not one of those removed
+-- if `unless_gone` returns a place p, p is the place that it was given, and the index of p's cache does not satisfy `gone`
 pub unless_some : (gone : ℕ → Bool) (place : Option (ℕ × ℕ)) (p : ℕ × ℕ) → unless_gone gone place ≡ Some p → (place ≡ Some p) × (gone (p.0 / 3) ≡ false)
 unless_some gone None p e = absurd (some_none (sym e))
 unless_some gone (Some q) p e = go (gone (q.0 / 3)) refl e
@@ -49,7 +49,7 @@ module _ (r r' : spaces.Content) (b : buddies.Content) (s s' : Content) (t : ℕ
   abbrev b' : buddies.Content
   b' = buddies.with_holding t held b
 
-  -- whether the cache with index i is one of the tenant's
+  -- true if i is the index of a cache of tenant t
   abbrev gone : ℕ → Bool
   gone i = eqb (i / MOST_CACHES) t
 
@@ -83,7 +83,7 @@ module _ (r r' : spaces.Content) (b : buddies.Content) (s s' : Content) (t : ℕ
     };
   }
 
-  -- The tenant
+  -- Tenant t
 
   was_there : (n head key : ℕ) → place_at s'.lists.places n ≡ Some (head, key) → (place_at s.lists.places n ≡ Some (head, key)) × (gone (head / 3) ≡ false)
   was_there n head key placed = unless_some gone (place_at s.lists.places n) (head, key) (sym (k.places n) ∙ placed)

@@ -1,4 +1,4 @@
--- If the parts keep all that a tenant has, they show the same machine for it.
+-- If a change keeps everything that a tenant has, the parts show the same machine for the tenant as before.
 use Rattle.std.proofs.Common.{◌≡◌, ℕ, ◌/◌, ◌^◌, Some, None, refl, sym, ap, ◌∙◌, subst}
 use Rattle.std.specs.Prelude.{Option, is_some}
 use Rattle.space_core.specs.Content as spaces
@@ -13,7 +13,7 @@ module _ (r r' : spaces.Content) (b b' : buddies.Content) (s s' : Content) (t : 
   pub machine_frame_same : (f : ℕ) → machine_frame_of s'.top r'.slots t f ≡ machine_frame_of s.top r.slots t f
   machine_frame_same f = ap (λ top. machine_frame_of top r'.slots t f) k.slabs.top ∙ ap (frame_under s.top f) (k.space.slots (f / 2 ^ s.top))
 
-  -- each machine frame of the tenant has the same slab as before
+  -- each machine frame in a slot of tenant t has the same slab as before
   same_slabs : (f : ℕ) (o : Option ℕ) → ((x : ℕ) → o ≡ Some x → machine_frame_of s.top r.slots t f ≡ Some x) → SameSlab s s' o o
   same_slabs f None here = tt
   same_slabs f (Some x) here = record { place = k.slabs.lists f x (here x refl); kept = k.slabs.kept f x (here x refl) }

@@ -1,4 +1,4 @@
--- Making, changing or removing a cache without slabs.
+-- If the entry of a cache without slabs changes, the parts still agree and show the machine with its new list of caches.
 use Rattle.std.proofs.Common.{◌≡◌, ◌≢◌, ℕ, ◌/◌, ◌<◌, ◌≤◌, false, cond, eqb, ltb, List, [], map, length, Some, None, refl, sym, ap, ◌∙◌, subst, ⊎_elim, arith}
 use Rattle.std.specs.Prelude.{Option, option_map, find, ◌&&◌}
 use Rattle.std.proofs.lemmas.Bool.{cases_eq, cases_lt, false≢true, lt-ltb, le-ltb, ne_eqb}
@@ -18,7 +18,7 @@ use Rattle.machine_changes.specs.Keeps.{Keeps}
 use Rattle.machine_changes.proofs.PageHoldings.{same_space}
 use Rattle.machine_changes.proofs.Lookups.{at}
 
--- the cache with this index has no slab
+-- no slab is in a list of the cache with index i
 abbrev pub IsBare : Content → ℕ → Type 0
 IsBare s i = (n head key : ℕ) → place_at s.lists.places n ≡ Some (head, key) → head / 3 ≢ i
 

@@ -45,7 +45,7 @@ none_yet count n = ap (λ w. eqb (bit_at w (n % 64)) 1) word ∙ ap (λ b. eqb b
       | inr past ↦ get_or_past (replicate count 0) (n / 64) 0 (omega (arith, length-replicate {A = ℕ} count 0))
     ]
 
--- count / size, rounded up, is at most count; so a set of larger blocks needs at most as many words
+-- count / size, rounded up, is at most count; so a set of blocks of `size` frames needs at most as many words as a set of frames
 pub few_words : (count size : ℕ) → 0 < size → div_ceil count size ≤ count
 few_words count size some = ⊎_elim
     (λ over.

@@ -1,4 +1,4 @@
--- Constructing the objects of a new slab, one after the other.
+-- `IsConstructed` holds for 0 objects at first, and for one more object after each object is constructed.
 use Rattle.std.proofs.Common.{◌≡◌, ℕ, ◌+◌, ◌-◌, ◌*◌, ◌/◌, ◌%◌, ◌^◌, ◌<◌, ◌≤◌, Bool, true, false, cond, ltb, leb, List, length, Some, None, IsSome, refl, sym, ap, ◌∙◌, subst, ⊎_elim, arith}
 use Rattle.std.specs.Prelude.{replicate, Option, if◌then◌else◌, nat_lt, nat_le, ◌&&◌, slice_index}
 use Rattle.std.proofs.lemmas.Bool.{false≢true, and_parts, and_from, leb-true, ltb-true, le-leb, lt-ltb, cases_lt, false_from_ne_true}
@@ -34,7 +34,7 @@ some_if false o h = absurd (false≢true h)
 pub spare_twice : (r r' r'' : spaces.Content) → SpareStays r r' → r'' ≡ record r' { banks = r''.banks } → SpareStays r' r'' → SpareStays r r''
 spare_twice r r' r'' k e k' m none = k' m none ∙ k m (ap (λ (x : spaces.Content). spaces.owner_at x.owners m) (sym e) ∙ none)
 
--- if a range lies in one held slot, each range inside it lies in one held slot too
+-- if a range lies in one held slot, each non-empty range inside it lies in one held slot too
 pub inner_held : (r : spaces.Content) (t place len p n : ℕ) → IsSome (home_of r t place len) → 0 < n → place ≤ p → p + n ≤ place + len
     → 0 < r.unit → IsSome (home_of r t p n)
 inner_held r t place len p n home some low high unit =
@@ -52,7 +52,7 @@ inner_held r t place len p n home some low high unit =
     subst (λ b. IsSome (if b then spaces.superblock_at r.slots t (p / r.unit) else None)) (sym inside)
     (subst (λ u. IsSome (spaces.superblock_at r.slots t u)) (sym slot) both.1)
 
--- A write over a range changes exactly the bytes of the range, and no other byte of the tenant
+-- a write over a range in one held slot changes the bytes of the range, and no other byte of the tenant
 module _ (r : spaces.Content) (t place len : ℕ) (w : List ℕ) (mine : OwnBytes r) (home : IsSome (home_of r t place len)) (sized : length w ≡ len) where
   abbrev pub filled : spaces.Content
   filled = with_window r t place len w
@@ -80,7 +80,7 @@ module _ (cache : own.Cache) (f colour : ℕ) (cut : IsLayout cache.layout.size 
   pub fit : IsFit (layout_numbers cache) colour
   fit = subst (λ x. IsFit (layout_numbers cache) x) (sym is.1) (cut.fits is.0)
 
-  -- object i ends at or before the offset of each later index n
+  -- if i < n, the end of object i is at or before the offset of index n
   pub ends : (i n : ℕ) → i < n → object_offset (layout_numbers cache) colour i + cache.layout.size ≤ object_offset (layout_numbers cache) colour n
   ends i n less =
       let rows : (i + 1) * (layout_numbers cache).chunk ≤ n * (layout_numbers cache).chunk = mul-le-mul_right _ (omega arith) in
@@ -151,7 +151,7 @@ module _ (cache : own.Cache) (f colour : ℕ) (cut : IsLayout cache.layout.size 
           ∙ ap (λ n. Some (slice_index filling.bytes n)) offset ∙ ap (λ b. Some b) (filling.constructed j less)
 
 module _ (cache : own.Cache) (f colour : ℕ) where
-  -- if the whole block lies in a held slot, the control record lies in one too
+  -- if the whole block lies in a held slot, the control record in its first frame does too
   pub record_held : (r : spaces.Content) (t : ℕ) → 0 < r.unit → IsSome (home_of r t (4096 * f) (4096 * 2 ^ (layout_numbers cache).order))
       → IsSome (home_of r t (4096 * f + 4064) 32)
   record_held r t unit home =

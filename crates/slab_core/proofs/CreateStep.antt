@@ -1,4 +1,4 @@
--- Making a cache in the tables makes the same cache in the machine.
+-- If the tables make a cache, the machine that the parts show makes the same cache.
 use Rattle.std.proofs.Common.{◌≡◌, ◌≢◌, ℕ, ◌<◌, ◌≤◌, Bool, cond, List, [], Some, None, IsSome, refl, sym, ap, ◌∙◌, subst, arith}
 use Rattle.std.specs.Prelude.{Option, option_map, nat_le, MatchOption, IfSome, IfNone, if◌then◌else◌}
 use Rattle.std.proofs.lemmas.Bool.{eq-eqb, ne_eqb, lt-ltb, le-leb, lt-leb}
@@ -21,7 +21,7 @@ use Rattle.machine_changes.proofs.SlabFacts.{none_mapped}
 use Rattle.slab_core.proofs.BareCache.{IsBare, cache_agrees, cache_shows}
 use Rattle.slab_core.proofs.LeastFreeNumber.{least_above, least_is}
 
--- if the tables have no cache c, no slab is one of cache c
+-- if tenant t has no cache c, no slab is in a list of cache c
 pub bare_without : (s : Content) (t c : ℕ) → IsSlabs s → c < MOST_CACHES → cache_at s t c ≡ None → IsBare s (index_of_cache t c)
 bare_without s t c w small vacant n head key placed e =
     let there = w.standing n head key placed in

@@ -1,4 +1,4 @@
--- Removing a cache without live objects, with all its slabs.
+-- Removing a cache without live objects, with all its slabs, does what `destroy_step` does to the machine.
 use Rattle.std.proofs.Common.{◌≡◌, ◌≢◌, ℕ, ◌+◌, ◌/◌, ◌%◌, ◌<◌, Bool, true, false, not, cond, eqb, List, [], ◌∷◌, ◌++◌, map, length, append-nil, Some, None, refl, sym, ap, ◌∙◌, subst, inl, inr, ⊎_elim, arith}
 use Rattle.std.specs.Prelude.{Option, option_map, filter, flat_map, Ok, ◌&&◌, if◌then◌else◌}
 use Rattle.std.specs.List.{list_any}
@@ -67,7 +67,7 @@ one_only g c k x (y ∷ ys) (low, rises) e none = ⊎_elim here (past (one_only 
     past more differ =
         ap (λ bs. bs ++ flat_map g ys) (none y (inl refl) differ) ∙ more (sym (at_past (λ z. z.number) c y ys differ) ∙ e) (λ z i. none z (inr i))
 
--- A cache whose three lists are empty has no slab
+-- a cache whose three lists are empty has no slab
 pub bare_of : (s : Content) (t c : ℕ) → IsUnused s t c → IsEmpty s.lists.places (head_of t c 2) → IsBare s (index_of_cache t c)
 bare_of s t c unused empty n head key placed index =
     let at_kind : (k : ℕ) → head % 3 ≡ k → place_at s.lists.places n ≡ Some (head_of t c k, key) =
@@ -93,7 +93,7 @@ module _ (r : spaces.Content) (b : buddies.Content) (s : Content) (t c : ℕ) (w
       (λ none. absurd (let l = to_list r b s w a t c 1 (omega arith) m x h ex y i (some_kind y e none) in unused.1 l.machine_frame y.first l.place))
       (cases_Bool (is_full y))) (cases_Bool (is_empty y))
 
-  -- if no slab of the cache in the machine has a live object, the cache is unused
+  -- if no slab of cache c in the machine has a live object, cache c is unused in the tables
   pub unused_of : (x : Cache) → cache_of m c ≡ Some x → list_any (λ y. not (is_empty y)) x.slabs ≡ false → IsUnused s t c
   unused_of x ex none = (not_kind 0 (omega arith), not_kind 1 (omega arith))
     where
@@ -115,7 +115,7 @@ module _ (r : spaces.Content) (b : buddies.Content) (s : Content) (t c : ℕ) (w
           (some_same (sym placed ∙ ap (place_at s.lists.places) (sym machine_frame) ∙ place)) in
           omega arith
 
--- The steps
+-- The results of `destroy_step`
 
 step_none : (c : ℕ) (m : Machine) → cache_of m c ≡ None → destroy_step c m ≡ refuse NoCache m
 unfolding destroy_step
@@ -171,7 +171,7 @@ pub record IsDestroyed (r : spaces.Content) (b : buddies.Content) (s : Content) 
 
 module _ {r : spaces.Content} {b : buddies.Content} {s : Content} {t : ℕ} (c : ℕ) {cache : own.Cache} (w : IsSlabs s) (a : Agree r b s) (st : IsSteady r b s t)
     (cached : cache_at s t c ≡ Some cache) where
-  -- if an object is live, a destroy is refused
+  -- if cache c of tenant t is in use, a destroy of it is refused
   pub used_step : (IsUnused s t c → ⊥) → (m : Machine) → ShowsMachine r b s t m → destroy_step c m ≡ refuse CacheInUse m
   used_step used m h =
       let there = cache_shown r b s t m h c cache cached in

@@ -1,4 +1,4 @@
--- The number of frames in empty slabs.
+-- The number of frames in the empty slabs of one cache, and of all caches with numbers below a limit.
 use Rattle.std.proofs.Common.{◌≡◌, ℕ, ◌+◌, ◌*◌, ◌%◌, ◌^◌, ◌<◌, ◌≤◌, cond, ltb, List, [], ◌∷◌, ◌++◌, map, length, Some, None, refl, sym, ap, ◌∙◌, inl, inr, ⊎_elim, arith}
 use Rattle.std.specs.Prelude.{filter, flat_map}
 use Rattle.std.proofs.lemmas.Bool.{cases_eq, cases_lt, lt-ltb, le-ltb}
@@ -31,12 +31,12 @@ frames_append f x xs = go (f x)
     go [] = omega arith
     go (b ∷ bs) = let more = go bs in omega arith
 
--- the slabs `ys` of cache c have as many frames as one slab has, times their number
+-- the slabs `ys` of cache c together have `length ys` times as many frames as one slab
 pub frames_each : (c : Cache) (ys : List Slab) → frames_of (map (slab_block c) ys) ≡ length ys * 2 ^ (layout c).order
 frames_each c [] = omega arith
 frames_each c (y ∷ ys) = let more = frames_each c ys in omega arith
 
--- the caches with numbers below c
+-- the caches of the list with numbers below c
 abbrev pub below : ℕ → List Cache → List Cache
 below c xs = filter (λ x. ltb x.number c) xs
 
@@ -53,7 +53,7 @@ none_at c k (x ∷ xs) (low, rises) less =
 abbrev sum_of : List Cache → ℕ
 sum_of xs = frames_of (flat_map empty_blocks xs)
 
--- the caches below c + 1 have as many frames in empty slabs as the caches below c and cache c, if it exists, together
+-- counting cache c too, if the list has it, adds the frames in its empty slabs to the count for the caches below c
 pub frames_next : (c k : ℕ) (xs : List Cache) → RisesFrom k (map (λ x. x.number) xs)
     → frames_of (flat_map empty_blocks (below (c + 1) xs)) ≡ frames_of (flat_map empty_blocks (below c xs)) + empty_frames_in (at (λ x. x.number) c xs)
 frames_next c k [] rises = refl
@@ -102,14 +102,14 @@ below_all c (x ∷ xs) all =
     ap (λ v. cond v (x ∷ below c xs) (below c xs)) (lt-ltb x.number c (all x (inl refl)))
     ∙ ap (λ ys. x ∷ ys) (below_all c xs (λ y i. all y (inr i)))
 
--- the number of frames in up to 65,536 slabs of order at most 3 does not overflow
+-- the number of frames in up to 65,536 slabs of order at most 3 fits in 32 bits and is at most 524,288
 pub frames_few : (count order : ℕ) → count ≤ 65536 → order ≤ 3 → (count * 2 ^ order % 4294967296 ≡ count * 2 ^ order) × (count * 2 ^ order ≤ 524288)
 frames_few count order few small =
     let power : 2 ^ order ≤ 2 ^ 3 = pow-le-pow_right (omega arith) small in
     let rows : count * 2 ^ order ≤ count * 8 = mul-le-mul_left count power in
     (omega arith, omega arith)
 
--- the number of frames in a cache's empty slabs is the length of their list, times the frames of one slab
+-- the number of frames in a cache's empty slabs is the length of their list, times the number of frames in one slab
 pub frames_counted : (s : Content) (t c count : ℕ) (cache : own.Cache) → IsSlabs s → ArePlaces s.lists → cache_at s t c ≡ Some cache
     → count ≡ length (keys_of s.lists.places (head_of t c 2)) → (r : spaces.Content) (b : buddies.Content) (m : Machine)
     → Agree r b s → IsSteady r b s t → ShowsMachine r b s t m → empty_frames_in (cache_of m c) ≡ count * 2 ^ (layout_numbers cache).order
@@ -121,7 +121,7 @@ frames_counted s t c count cache w table cached counted r b m a st h =
     ap empty_frames_in there.cached ∙ frames_each x (filter is_empty x.slabs)
     ∙ ap (λ n. n * 2 ^ (layout x).order) (sym long) ∙ ap (λ l. count * 2 ^ l.order) there.layout
 
--- if no cache of the tenant has the number `end` or above, all have numbers below `end`
+-- if the tables have no cache of tenant t with number `end` or above, every cache of its machine has a number below `end`
 pub numbers_below : (r : spaces.Content) (b : buddies.Content) (s : Content) (t end : ℕ) (m : Machine) → ((c : ℕ) → end ≤ c → cache_at s t c ≡ None)
     → ShowsMachine r b s t m → (x : Cache) → IsIn x m.caches → x.number < end
 numbers_below r b s t end m none h x i =

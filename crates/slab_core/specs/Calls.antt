@@ -1,4 +1,4 @@
--- What the internal steps of the calls do.
+-- Terms for the contracts of internal functions: filled ranges, constructed objects and empty slabs.
 use Rattle.std.specs.Prelude.{◌≡◌, ◌≢◌, ℕ, ◌+◌, ◌/◌, ◌<◌, ◌==◌, ◌&&◌, Bool, true, false, Option, Some, None, List, length, slice_index}
 use Rattle.model_core.specs.Layouts.{is_small, object_place, pattern_byte}
 use Rattle.model_core.specs.Machine.{Cache}
@@ -13,7 +13,7 @@ use Rattle.slab_tables.specs.Content.{Content, kept_at, head_of, layout_numbers}
 use Rattle.slab_tables.specs.Changes.{made_more}
 use Rattle.machine_changes.specs.Shows.{machine_frame_of, is_inside, record_byte, IsSlab}
 
--- the range of tenant t is filled with the pattern, repeated, and the rest of the memory is as before
+-- the `len` bytes of tenant t from `place` on are the pattern, repeated; the rest of the memory is as before
 pub record IsFilled (r r' : spaces.Content) (t place len : ℕ) (pattern : List ℕ) : Type 0 where
   pub bytes : List ℕ
   pub long : length bytes ≡ len
@@ -21,8 +21,8 @@ pub record IsFilled (r r' : spaces.Content) (t place len : ℕ) (pattern : List 
   pub filled : r' ≡ with_window r t place len bytes
 
 -- The first n objects of the block at frame `first` of tenant t are constructed, as in a slab of the cache with this colour
--- offset. The control record is clear, if it is in the frame. Everything else is as before: the bytes of t outside the block, all
--- that other tenants have, and the superblocks without an owner.
+-- offset. The control record is clear, if it is in the frame. The bytes of t outside the block, all that other tenants have, and
+-- the superblocks without an owner are as before.
 pub record IsConstructed (r r' : spaces.Content) (t : ℕ) (cache : own.Cache) (first colour n : ℕ) : Type 0 where
   pub space : r' ≡ record r { banks = r'.banks }
   pub others : (u : ℕ) → u ≢ t → IsSameFor u r r'
@@ -32,21 +32,21 @@ pub record IsConstructed (r r' : spaces.Content) (t : ℕ) (cache : own.Cache) (
       → byte_at r' t (object_place (layout_numbers cache) first colour i + j) ≡ Some (pattern_byte cache.pattern j)
   pub bytes : (place : ℕ) → is_inside place first cache ≡ false → byte_at r' t place ≡ byte_at r t place
 
--- the place is in a list of a cache whose index passes the test
+-- the list entry is in a list of a cache whose index satisfies `these`
 abbrev pub is_of_these : (ℕ → Bool) → Option (ℕ × ℕ) → Bool
 is_of_these these None = false
 is_of_these these (Some p) = these (p.0 / 3)
 
--- a slab of one of these caches begins at machine frame n, and none of its objects is live
+-- a slab of a cache whose index satisfies `these` begins at the machine frame, and no object of the slab is live
 abbrev pub is_idle : (ℕ → Bool) → Content → Option ℕ → Bool
 is_idle these s None = false
 is_idle these s (Some n) = is_of_these these (place_at s.lists.places n) && (kept_at s.kept n).live == 0
 
--- an empty slab of one of these caches begins at frame f of tenant t
+-- an empty slab of a cache whose index satisfies `these` begins at frame f of tenant t
 abbrev pub idle_at : (ℕ → Bool) → spaces.Content → Content → ℕ → ℕ → Bool
 idle_at these r s t f = is_idle these s (machine_frame_of s.top r.slots t f)
 
--- the number of frames in the cache's empty slabs
+-- the number of frames in the cache's empty slabs, or 0 if there is no cache
 abbrev pub empty_frames_in : Option Cache → ℕ
 empty_frames_in None = 0
 empty_frames_in (Some c) = frames_of (empty_blocks c)
@@ -55,8 +55,8 @@ empty_frames_in (Some c) = frames_of (empty_blocks c)
 abbrev pub IsUnused : Content → ℕ → ℕ → Type 0
 IsUnused s t c = IsEmpty s.lists.places (head_of t c 0) × IsEmpty s.lists.places (head_of t c 1)
 
--- an empty slab of cache c of tenant t begins at frame `first` and machine frame n; `before` is the cache before it made this
--- slab
+-- an empty slab of cache c of tenant t begins at frame `first`, whose machine frame is n; `before` is the cache as it was before
+-- it made this slab
 pub record IsNew (r : spaces.Content) (s : Content) (t c : ℕ) (before : own.Cache) (first n : ℕ) : Type 0 where
   pub slab : IsSlab r s t c first n (made_more before)
   pub empty : (kept_at s.kept n).live ≡ 0

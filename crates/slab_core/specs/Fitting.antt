@@ -1,4 +1,4 @@
--- Where a block would fit if all empty slabs were freed.
+-- Frames and blocks that would be free if all empty slabs were freed.
 use Rattle.std.specs.Prelude.{◌≡◌, ℕ, ◌+◌, ◌*◌, ◌/◌, ◌%◌, ◌^◌, ◌<◌, ◌≤◌, ◌==◌, Bool, true, List, Some, IsSome, slice_index}
 use Rattle.std.specs.Int.{bit_at}
 use Rattle.model_core.specs.declared.limits.TheConstants.{MOST_CACHES}
@@ -15,7 +15,7 @@ pub record HasFreeBlock (b : buddies.Content) (t k : ℕ) : Type 0 where
   pub free : IsFree b.top (buddies.is_held (buddies.holding_of t b)) (buddies.taken_of (buddies.holding_of t b)) found
   pub enough : k ≤ found.order
 
--- frame x of tenant t is not taken, except by an empty slab
+-- if frame x of tenant t is taken, it lies in an empty slab
 abbrev pub IsUnusedFrame : spaces.Content → buddies.Content → Content → ℕ → ℕ → Type 0
 IsUnusedFrame r b s t x = IsTaken (buddies.taken_of (buddies.holding_of t b)) x → IsIdle r s t x
 
@@ -29,13 +29,13 @@ pub record IsUnusedTo (r : spaces.Content) (b : buddies.Content) (s : Content) (
   pub unused : (x : ℕ) → frame ≤ x → x < next → IsUnusedFrame r b s t x
   pub border : IsBorder b t next
 
--- the block is aligned and lies in a held slot of tenant t; no taken block begins before it and reaches into it
+-- the block of order k at frame f is aligned and lies in a held slot of tenant t; no taken block begins before f and contains f
 pub record IsWhole (b : buddies.Content) (t f k : ℕ) : Type 0 where
   pub aligned : IsAligned b.top (block f k)
   pub held : IsSome (buddies.superblock_at (buddies.holding_of t b) (f / 2 ^ b.top))
   pub border : IsBorder b t f
 
--- no frame of the block of order k at frame f is taken, except by empty slabs
+-- no frame of the block of order k at frame f is taken, except frames in empty slabs
 abbrev pub IsUnusedBlock : spaces.Content → buddies.Content → Content → ℕ → ℕ → ℕ → Type 0
 IsUnusedBlock r b s t f k = (x : ℕ) → HasFrame (block f k) x → IsUnusedFrame r b s t x
 
@@ -50,7 +50,7 @@ pub record WouldFitAround (r : spaces.Content) (b : buddies.Content) (s : Conten
 abbrev pub WouldFitInSlabs : spaces.Content → buddies.Content → Content → ℕ → ℕ → Type 0
 WouldFitInSlabs r b s t k = (c : ℕ) × (c < MOST_CACHES) × WouldFitAround r b s t c k
 
--- each block of order k with one of these numbers has a frame that is taken by something other than an empty slab
+-- each block of order k whose number satisfies `these` has a taken frame that lies in no empty slab
 abbrev pub AreRefused : spaces.Content → buddies.Content → Content → ℕ → ℕ → (ℕ → Bool) → Type 0
 AreRefused r b s t k these = (n : ℕ) → these n ≡ true → IsUnusedBlock r b s t (n * 2 ^ k) k → ⊥
 

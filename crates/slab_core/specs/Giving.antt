@@ -1,4 +1,4 @@
--- What the steps of giving back an object do.
+-- What the internal steps of a give do.
 use Rattle.std.specs.Prelude.{◌≡◌, ℕ, ◌/◌, ◌%◌, ◌^◌, ◌<◌, Bool, true, false, List, Some, slice_index, slice_set}
 use Rattle.std.specs.Int.Bits.{bit_xor}
 use Rattle.model_core.specs.Layouts.{object_place}
@@ -10,8 +10,7 @@ use Rattle.machine_changes.specs.Shows.{is_live, IsSlab}
 use Rattle.machine_changes.specs.Changes.{Found}
 use Rattle.machine_changes.specs.Objects.{IsNoObject}
 
--- object o of a slab of cache c of tenant t begins at the place, live or not; if it is not live, no live object of the cache
--- begins there
+-- Object o of cache c of tenant t begins at the place. If o is not live, no live object of the cache begins there.
 pub record BeginsAt (r : spaces.Content) (s : Content) (t c place : ℕ) (o : Found) : Type 0 where
   pub slab : IsSlab r s t c o.first o.machine_frame o.cache
   pub index : o.index < (layout_numbers o.cache).count
@@ -24,7 +23,7 @@ pub record IsLowered (before after : List ℕ) (k : ℕ) (was : Bool) : Type 0 w
   pub turned : was ≡ true → after ≡ slice_set before (k / 8) (bit_xor (slice_index before (k / 8)) (2 ^ (k % 8)))
   pub kept : was ≡ false → after ≡ before
 
--- bit k of the control record at a place of tenant t is cleared as in `IsLowered`; the rest of the memory is as before
+-- bit k of the control record that begins at `place` is cleared as in `IsLowered`; the rest of the memory is as before
 pub record IsRecordLowered (r r' : spaces.Content) (t place k : ℕ) (was : Bool) : Type 0 where
   pub before : List ℕ
   pub after : List ℕ

@@ -1,4 +1,4 @@
--- What the steps of taking and giving objects do.
+-- What the internal steps of a take or a give do.
 use Rattle.std.specs.Prelude.{◌≡◌, ◌≢◌, ℕ, ◌+◌, ◌*◌, ◌/◌, ◌%◌, ◌^◌, ◌<◌, Bool, not, true, false, List, Some, length, slice_index, slice_set}
 use Rattle.std.specs.Int.Bits.{bit_xor}
 use Rattle.model_core.specs.declared.limits.TheConstants.{FRAME_BYTES, RECORD_BYTES, RECORD_OFFSET}
@@ -17,16 +17,16 @@ use Rattle.machine_changes.specs.Objects.{Standing}
 use Rattle.slab_core.specs.declared.objects.Slab.{Slab}
 use Rattle.slab_core.specs.declared.objects.Object.{Object}
 
--- a slab and an object of the code, as the laws write them
+-- the code's `Slab` and `Object`, as the laws' `Standing` and `Found`
 abbrev pub standing : Slab → Standing
 standing slab = record { first = slab.first; machine_frame = slab.machine_frame }
 
 abbrev pub found_in : own.Cache → Object → Found
 found_in cache o = found cache o.slab.first o.slab.machine_frame o.index
 
--- The bit of object o of tenant t is flipped in the record of its slab: o is live if it was free, and free if it was live. No
--- other object's bit has changed, nor has any byte of the memory outside the record. In the stored states, only the record of
--- this slab may have changed.
+-- The bit of object o of tenant t is flipped: o is live if it was free, and free if it was live. No other bit of the slab's
+-- record changes, and no byte of memory outside it. The other slabs' stored states, and this slab's colour and its stored number
+-- of live objects, are unchanged.
 pub record IsTurned (r r' : spaces.Content) (s s' : Content) (t : ℕ) (o : Found) : Type 0 where
   pub turned : is_live r' t o.cache (kept_at s'.kept o.machine_frame) o.first o.index
       ≡ not (is_live r t o.cache (kept_at s.kept o.machine_frame) o.first o.index)
@@ -44,8 +44,8 @@ pub record IsTurned (r r' : spaces.Content) (s s' : Content) (t : ℕ) (o : Foun
   pub colour : (kept_at s'.kept o.machine_frame).colour ≡ (kept_at s.kept o.machine_frame).colour
   pub live : (kept_at s'.kept o.machine_frame).live ≡ (kept_at s.kept o.machine_frame).live
 
--- The bit of object o of a slab of cache c of tenant t is flipped, and its slab's number of live objects is not yet updated. In r
--- and s, before the flip, the parts agreed, and the object was free if `live` is true, or live if `live` is false.
+-- The bit of object o of cache c of tenant t is flipped, but the stored number of live objects of its slab is not yet updated.
+-- Before the flip, the parts agreed, and o was free if `live` is true, or live if `live` is false.
 pub record IsToCount (r r' : spaces.Content) (b : buddies.Content) (s s' : Content) (t c : ℕ) (o : Found) (live : Bool) : Type 0 where
   pub tenant : t < length r.slots
   pub laws : SpaceLaws r
@@ -56,8 +56,8 @@ pub record IsToCount (r r' : spaces.Content) (b : buddies.Content) (s s' : Conte
   pub was : is_live r t o.cache (kept_at s.kept o.machine_frame) o.first o.index ≡ not live
   pub turned : IsTurned r r' s s' t o
 
--- object o is marked as `live` says, its slab's number of live objects is updated, and the parts agree again; no other tenant is
--- affected
+-- Object o is marked live if `live` is true, or free if it is false. The number of live objects of its slab is updated, and the
+-- parts agree again. All other tenants keep everything.
 pub record IsRecounted (r r' : spaces.Content) (b : buddies.Content) (s s' : Content) (t c : ℕ) (o : Found) (live : Bool) : Type 0 where
   pub marked : IsMarked r r' s s' t c o live
   pub spares : Spares t r r' b b s s'
@@ -76,7 +76,7 @@ pub record IsRaised (before after : List ℕ) (k : ℕ) : Type 0 where
   pub clear : is_set (slice_index before (k / 8)) (k % 8) ≡ false
   pub turned : after ≡ slice_set before (k / 8) (bit_xor (slice_index before (k / 8)) (2 ^ (k % 8)))
 
--- the first clear bit of the control record at a place of tenant t is set, as in `IsRaised`; the rest of the memory is as before
+-- the first clear bit of the control record that begins at `place` is set as in `IsRaised`; the rest of the memory is as before
 pub record IsRecordRaised (r r' : spaces.Content) (t place k : ℕ) : Type 0 where
   pub before : List ℕ
   pub after : List ℕ

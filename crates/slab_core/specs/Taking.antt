@@ -8,12 +8,12 @@ use Rattle.machine_changes.specs.Changes.{Found}
 use Rattle.machine_changes.specs.Objects.{IsLiveObject}
 use Rattle.slab_core.specs.declared.taking.Taken.{Taken}
 
--- the first place of the object, or the refusal
+-- the first place of the object that was taken, or the refusal
 abbrev pub place_taken : Result Taken TakeRefusal → Result ℕ TakeRefusal
 place_taken (Ok taken) = Ok taken.place
 place_taken (Err refusal) = Err refusal
 
--- a live object of cache c of tenant t with this size begins at the place, and all its bytes lie in this superblock
+-- a live object of cache c of tenant t, of `taken.size` bytes, begins at `taken.place` and lies wholly in `taken.superblock`
 pub record IsTakenObject (r : spaces.Content) (s : Content) (t c : ℕ) (taken : Taken) : Type 0 where
   pub object : Found
   pub live : IsLiveObject r s t c taken.place object

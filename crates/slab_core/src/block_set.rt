@@ -6,7 +6,7 @@ ghost use Rattle.slab_core.specs.Fitting.{has_number};
 /// The number of words in a set with one bit for each frame that a tenant can have.
 pub(crate) const MOST_WORDS: usize = 1024;
 
-/// Returns true if the set contains the block.
+/// Returns true if the set contains the block with this number.
 pub(crate) fn has_block(words: &[u64], number: u32) -> bool
     requires { number < 64 * length words.now }
     ensures { result ≡ has_number words.now number }
@@ -14,7 +14,7 @@ pub(crate) fn has_block(words: &[u64], number: u32) -> bool
     words[(number / 64) as usize] >> (number % 64) & 1 == 1
 }
 
-/// Adds the block to the set.
+/// Adds the block with this number to the set.
 pub(crate) fn add_block(words: &mut [u64], number: u32)
     requires { number < 64 * length words.old }
     ensures len { length words.new ≡ length words.old }

@@ -36,10 +36,10 @@ fn has_free(buddy: &Buddy, t: u8, k: u8) -> bool
 }
 
 impl Slabs {
-    /// Returns true if a block of order `k` would be found for tenant `t` after all its empty slabs were freed.
+    /// Returns true if a block of order `k` would be found for tenant `t` after all empty slabs of the tenant were freed.
     ///
-    /// If a large enough block is free, or no slab is empty, it reads only counts and the heads of lists. Otherwise it checks
-    /// only the frames of those blocks of order `k` in which empty slabs begin.
+    /// Reads only counts and the heads of lists if a large enough block is free, or if no slab is empty. Otherwise checks only
+    /// the frames of those blocks of order `k` in which empty slabs begin.
     pub fn would_fit(&self, space: &Space, buddy: &Buddy, t: u8, k: u8) -> bool
         requires tenant { t < length space.now.slots }
         requires order { k ≤ self.now.top }
@@ -58,8 +58,8 @@ impl Slabs {
         has_free(buddy, t, k) || view.would_fit_in_slabs(&mut [0; MOST_WORDS], k)
     }
 
-    /// Returns the same as [`Slabs::would_fit`]. The caller knows that no free block is large enough. Stores the set of refused
-    /// blocks in `self`, not on the stack.
+    /// Returns the same as [`Slabs::would_fit`], if no free block is large enough. Stores the set of refused blocks in `self`,
+    /// not on the stack.
     #[cold]
     #[inline(never)]
     pub(crate) fn fits_by_need(&mut self, space: &Space, buddy: &Buddy, t: u8, k: u8) -> bool
@@ -83,7 +83,7 @@ impl Slabs {
     }
 }
 
-/// The parts that a search reads, and the tenant that it is for.
+/// The tables, memory and buddy systems that a search reads, and the tenant for which it searches.
 #[derive(Clone, Copy)]
 struct View<'a> {
     tables: &'a Tables,
@@ -133,7 +133,7 @@ impl View<'_> {
         ensures fits { (result ≡ true) ↔ WouldFitInSlabs self.entry.space.now self.entry.buddy.now self.entry.tables.now self.entry.tenant k }
         ensures words { length refused.new ≡ length refused.old }
     {
-        // The blocks that were walked and refused, so that no block is walked again for another cache.
+        // One bit for each block of order `k`: a block that was walked and refused is not walked again for another cache.
         let words = refused.len().div_ceil(1 << k);
         let refused = &mut refused[..words];
         refused.fill(0);

@@ -17,7 +17,7 @@ impl Slabs {
     ///
     /// Refuses with `NoCache` if the tenant has no such cache, then with `NotAnObject` if no live object of the cache begins at
     /// `place`. A refused call changes nothing.
-    // Always inlined, so that a give of the kernel is one call.
+    // Always inlined, so that the kernel's give and this function are one function.
     #[inline(always)]
     pub fn give(
         &mut self,

@@ -1,4 +1,4 @@
-//! Makes a slab out of a block: clears its control record and constructs each of its objects.
+//! Makes a slab out of a block: clears the control record and constructs each object.
 
 ghost use Rattle.std.specs.Prelude.{◌≡◌, ◌↔◌, ℕ, ◌+◌, ◌*◌, ◌^◌, ◌<◌, length, option_map, Some, IsSome, IfSome, IfNone};
 ghost use Rattle.model_core.specs.Layouts.{IsLayout};
@@ -116,7 +116,7 @@ fn fill(space: &mut Space, cache: TenantCache<'_>, place: u32)
 
 /// Makes the block at frame `first` an empty slab, with every object constructed.
 ///
-/// Writes each byte of each object once, and clears the control record if it is in the frame.
+/// Writes each byte of each object once, and clears the control record if it is in frame `first`.
 pub(crate) fn construct(space: &mut Space, cache: TenantCache<'_>, first: u32, colour: u32)
     requires tenant { cache.tenant < length space.old.slots }
     requires laws { SpaceLaws space.old }

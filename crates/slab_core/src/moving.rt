@@ -39,7 +39,7 @@ impl Slabs {
             → spaces.superblock_at r.slots t u ≡ Some from → to < length r.owners → spaces.owner_at r.owners to ≡ None
             → Agree (with_move r t u from to) (buddies.with_holding t (buddies.with_slot u to (buddies.holding_of t b)) b) self.new }
     {
-        // If `from` and `to` are equal, the superblock has no slab.
+        // If `from` and `to` are equal, this superblock has no slab, so there is nothing to move.
         if from == to {
             return;
         }

@@ -21,7 +21,7 @@ use model_core::limits::{FRAME_BYTES, RECORD_OFFSET};
 use slab_tables::{Cache, ListId, Tables};
 use space_core::Space;
 
-/// A cache of a tenant: its number, and its stored state.
+/// A cache of a tenant: the tenant, the cache's number, and its stored state.
 #[derive(Clone, Copy)]
 pub(crate) struct TenantCache<'a> {
     pub(crate) tenant: u8,
@@ -43,7 +43,7 @@ pub(crate) struct Object {
     pub(crate) index: u32,
 }
 
-/// Returns the place of the byte that has the bit of object `index`, in the control record of the slab at frame `frame`.
+/// Returns the place of the byte that contains the bit of object `index` in the control record in frame `frame`.
 pub(crate) fn record_place(frame: u32, index: u32) -> u32
     requires frame { frame < 65536 }
     requires index { index < 256 }
@@ -110,7 +110,7 @@ pub(crate) fn machine_frame_in(tables: &Tables, space: &Space, t: u8, frame: u32
     Some(machine_frame_under(frame, slot, m, order))
 }
 
-/// Returns the machine frame of `frame`, which lies in slot `slot`. The slot has this superblock of `2^order` frames.
+/// Returns the machine frame of `frame`, which lies in slot `slot`. `superblock` is the slot's superblock, of `2^order` frames.
 ///
 /// Adds the difference between the first machine frame of the superblock and the first frame of the slot. If the difference wraps
 /// around, the sum wraps back. This takes fewer instructions than computing the frame's index in the slot first.
@@ -147,7 +147,7 @@ impl Slabs {
     /// Returns true if a slab begins at frame `frame` of tenant `t`. Returns false if the tenant does not hold the slot of the
     /// frame.
     ///
-    /// `space` is the memory that these slabs lie in: it has as many frames as these tables have machine frames.
+    /// `space` has to be the memory in which these slabs lie. So it has as many frames as `self` has machine frames.
     pub fn is_slab(&self, space: &Space, t: u8, frame: u32) -> bool
         requires tenant { t < length space.now.slots }
         requires machine_frames { length self.now.lists.places ≡ length space.now.owners * 2 ^ self.now.top }
@@ -210,8 +210,8 @@ impl Slabs {
         }
     }
 
-    /// Returns the object of the cache that begins at a place, live or not, or `None` if none begins there. Always inlined: with
-    /// a call, a give takes a third more instructions.
+    /// Returns the object of the cache that begins at a place, live or not, or `None` if no object begins there. Always inlined:
+    /// otherwise a give takes a third more instructions.
     #[inline(always)]
     pub(crate) fn locate(&self, space: &Space, cache: TenantCache<'_>, place: u32) -> Option<Object>
         requires tenant { cache.tenant < length space.now.slots }
@@ -255,7 +255,7 @@ impl Slabs {
         }
     }
 
-    /// Clears the bit of an object in the record of its slab, and returns true if it was set. If it was not set, nothing
+    /// Clears the bit of an object in the record of its slab, and returns true if the bit was set. If it was not set, nothing
     /// changes.
     ///
     /// A give reads and clears the bit in this one call, because two calls would look up the byte twice.

@@ -19,7 +19,7 @@ use model_core::limits::FRAME_BYTES;
 use slab_tables::ListId;
 use space_core::Space;
 
-/// The bytes of a tenant's live object.
+/// The place, size and cache of a live object.
 #[derive(Clone, Copy, Debug, PartialEq, Eq)]
 pub struct ObjectSpan {
     /// The number of the object's cache.
@@ -47,8 +47,8 @@ impl Slabs {
         self.object_in(space, buddy, t, first, machine_frame, order, place, len)
     }
 
-    /// Returns the same as [`Slabs::object_at`]. The caller has already looked up the taken block around `place`. The block has
-    /// `2^order` frames and begins at frame `first` of the tenant, whose machine frame is `machine_frame`.
+    /// Returns the same as [`Slabs::object_at`], for a caller that has already looked up the taken block around `place`. The
+    /// block has `2^order` frames and begins at frame `first` of the tenant, whose machine frame is `machine_frame`.
     pub fn object_in(
         &self,
         space: &Space,
@@ -72,8 +72,8 @@ impl Slabs {
             .is_some()
     }
 
-    /// Returns the live object that contains the `len` bytes from `place` on, or `None` if none does or `len` is 0. The caller
-    /// has already looked up the taken block around `place`, as for [`Slabs::object_in`].
+    /// Returns the live object that contains the `len` bytes from `place` on, or `None` if no live object does or `len` is 0. The
+    /// caller has already looked up the taken block around `place`, as for [`Slabs::object_in`].
     #[inline(always)]
     pub fn object_around(
         &self,
@@ -121,8 +121,8 @@ impl Slabs {
         })
     }
 
-    /// Returns the number of the cache that `slab` of tenant `t` belongs to, or `None` if no slab begins there. Only the contract
-    /// uses `space` and `t`.
+    /// Returns the number of the cache that `slab` of tenant `t` belongs to, or `None` if no slab begins at this machine frame.
+    /// Only the contract uses `space` and `t`.
     fn slab_at(&self, space: &Space, t: u8, slab: Slab) -> Option<u32>
         requires steady { (b : buddies.Content) × IsSteady space.now b self.now t }
         requires machine_frame { machine_frame_of self.now.top space.now.slots t slab.first ≡ Some slab.machine_frame }

@@ -16,7 +16,7 @@ use arrayvec::ArrayVec;
 use slab_tables::Kind;
 
 impl Slabs {
-    /// Returns the row of each cache of tenant `t`, in ascending order of their numbers.
+    /// Returns the row of each cache of tenant `t`, in ascending order of the caches' numbers.
     pub fn rows(&self, t: u8) -> ArrayVec<CacheRow, 32>
         requires { IsTenant self.now t }
         ensures { (r : spaces.Content) (b : buddies.Content) (m : Machine) → Agree r b self.now → IsSteady r b self.now t → ShowsMachine r b self.now t m

@@ -197,7 +197,7 @@ impl Slabs {
             kept: &before,
         };
         let slab = self.grow(space, buddy, cache).ok_or(TakeRefusal::NoFrames)?;
-        // The cache has now made one more slab.
+        // Reads the cache again, because it has now made one more slab.
         let after = *self.tables.cache(t, c).unwrap();
         let cache = TenantCache {
             kept: &after,
