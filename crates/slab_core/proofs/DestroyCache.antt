@@ -147,7 +147,7 @@ among_all r b s t c a tenant small =
     let tables = a.tenants in
     omega arith
 
--- the state after the slabs of an unused cache are freed: the cache has no slab, and its index lies within the table
+-- cache c of tenant t has no slab, and its index lies within the table of caches
 pub record IsLeft (s : Content) (t c : ℕ) : Type 0 where
   pub bare : IsBare s (index_of_cache t c)
   pub small : c < MOST_CACHES
@@ -164,7 +164,7 @@ left_of {r' = r'} {b' = b'} {s = s} {s' = s'} {t = t} c {cache = cache} cached t
       within = among_all r' b' s' t c agree (subst (λ n. t < n) (sym (ap (λ x. length x.slots) spares.space)) tenant) small;
     }
 
--- after the cache is removed, the answer and the machine that is shown are those of `destroy_step`
+-- `frames` is the answer of `destroy_step`, and without cache c the parts show the machine after `destroy_step`
 pub record IsDestroyed (r : spaces.Content) (b : buddies.Content) (s : Content) (t c : ℕ) (m : Machine) (frames : ℕ) : Type 0 where
   pub answer : Ok frames ≡ (destroy_step c m).answer
   pub shown : ShowsMachine r b (with_cache s t c None) t (destroy_step c m).machine

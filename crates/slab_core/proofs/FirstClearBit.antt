@@ -1,4 +1,4 @@
--- The first clear bit of a record, and the first free object.
+-- The first clear bit of a control record, and the first free object of a slab.
 use Rattle.std.proofs.Common.{◌≡◌, ◌≢◌, ℕ, ◌+◌, ◌-◌, ◌*◌, ◌/◌, ◌%◌, ◌^◌, ◌<◌, ◌≤◌, Bool, true, false, not, zero, suc, List, ◌∷◌, length, get_or, take, drop, eqb, refl, sym, ap, subst, ◌∙◌, inl, inr, min, w32, arith}
 use Rattle.std.specs.List.{position_or_len, slice_range}
 use Rattle.std.specs.Int.{bit_at, trailing_ones, w64, to_le_bytes}
@@ -13,7 +13,7 @@ use Rattle.machine_changes.specs.Records.{is_set, flags_from, flags}
 pub full_byte : (byte j : ℕ) → byte ≡ 255 → j < 8 → is_set byte j ≡ true
 full_byte byte j e less = ap (λ x. is_set x j) e ∙ eq-eqb (bit_at 255 j) 1 (bit_at_ones 8 j less)
 
--- k is the first clear bit of a word, or the number of its bits if none is clear
+-- k is the index of the first clear bit among the low `bits_of` bits of the word, or `bits_of` if all of them are 1
 pub record IsClear (bits_of : ℕ) (word k : ℕ) : Type 0 where
   pub below : k ≤ bits_of
   pub ones : (j : ℕ) → j < k → is_set word j ≡ true
@@ -92,7 +92,7 @@ bit_there bytes i word k j read less is =
     ap (λ n. is_set (get_or bytes n 0) (j % 8)) byte
     ∙ (ap (is_set (get_or bytes (8 * i + k / 8) 0)) bit ∙ ap (λ b. eqb b 1) (bit_of_word bytes (8 * i) word k read less))
 
--- all bits of a record with an index below `end` are 1
+-- every bit of the record with an index below `end` is 1
 abbrev pub AreOnes : List ℕ → ℕ → Type 0
 AreOnes bytes end = (j : ℕ) → j < end → is_set (get_or bytes (j / 8) 0) (j % 8) ≡ true
 
@@ -112,7 +112,7 @@ ones_full bytes i word ones read full =
     let more : 64 * i + 64 ≡ 64 * (i + 1) = omega arith in
     subst (AreOnes bytes) more (ones_more bytes i word 64 ones read (omega arith) (λ j less. ap (λ x. is_set x j) full ∙ eq-eqb (bit_at (2 ^ 64 - 1) j) 1 (bit_at_ones 64 j less)))
 
--- the first clear bit of word i is clear in the record
+-- if bit k is the first clear bit of word i, bit 64 * i + k of the record is clear
 pub clear_there : (bytes : List ℕ) (i word k : ℕ) → to_le_bytes w64 word ≡ slice_range bytes (8 * i) (8 * i + 8) → k < 64 → IsClear 64 word k
     → is_set (get_or bytes ((64 * i + k) / 8) 0) ((64 * i + k) % 8) ≡ false
 clear_there bytes i word k read less is = bit_there bytes i word k (64 * i + k) read less refl ∙ is.clear less
@@ -126,8 +126,8 @@ full_by_ones bytes at ones within small =
     sym (ap (λ n. bit_at (get_or bytes n 0) ((8 * at + j) % 8)) byte ∙ ap (bit_at (get_or bytes at 0)) bit)
     ∙ (eqb-true (bit_at (get_or bytes ((8 * at + j) / 8) 0) ((8 * at + j) % 8)) 1 (ones (8 * at + j) (omega arith)) ∙ sym (bit_at_ones 8 j less)))
 
--- If the test holds from k to k + i - 1 and fails at k + i, or if i is n, the first false one of the n flags from k on has index
--- i. Index n means that none is false.
+-- If p is true for k to k + i - 1, and false for k + i unless i is n, the first false flag of the n flags from k on has index i.
+-- If i is n, no flag is false.
 pub first_clear : (k n i : ℕ) (p : ℕ → Bool) → i ≤ n → ((j : ℕ) → k ≤ j → j < k + i → p j ≡ true) → (i < n → p (k + i) ≡ false) → position_or_len not (flags_from k n p) ≡ i
 first_clear k zero i p few ones clear = omega arith
 first_clear k (suc n) zero p few ones clear =
@@ -138,8 +138,8 @@ first_clear k (suc n) (suc i) p few ones clear =
     let rest = first_clear (suc k) n i p (omega arith) (λ j low high. ones j (omega arith) (omega arith)) (λ less. ap p (omega arith) ∙ clear (omega arith)) in
     ap (λ b. position_or_len not (b ∷ flags_from (suc k) n p)) up ∙ omega (arith, rest)
 
--- If i is the first number that fails the test, or `bound` if none below `bound` does, the first false one of n flags has index
--- min i n. Here n is at most `bound`.
+-- Let i be the first number below `bound` for which p is false, or `bound` if there is none. If n is at most `bound`, the search
+-- for a false flag among the first n flags of p returns min i n.
 pub least_of : (n bound i : ℕ) (p : ℕ → Bool) → n ≤ bound → i ≤ bound → ((j : ℕ) → j < i → p j ≡ true) → (i < bound → p i ≡ false) → min i n ≡ position_or_len not (flags n p)
 least_of n bound i p few below ones clear = elim (cases_lt i n) [
   | inl less ↦

@@ -20,7 +20,7 @@ use Rattle.slab_core.specs.Objects.{HasClear, IsRecordRaised}
 use Rattle.slab_core.proofs.SlabPlaces.{record_under}
 use Rattle.slab_core.proofs.FirstClearBit.{IsClear, full_byte, least_of}
 
--- the record of a slab lies in one held slot
+-- the last 32 bytes of a slab's first frame lie in the superblock of the slab
 pub record_home : {r : spaces.Content} {s : Content} {t c f n place : ℕ} {cache : own.Cache} → IsSlab r s t c f n cache → r.unit ≡ 4096 * 2 ^ s.top
     → place ≡ 4096 * f + 4064 → home_of r t place 32 ≡ Some (n / 2 ^ s.top)
 record_home {r = r} {s = s} {t = t} {c = c} {f = f} {n = n} {place = place} {cache = cache} q unit at =
@@ -34,14 +34,14 @@ record_home {r = r} {s = s} {t = t} {c = c} {f = f} {n = n} {place = place} {cac
     go true o some under = under
     go false o none under = absurd (false≢true none)
 
--- the 32 bytes at the place of the record are the bytes of the record
+-- a read of the 32 bytes at the record's place returns the bytes of the control record in frame f
 pub record_read : (r : spaces.Content) (t f place : ℕ) (bytes : List ℕ) → OwnBytes r → place ≡ 4096 * f + 4064 → window_of r t place 32 ≡ Some bytes
     → (j : ℕ) → j < 32 → record_byte r t f j ≡ get_or bytes j 0
 record_read r t f place bytes mine at e j less =
     let x = (mine.read t place 32 bytes e).each j less in
     ap (λ p. byte_or_zero (byte_at r t p)) (let same : 4096 * f + 4064 + j ≡ place + j = omega arith in same) ∙ ap byte_or_zero x
 
--- if the search finds a flag, the flag is false
+-- if the search for a false flag ends before the end of the list, the flag at which it ends is false
 clear_found : (xs : List Bool) → position_or_len not xs < length xs → get_or xs (position_or_len not xs) false ≡ false
 clear_found [] less = absurd (omega arith)
 clear_found (true ∷ xs) less =
@@ -59,7 +59,7 @@ module _ (r : spaces.Content) (t : ℕ) (cache : own.Cache) (kept : Kept) (f : �
   pub least_free : is_live r t cache kept f least ≡ false
   least_free = sym (flag_at (layout_numbers cache).count least (is_live r t cache kept f) false free) ∙ clear_found (live_of r t cache kept f) (omega (arith, long))
 
-  -- the record is in the slab's frame
+  -- for a slab of small objects, which has its record in its frame
   module _ (small : is_small (layout_numbers cache).chunk ≡ true) (few : (layout_numbers cache).count ≤ 256) (mine : OwnBytes r) (place : ℕ) (at : place ≡ 4096 * f + 4064) where
     bit : (bytes : List ℕ) → window_of r t place 32 ≡ Some bytes → (j : ℕ) → j < 256 → is_live r t cache kept f j ≡ is_set (get_or bytes (j / 8) 0) (j % 8)
     bit bytes e j less = live_small r t cache kept f j small ∙ ap (λ x. is_set x (j % 8)) (record_read r t f place bytes mine at e (j / 8) (omega arith))
@@ -80,7 +80,7 @@ module _ (r : spaces.Content) (t : ℕ) (cache : own.Cache) (kept : Kept) (f : �
         (λ j low. bit x.before x.read j (omega arith) ∙ x.raised.ones j low) (λ low. bit x.before x.read k low ∙ x.raised.clear) in
         omega (arith, is, free)
 
-  -- if the record is stored outside the slab, its first clear bit is the bit of the first free object
+  -- if the record is stored outside the slab, its first clear bit has the index of the first free object
   pub claimed_outside : (k : ℕ) → is_small (layout_numbers cache).chunk ≡ false → (layout_numbers cache).count ≤ 16 → IsClear 16 kept.outside k → k ≡ least
   claimed_outside k large few x =
       let is = least_of (layout_numbers cache).count 16 k (is_live r t cache kept f) few x.below

@@ -1,4 +1,4 @@
--- A block fits in a free block, or around an empty slab.
+-- A block would fit if and only if a free block is large enough, or the block fits around an empty slab.
 use Rattle.std.proofs.Common.{◌≡◌, ℕ, ◌*◌, ◌/◌, ◌%◌, ◌^◌, ◌<◌, ◌≤◌, Bool, true, false, refl, sym, ap, ◌∙◌, subst, ⊎_elim, arith}
 use Rattle.std.specs.Prelude.{is_some, ◌↔◌}
 use Rattle.std.proofs.Math.Nat.{pow-le-pow_right}
@@ -26,7 +26,7 @@ use Rattle.slab_core.proofs.ReserveBesideSlabs.{vacant_free}
 use Rattle.slab_core.proofs.ReserveByNeed.{free_fits}
 use Rattle.slab_core.proofs.IdleFrames.{idle_begins, listed_taken}
 
--- two tests of one fact have the same result
+-- two tests that are true exactly if P holds have the same result
 same_answer : {P : Type 0} (v u : Bool) → (v ≡ true) ↔ P → P ↔ (u ≡ true) → v ≡ u
 same_answer v u by_v by_u = same_bool v u (λ e. by_u.0 (by_v.0 e)) (λ e. by_v.1 (by_u.1 e))
 
@@ -67,7 +67,7 @@ module _ {r : spaces.Content} {b : buddies.Content} {s : Content} {t k : ℕ} (w
     aligned : i.first % 2 ^ (layout_numbers i.cache).order ≡ 0
     aligned = (st.sound.placed i.first (layout_numbers i.cache).order (st.stands i.number i.first i.machine_frame i.cache i.slab).taken).0.1
 
-    -- if the slab is at least as large as the block, it contains the block
+    -- if the slab's order is at least k, the block of order k at its first frame lies in the slab, so the block is unused
     in_slab : k ≤ (layout_numbers i.cache).order → IsUnusedBlock r b s t (around i.first k).first k
     in_slab le y there is =
         let here : (around i.first k).first ≡ i.first =
@@ -82,7 +82,7 @@ module _ {r : spaces.Content} {b : buddies.Content} {s : Content} {t k : ℕ} (w
           within = wider i.first k (layout_numbers i.cache).order y le (subst (λ f. HasFrame (block f k) y) here there);
         }
 
-    -- if the slab is at most as large as the block, it lies in the block
+    -- if the slab's order is at most k, the slab lies in the fitting block, so the aligned block around the slab is unused
     in_fit : (layout_numbers i.cache).order ≤ k → IsUnusedBlock r b s t (around i.first k).first k
     in_fit le =
         let same : number_at k i.first ≡ number_at k fit.first =

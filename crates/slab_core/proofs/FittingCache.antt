@@ -1,4 +1,4 @@
--- Searching around the empty slabs of one cache.
+-- The search for a block around the empty slabs of one cache: the invariant of its loop, and its steps.
 use Rattle.std.proofs.Common.{◌≡◌, ℕ, ◌*◌, ◌-◌, ◌/◌, ◌^◌, ◌<◌, ◌≤◌, length, Some, None, Bool, eqb, ◌||◌, sym, ap, ◌∙◌, subst, inl, inr, ⊎_elim, arith}
 use Rattle.std.specs.Prelude.{Option, List, IfSome, MatchOption, is_some}
 use Rattle.std.proofs.Math.Nat.{div-mul-le_self, div-lt_iff_lt-mul}
@@ -16,7 +16,7 @@ use Rattle.slab_core.specs.Fitting.{IsUnusedBlock, WouldFitAround, AreRefused}
 use Rattle.slab_core.proofs.LargeFreeBlocks.{held_within}
 use Rattle.slab_core.proofs.IdleFrames.{listed_taken}
 
--- an upper bound on the number of frames that the search has still to pass
+-- 65,536 minus the first frame of the slab that the search reaches next, or 0 if no slab is left
 abbrev pub left : Option (ℕ × ℕ) → ℕ
 left None = 0
 left (Some p) = 65536 - p.0
@@ -26,16 +26,16 @@ abbrev pub Follows : List (Option (ℕ × ℕ)) → Option (ℕ × ℕ) → ℕ 
 Follows places next p = MatchOption next (NoneAbove places p.0 p.1) (λ q. IsNext places p.0 p.1 q.0 q.1)
 
 module _ (r : spaces.Content) (b : buddies.Content) (s : Content) (t c k : ℕ) where
-  -- no block fits around the cache's empty slabs that begin before the frame
+  -- no block of order k fits around an empty slab of cache c that begins before `frame`
   abbrev pub IsNoneBefore : ℕ → Type 0
   IsNoneBefore frame = (f n : ℕ) → place_at s.lists.places n ≡ Some (head_of t c 2, f) → f < frame → IsUnusedBlock r b s t (around f k).first k → ⊥
 
-  -- an empty slab of the cache begins at frame f, and no block fits around those before it
+  -- an empty slab of cache c begins at frame f, and no block of order k fits around the empty slabs of c before it
   pub record IsNextSlab (f n : ℕ) : Type 0 where
     pub placed : place_at s.lists.places n ≡ Some (head_of t c 2, f)
     pub none : IsNoneBefore f
 
-  -- the search has reached the slab `next`, or `next` is `None` and no block fits
+  -- the search has reached the slab `next`, or `next` is `None` and no block of order k fits around any empty slab of cache c
   pub record IsSearched (next : Option (ℕ × ℕ)) : Type 0 where
     pub rest : MatchOption next (WouldFitAround r b s t c k → ⊥) (λ p. IsNextSlab p.0 p.1)
 

@@ -1,4 +1,4 @@
--- A give to a cache that the tenant does not have.
+-- A give to a cache that the tenant does not have is refused with `NoCache`.
 use Rattle.std.proofs.Common.{◌≡◌, ℕ, None, ap, ◌∙◌}
 use Rattle.std.specs.Prelude.{option_map}
 use Rattle.model_core.specs.Machine.{Machine}

@@ -1,4 +1,4 @@
--- Making a slab on demand: if no free block is large enough, one is found after the empty slabs are freed.
+-- A slab made on demand: if a block is found only after all empty slabs are freed, they are freed first.
 use Rattle.std.proofs.Common.{◌≡◌, ℕ, ◌<◌, true, false, map, Option, Some, None, refl, sym, ap, ◌∙◌, subst, arith}
 use Rattle.std.specs.Prelude.{option_map, is_some, MatchOption, IfSome, ◌==◌}
 use Rattle.model_core.specs.Blocks.{Block, IsChoice, IsWithout}
@@ -29,7 +29,7 @@ use Rattle.slab_core.proofs.ReturnEmptySlabs.{idle_empty}
 
 -- The block that is found on demand
 
--- if the order is above that of a slot, no block is chosen
+-- if order k is above the order of a superblock, no block is chosen
 pub choice_above : (top k : ℕ) (m : Machine) → top < k → choice top m k ≡ None
 unfolding choice
 choice_above top k m large = go (choose top (holds m) (taken_in m) (beyond m.slots) k) (choice_is_found top (holds m) (taken_in m) (beyond m.slots) k (held_below m.slots))
@@ -57,18 +57,18 @@ module _ (r : spaces.Content) (b : buddies.Content) (s : Content) (t c k : ℕ) 
       subst (λ i. cache_of (by_need s.top k m) i ≡ Some x) (found_key (λ z. z.number) c m.caches x ex)
       (in_found (λ z. z.number) 0 x (by_need s.top k m).caches (rises_by_need s.top k m h.caches_rise) there)
 
--- if the parts have not changed, what holds for them now held for them before
+-- if a step leaves the parts unchanged, a property P that they have after the step is one that they had before it
 pub unmoved : (P : spaces.Content → buddies.Content → Content → Type 0) {r r' : spaces.Content} {b b' : buddies.Content} {s s' : Content}
     → (r' ≡ r) × ((b' ≡ b) × (s' ≡ s)) → P r' b' s' → P r b s
 unmoved P {r = r} {r' = r'} {b = b} {b' = b'} {s = s} {s' = s'} e h = subst (λ x. P x b s) e.0 (subst (λ x. P r' x s) e.1.0 (subst (λ x. P r' b' x) e.1.1 h))
 
--- All empty slabs are freed
+-- all empty slabs of tenant t are freed, and the parts change from r, b and s to r', b' and s'
 module _ {r r' : spaces.Content} {b b' : buddies.Content} {s s' : Content} {t : ℕ} (w : IsSlabs s) (a : Agree r b s) (st : IsSteady r b s t)
     (g : IsReturned r r' b b' s s' t (idle_at (λ i. true) r s t)) where
   pub reaped_shown : (m : Machine) → ShowsMachine r b s t m → ShowsMachine r' b' s' t (reaped m)
   reaped_shown m h = reaped_shows r r' b b' s s' t (idle_at (λ i. true) r s t) m g st h (idle_empty r b s t m w a h)
 
-  -- if a slab is made then, the machine has grown on demand
+  -- if no free block was large enough, and a slab is made after the empty slabs are freed, the machine has grown on demand
   module _ (k : ℕ) (o : Option Slab) (none : (m : Machine) → ShowsMachine r b s t m → choice s.top m k ≡ None)
       (chosen : (m : Machine) → ShowsMachine r' b' s' t m → choice s'.top m k ≡ option_map (λ p. p.first) o) where
     pub chosen_by_need : (m : Machine) → ShowsMachine r b s t m → choice_by_need s.top k m ≡ option_map (λ p. p.first) o
@@ -89,7 +89,7 @@ module _ {r r' : spaces.Content} {b b' : buddies.Content} {s s' : Content} {t : 
             shows (by_need s.top k m) x (subst (ShowsMachine r' b' s' t) (sym (by_need_reaps s.top k p.first m (none m h) is)) (reaped_shown m h))
             (stands r b s t c k w a st full m x h ex)
 
--- if a free block was large enough, no slab is freed
+-- if a free block is large enough, growing on demand frees no slab first
 pub grown_at_once : {r r' : spaces.Content} {b b' : buddies.Content} {s s' : Content} (t c k f : ℕ)
     → ((m : Machine) → ShowsMachine r b s t m → choice s.top m k ≡ Some f)
     → ((m : Machine) (x : Cache) → ShowsMachine r b s t m → cache_of m c ≡ Some x → ShowsMachine r' b' s' t (slabs.grown f x m))

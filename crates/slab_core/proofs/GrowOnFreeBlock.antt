@@ -1,4 +1,4 @@
--- Making a slab on a free block.
+-- The block that the buddy system chooses becomes the next slab of a cache, as in the machine, and the parts still agree.
 use Rattle.std.proofs.Common.{◌≡◌, ◌≢◌, ◌↔◌, ℕ, ◌+◌, ◌-◌, ◌*◌, ◌/◌, ◌%◌, ◌^◌, ◌<◌, ◌≤◌, Bool, true, false, zero, suc, cond, ltb, leb, length, Some, None, IsSome, refl, sym, ap, ◌∙◌, subst, ⊎_elim, arith}
 use Rattle.std.specs.Prelude.{Option, is_some, ◌&&◌}
 use Rattle.std.proofs.lemmas.Bool.{cases_eq, false≢true, eq-eqb, ne_eqb, and_parts, leb-true, ltb-true, false_from_ne_true}
@@ -45,7 +45,7 @@ no_place : (o : Option (ℕ × ℕ)) → ((head key : ℕ) → o ≡ Some (head,
 no_place None none = refl
 no_place (Some p) none = absurd (none p.0 p.1 refl)
 
--- the result `None` is right if no free block is large enough
+-- if tenant t has no free block of order k or more, the result `None` is right
 pub none_free : {A : Type 0} (b : buddies.Content) (t k : ℕ) → IsWithout b.top (buddies.is_held (buddies.holding_of t b)) (buddies.taken_of (buddies.holding_of t b)) k
     → (o : Option A) → o ≡ None → IsSome o ↔ HasFreeBlock b t k
 none_free b t k without o none = (λ e. absurd (false≢true (sym (ap is_some none) ∙ e)), λ h. absurd (without h.found h.free h.enough))
@@ -76,7 +76,7 @@ module _ {r : spaces.Content} {b : buddies.Content} {s : Content} (t k : ℕ) (a
       go None held e = false≢true held
       go (Some m) held e = some_none e
 
-  -- if the order is above that of a superblock, no free block is large enough
+  -- if order k is above the order of a superblock, no free block is large enough
   pub none_large : b.top < k → IsWithout b.top (buddies.is_held (buddies.holding_of t b)) (buddies.taken_of (buddies.holding_of t b)) k
   none_large large z free enough = absurd (let small = free.0.0 in omega arith)
 
@@ -97,7 +97,7 @@ module _ {r : spaces.Content} {b : buddies.Content} {s : Content} (t k : ℕ) (a
     pub choice_large : b.top < k → choice s.top m k ≡ None
     choice_large large = choice_none (none_large large)
 
--- the buddy system has chosen the block at frame f, machine frame n, for the next slab of cache c of tenant t
+-- the buddy system has chosen the block at frame f, whose machine frame is n, for the next slab of cache c of tenant t
 pub record IsChosen (r : spaces.Content) (b : buddies.Content) (s : Content) (t c : ℕ) (cache : own.Cache) (f j n : ℕ) : Type 0 where
   pub parts : HoldTogether r b s
   pub steady : IsSteady r b s t
@@ -161,7 +161,7 @@ module _ {r : spaces.Content} {b : buddies.Content} {s : Content} {t c : ℕ} {c
   pub few : f < 65536
   few = omega (arith, frame_within, chosen.parts.buddy.sizes.taken t known, a.machine_frames, ap (λ top. b.superblocks * 2 ^ top) a.order, w.small)
 
-  -- no slab begins at the block's machine frame
+  -- no slab begins at machine frame n
   pub vacant : place_at s.lists.places n ≡ None
   vacant = no_place (place_at s.lists.places n) (λ head key e.
       let there = chosen.steady.listed f n head key under e in
@@ -210,7 +210,7 @@ module _ {r : spaces.Content} {b : buddies.Content} {s : Content} {t c : ℕ} {c
     abbrev s' : Content
     s' = with_new_slab s t c cache f n
 
-    -- a byte of an object has the byte that the pattern has for its offset in the object
+    -- each byte of an object is the byte of the repeated pattern for its offset in the object
     constructed : (place : ℕ) → is_inside place f cache ≡ true
         → in_object (layout_numbers cache) cache.layout.size (fresh_kept cache).colour (place - 4096 * f) ≡ true
         → byte_at r' t place ≡ Some (pattern_byte cache.pattern ((place - 4096 * f - (fresh_kept cache).colour) % (layout_numbers cache).chunk))
@@ -298,7 +298,7 @@ module _ {r : spaces.Content} {b : buddies.Content} {s : Content} {t c : ℕ} {c
               (ap (λ x. is_live r' t cache x f i) kept_now ∙ down i high);
         }
 
-    -- the other slabs still agree
+    -- the parts still agree on every other slab of tenant t
     stays : (x head key : ℕ) (other : own.Cache) → x ≢ n → place_at s.lists.places x ≡ Some (head, key) → cache_in s.caches (head / 3) ≡ Some other
         → head / 3 / MOST_CACHES ≡ t → IsAgreed r' reserved s' x head key other
     stays x head key other away placed old e =
@@ -366,7 +366,7 @@ module _ {r : spaces.Content} {b : buddies.Content} {s : Content} {t c : ℕ} {c
         let same : head_of t c 2 ≡ head = ap (λ (p : ℕ × ℕ). p.0) (some_same (sym placed_now ∙ placed)) in omega arith)
         mine
 
-    -- the parts show the machine with the grown cache
+    -- the parts show the machine in which cache c has the new slab
     shown_grown : (m : Machine) (x : Cache) → ShowsMachine r b s t m → cache_of m c ≡ Some x → ShowsMachine r' reserved s' t (grown f x m)
     shown_grown m x h ex = grown_shows r r' b reserved s s' t c cache f n m x one_grown chosen.steady cut (λ g i y e there here. untaken y here (g, i, e, there)) ex h
 

@@ -22,7 +22,7 @@ use Rattle.slab_core.proofs.ReturnEmptySlabs.{idle_tells, idle_is}
 pub small_size : (k : ℕ) → k ≤ 8 → 2 ^ k ≤ 256
 small_size k small = let two : 0 < 2 = omega arith in pow-le-pow_right two small
 
--- the slab in which an idle frame lies is empty
+-- `idle_at` is true of the first frame of the slab in which an idle frame lies
 pub idle_begins : (r : spaces.Content) (s : Content) (t x : ℕ) (i : IsIdle r s t x) → idle_at (λ n. true) r s t i.first ≡ true
 idle_begins r s t x i =
     let p = placed_as r s t i.number i.first i.machine_frame i.cache i.slab in
@@ -50,7 +50,7 @@ module _ (r : spaces.Content) (b : buddies.Content) (s : Content) (t : ℕ) (st 
         within = subst (λ j. HasFrame (block f j) x) order has;
       }
 
-  -- the end of a taken block that begins at a border is a border
+  -- if a taken block begins at a border, its end is a border too
   module _ (f k : ℕ) (taken : buddies.taken_of (buddies.holding_of t b) f ≡ Some k) (border : IsBorder b t f) where
     border_past : IsBorder b t (f + 2 ^ k)
     border_past g j is less = ⊎_elim
@@ -81,7 +81,7 @@ module _ (r : spaces.Content) (b : buddies.Content) (s : Content) (t : ℕ) (st 
         st.sound.apart i.first (layout_numbers i.cache).order f k f (st.stands i.number i.first i.machine_frame i.cache i.slab).taken taken i.within has in
         false≢true (sym busy ∙ ap (idle_at (λ n. true) r s t) (sym same) ∙ idle_begins r s t f i)
 
--- for each entry in the list of a cache's empty slabs, a taken block of the tenant begins at the entry's frame
+-- a taken block of tenant t begins at the first frame of each slab in the list of empty slabs of cache c
 pub listed_taken : (r : spaces.Content) (b : buddies.Content) (s : Content) (t c f n : ℕ) → IsSlabs s → Agree r b s → c < MOST_CACHES
     → place_at s.lists.places n ≡ Some (head_of t c 2, f) → (k : ℕ) × (buddies.taken_of (buddies.holding_of t b) f ≡ Some k)
 listed_taken r b s t c f n w a less placed =

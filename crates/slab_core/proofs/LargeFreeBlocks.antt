@@ -1,4 +1,4 @@
--- Free blocks that are large enough, and their number.
+-- A tenant has a free block of order k or more if and only if its count for one of these orders is above 0.
 use Rattle.std.proofs.Common.{◌≡◌, ℕ, zero, suc, ◌+◌, ◌*◌, ◌/◌, ◌^◌, ◌<◌, ◌≤◌, Bool, true, false, length, refl, ap, ◌∙◌, ⊎_elim, arith}
 use Rattle.std.proofs.Math.Nat.{div-lt_iff_lt-mul}
 use Rattle.std.proofs.lemmas.Bool.{cases_lt}
@@ -13,7 +13,7 @@ use Rattle.buddy_core.proofs.FreeBlockCounts.{count_some}
 use Rattle.machine_changes.proofs.SteadyParts.{within}
 use Rattle.slab_core.specs.Fitting.{HasFreeBlock}
 
--- if the count is above 0, some number passes the test
+-- if p is true for more than 0 numbers below n, it is true for some number
 some_counted : (p : ℕ → Bool) (n : ℕ) → 0 < count_below p n → (f : ℕ) × (p f ≡ true)
 some_counted p zero some = absurd (omega arith)
 some_counted p (suc n) some = go (p n) refl some (some_counted p n)
@@ -22,7 +22,7 @@ some_counted p (suc n) some = go (p n) refl some (some_counted p n)
     go true is some rest = (n, is)
     go false is some rest = rest (omega arith)
 
--- a held slot has a number below the number of superblocks
+-- the number of a held slot is below the number of superblocks
 pub held_within : (b : buddies.Content) (t u : ℕ) → buddies.IsSized b → t < length b.tenants
     → buddies.is_held (buddies.holding_of t b) u ≡ true → u < b.superblocks
 held_within b t u sized lt held =
@@ -51,7 +51,7 @@ module _ (b : buddies.Content) (t k : ℕ) where
       count_some (test h.found.order) (b.superblocks * 2 ^ b.top) h.found.first less
       ((free_is_tested b.top (buddies.is_held (buddies.holding_of t b)) (buddies.taken_of (buddies.holding_of t b)) h.found).1 h.free)
 
-  -- there is no free block of the orders from k up to, but not including, `order`
+  -- the tenant has no free block of any order from k to `order` - 1
   abbrev pub IsNoneTo : ℕ → Type 0
   IsNoneTo order = (j : ℕ) → k ≤ j → j < order → buddies.free_block_count b.top b.superblocks j (buddies.holding_of t b) ≡ 0
 

@@ -1,4 +1,4 @@
--- The least number that no cache has.
+-- The least number that no cache of a tenant has.
 use Rattle.std.proofs.Common.{◌≡◌, ◌≢◌, ℕ, ◌+◌, ◌<◌, ◌≤◌, cond, List, [], ◌∷◌, map, None, IsSome, refl, sym, ap, ◌∙◌, subst, ⊎_elim, arith}
 use Rattle.std.specs.Prelude.{Option, is_some}
 use Rattle.std.proofs.lemmas.Bool.{cases_eq, cases_lt, false≢true, eq-eqb, ne_eqb}
@@ -15,7 +15,7 @@ module _ {X : Type 0} (key : X → ℕ) where
   not_some : (o : Option X) → o ≡ None → IsSome o → ⊥
   not_some o e some = false≢true (sym (ap is_some e) ∙ some)
 
-  -- if all numbers from n to c - 1 are in the list, the least missing number is at least c
+  -- if all numbers from n to c - 1 are keys of the list, the least missing key from n on is at least c
   pub least_above : (n c : ℕ) (xs : List X) → RisesFrom n (map key xs) → ((d : ℕ) → n ≤ d → d < c → IsSome (at key d xs))
       → c ≤ least_missing n (map key xs)
   least_above n c [] rises full = ⊎_elim (λ less. absurd (not_some None refl (full n (omega arith) less))) (λ high. high) (cases_lt n c)
@@ -32,7 +32,7 @@ module _ {X : Type 0} (key : X → ℕ) where
           (⊎_elim (λ less. absurd (not_some (at key n (x ∷ xs))
           (at_past key n x xs differ ∙ none_below n (key x + 1) xs rises (omega arith)) (full n (omega arith) less))) (λ high. high) (cases_lt n c))
 
-  -- if all numbers from n to c - 1 are in the list and c is not, c is the least missing number
+  -- if all numbers from n to c - 1 are keys of the list and c is not, c is the least missing key from n on
   pub least_is : (n c : ℕ) (xs : List X) → RisesFrom n (map key xs) → n ≤ c → at key c xs ≡ None
       → ((d : ℕ) → n ≤ d → d < c → IsSome (at key d xs)) → least_missing n (map key xs) ≡ c
   least_is n c [] rises low absent full =

@@ -12,12 +12,12 @@ use Rattle.slab_tables.specs.Content.{kept_at, live_total}
 use Rattle.machine_changes.specs.Records.{count_true}
 use Rattle.machine_changes.proofs.ObjectFlags.{any_counts}
 
--- the sum of the numbers of live objects over the slabs of a list
+-- the sum of `live` over the machine frames of the slabs of a list
 abbrev pub sum_of : (ℕ → ℕ) → List (ℕ × ℕ) → ℕ
 sum_of live [] = 0
 sum_of live (p ∷ ps) = live p.1 + sum_of live ps
 
--- the number of live objects in these slabs
+-- the number of live objects in all slabs of the list
 abbrev pub sum_live : List Slab → ℕ
 sum_live [] = 0
 sum_live (y ∷ ys) = count_true y.live + sum_live ys
@@ -41,7 +41,7 @@ sum_with live h i head key qs = go (eqb head h)
 is_cond : (v w : Bool) (n : ℕ) → v ≡ w → cond v n 0 ≡ cond w n 0
 is_cond v w n e = ap (λ b. cond b n 0) e
 
--- a place in the lists of a cache is in exactly one of them
+-- each list of the cache with index n is exactly one of the lists 3 * n, 3 * n + 1 and 3 * n + 2
 one_of : (head n x : ℕ) → cond (eqb (head / 3) n) x 0 ≡ cond (eqb head (3 * n)) x 0 + (cond (eqb head (3 * n + 1)) x 0 + cond (eqb head (3 * n + 2)) x 0)
 one_of head n x = elim (cases_eq head (3 * n)) [
   | inl a ↦ omega (
@@ -78,7 +78,7 @@ one_of head n x = elim (cases_eq head (3 * n)) [
   ]
 ]
 
--- a cache's total is the sum over its three lists
+-- the total of the cache with index n is the sum over its three lists
 pub total_of_lists : (live : ℕ → ℕ) (n i : ℕ) (ps : List (Option (ℕ × ℕ))) (ks : List Kept) → length ps ≤ length ks → ((j : ℕ) → (kept_at ks j).live ≡ live (i + j))
     → live_total n ps ks ≡ sum_of live (list_from (3 * n) i ps) + (sum_of live (list_from (3 * n + 1) i ps) + sum_of live (list_from (3 * n + 2) i ps))
 total_of_lists live n i [] ks few same = refl
@@ -99,8 +99,8 @@ total_of_lists live n i (Some (head, key) ∷ ps) (k ∷ ks) few same =
       sum_with live (3 * n + 2) i head key (list_from (3 * n + 2) (i + 1) ps),
     )
 
--- if a list has the first frames of some slabs, and `live` gives their numbers of live objects, the sum over the list is the
--- number of live objects in these slabs
+-- if the keys of a list are the first frames of the slabs `ys`, and `live` returns each slab's number of live objects, the sum
+-- over the list is the number of live objects in `ys`
 pub sum_of_slabs : (live : ℕ → ℕ) (qs : List (ℕ × ℕ)) (ys : List Slab) → map (λ q. q.0) qs ≡ map (λ y. y.first) ys
     → ((q : ℕ × ℕ) (y : Slab) → IsIn q qs → IsIn y ys → q.0 ≡ y.first → live q.1 ≡ count_true y.live) → sum_of live qs ≡ sum_live ys
 sum_of_slabs live [] [] e same = refl
@@ -131,7 +131,7 @@ live_counted c y i [] = refl
 live_counted c y i (true ∷ bs) = omega (arith, live_counted c y (i + 1) bs)
 live_counted c y i (false ∷ bs) = omega (arith, live_counted c y (i + 1) bs)
 
--- a cache has as many live objects as its slabs together
+-- the list of the live objects in the slabs `ys` is as long as their numbers of live objects together
 pub objects_counted : (c : Cache) (ys : List Slab) → length (flat_map (live_in c) ys) ≡ sum_live ys
 objects_counted c [] = refl
 objects_counted c (y ∷ ys) = length-append (live_in c y) (flat_map (live_in c) ys) ∙ omega (arith, live_counted c y 0 y.live, objects_counted c ys)

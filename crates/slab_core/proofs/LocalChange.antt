@@ -1,4 +1,4 @@
--- If only one tenant's share of the parts changes, at one machine frame, all others keep everything and the parts still agree.
+-- If the parts change only for one tenant, at one machine frame, all other tenants keep everything and the parts still agree.
 use Rattle.std.proofs.Common.{◌≡◌, ◌≢◌, ℕ, ◌+◌, ◌*◌, ◌/◌, ◌%◌, ◌^◌, ◌<◌, ◌≤◌, cond, length, Some, sym, ap, ◌∙◌, subst, ⊎_elim, arith}
 use Rattle.std.proofs.lemmas.Bool.{cases_eq}
 use Rattle.std.proofs.lemmas.List.{length-set}
@@ -19,8 +19,8 @@ use Rattle.machine_changes.proofs.SteadyParts.{one_owner}
 use Rattle.machine_changes.proofs.UntouchedTenant.{machine_frame_same}
 use Rattle.machine_changes.proofs.TenantEmptied.{same_cache}
 
--- Only the share of tenant t has changed. Of the tables' entries for machine frames, only the entry of `machine_frame` has
--- changed, which is the machine frame of frame `first`.
+-- Only tenant t is affected. Only one machine frame has a new list entry or stored state: `machine_frame`, the machine frame of
+-- frame `first` of t.
 pub record IsLocal (r r' : spaces.Content) (b b' : buddies.Content) (s s' : Content) (t first machine_frame : ℕ) : Type 0 where
   pub space : r' ≡ record r { banks = r'.banks }
   pub bytes : (u : ℕ) → u ≢ t → IsSameFor u r r'
@@ -32,7 +32,7 @@ pub record IsLocal (r r' : spaces.Content) (b b' : buddies.Content) (s s' : Cont
   pub lists : (n : ℕ) → n ≢ machine_frame → place_at s'.lists.places n ≡ place_at s.lists.places n
   pub kept : (n : ℕ) → n ≢ machine_frame → kept_at s'.kept n ≡ kept_at s.kept n
 
--- a slab still agrees if its machine frame, its taken block, its stored state and its live objects have not changed
+-- the parts still agree on a slab if its machine frame, its taken block, its stored state and its live objects have not changed
 pub agreed_still : (r r' : spaces.Content) (b b' : buddies.Content) (s s' : Content) (machine_frame head key : ℕ) (cache : own.Cache)
     → (layout_numbers cache).count ≤ 256 → IsAgreed r b s machine_frame head key cache
     → machine_frame_of s'.top r'.slots (head / 3 / MOST_CACHES) key ≡ machine_frame_of s.top r.slots (head / 3 / MOST_CACHES) key

@@ -1,4 +1,4 @@
--- The aligned block around a taken block is not part of a larger taken block.
+-- If a taken block begins at frame x, no taken block begins before the aligned block around x and reaches into it.
 use Rattle.std.proofs.Common.{◌≡◌, ℕ, ◌+◌, ◌*◌, ◌/◌, ◌^◌, ◌<◌, ◌≤◌, Some, sym, ap, ◌∙◌, subst, ⊎_elim, arith}
 use Rattle.std.specs.Prelude.{is_some}
 use Rattle.std.proofs.Math.Nat.{div-mul-le_self}
@@ -17,7 +17,7 @@ use Rattle.slab_core.specs.Fitting.{IsBorder, IsWhole}
 
 module _ (r : spaces.Content) (b : buddies.Content) (s : Content) (t : ℕ) (a : Agree r b s) (st : IsSteady r b s t) where
   module _ (x k : ℕ) where
-    -- a taken block that begins below the aligned block and ends above its first frame contains frame x
+    -- if a taken block begins before the aligned block of order k around frame x and reaches into it, the taken block contains x
     over_edge : (f i : ℕ) → buddies.taken_of (buddies.holding_of t b) f ≡ Some i → f < x / 2 ^ k * 2 ^ k → x / 2 ^ k * 2 ^ k < f + 2 ^ i → HasFrame (block f i) x
     over_edge f i is before over =
         let aligned = (st.sound.placed f i is).0.1 in

@@ -1,4 +1,4 @@
--- Marking one object: the slab's number of live objects is updated, the parts agree, and nothing else changes.
+-- If one object is marked and its slab's number of live objects is updated, the parts agree, and nothing else changes.
 use Rattle.std.proofs.Common.{◌≡◌, ◌≢◌, ℕ, ◌+◌, ◌*◌, ◌/◌, ◌%◌, ◌<◌, ◌≤◌, Bool, true, false, not, List, Some, None, length, get_or, set, refl, sym, ap, ◌∙◌, subst, inl, inr, arith}
 use Rattle.std.specs.Prelude.{◌==◌, ◌&&◌, if◌then◌else◌}
 use Rattle.std.proofs.lemmas.Bool.{cases_eq}
@@ -24,7 +24,7 @@ use Rattle.slab_core.proofs.LocalChange.{IsLocal, agreed_still, spares_of, agree
 use Rattle.slab_core.proofs.RecordBits.{flags_changed, count_cleared, count_set}
 use Rattle.slab_core.proofs.SlabFacts.{IsHeld, held, machine_frame_within}
 
--- `count` is one more than `before` if an object was marked live, and one less if an object was marked free
+-- `count` is `before` + 1 if `live` is true, and `before` - 1 if `live` is false
 abbrev pub IsCountOf : Bool → ℕ → ℕ → Type 0
 IsCountOf live before count = (live ≡ true → count ≡ before + 1) × (live ≡ false → count + 1 ≡ before)
 
@@ -140,7 +140,7 @@ module _ {r : spaces.Content} {b : buddies.Content} {s : Content} {t c f n i : �
       large = k.large;
     }
 
-    -- the marked slab agrees
+    -- the parts agree on the slab of the marked object
     own_slab : IsAgreed r' b s' n head_now f cache
     own_slab = record {
       under = ap (λ u. machine_frame_of s.top r.slots u f) tenant_now ∙ q.under;
@@ -164,7 +164,7 @@ module _ {r : spaces.Content} {b : buddies.Content} {s : Content} {t c f n i : �
       kept = kept_other;
     }
 
-    -- each other slab of the tenant still agrees
+    -- the parts still agree on each other slab of the tenant
     other_slab : (machine_frame head key : ℕ) (cache' : own.Cache) → machine_frame ≢ n → place_at s.lists.places machine_frame ≡ Some (head, key) → cache_in s.caches (head / 3) ≡ Some cache'
         → head / 3 / MOST_CACHES ≡ t → IsAgreed r' b s' machine_frame head key cache'
     other_slab machine_frame head key cache' other place cached tenant =

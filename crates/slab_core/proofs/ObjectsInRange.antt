@@ -20,7 +20,7 @@ use Rattle.slab_core.specs.declared.reaching.ObjectSpan.{ObjectSpan}
 use Rattle.slab_core.specs.Reaching.{IsAround}
 use Rattle.slab_core.proofs.SlabOfObject.{in_frame}
 
--- if nothing satisfies R, the answer `false` is right
+-- if no object satisfies R, the answer `false` is right
 pub nowhere : {R : Found → Type 0} → ((o : Found) → R o → ⊥) → (false ≡ true) ↔ ((o : Found) × R o)
 nowhere none = (λ e. absurd (false≢true e), λ o. absurd (none o.0 o.1))
 
@@ -90,7 +90,7 @@ module _ (r : spaces.Content) (b : buddies.Content) (s : Content) (t place len :
       not_live i only dead o h =
           false≢true (sym dead ∙ (ap (is_live r t cache (kept_at s.kept n) first) (sym (only.only o.index (holds o h))) ∙ (here o h).object.live))
 
-      -- if object i is the only one of the slab that holds the range, and it is live, `IsAround` holds for it
+      -- if object i is the only object of the slab that contains the range, and it is live, `IsAround` is true of it
       pub is_around : (i offset bytes : ℕ) → IsOnly (Holds cache.layout (kept_at s.kept n).colour (place - 4096 * first) len) i
           → is_live r t cache (kept_at s.kept n) first i ≡ true
           → offset ≡ object_offset (layout_numbers cache) (kept_at s.kept n).colour i → bytes ≡ cache.layout.size
@@ -109,7 +109,7 @@ module _ (r : spaces.Content) (b : buddies.Content) (s : Content) (t place len :
             to = omega arith;
           }
 
--- if `IsAround` holds for an object, `HasRange` holds for that object
+-- if `IsAround` is true of an object, a live object contains the range
 has_range : (r : spaces.Content) (s : Content) (t place len : ℕ) (o : ObjectSpan) → IsAround r s t place len o → (x : Found) × HasRange r s t place len x
 has_range r s t place len o is = (
   is.object,
