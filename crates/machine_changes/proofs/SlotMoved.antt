@@ -126,7 +126,6 @@ module _ (r : spaces.Content) (b : buddies.Content) (s s' : Content) (t u from t
   machine_now m = carried_shows r r' b b' s s' t carried m
 
   -- the slab that is now at machine frame n, with the list entry p, was at `machine_frame` before, with the same stored state
-  -- stored state.
 
   record WasAt (n : ℕ) (p : ℕ × ℕ) : Type 0 where
     pub machine_frame : ℕ

@@ -1,4 +1,4 @@
--- Flipping a bit of a control record, which is in the slab's frame or stored outside the slab.
+-- If one bit of a slab's control record is flipped, in the frame or in the stored state, `IsTurned` is true of its object.
 use Rattle.std.proofs.Common.{◌≡◌, ◌≢◌, ℕ, ◌+◌, ◌-◌, ◌*◌, ◌/◌, ◌%◌, ◌^◌, ◌<◌, true, false, not, cond, Some, length, get_or, refl, sym, ap, ◌∙◌, subst, ◌⊎◌, inl, inr, arith}
 use Rattle.std.specs.Prelude.{List, IsSome, ◌==◌, if◌then◌else◌, slice_index, slice_set}
 use Rattle.std.specs.Int.Bits.{bit_xor}
@@ -20,7 +20,8 @@ use Rattle.slab_core.specs.Objects.{IsTurned, IsRecordRaised}
 use Rattle.slab_core.proofs.ConstructedObjects.{in_range, out_of_range}
 use Rattle.slab_core.proofs.RecordBits.{bit_turned, bit_stays}
 
--- an object's bit is bit i % 8 of byte i / 8 of the record if its slab's objects are small, and bit i of the stored record if not
+-- The bit of object i is bit i % 8 of byte i / 8 of the record in the frame if the objects are small. If they are large, it is
+-- bit i of the stored record.
 pub live_small : (r : spaces.Content) (t : ℕ) (cache : own.Cache) (kept : Kept) (f i : ℕ) → is_small (layout_numbers cache).chunk ≡ true
     → is_live r t cache kept f i ≡ is_set (record_byte r t f (i / 8)) (i % 8)
 live_small r t cache kept f i small = ap (λ b. cond b (is_set (record_byte r t f (i / 8)) (i % 8)) (is_set kept.outside i)) small
@@ -30,8 +31,8 @@ pub live_large : (r : spaces.Content) (t : ℕ) (cache : own.Cache) (kept : Kept
 live_large r t cache kept f i large = ap (λ b. cond b (is_set (record_byte r t f (i / 8)) (i % 8)) (is_set kept.outside i)) large
 
 module _ (r : spaces.Content) (s : Content) (t : ℕ) (o : Found) where
-  -- a write flips the object's bit in its byte of the record and changes nothing else; the lemmas hold for any function that
-  -- writes so
+  -- `after` is the memory after a write that flips the bit of object o in the record and changes nothing else. The lemmas do not
+  -- depend on how the code writes.
   module _ (after : spaces.Content) (few : o.index < 256) (small : is_small (layout_numbers o.cache).chunk ≡ true) (place byte word : ℕ)
       (at : place ≡ 4096 * o.first + 4064 + o.index / 8) (reads : byte_at r t place ≡ Some byte) (is_flipped : word ≡ bit_xor byte (2 ^ (o.index % 8)))
       (now : (p : ℕ) → byte_at after t p ≡ (if p == place then Some word else byte_at r t p)) (same : after ≡ record r { banks = after.banks })
@@ -80,7 +81,7 @@ module _ (r : spaces.Content) (s : Content) (t : ℕ) (o : Found) where
       live = refl;
     }
 
-  -- the whole record is written, with the object's bit flipped
+  -- the 32 bytes of the record are written back, with the bit of object o flipped
   module _ (after : spaces.Content) (laws : SpaceLaws r) (few : o.index < 256) (small : is_small (layout_numbers o.cache).chunk ≡ true) (place : ℕ)
       (at : place ≡ 4096 * o.first + 4064) (home : IsSome (home_of r t place 32)) (before changed : List ℕ) (is_read : window_of r t place 32 ≡ Some before)
       (is_turned : changed ≡ slice_set before (o.index / 8) (bit_xor (slice_index before (o.index / 8)) (2 ^ (o.index % 8))))
@@ -137,7 +138,7 @@ module _ (r : spaces.Content) (s : Content) (t : ℕ) (o : Found) where
         (turned_by (with_window r t place 32 changed) few small bit_place byte word (omega (arith, at)) (read.each (o.index / 8) (omega arith)) refl
         after_now refl (λ u other. laws.others.window t place 32 changed u other) (laws.spare.window t place 32 changed))
 
-  -- setting the first clear bit of a record flips the bit of that object
+  -- if the first clear bit of the record is the bit of object o, setting it flips the bit of o
   pub turned_window : (after : spaces.Content) → SpaceLaws r → o.index < 256 → is_small (layout_numbers o.cache).chunk ≡ true → (place : ℕ)
       → place ≡ 4096 * o.first + 4064 → IsSome (home_of r t place 32) → IsRecordRaised r after t place o.index → IsTurned r after s s t o
   turned_window after laws few small place at home k = turned_record after laws few small place at home k.before k.after k.read k.raised.turned k.written

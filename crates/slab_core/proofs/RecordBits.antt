@@ -1,4 +1,4 @@
--- Bits of control records and flags of objects.
+-- Flipping bits of control records, and changing and counting the flags of objects.
 use Rattle.std.proofs.Common.{◌≡◌, ◌≢◌, ℕ, ◌+◌, ◌%◌, ◌^◌, ◌<◌, ◌≤◌, Bool, true, false, not, cond, eqb, zero, suc, List, [], ◌∷◌, length, get_or, set, refl, sym, ap, ◌∙◌, inl, inr, arith}
 use Rattle.std.specs.Int.{bit_at}
 use Rattle.std.specs.Int.Bits.{bit_xor}
@@ -24,14 +24,14 @@ bit_stays word i j other =
     let same : bit_at (bit_xor word (2 ^ i)) j ≡ bit_at word j = omega arith in
     ap (λ x. eqb x 1) same
 
--- if two tests agree on the n numbers from k on, they give the same flags
+-- if tests p and q have the same results for the n numbers from k on, their flags are equal
 same_flags : (k n : ℕ) (p q : ℕ → Bool) → ((i : ℕ) → k ≤ i → i < k + n → q i ≡ p i) → flags_from k n q ≡ flags_from k n p
 same_flags k zero p q same = refl
 same_flags k (suc n) p q same =
     ap (λ b. b ∷ flags_from (suc k) n q) (same k (omega arith) (omega arith))
     ∙ ap (λ bs. p k ∷ bs) (same_flags (suc k) n p q (λ i low high. same i (omega arith) (omega arith)))
 
--- if a test changes only for number k + i, only flag i changes
+-- if tests p and q differ only for number k + i, their flags differ only at index i
 pub flags_changed : (k n i : ℕ) (p q : ℕ → Bool) (v : Bool) → i < n → q (k + i) ≡ v → ((j : ℕ) → k ≤ j → j < k + n → j ≢ k + i → q j ≡ p j)
     → flags_from k n q ≡ set (flags_from k n p) i v
 flags_changed k zero i p q v less here other = absurd (omega arith)

@@ -1,4 +1,4 @@
--- The rows of a report, one for each cache.
+-- The rows of a report are the rows of all caches, added one by one in ascending order of the caches' numbers.
 use Rattle.std.proofs.Common.{◌≡◌, ℕ, ◌+◌, ◌<◌, ◌≤◌, cond, ltb, List, [], ◌∷◌, ◌++◌, map, Some, None, refl, sym, ap, ◌∙◌, inl, inr, arith}
 use Rattle.std.specs.Prelude.{filter, Option, option_map}
 use Rattle.std.proofs.lemmas.Bool.{cases_eq, cases_lt, lt-ltb, le-ltb}
@@ -19,7 +19,7 @@ listed None = []
 listed (Some x) = x ∷ []
 
 module _ {X : Type 0} (key : X → ℕ) where
-  -- the elements with a key below n
+  -- the elements of the list with keys below n
   abbrev pub below : ℕ → List X → List X
   below n xs = filter (λ x. ltb (key x) n) xs
 
@@ -65,7 +65,7 @@ no_more : {X : Type 0} (xs : List X) → xs ≡ xs ++ []
 no_more [] = refl
 no_more (x ∷ xs) = ap (λ ys. x ∷ ys) (no_more xs)
 
--- if `rows` are the rows of the caches xs, and `row` is the row of the next cache, together they are the rows of xs and the next
+-- if `rows` are the rows of the caches xs, and a further cache has the row `row`, the rows with it are the rows of xs and this
 -- cache
 pub pushed : (rows : List CacheRow) (row : CacheRow) (xs : List Cache) (o : Option Cache) → Some row ≡ option_map row_of_cache o → rows ≡ map row_of_cache xs
     → rows ++ (row ∷ []) ≡ map row_of_cache (xs ++ listed o)
@@ -76,7 +76,7 @@ pub not_pushed : (rows : List CacheRow) (xs : List Cache) (o : Option Cache) →
 not_pushed rows xs None e same = same ∙ ap (map row_of_cache) (no_more xs)
 not_pushed rows xs (Some x) e same = absurd (some_none (sym e))
 
--- if no cache has the number `end` or above, all caches have numbers below `end`
+-- if the tables have no cache of tenant t with number `end` or above, all caches of its machine have numbers below `end`
 pub all_caches : (r : spaces.Content) (b : buddies.Content) (s : Content) (t end : ℕ) (m : Machine) → ((c : ℕ) → end ≤ c → cache_at s t c ≡ None)
     → ShowsMachine r b s t m → below (λ x. x.number) end m.caches ≡ m.caches
 all_caches r b s t end m none h = all_below (λ x. x.number) end m.caches (numbers_below r b s t end m none h)

@@ -32,7 +32,7 @@ same_row a b c d e = cc
 
 module _ (r : spaces.Content) (b : buddies.Content) (s : Content) (t c : ℕ) (m : Machine) (cache : own.Cache) (x : Cache) (w : IsSlabs s) (hold : ListsHold s)
     (a : Agree r b s) (st : IsSteady r b s t) (h : ShowsMachine r b s t m) (cached : cache_at s t c ≡ Some cache) (ex : cache_of m c ≡ Some x) where
-  -- the list of a kind is as long as the machine's cache has slabs of that kind
+  -- the list of slabs of one kind is as long as the number of slabs of this kind that cache c has in the machine
   pub kind_counted : (kind : ℕ) → kind < 3 → length (keys_of s.lists.places (head_of t c kind)) ≡ length (filter (is_kind kind) x.slabs)
   kind_counted kind less = ap length (hold r b t c kind m x a st h ex less) ∙ length-map (filter (is_kind kind) x.slabs) (λ y. y.first)
 
@@ -67,7 +67,7 @@ module _ (r : spaces.Content) (b : buddies.Content) (s : Content) (t c : ℕ) (m
       ∙ (ap (λ k. sum_live (filter is_full x.slabs) + (k + sum_of live (list_of s.lists.places (3 * n + 2)))) partial
       ∙ (ap (λ k. sum_live (filter is_full x.slabs) + (sum_live (filter is_partial x.slabs) + k)) empty ∙ (kinds ∙ sym (objects_counted x x.slabs))))))
 
-  -- if a row has the lengths of the three lists and the cache's total, it is the row of the machine's cache
+  -- a row with the lengths of the three lists and the cache's number of live objects is the row of cache c of the machine
   pub row_is : index_of_cache t c < length s.caches → (full partial empty live : ℕ) → full ≡ length (keys_of s.lists.places (head_of t c 0))
       → partial ≡ length (keys_of s.lists.places (head_of t c 1)) → empty ≡ length (keys_of s.lists.places (head_of t c 2))
       → live ≡ get_or s.live (index_of_cache t c) 0

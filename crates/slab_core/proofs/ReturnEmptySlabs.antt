@@ -1,4 +1,4 @@
--- Freeing empty slabs one after the other, until none is left.
+-- Freeing empty slabs one by one, until none is left, frees exactly the slabs that were empty before.
 use Rattle.std.proofs.Common.{◌≡◌, ℕ, ◌+◌, ◌/◌, ◌%◌, ◌<◌, Bool, true, false, cond, eqb, ◌||◌, length, Some, None, refl, sym, ap, ◌∙◌, subst, ◌⊎◌, inl, inr, ⊎_elim, arith}
 use Rattle.std.specs.Prelude.{Option, ◌==◌, ◌&&◌}
 use Rattle.std.proofs.lemmas.Bool.{cases_eq, cases_lt, false≢true, eqb-true, eq-eqb, and_parts, and_from, false_from_ne_true}
@@ -38,7 +38,7 @@ or_cases false w e = inr e
 
 -- Slabs that are idle
 
--- i is the index of cache c of tenant t
+-- true if i is the index of cache c of tenant t
 abbrev pub this : ℕ → ℕ → ℕ → Bool
 this t c i = eqb i (index_of_cache t c)
 
@@ -192,7 +192,7 @@ module _ {these : ℕ → Bool} {r r' : spaces.Content} {b b' : buddies.Content}
         (subst (λ (z : spaces.Content). spaces.superblock_at z.slots x y ≡ Some m) g.spares.space e');
   }
 
-  -- if no slab is idle, exactly those that were idle before have been freed
+  -- if no slab is idle any more, exactly the slabs that were idle before are freed
   pub giving_all : ((f : ℕ) → idle_at these r' s' t f ≡ true → ⊥) → IsReturned r r' b b' s s' t (idle_at these r s t)
   giving_all none = subst (λ (x : ℕ → Bool). IsReturned r r' b b' s s' t x) (λ i f. same f (g.gone f) refl i) k
     where
@@ -227,7 +227,7 @@ kind_empty count live kind two e = go (live == count) (live == 0) refl e
     go true false is e = absurd (omega arith)
     go false false is e = absurd (omega arith)
 
--- an idle slab is in the list of its cache's empty slabs
+-- the slab at frame f is in the list of empty slabs of a cache whose index satisfies `these`
 pub record IsInEmpty (s : Content) (t : ℕ) (these : ℕ → Bool) (f : ℕ) : Type 0 where
   pub number : ℕ
   pub machine_frame : ℕ
@@ -273,9 +273,9 @@ module _ {r : spaces.Content} {b : buddies.Content} {s : Content} {t : ℕ} (w :
         placed = p.place ∙ ap (λ (h : ℕ). Some (h, f)) is;
       }
 
--- One cache, slab by slab
+-- The empty slabs of one cache
 module _ {r : spaces.Content} {s : Content} {t c : ℕ} where
-  -- the cache's empty slab that begins at frame f is idle
+  -- if an empty slab of cache c begins at frame f, the slab is idle
   pub one_idle : {first machine_frame : ℕ} {cache : own.Cache} → IsEmptySlab r s t c first machine_frame cache → (f : ℕ) → eqb f first ≡ true → idle_at (this t c) r s t f ≡ true
   one_idle {first = first} {machine_frame = machine_frame} {cache = cache} is f e =
       let p = placed_as r s t c first machine_frame cache is.slab in
@@ -290,7 +290,7 @@ none_idle {r = r} {b = b} {s = s} t c w a apart small none f e =
     let same : i.number ≡ c = omega arith in
     none i.machine_frame f (i.placed ∙ ap (λ (x : ℕ). Some (head_of t x 2, f)) same)
 
--- All caches
+-- The empty slabs of all caches
 pub any_idle : (r : spaces.Content) (s : Content) (t c f : ℕ) → idle_at (this t c) r s t f ≡ true → idle_at (λ i. true) r s t f ≡ true
 any_idle r s t c f e =
     let i = idle_tells (this t c) r s t f e in
@@ -302,12 +302,12 @@ none_any {r = r} {b = b} {s = s} t w a apart none f e =
     let i = idle_listed w a (λ g n head key. slab_listed r b s w a t g n head key apart) (λ x. true) f e in
     none i.number i.small i.machine_frame f i.placed
 
--- if a cache does not exist, its list of empty slabs is empty
+-- if cache c does not exist, its list of empty slabs is empty
 pub no_cache : (s : Content) (t c : ℕ) → IsSlabs s → c < MOST_CACHES → cache_at s t c ≡ None → IsEmpty s.lists.places (head_of t c 2)
 no_cache s t c w small vacant n key placed =
     bare_without s t c w small vacant n (head_of t c 2) key placed (omega arith)
 
--- the idle slabs of the caches with numbers below c are freed
+-- some idle slabs are freed, among them all idle slabs of the caches with numbers below c
 pub record IsGivingBelow (r r' : spaces.Content) (b b' : buddies.Content) (s s' : Content) (t c : ℕ) : Type 0 where
   pub giving : IsGiving (λ i. true) r r' b b' s s' t
   pub lists : (d : ℕ) → d < c → IsEmpty s'.lists.places (head_of t d 2)
@@ -328,7 +328,8 @@ below_next {r' = r'} {s' = s'} {s'' = s''} {t = t} {c = c} st g k spares agree t
       (λ high. let same : d ≡ c = omega arith in subst (λ x. IsEmpty s''.lists.places (head_of t x 2)) (sym same) none) (cases_lt d c);
 }
 
--- if cache c does not exist, the idle slabs of the caches with numbers below c + 1 are freed too
+-- if the idle slabs of all caches below c are freed, and cache c does not exist, the idle slabs of all caches below c + 1 are
+-- freed
 pub below_none : {r r' : spaces.Content} {b b' : buddies.Content} {s s' : Content} {t c : ℕ} → IsGivingBelow r r' b b' s s' t c
     → c < MOST_CACHES → cache_at s' t c ≡ None → IsGivingBelow r r' b b' s s' t (c + 1)
 below_none {s' = s'} {t = t} {c = c} g small vacant = record {

@@ -1,4 +1,4 @@
--- Freeing an empty slab: afterwards its block is not taken and reads as zero, and the slab is in no list.
+-- If an empty slab is freed, its block is not taken and reads as zero afterwards, and the slab is in no list.
 use Rattle.std.proofs.Common.{◌≡◌, ◌≢◌, ℕ, ◌+◌, ◌-◌, ◌*◌, ◌/◌, ◌%◌, ◌^◌, ◌<◌, ◌≤◌, true, cond, eqb, length, Some, None, IsSome, refl, sym, ap, ◌∙◌, subst, ⊎_elim, arith}
 use Rattle.std.specs.Prelude.{Option, OnSome, replicate}
 use Rattle.std.proofs.lemmas.Bool.{cases_eq, false≢true, eqb-true, eq-eqb, ne_eqb}
@@ -37,7 +37,7 @@ some_place n f (Some p) e = (p, refl)
 pub len_is : (order : ℕ) → order ≤ 3 → 4096 * 2 ^ order % 4294967296 ≡ 4096 * 2 ^ order
 len_is order few = let power : 2 ^ order ≤ 2 ^ 3 = pow-le-pow_right (omega arith) few in omega arith
 
--- the state after the slab at frame f is freed
+-- the slab at frame f of tenant t is freed, all other tenants keep everything, and the parts agree
 pub record IsGivenBack (r r' : spaces.Content) (b b' : buddies.Content) (s s' : Content) (t f : ℕ) : Type 0 where
   pub returned : IsReturned r r' b b' s s' t (λ g. eqb g f)
   pub spares : Spares t r r' b b' s s'
@@ -53,7 +53,7 @@ module _ {r : spaces.Content} {b : buddies.Content} {s : Content} {t c f n : ℕ
       let some : 0 < 2 ^ k = pow_pos k in
       range_held r t s.top f k (4096 * f) (4096 * 2 ^ k) a.unit placed.0.0 placed.0.1 placed.1 (omega arith) (omega arith) (omega arith)
 
-  -- the slab's machine frame is in the tables
+  -- the slab's machine frame is below the number of machine frames
   pub machine_frame_within : n < length s.lists.places
   machine_frame_within =
       let is = some_place (index_of_cache t c) f (place_at s.lists.places n) q.listed in
@@ -138,7 +138,7 @@ module _ {r : spaces.Content} {b : buddies.Content} {s : Content} {t c f n : ℕ
     gone_now : (p : Option (ℕ × ℕ)) → place_at (without_slab s n).lists.places n ≡ p → p ≡ None
     gone_now p e = sym e ∙ get_or-set_same s.lists.places n None None machine_frame_within
 
-    -- the remaining slabs still agree
+    -- the parts still agree on each remaining slab of tenant t
     stays : (x head key : ℕ) (other : own.Cache) → place_at (without_slab s n).lists.places x ≡ Some (head, key)
         → cache_in s.caches (head / 3) ≡ Some other → head / 3 / MOST_CACHES ≡ t → IsAgreed zeroed_space released (without_slab s n) x head key other
     stays x head key other placed cached e =

@@ -1,4 +1,4 @@
--- What holds for a tenant's slab when the parts agree.
+-- Facts about a tenant's slab that hold if the parts agree: its list, its block, its layout and its live objects.
 use Rattle.std.proofs.Common.{◌≡◌, ℕ, ◌/◌, ◌<◌, ◌≤◌, false, Some, length, sym, ap, ◌∙◌, subst}
 use Rattle.model_core.specs.declared.limits.TheConstants.{MOST_CACHES}
 use Rattle.model_core.specs.Layouts.{IsLayout, is_small}
@@ -13,7 +13,7 @@ use Rattle.machine_changes.specs.Shows.{live_of, is_live, IsSlab, Agree}
 use Rattle.machine_changes.proofs.Lookups.{some_same}
 use Rattle.machine_changes.proofs.SteadyParts.{within, in_table, placed_as, agreed}
 
--- what the parts say about a slab of the tenant
+-- the facts about the slab of cache c of tenant t that begins at frame f, whose machine frame is n
 pub record IsHeld (r : spaces.Content) (b : buddies.Content) (s : Content) (t c f n : ℕ) (cache : own.Cache) : Type 0 where
   pub head : ℕ
   pub index : head / 3 ≡ index_of_cache t c
@@ -45,7 +45,7 @@ held r b s t c f n cache w a q =
       rest = subst (λ u. (i : ℕ) → (layout_numbers cache).count ≤ i → i < 256 → is_live r u cache (kept_at s.kept n) f i ≡ false) p.tenant x.rest;
     }
 
--- facts about a cache of the tables
+-- the layout is valid, and a slab has at most 256 objects, or at most 16 if they are large
 pub record IsInTables (cache : own.Cache) : Type 0 where
   pub layout : IsLayout cache.layout.size cache.layout.align (layout_numbers cache)
   pub few : (layout_numbers cache).count ≤ 256
@@ -61,6 +61,6 @@ module _ {r : spaces.Content} {s : Content} {t c f n : ℕ} {cache : own.Cache} 
   pub slab_cache : IsSlabs s → IsInTables cache
   slab_cache w = in_tables s t c cache w q.cached
 
-  -- the slab's machine frame is in the tables
+  -- the slab's machine frame is below the number of machine frames
   pub machine_frame_within : n < length s.lists.places
   machine_frame_within = let p = placed_as r s t c f n cache q in within s.lists.places n (p.head, f) p.place

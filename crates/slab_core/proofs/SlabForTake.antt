@@ -14,7 +14,7 @@ use Rattle.machine_changes.specs.Objects.{IsToUse}
 use Rattle.machine_changes.proofs.SteadyParts.{in_table, slab_from, tenant_is}
 
 module _ {r : spaces.Content} {b : buddies.Content} {s : Content} (t c : ℕ) {cache : own.Cache} (a : Agree r b s) (cached : cache_at s t c ≡ Some cache) where
-  -- each entry in a list of a cache is a slab of the cache
+  -- each entry in a list of cache c is a slab of cache c
   pub slab_in_list : (kind f n : ℕ) → kind < 3 → place_at s.lists.places n ≡ Some (head_of t c kind, f) → IsSlab r s t c f n cache
   slab_in_list kind f n few place =
       let there = in_table s t c cache cached in

@@ -1,4 +1,4 @@
--- A live object of a cache lies in the slab that begins at the aligned block around its first place.
+-- The slab of a live object begins at the first frame of the aligned block around the object's first place.
 use Rattle.std.proofs.Common.{◌≡◌, ℕ, ◌+◌, ◌-◌, ◌*◌, ◌/◌, ◌%◌, ◌^◌, ◌<◌, ◌≤◌, false, length, Some, None, sym, ap, ◌∙◌, subst, arith}
 use Rattle.std.proofs.lemmas.Bool.{false≢true}
 use Rattle.std.proofs.lemmas.Nat.{div-mul-add}
@@ -18,19 +18,19 @@ use Rattle.machine_changes.specs.Objects.{IsLiveObject, IsNoObject}
 use Rattle.machine_changes.proofs.Lookups.{some_none, some_same}
 use Rattle.slab_core.proofs.SlabFacts.{held}
 
--- an aligned block is the aligned block of its order around each of its frames
+-- if an aligned block contains frame x, it is the aligned block of its order around x
 pub around_frame : (f k x : ℕ) → f % 2 ^ k ≡ 0 → HasFrame (block f k) x → f ≡ (around x k).first
 around_frame f k x aligned has =
     sym (first_is f k aligned) ∙ ap (λ n. n * 2 ^ k) (sym (number_of_frame f k x aligned has) ∙ number_is k x)
 
--- a place with an offset less than the block's size lies in the block
+-- a place lies in a block if its offset from the block's first place is below the block's size in bytes
 pub in_frame : (f k off : ℕ) → off < 4096 * 2 ^ k → HasFrame (block f k) ((4096 * f + off) / 4096)
 in_frame f k off less =
     let here : (4096 * f + off) / 4096 ≡ f + off / 4096 =
     ap (λ x. x / 4096) (omega arith) ∙ div-mul-add (f + off / 4096) 4096 (off % 4096) (omega arith) in
     (omega arith, omega arith)
 
--- an object begins in its slab
+-- the offset of each object of a slab is below the size of the slab in bytes
 pub object_within : (l : Layout) (colour i : ℕ) → IsFit l colour → i < l.count → object_offset l colour i < 4096 * 2 ^ l.order
 object_within l colour i fit less =
     let ends = fit.inside in
@@ -57,7 +57,7 @@ module _ {r : spaces.Content} {b : buddies.Content} {s : Content} {t c : ℕ} {c
       subst (λ p. HasFrame (block f k) (p / 4096)) o.begins (in_frame f k (object_offset (layout_numbers cache) colour i) (object_within (layout_numbers cache) colour i fit o.index)) in
       around_frame f k (place / 4096) ((sound parts tenant).placed f k h.taken).0.1 has ∙ sym is_first
 
-  -- each live object that begins at the place lies in the slab at the aligned block around the place
+  -- each live object of cache c that begins at the place lies in the slab that begins at frame `first`
   pub there : (o : Found) → IsLiveObject r s t c place o → IsLiveObject r s t c place (found cache first o.machine_frame o.index)
   there o is =
       let mine : IsLiveObject r s t c place (found cache o.first o.machine_frame o.index) =

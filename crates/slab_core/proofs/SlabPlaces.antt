@@ -1,4 +1,4 @@
--- The places of a slab's frames and of its control record.
+-- The slot in which the places of a frame lie, and the superblock in which a slab's control record lies.
 use Rattle.std.proofs.Common.{◌≡◌, ℕ, ◌+◌, ◌*◌, ◌/◌, ◌^◌, ◌<◌, Some, subst, sym, ap, ◌∙◌, arith}
 use Rattle.std.proofs.lemmas.Nat.{div-mul-add}
 use Rattle.std.proofs.Math.Nat.{div-div-eq-div-mul}
@@ -16,7 +16,7 @@ place_slot unit top f j e less =
     ∙ (sym (div-div-eq-div-mul (4096 * f + j) 4096 (2 ^ top))
     ∙ ap (λ x. x / 2 ^ top) (ap (λ x. (x + j) / 4096) (omega arith) ∙ div-mul-add f 4096 j less))
 
--- a slab's record lies in the superblock of its machine frame
+-- each byte of a slab's control record lies in the superblock of the slab's machine frame
 pub record_under : (r : spaces.Content) (s : Content) (t c f n j : ℕ) (cache : own.Cache) → IsSlab r s t c f n cache → r.unit ≡ 4096 * 2 ^ s.top → j < 32
     → spaces.superblock_at r.slots t ((4096 * f + 4064 + j) / r.unit) ≡ Some (n / 2 ^ s.top)
 record_under r s t c f n j cache q unit less =
@@ -25,7 +25,7 @@ record_under r s t c f n j cache q unit less =
     let same : n / 2 ^ s.top ≡ m.0 = ap (λ x. x / 2 ^ s.top) m.2 ∙ superblock_of_machine_frame s.top m.0 f in
     ap (spaces.superblock_at r.slots t) slot ∙ (m.1 ∙ ap (λ x. Some x) (sym same))
 
--- the byte that has an object's bit lies in the superblock of its slab's machine frame too
+-- the byte of the record that has the bit of object i lies in the superblock of the slab's machine frame too
 module _ {r : spaces.Content} {s : Content} {t c f n i : ℕ} {cache : own.Cache} (q : IsSlab r s t c f n cache) (w : IsSlabs s) (less : i < (layout_numbers cache).count) where
   pub object_under : {place m : ℕ} → r.unit ≡ 4096 * 2 ^ s.top → place ≡ 4096 * f + 4064 + i / 8 → m ≡ n / 2 ^ s.top
       → spaces.superblock_at r.slots t (place / r.unit) ≡ Some m

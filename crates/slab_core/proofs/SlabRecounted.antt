@@ -1,4 +1,4 @@
--- Updating the number of live objects in a slab after the bit of one is flipped.
+-- If a slab's number of live objects is updated after an object's bit is flipped, the parts agree again.
 use Rattle.std.proofs.Common.{◌≡◌, ℕ, ◌≤◌, Bool, false, sym, subst, arith}
 use Rattle.space_core.specs.Content as spaces
 use Rattle.buddy_core.specs.Content as buddies
@@ -9,7 +9,7 @@ use Rattle.slab_core.specs.Objects.{IsTurned, IsToCount, IsRecounted}
 use Rattle.slab_core.proofs.ObjectMarked.{IsCountOf, some_live, count_below, is_placed, alone, counted}
 
 module _ {r r' : spaces.Content} {b : buddies.Content} {s s' : Content} {t c : ℕ} {o : Found} {v : Bool} (k : IsToCount r r' b s s' t c o v) where
-  -- the tables have what `set_count` requires
+  -- the tables meet the preconditions of `set_count`
   pub some_now : v ≡ false → 1 ≤ (kept_at s'.kept o.machine_frame).live
   some_now dead = let x = some_live k.slabs k.agree k.slab k.index v k.was dead in let same = k.turned.live in omega arith
 
@@ -23,7 +23,7 @@ module _ {r r' : spaces.Content} {b : buddies.Content} {s s' : Content} {t c : �
       let p = subst (λ (x : Content). IsPlacedIn x t c o.first m) k.turned.tables e in
       alone k.slabs k.agree k.slab k.index v k.was m (record { kind = p.kind; few = p.few; placed = p.placed })
 
-  -- what holds after the number is updated
+  -- the slab's number of live objects is updated to `count`
   module _ (count : ℕ) (is_now : IsCountOf v (kept_at s'.kept o.machine_frame).live count) where
     is_count : IsCountOf v (kept_at s.kept o.machine_frame).live count
     is_count = subst (λ x. IsCountOf v x count) k.turned.live is_now

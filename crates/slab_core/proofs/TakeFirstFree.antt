@@ -1,4 +1,4 @@
--- Allocating the first free object of a slab.
+-- The first free object of a slab is not live, lies in the slab's superblock, and is the object that the machine takes.
 use Rattle.std.proofs.Common.{◌≡◌, ℕ, suc, ◌+◌, ◌*◌, ◌/◌, ◌%◌, ◌^◌, ◌<◌, ◌≤◌, Bool, true, false, not, if◌then◌else◌, List, [], ◌∷◌, Option, Some, None, IsSome, Ok, length, get_or, refl, sym, ap, ◌∙◌, subst, arith}
 use Rattle.std.specs.List.{position_or_len}
 use Rattle.std.proofs.lemmas.Bool.{false≢true}
@@ -27,7 +27,7 @@ use Rattle.machine_changes.proofs.SlabFacts.{under_is, superblock_of_machine_fra
 use Rattle.slab_core.proofs.SlabFacts.{IsHeld, held}
 use Rattle.slab_core.proofs.SlabOfObject.{in_frame, object_within}
 
--- flag i is one of the flags and is clear; if not all flags are set, the search finds a clear one
+-- index i is below the number of flags, and flag i is false
 pub record IsDown (xs : List Bool) (i : ℕ) : Type 0 where
   pub within : i < length xs
   pub down : get_or xs i false ≡ false
@@ -41,7 +41,7 @@ down_found (true ∷ xs) less =
     subst (IsDown (true ∷ xs)) (sym next) (record { within = omega arith; down = rest.down })
 down_found (false ∷ xs) less = record { within = omega arith; down = refl }
 
--- object i is the first free one of the slab
+-- object i is the first free object of the slab at frame f, machine frame n
 pub record IsLeastFree (r : spaces.Content) (b : buddies.Content) (s : Content) (t c f n i : ℕ) (cache : own.Cache) : Type 0 where
   pub parts : HoldTogether r b s
   pub steady : IsSteady r b s t
@@ -95,7 +95,7 @@ module _ {r : spaces.Content} {b : buddies.Content} {s : Content} {t c f n i : �
         let chunked = h.layout.chunked in
         omega arith
 
-    -- the object's first place lies in the slot of the slab
+    -- the object's first place lies in the same slot as the slab
     slot_is : place / r.unit ≡ f / 2 ^ s.top
     slot_is =
         let k = (layout_numbers cache).order in

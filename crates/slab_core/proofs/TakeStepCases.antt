@@ -1,4 +1,4 @@
--- The step of a take, for each state of its cache.
+-- What `take_step` does in each case: no cache, a slab to use, a new slab, or no frames for a new slab.
 use Rattle.std.proofs.Common.{◌≡◌, ℕ, List, ◌∷◌, Some, None, refl, sym, ap, ◌∙◌, subst, inl}
 use Rattle.std.specs.Prelude.{Option, find}
 use Rattle.model_core.specs.Machine.{Slab, Cache, Machine, put_rising, layout}
@@ -22,7 +22,7 @@ use Rattle.machine_changes.proofs.SlabForTake.{take_uses, take_makes}
 use Rattle.slab_core.proofs.GrowByNeed.{stands}
 use Rattle.slab_core.proofs.GiveWithoutCache.{no_cache}
 
--- The steps
+-- The results of `take_step`
 
 step_none : (top c : ℕ) (m : Machine) → cache_of m c ≡ None → take_step top c m ≡ refuse NoCache m
 unfolding take_step
@@ -68,8 +68,7 @@ pub record IsUsed (top c : ℕ) (m : Machine) (first : ℕ) : Type 0 where
   pub standing : slab_of shown first ≡ Some slab
   pub step : take_step top c m ≡ hand_out shown slab m
 
--- in the machine, a take from cache c grows the machine on demand and uses the new slab at frame f; the parts show the grown
--- machine
+-- A take from cache c makes a slab at frame f on demand, and uses it. The parts show the machine `after` with this slab.
 pub record IsMade (top c : ℕ) (m : Machine) (r : spaces.Content) (b : buddies.Content) (s : Content) (t f : ℕ) : Type 0 where
   pub after : Machine
   pub shown : Cache
@@ -96,7 +95,7 @@ module _ {r : spaces.Content} {b : buddies.Content} {s : Content} {t : ℕ} (c :
           step = step_from s.top c m there.shown (Some uses.0) there.cached uses.1;
         }
 
-    -- no slab can be used
+    -- all slabs of cache c are full
     module _ (full : IsAllFull s t c) where
       none_step : (o : Option ℕ) → choice_by_need s.top (layout_numbers cache).order m ≡ o → (x : Cache) → cache_of m c ≡ Some x → (layout x).order ≡ (layout_numbers cache).order
           → take_step s.top c m ≡ take_new x (by_need s.top (layout_numbers cache).order m) o

@@ -1,4 +1,4 @@
--- The laws of whole runs, over the definitions alone.
+-- Laws of whole runs. They speak of the definitions only, not of code.
 use Rattle.std.specs.Prelude.{◌≡◌, ℕ, ◌^◌, ◌<◌, ◌≤◌, List, ◌++◌, length, Option, Some, None, Contains, slice_get}
 use Rattle.model_core.specs.Machine.{Machine, empty_machine}
 use Rattle.words_core.specs.declared.reply.Body.{Body}
@@ -11,24 +11,24 @@ use Rattle.world_core.specs.OwnList.{own_list, replies_to}
 use Rattle.words_core.specs.Cutting.{lines_of_trace}
 use Rattle.world_core.specs.Output.{shown_lines, output_of, events_of, lines_for, texts_for, line_feed, with_line_feeds, ended_lines}
 
--- the replies, and the machine at the end, are those of the private run of these entries
+-- the private run of these entries from machine `before` gives the replies `told` and ends in machine `after`
 pub record IsPrivateRun (limit order : ℕ) (entries : List Entry) (before : Machine) (told : List Body)
     (after : Option Machine) : Type 0 where
   pub replies : told ≡ (private_run limit order entries before).replies
   pub machine : after ≡ Some (private_run limit order entries before).machine
 
--- the events with their replies, from the opening world
+-- the events with their replies, in the run of these events from the opening world
 unfoldable pub opening_history : ℕ → ℕ → ℕ → ℕ → List Event → List Exchange
 opening_history limit order superblocks tenants events = history limit order (opening_world superblocks tenants) events
 
--- in every run of the world a tenant's replies and machine are those of the private run of its own list
+-- in every run, a tenant has the replies and the machine of the private run of its own list
 abbrev pub OwnRun : Type 0
 OwnRun = (limit order superblocks tenants t : ℕ) (events : List Event) → t < tenants →
     IsPrivateRun limit order (own_list t (opening_history limit order superblocks tenants events)) empty_machine
     (replies_to t (opening_history limit order superblocks tenants events))
     (slice_get (world_after limit order (opening_world superblocks tenants) events).machines t)
 
--- the tenant's own lists are equal in two runs, whose worlds may differ in size
+-- tenant t has the same own list in two runs, whose worlds may differ in size
 pub record HaveSameOwnList (limit order superblocks tenants superblocks' tenants' t : ℕ)
     (events events' : List Event) : Type 0 where
   pub tenant : t < tenants
@@ -36,28 +36,27 @@ pub record HaveSameOwnList (limit order superblocks tenants superblocks' tenants
   pub own : own_list t (opening_history limit order superblocks tenants events)
       ≡ own_list t (opening_history limit order superblocks' tenants' events')
 
--- then the tenant gets the same replies in both runs, whatever all others did
+-- a tenant that has the same own list in two runs gets the same replies in both, whatever all others do
 abbrev pub SameReplies : Type 0
 SameReplies = (limit order superblocks tenants superblocks' tenants' t : ℕ) (events events' : List Event) →
     HaveSameOwnList limit order superblocks tenants superblocks' tenants' t events events' →
     replies_to t (opening_history limit order superblocks tenants events)
     ≡ replies_to t (opening_history limit order superblocks' tenants' events')
 
--- and these replies have the same text, byte for byte
+-- a tenant that has the same own list in two runs gets replies with the same text in both, byte for byte
 abbrev pub SameTexts : Type 0
 SameTexts = (limit order superblocks tenants superblocks' tenants' t : ℕ) (events events' : List Event) →
     HaveSameOwnList limit order superblocks tenants superblocks' tenants' t events events' →
     texts_for t (replies_to t (opening_history limit order superblocks tenants events))
     ≡ texts_for t (replies_to t (opening_history limit order superblocks' tenants' events'))
 
--- If no cache is refused for lack of a number, a private run has the same replies and machine under any greater limit on
--- caches.
+-- if a private run refuses no cache with `NoCacheSlot`, it has the same replies and machine under any greater limit on caches
 abbrev pub MoreCaches : Type 0
 MoreCaches = (limit more order : ℕ) (entries : List Entry) (m : Machine) → limit ≤ more
     → (Contains (private_run limit order entries m).replies (Body.Refused Refusal.NoCacheSlot) → ⊥)
     → private_run more order entries m ≡ private_run limit order entries m
 
--- the replies of tenant t's private machine to its own list of a trace, as text
+-- the replies of tenant t's private machine to t's own list in a trace, as text
 unfoldable pub private_lines : ℕ → ℕ → ℕ → ℕ → ℕ → List ℕ → List (List ℕ)
 private_lines limit order superblocks tenants t trace =
     let own = own_list t (opening_history limit order superblocks tenants (events_of (lines_of_trace trace))) in
@@ -70,7 +69,7 @@ OwnLines = (limit order superblocks tenants t : ℕ) (trace : List ℕ) → tena
     lines_for t (output_of limit order trace (opening_world superblocks tenants))
     ≡ private_lines limit order superblocks tenants t trace
 
--- So if a tenant's own lists are equal in two traces, it gets the same lines in both outputs.
+-- if a tenant has the same own list in two traces, the tenant gets the same lines in both outputs
 abbrev pub SameLines : Type 0
 SameLines = (limit order superblocks tenants superblocks' tenants' t : ℕ) (trace trace' : List ℕ) →
     tenants ≤ 2 ^ 64 → tenants' ≤ 2 ^ 64 →
@@ -84,12 +83,12 @@ abbrev pub AllShown : Type 0
 AllShown = (limit order : ℕ) (trace : List ℕ) (w : World) →
     shown_lines None limit order (lines_of_trace trace) w ≡ output_of limit order trace w
 
--- With `only` t, exactly the lines of tenant t in the output are shown, byte for byte, from whatever world the trace starts.
+-- if only tenant t is shown, a trace shows exactly the lines of t in its whole output, byte for byte, from any world
 abbrev pub OwnShown : Type 0
 OwnShown = (limit order t : ℕ) (trace : List ℕ) (w : World) → length w.machines ≤ 2 ^ 64 → t < length w.machines →
     shown_lines (Some t) limit order (lines_of_trace trace) w ≡ with_line_feeds (lines_for t (output_of limit order trace w))
 
--- So the shown bytes, cut at their LFs, are these lines.
+-- so the shown bytes, cut at their LFs, are the lines of tenant t in the whole output
 abbrev pub OwnLinesShown : Type 0
 OwnLinesShown = (limit order t : ℕ) (trace : List ℕ) (w : World) → length w.machines ≤ 2 ^ 64 → t < length w.machines →
     lines_of_trace (shown_lines (Some t) limit order (lines_of_trace trace) w) ≡ lines_for t (output_of limit order trace w)
@@ -99,11 +98,11 @@ abbrev pub EndedAllButTail : Type 0
 EndedAllButTail = (given : List ℕ) →
     (tail : List ℕ) × (given ≡ with_line_feeds (ended_lines given) ++ tail) × (Contains tail line_feed → ⊥)
 
--- In a prefix of a trace, the lines that end in LF are the first lines of the whole trace, however the trace goes on ..
+-- if bytes are added to a trace, the lines that end in LF before stay the first lines of the trace
 abbrev pub EndedLinesStay : Type 0
 EndedLinesStay = (given more : List ℕ) → (rest : List (List ℕ)) × (lines_of_trace (given ++ more) ≡ ended_lines given ++ rest)
 
--- .. and what they show is a prefix of what the whole trace shows.
+-- if bytes are added to a trace, the text shown for the lines that end in LF before stays the beginning of the text that is shown
 abbrev pub ShownStays : Type 0
 ShownStays = (only : Option ℕ) (limit order : ℕ) (given more : List ℕ) (w : World) →
     (rest : List ℕ) × (shown_lines only limit order (lines_of_trace (given ++ more)) w

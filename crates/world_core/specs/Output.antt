@@ -12,7 +12,7 @@ use Rattle.words_core.specs.Grammar.{reading_of}
 use Rattle.words_core.specs.Texts.{addressee_text, body_texts, text_of}
 use Rattle.world_core.specs.World.{World, world_step, world_after}
 
--- a list of the event in this reading of a line, or the empty list if it has no event
+-- a list with the event that was read from a line, or the empty list if the line has no event
 abbrev pub event_in : Result (Option Event) LineFault → List Event
 event_in (Ok None) = []
 event_in (Ok (Some event)) = event ∷ []
@@ -54,11 +54,11 @@ shown_lines only limit order (line ∷ lines) w =
 unfoldable pub output_of : ℕ → ℕ → List ℕ → World → List ℕ
 output_of limit order trace w = shown_lines None limit order (lines_of_trace trace) w
 
--- the lines of tenant t in an output: those that begin with its number and `> `
+-- the lines of tenant t in an output: the lines that begin with the number t and `> `
 abbrev pub lines_for : ℕ → List ℕ → List (List ℕ)
 lines_for t output = filter (λ line. starts_with nat_eq line (decimal t ++ codes "> ")) (lines_of_trace output)
 
--- the lines of these replies to tenant t, without their LF
+-- the lines of these replies to tenant t, without LFs
 abbrev pub texts_for : ℕ → List Body → List (List ℕ)
 texts_for t bodies = flat_map (body_texts (addressee_text (Addressee.Tenant t))) bodies
 
@@ -66,12 +66,11 @@ texts_for t bodies = flat_map (body_texts (addressee_text (Addressee.Tenant t)))
 abbrev pub line_feed : ℕ
 line_feed = 10
 
--- lines, each with its LF
+-- the bytes of these lines, each followed by an LF
 abbrev pub with_line_feeds : List (List ℕ) → List ℕ
 with_line_feeds lines = concat (map (λ line. line ++ line_feed ∷ []) lines)
 
--- The lines that end in LF, after this byte was put in front of the first. If there is none, no LF follows the byte, so it is
--- dropped.
+-- The lines, with byte b in front of the first line. If there is no line, no LF follows b in the trace, so b is dropped.
 abbrev pub onto_ended : ℕ → List (List ℕ) → List (List ℕ)
 onto_ended b [] = []
 onto_ended b (line ∷ lines) = (b ∷ line) ∷ lines

@@ -19,7 +19,7 @@ use Rattle.slab_core.proofs.Slabs.clear_bit.Goals.{After-record_place-place, Aft
 pub superblock-superblock-requires-clause-machine_frame : goal.superblock-superblock-requires-clause-machine_frame
 superblock-superblock-requires-clause-machine_frame c = machine_frame_within c.requires.slab
 
--- the record is in the slab's frame
+-- if the record is in the slab's frame, `place` is the first place of the record
 place_is : (c : After-record_place-place) → c.record_place-place.result ≡ 4096 * c.args.object.slab.first + 4064
 place_is c = omega (arith, c.record_place-place.ensures)
 
@@ -66,7 +66,7 @@ returns-then-in_page-clause-kept c = λ none.
       refl,
     )
 
--- the record is stored outside the slab
+-- if the record is stored outside the slab, the objects are large
 large : (c : After-is_bit_set) → is_small (layout_numbers c.args.cache.kept.now).chunk ≡ false
 large c = sym c.in_page.ensures ∙ c.if-in_page.false
 

@@ -17,7 +17,7 @@ cached c = sym c.cache.ensures ∙ ap (option_map (λ x. x.now)) c.in-Some.is
 cut : (c : goal.After-order) → IsLayout c.in-Some.cache.now.layout.size c.in-Some.cache.now.layout.align (layout_numbers c.in-Some.cache.now)
 cut c = (in_tables c.self.inside.tables c.args.t c.args.c c.in-Some.cache.now c.laws.ensures.slabs (cached c)).layout
 
--- a list has at most as many slabs as there are machine frames
+-- the list of empty slabs has at most 65,536 entries
 few : (c : goal.After-order) → c.count.result ≤ 65536
 few c =
     let places = c.self.inside.tables.lists.places in

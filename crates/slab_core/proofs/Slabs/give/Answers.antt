@@ -34,7 +34,7 @@ returns-in_err-kept-clause-answer c = λ m h. let e = refused c m h in rw e (sea
 pub returns-in_err-kept-clause-shows : goal.returns-in_err-kept-clause-shows
 returns-in_err-kept-clause-shows c = λ m h. rw (refused c m h) h
 
--- the cache in the tables
+-- the cache that was read is cache c of tenant t in the tables
 cached : (c : In_ok-kept) → cache_at c.args.self.now c.args.t c.args.c ≡ Some c.in_ok-kept.field-0.now
 cached c =
     sym (ap (λ (s : Content). cache_at s c.args.t c.args.c) c.self.view_is)
@@ -43,7 +43,7 @@ cached c =
 pub locate-requires-clause-parts : goal.locate-requires-clause-parts
 locate-requires-clause-parts c = (c.args.buddy.now, c.laws_with.ensures.parts)
 
--- no object of the cache begins at the place
+-- if `locate` returns `None`, `give_step` refuses with `NotAnObject`
 not_found : (c : After-from_residual-in_err-object) (m : Machine) → ShowsMachine c.args.space.now c.args.buddy.now c.args.self.now c.args.t m
     → give_step c.args.c c.args.place m ≡ refuse NotAnObject m
 not_found c m h =
@@ -81,7 +81,7 @@ clear_bit-requires-clause-index c =
     (λ o. BeginsAt c.args.space.now c.args.self.now c.args.t c.args.c c.args.place (found_in c.in_ok-kept.field-0.now o)))
     c.in_ok-object.ensures.ok_part c.locate.ensures).index
 
--- the object that begins at the place is not live
+-- The object that begins at the place is not live
 
 dead : (c : After-clear_bit) → c.clear_bit.result ≡ false → (m : Machine) → ShowsMachine c.args.space.now c.args.buddy.now c.args.self.now c.args.t m
     → give_step c.args.c c.args.place m ≡ refuse NotAnObject m
@@ -112,7 +112,7 @@ pub returns-then-not-clear_bit-clause-agree : goal.returns-then-not-clear_bit-cl
 returns-then-not-clear_bit-clause-agree c =
     unmoved (λ r b s. Agree r b s) (still (goal.at.returns-then-not-clear_bit-clause-agree c).After-clear_bit c.if-not-clear_bit.true) c.requires.agree
 
--- the object is live
+-- The object that begins at the place is live
 
 is_object : (c : After-clear_bit) → c.clear_bit.result ≡ true → IsLiveObject c.args.space.now c.args.self.now c.args.t c.args.c c.args.place (object c)
 is_object c is =

@@ -27,7 +27,7 @@ colour_is c =
     c.from-colour.ensures ∙ (ap (λ (k : Kept). k.colour) c.kept_of.ensures
     ∙ (ap (λ (s : Content). (kept_at s.kept c.args.slab.machine_frame).colour) c.self.view_is ∙ c.mark_least_free-index.ensures.turned.colour))
 
--- some object of the slab is free
+-- the slab has a free object
 pub mark_least_free-index-requires-clause-free : goal.mark_least_free-index-requires-clause-free
 mark_least_free-index-requires-clause-free c =
     let x = c.args in

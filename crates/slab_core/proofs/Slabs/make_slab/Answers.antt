@@ -12,7 +12,7 @@ use Rattle.slab_core.proofs.Slabs.make_slab.Goals as goal
 use Rattle.slab_core.proofs.Slabs.make_slab.Goals.{Then-order, In_err-first, In-Some, After-kept_of-colour, After-construct}
 use Rattle.slab_core.proofs.GrowOnFreeBlock.{has_machine_frame, choice_some, choice_none, choice_large, none_large, chosen_for, none_free, some_free, IsChosen, cut, in_reach, few, vacant, fresh, machine_frame_within, kept_now, IsMade, made}
 
--- A slot is smaller than the block
+-- The block would be larger than a slot
 
 above : (c : Then-order) → c.args.buddy.now.top < (layout_numbers c.args.cache.kept.now).order
 above c = omega (arith, c.if-order.true, c.order.ensures, c.order-order.ensures)

@@ -18,7 +18,7 @@ use Rattle.slab_core.proofs.Slabs.mark_least_free.Goals.{After-record_place, Aft
 pub superblock-superblock-requires-clause-machine_frame : goal.superblock-superblock-requires-clause-machine_frame
 superblock-superblock-requires-clause-machine_frame c = machine_frame_within c.requires.slab
 
--- the record is in the slab's frame
+-- if the record is in the slab's frame, `record_place` returns the first place of the record
 place_is : (c : After-record_place) → c.record_place.result ≡ 4096 * c.args.slab.first + 4064
 place_is c = omega (arith, c.record_place.ensures)
 
@@ -54,7 +54,7 @@ returns-then-in_page-clause-turned c =
     (subst (λ o. IsSome o) (sym (record_home c.requires.slab c.requires.unit place)) refl)
     c.raise_in_record.ensures
 
--- the record is stored outside the slab
+-- if the record is stored outside the slab, the slab has at most 16 objects
 few_large : (c : After-trailing_ones-index) → (layout_numbers c.args.cache.kept.now).count ≤ 16
 few_large c = (slab_cache c.requires.slab c.requires.tables).few_large (sym c.in_page.ensures ∙ c.if-in_page.false)
 

@@ -35,7 +35,7 @@ pub fits_by_need-requires-clause-none : goal.fits_by_need-requires-clause-none
 fits_by_need-requires-clause-none c = λ h.
     false≢true (c.in_default.ensures.free.1 (subst (λ b. HasFreeBlock b c.args.t c.args.k) c.in_default.ensures.refused h))
 
--- no block would be found even after all empty slabs are freed
+-- if `fits_by_need` returns false, the machine finds no block even after reaping
 still_none : (c : goal.Then-not-fits_by_need) (m : Machine) → ShowsMachine c.args.space.now c.args.buddy.now c.args.self.now c.args.t m
     → false ≡ is_some (choice c.args.self.now.top (reaped m) c.args.k)
 still_none c m h =
@@ -61,7 +61,7 @@ returns-then-not-fits_by_need-clause-fits c = (
       ∙ c.fits_by_need.ensures.fits.1 (subst (λ b. WouldFit c.args.space.now b c.args.self.now c.args.t c.args.k) (sym c.in_default.ensures.refused) fits),
 )
 
--- a block is found after all empty slabs are freed
+-- if `fits_by_need` returns true, exactly the empty slabs are freed
 gone : (c : goal.After-reserve-2) → IsReturned c.args.space.now c.give_back_all.new.space c.args.buddy.now c.give_back_all.new.buddy
     c.args.self.now c.give_back_all.new.self c.args.t (idle_at (λ i. true) c.args.space.now c.args.self.now c.args.t)
 gone c =

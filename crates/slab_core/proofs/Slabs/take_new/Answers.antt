@@ -31,7 +31,7 @@ returns-in_err-before-clause-answer c = λ m h. let e = refused c m h in rw e (s
 pub returns-in_err-before-clause-shows : goal.returns-in_err-before-clause-shows
 returns-in_err-before-clause-shows c = λ m h. rw (refused c m h) h
 
--- the cache in the tables
+-- the cache that was read is cache c of tenant t in the tables
 cached : (c : In_ok-before) → cache_at c.args.self.now c.args.t c.args.c ≡ Some c.in_ok-before.field-0.now
 cached c =
     sym (ap (λ (s : Content). cache_at s c.args.t c.args.c) c.self.view_is)

@@ -24,13 +24,13 @@ returns-in_err-kept-clause-answer c = λ m h. let e = refused c m h in rw e (sea
 pub returns-in_err-kept-clause-shows : goal.returns-in_err-kept-clause-shows
 returns-in_err-kept-clause-shows c = λ m h. rw (refused c m h) h
 
--- the cache in the tables
+-- the cache that was read is cache c of tenant t in the tables
 cached : (c : In_ok-kept) → cache_at c.args.self.now c.args.t c.args.c ≡ Some c.in_ok-kept.field-0.now
 cached c =
     sym (ap (λ (s : Content). cache_at s c.args.t c.args.c) c.self.view_is)
     ∙ (sym c.cache.ensures ∙ ap (option_map (λ x. x.now)) c.in_ok-kept.ensures.ok_part)
 
--- A slab is used
+-- An existing slab is used
 
 use_of : (c : After-hand_out) (m : Machine) → ShowsMachine c.args.space.now c.args.buddy.now c.args.self.now c.args.t m
     → IsUsed c.args.self.now.top c.args.c m c.in-Some.slab.first

@@ -7,7 +7,7 @@ use Rattle.slab_core.proofs.FitsAfterReaping.{fits_by_free, fits_by_slabs, fits_
 use Rattle.slab_core.proofs.Slabs.would_fit.Goals as goal
 use Rattle.slab_core.proofs.Slabs.would_fit.Goals.{Then-has_free, After-would_fit_in_slabs}
 
--- a free block is large enough
+-- if a free block is large enough, the result true is right
 free : (c : Then-has_free) → (c.has_free.result ≡ true) ↔ WouldFit c.args.space.now c.args.buddy.now c.args.self.now c.args.t c.args.k
 free c =
     fits_by_free c.laws_with.ensures.parts.slabs c.requires.agree c.laws_with.ensures.steady c.requires.order c.has_free.result c.if-has_free.true c.has_free.ensures
@@ -18,7 +18,7 @@ returns-then-has_free-clause-fits c = free c
 pub returns-then-has_free-clause-answer : goal.returns-then-has_free-clause-answer
 returns-then-has_free-clause-answer c = fits_answers c.laws_with.ensures.parts c.laws_with.ensures.steady c.requires.order (free c)
 
--- no free block is large enough
+-- if no free block is large enough, the result of `would_fit_in_slabs` is right
 fits : (c : After-would_fit_in_slabs) → (c.would_fit_in_slabs.result ≡ true) ↔ WouldFit c.args.space.now c.args.buddy.now c.args.self.now c.args.t c.args.k
 fits c =
     let x = c.args in

@@ -2,7 +2,7 @@ use Rattle.std.proofs.Common.{◌≡◌, ℕ, ◌+◌, ◌-◌, ◌*◌, ◌/◌
 use Rattle.std.proofs.lemmas.Bool.{cases_eq}
 use Rattle.slab_core.proofs.objects.machine_frame_under.Goals as goal
 
--- a frame, plus the wrapping difference of superblock and slot in frames, is the machine frame of the frame
+-- in wrapping 32-bit arithmetic, f + (m - slot of f) * 2 ^ order is the machine frame of frame f, if m is the slot's superblock
 abbrev Moves : ℕ → ℕ → ℕ → Type 0
 Moves f m order = (f + (m + (4294967296 - f / 2 ^ order)) % 4294967296 * 2 ^ order % 4294967296) % 4294967296 ≡ m * 2 ^ order + f % 2 ^ order
 

@@ -3,7 +3,7 @@ use Rattle.slab_core.proofs.FirstClearBit.{IsClear, AreOnes, clear_word, ones_mo
 use Rattle.slab_core.proofs.taking.first_clear.Goals as goal
 use Rattle.slab_core.proofs.taking.first_clear.Goals.{After-trailing_ones}
 
--- the bit that was found is the first clear bit of the word, which has one
+-- the bit that was found is the first clear bit of the word, and its index is below 64
 found : (c : After-trailing_ones) → (c.trailing_ones.result < 64) × IsClear 64 c.eight_at-word.result c.trailing_ones.result
 found c =
     subst (λ k. (k < 64) × IsClear 64 c.eight_at-word.result k) (sym c.trailing_ones.ensures) (clear_word c.eight_at-word.result (search rules) c.if-word.true)

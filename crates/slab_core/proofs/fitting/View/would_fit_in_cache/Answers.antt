@@ -12,7 +12,7 @@ use Rattle.slab_core.proofs.FittingCache.{IsNextSlab, left, next_is, slab_small,
 use Rattle.slab_core.proofs.fitting.View.would_fit_in_cache.Goals as goal
 use Rattle.slab_core.proofs.fitting.View.would_fit_in_cache.Goals.{In-Some, then-not-has_block+else-is_unused_block, else-not-has_block}
 
--- the search has reached this slab, and no block fits around those before it
+-- no block of order k fits around the empty slabs of cache c before the slab that the search has reached
 here : (c : In-Some) → IsNextSlab c.args.self.space.now c.args.self.buddy.now c.args.self.tables.now c.args.self.tenant c.args.c c.args.k c.in-Some.slab c.in-Some.machine_frame
 here c = next_is c.loop-next.invariant.searched c.in-Some.is
 
@@ -27,7 +27,7 @@ number_within c =
     subst (λ n. length x.self.tables.now.lists.places ≤ 64 * n * 2 ^ x.k) (sym c.loop-next.invariant.len) c.requires.words in
     (div-lt_iff_lt-mul (pow_pos c.args.k)).1 (omega (arith, within, words))
 
--- the code computes the first frame of the block around the slab's first frame
+-- the code computes the first frame of the block of order k around the slab's first frame
 first_is : (c : In-Some) → c.in-Some.slab / 2 ^ c.args.k * 2 ^ c.args.k % 4294967296 ≡ (around c.in-Some.slab c.args.k).first
 first_is c = let first = first_small c.in-Some.slab c.args.k (small c) in mod-eq_of_lt (omega arith)
 
