@@ -72,7 +72,7 @@ placed_as r s t c f n cache q = go (place_at s.lists.places n) refl q.listed
           cached = ap (cache_in s.caches) index ∙ there.cached;
         }
 
--- conversely, if the entry at the machine frame of frame f has key f in a list of cache c of tenant t, a slab of c begins at f
+-- if the machine frame of frame f of tenant t has key f in a list of cache c, a slab of cache c begins at f
 pub slab_from : (r : spaces.Content) (s : Content) (t c f n head : ℕ) (cache : own.Cache) → c < MOST_CACHES → head / 3 ≡ index_of_cache t c
     → cache_in s.caches (head / 3) ≡ Some cache → machine_frame_of s.top r.slots t f ≡ Some n → place_at s.lists.places n ≡ Some (head, f)
     → IsSlab r s t c f n cache

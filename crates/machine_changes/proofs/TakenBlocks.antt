@@ -79,8 +79,7 @@ module _ (r : spaces.Content) (b : buddies.Content) (s : Content) (t : ℕ) (m :
     no_page : (f : ℕ) → has_slab s (machine_frame_of s.top r.slots t f) ≡ true → order_in m.blocks f ≡ None
     no_page f has = h.blocks f ∙ ap (λ v. cond v None (buddies.taken_of (buddies.holding_of t b) f)) has
 
-    -- if the block of the slab at frame f is in `bs`, a lookup of f in the page blocks and `bs` returns the order of the taken
-    -- block
+    -- if the block of the slab at f is in `bs`, a lookup of f in the page blocks and `bs` returns the taken block's order
     pub order_of_slab : (c f n : ℕ) (cache : own.Cache) → IsSlab r s t c f n cache → IsIn (block f (layout_numbers cache).order) bs
         → order_in (m.blocks ++ bs) f ≡ buddies.taken_of (buddies.holding_of t b) f
     order_of_slab c f n cache q i =
@@ -90,12 +89,12 @@ module _ (r : spaces.Content) (b : buddies.Content) (s : Content) (t : ℕ) (m :
         is.order ∙ ap (λ x. (layout_numbers x).order) (one_slab r s t c f n is.number z.first is.machine_frame cache is.cache q is.slab same).same)
         ∙ sym (st.stands c f n cache q).taken
 
-    -- if a slab begins at frame f, but no block of `bs` does, a lookup of f in the page blocks and `bs` returns None
+    -- if a slab begins at f, but no block of `bs` does, a lookup of f in the page blocks and `bs` returns None
     pub order_of_none : (f : ℕ) → has_slab s (machine_frame_of s.top r.slots t f) ≡ true → ((z : Block) → IsIn z bs → z.first ≡ f → ⊥)
         → order_in (m.blocks ++ bs) f ≡ None
     order_of_none f has none = order_past m.blocks bs f (no_page f has) ∙ order_none bs f none
 
-    -- if no slab begins at frame f, this lookup returns the order of the taken block that begins at f, or None if there is none
+    -- if no slab begins at f, a lookup of f in the page blocks and `bs` returns what `taken_of` returns for f
     pub order_of_page : (f : ℕ) → has_slab s (machine_frame_of s.top r.slots t f) ≡ false
         → order_in (m.blocks ++ bs) f ≡ buddies.taken_of (buddies.holding_of t b) f
     order_of_page f none =

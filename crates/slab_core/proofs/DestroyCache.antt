@@ -1,4 +1,4 @@
--- Removing a cache without live objects, with all its slabs, does what `destroy_step` does to the machine.
+-- Removing a cache without live objects, with all its slabs, has the effect of `destroy_step` on the machine.
 use Rattle.std.proofs.Common.{◌≡◌, ◌≢◌, ℕ, ◌+◌, ◌/◌, ◌%◌, ◌<◌, Bool, true, false, not, cond, eqb, List, [], ◌∷◌, ◌++◌, map, length, append-nil, Some, None, refl, sym, ap, ◌∙◌, subst, inl, inr, ⊎_elim, arith}
 use Rattle.std.specs.Prelude.{Option, option_map, filter, flat_map, Ok, ◌&&◌, if◌then◌else◌}
 use Rattle.std.specs.List.{list_any}
@@ -46,7 +46,7 @@ filter_none p [] none = refl
 filter_none p (x ∷ xs) none =
     ap (λ v. cond v (x ∷ filter p xs) (filter p xs)) (none x (inl refl)) ∙ filter_none p xs (λ y i. none y (inr i))
 
--- if g has no blocks for any cache of the list except cache c, the blocks of the list are those of cache c
+-- if g returns no blocks for any cache of the list except cache c, the blocks for the whole list are the blocks for cache c
 one_only : (g : Cache → List Block) (c k : ℕ) (x : Cache) (xs : List Cache) → RisesFrom k (map (λ y. y.number) xs) → at (λ y. y.number) c xs ≡ Some x
     → ((y : Cache) → IsIn y xs → y.number ≢ c → g y ≡ []) → flat_map g xs ≡ g x
 one_only g c k x [] rises e none = absurd (some_none (sym e))
@@ -134,7 +134,7 @@ step_done c m x e none =
     ap (destroy_of m) e
     ∙ ap (λ (v : Bool). if v then refuse CacheInUse m else record { answer = Ok (frames_of (slab_blocks x)); machine = destroyed x m }) none
 
--- if there is no cache c, a destroy is refused
+-- if tenant t has no cache c, `destroy_step` refuses with `NoCache`
 pub no_cache_step : (r : spaces.Content) (b : buddies.Content) (s : Content) (t c : ℕ) (m : Machine) → ShowsMachine r b s t m → cache_at s t c ≡ None
     → destroy_step c m ≡ refuse NoCache m
 no_cache_step r b s t c m h vacant = step_none c m (no_cache r b s t c m h vacant)
@@ -171,7 +171,7 @@ pub record IsDestroyed (r : spaces.Content) (b : buddies.Content) (s : Content) 
 
 module _ {r : spaces.Content} {b : buddies.Content} {s : Content} {t : ℕ} (c : ℕ) {cache : own.Cache} (w : IsSlabs s) (a : Agree r b s) (st : IsSteady r b s t)
     (cached : cache_at s t c ≡ Some cache) where
-  -- if cache c of tenant t is in use, a destroy of it is refused
+  -- if cache c of tenant t is in use, `destroy_step` refuses with `CacheInUse`
   pub used_step : (IsUnused s t c → ⊥) → (m : Machine) → ShowsMachine r b s t m → destroy_step c m ≡ refuse CacheInUse m
   used_step used m h =
       let there = cache_shown r b s t m h c cache cached in

@@ -62,7 +62,7 @@ module _ {r : spaces.Content} {b : buddies.Content} {s : Content} {t k : ℕ} (w
           idle = h.unused;
         }
 
-  -- if a frame of the block lies in an empty slab, the block would fit around the slab
+  -- if a frame of the fitting block lies in an empty slab, a block of order k would fit around the slab
   module _ (fit : WouldFit r b s t k) (x : ℕ) (has : HasFrame (block fit.first k) x) (i : IsIdle r s t x) where
     aligned : i.first % 2 ^ (layout_numbers i.cache).order ≡ 0
     aligned = (st.sound.placed i.first (layout_numbers i.cache).order (st.stands i.number i.first i.machine_frame i.cache i.slab).taken).0.1
@@ -115,7 +115,7 @@ module _ {r : spaces.Content} {b : buddies.Content} {s : Content} {t k : ℕ} (w
         untaken = λ x has is. none_around (fits_around fit x has (fit.idle x has is));
       }))
 
-  -- if no free block is large enough, a block fits if and only if one fits around an empty slab
+  -- if no free block is large enough, a block of order k would fit if and only if one would fit around an empty slab
   pub fits_by_slabs : k ≤ s.top → (HasFreeBlock b t k → ⊥) → (slabs : Bool) → (slabs ≡ true) ↔ WouldFitInSlabs r b s t k
       → (slabs ≡ true) ↔ WouldFit r b s t k
   fits_by_slabs fits none true by = (λ e. slab_fits fits (by.0 refl), λ fit. refl)

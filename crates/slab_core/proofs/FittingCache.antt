@@ -55,7 +55,7 @@ module _ {r : spaces.Content} {b : buddies.Content} {s : Content} {t c k : ℕ} 
         let below : slab < b.superblocks * 2 ^ s.top = (div-lt_iff_lt-mul (pow_pos s.top)).0 (held_within b t (slab / 2 ^ s.top) sized lt held) in
         omega (arith, below, a.machine_frames)
 
-    -- `next` is the slab after this one in its list, or `None` if this slab is the last
+    -- `next` is the slab after this slab in the list of empty slabs of cache c, or `None` if this slab is the last
     abbrev pub IsAfter : Option (ℕ × ℕ) → Type 0
     IsAfter next = Follows s.lists.places next (head_of t c 2, slab)
 
@@ -91,7 +91,7 @@ module _ {r : spaces.Content} {b : buddies.Content} {s : Content} {t c k : ℕ} 
               (cases_lt slab f);
         }
 
--- if the block with number i is refused too, `AreRefused` still holds after i is added to the set
+-- if the block with number i is refused, `AreRefused` is still true after i is added to the set
 pub refused_more : (r : spaces.Content) (b : buddies.Content) (s : Content) (t k : ℕ) (before after : ℕ → Bool) (i : ℕ) → AreRefused r b s t k before
     → ((n : ℕ) → after n ≡ (eqb n i || before n)) → (IsUnusedBlock r b s t (i * 2 ^ k) k → ⊥) → AreRefused r b s t k after
 refused_more r b s t k before after i refused more none n is = elim (cases_eq n i) [

@@ -57,7 +57,7 @@ module _ (r : spaces.Content) (b : buddies.Content) (s : Content) (t c k : ℕ) 
       subst (λ i. cache_of (by_need s.top k m) i ≡ Some x) (found_key (λ z. z.number) c m.caches x ex)
       (in_found (λ z. z.number) 0 x (by_need s.top k m).caches (rises_by_need s.top k m h.caches_rise) there)
 
--- if a step leaves the parts unchanged, a property P that they have after the step is one that they had before it
+-- if a step leaves the parts unchanged, and P is true of them after the step, P was true of them before
 pub unmoved : (P : spaces.Content → buddies.Content → Content → Type 0) {r r' : spaces.Content} {b b' : buddies.Content} {s s' : Content}
     → (r' ≡ r) × ((b' ≡ b) × (s' ≡ s)) → P r' b' s' → P r b s
 unmoved P {r = r} {r' = r'} {b = b} {b' = b'} {s = s} {s' = s'} e h = subst (λ x. P x b s) e.0 (subst (λ x. P r' x s) e.1.0 (subst (λ x. P r' b' x) e.1.1 h))

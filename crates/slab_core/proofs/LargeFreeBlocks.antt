@@ -1,4 +1,4 @@
--- A tenant has a free block of order k or more if and only if its count for one of these orders is above 0.
+-- A tenant has a free block of order k or more if and only if its number of free blocks is above 0 for one of these orders.
 use Rattle.std.proofs.Common.{◌≡◌, ℕ, zero, suc, ◌+◌, ◌*◌, ◌/◌, ◌^◌, ◌<◌, ◌≤◌, Bool, true, false, length, refl, ap, ◌∙◌, ⊎_elim, arith}
 use Rattle.std.proofs.Math.Nat.{div-lt_iff_lt-mul}
 use Rattle.std.proofs.lemmas.Bool.{cases_lt}

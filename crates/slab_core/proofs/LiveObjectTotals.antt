@@ -41,7 +41,7 @@ sum_with live h i head key qs = go (eqb head h)
 is_cond : (v w : Bool) (n : ℕ) → v ≡ w → cond v n 0 ≡ cond w n 0
 is_cond v w n e = ap (λ b. cond b n 0) e
 
--- each list of the cache with index n is exactly one of the lists 3 * n, 3 * n + 1 and 3 * n + 2
+-- a list belongs to the cache with index n exactly if it is one of the lists 3 * n, 3 * n + 1 and 3 * n + 2
 one_of : (head n x : ℕ) → cond (eqb (head / 3) n) x 0 ≡ cond (eqb head (3 * n)) x 0 + (cond (eqb head (3 * n + 1)) x 0 + cond (eqb head (3 * n + 2)) x 0)
 one_of head n x = elim (cases_eq head (3 * n)) [
   | inl a ↦ omega (
@@ -131,7 +131,7 @@ live_counted c y i [] = refl
 live_counted c y i (true ∷ bs) = omega (arith, live_counted c y (i + 1) bs)
 live_counted c y i (false ∷ bs) = omega (arith, live_counted c y (i + 1) bs)
 
--- the list of the live objects in the slabs `ys` is as long as their numbers of live objects together
+-- the length of the list of live objects in the slabs `ys` is the sum of the slabs' numbers of live objects
 pub objects_counted : (c : Cache) (ys : List Slab) → length (flat_map (live_in c) ys) ≡ sum_live ys
 objects_counted c [] = refl
 objects_counted c (y ∷ ys) = length-append (live_in c y) (flat_map (live_in c) ys) ∙ omega (arith, live_counted c y 0 y.live, objects_counted c ys)

@@ -1,4 +1,4 @@
--- If one bit of a slab's control record is flipped, in the frame or in the stored state, `IsTurned` is true of its object.
+-- If one bit of a slab's control record is flipped, in the frame or in the stored state, `IsTurned` is true of the bit's object.
 use Rattle.std.proofs.Common.{◌≡◌, ◌≢◌, ℕ, ◌+◌, ◌-◌, ◌*◌, ◌/◌, ◌%◌, ◌^◌, ◌<◌, true, false, not, cond, Some, length, get_or, refl, sym, ap, ◌∙◌, subst, ◌⊎◌, inl, inr, arith}
 use Rattle.std.specs.Prelude.{List, IsSome, ◌==◌, if◌then◌else◌, slice_index, slice_set}
 use Rattle.std.specs.Int.Bits.{bit_xor}

@@ -28,7 +28,7 @@ module _ {X : Type 0} (key : X → ℕ) where
   none_below n k (x ∷ xs) (low, rises) le =
       ap (λ b. cond b (x ∷ below n xs) (below n xs)) (le-ltb (key x) n (omega arith)) ∙ none_below n (key x + 1) xs rises (omega arith)
 
-  -- the elements with keys below n + 1 are those with keys below n, followed by the element with key n, if there is one
+  -- the elements with keys below n + 1 are the elements with keys below n, followed by the element with key n, if there is one
   pub below_more : (n k : ℕ) (xs : List X) → RisesFrom k (map key xs) → below (n + 1) xs ≡ below n xs ++ listed (at key n xs)
   below_more n k [] rises = refl
   below_more n k (x ∷ xs) (low, rises) = elim (cases_lt (key x) n) [
@@ -65,8 +65,7 @@ no_more : {X : Type 0} (xs : List X) → xs ≡ xs ++ []
 no_more [] = refl
 no_more (x ∷ xs) = ap (λ ys. x ∷ ys) (no_more xs)
 
--- if `rows` are the rows of the caches xs, and a further cache has the row `row`, the rows with it are the rows of xs and this
--- cache
+-- adding the row of a further cache to the rows of the caches xs gives the rows of xs and this cache
 pub pushed : (rows : List CacheRow) (row : CacheRow) (xs : List Cache) (o : Option Cache) → Some row ≡ option_map row_of_cache o → rows ≡ map row_of_cache xs
     → rows ++ (row ∷ []) ≡ map row_of_cache (xs ++ listed o)
 pushed rows row xs None e same = absurd (some_none e)

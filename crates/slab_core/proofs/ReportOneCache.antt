@@ -32,7 +32,7 @@ same_row a b c d e = cc
 
 module _ (r : spaces.Content) (b : buddies.Content) (s : Content) (t c : ℕ) (m : Machine) (cache : own.Cache) (x : Cache) (w : IsSlabs s) (hold : ListsHold s)
     (a : Agree r b s) (st : IsSteady r b s t) (h : ShowsMachine r b s t m) (cached : cache_at s t c ≡ Some cache) (ex : cache_of m c ≡ Some x) where
-  -- the list of slabs of one kind is as long as the number of slabs of this kind that cache c has in the machine
+  -- the list of slabs of one kind has as many entries as cache c of the machine has slabs of this kind
   pub kind_counted : (kind : ℕ) → kind < 3 → length (keys_of s.lists.places (head_of t c kind)) ≡ length (filter (is_kind kind) x.slabs)
   kind_counted kind less = ap length (hold r b t c kind m x a st h ex less) ∙ length-map (filter (is_kind kind) x.slabs) (λ y. y.first)
 

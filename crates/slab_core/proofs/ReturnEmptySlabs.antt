@@ -36,7 +36,7 @@ or_cases : (v w : Bool) → (v || w) ≡ true → (v ≡ true) ⊎ (w ≡ true)
 or_cases true w e = inl refl
 or_cases false w e = inr e
 
--- Slabs that are idle
+-- Idle slabs: the empty slabs of the caches whose indexes satisfy `these`
 
 -- true if i is the index of cache c of tenant t
 abbrev pub this : ℕ → ℕ → ℕ → Bool
@@ -328,8 +328,7 @@ below_next {r' = r'} {s' = s'} {s'' = s''} {t = t} {c = c} st g k spares agree t
       (λ high. let same : d ≡ c = omega arith in subst (λ x. IsEmpty s''.lists.places (head_of t x 2)) (sym same) none) (cases_lt d c);
 }
 
--- if the idle slabs of all caches below c are freed, and cache c does not exist, the idle slabs of all caches below c + 1 are
--- freed
+-- if cache c does not exist, and `IsGivingBelow` is true for c, it is true for c + 1
 pub below_none : {r r' : spaces.Content} {b b' : buddies.Content} {s s' : Content} {t c : ℕ} → IsGivingBelow r r' b b' s s' t c
     → c < MOST_CACHES → cache_at s' t c ≡ None → IsGivingBelow r r' b b' s s' t (c + 1)
 below_none {s' = s'} {t = t} {c = c} g small vacant = record {

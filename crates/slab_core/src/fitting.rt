@@ -145,8 +145,8 @@ impl View<'_> {
         false
     }
 
-    /// Returns true if a block of order `k` would fit around an empty slab of cache `c`. Skips the blocks in `refused`, and adds
-    /// to it the blocks that it refuses.
+    /// Returns true if a block of order `k` would fit around an empty slab of cache `c`. Skips the blocks in the set `refused`,
+    /// and adds each block that it refuses to the set.
     fn would_fit_in_cache(self, refused: &mut [u64], c: u32, k: u8) -> bool
         requires tenant { self.tenant < length self.space.now.slots }
         requires cache { c < MOST_CACHES }

@@ -210,8 +210,8 @@ impl Slabs {
         }
     }
 
-    /// Returns the object of the cache that begins at a place, live or not, or `None` if no object begins there. Always inlined:
-    /// otherwise a give takes a third more instructions.
+    /// Returns the object of `cache` that begins at `place`, live or not, or `None` if no object of the cache begins there.
+    /// Always inlined: otherwise a give takes a third more instructions.
     #[inline(always)]
     pub(crate) fn locate(&self, space: &Space, cache: TenantCache<'_>, place: u32) -> Option<Object>
         requires tenant { cache.tenant < length space.now.slots }
@@ -238,7 +238,7 @@ impl Slabs {
         Some(Object { slab, index })
     }
 
-    /// Returns the live object of the cache that begins at a place, or `None` if none begins there.
+    /// Returns the live object of `cache` that begins at `place`, or `None` if no live object of the cache begins there.
     #[inline(always)]
     pub(crate) fn find(&self, space: &Space, cache: TenantCache<'_>, place: u32) -> Option<Object>
         requires tenant { cache.tenant < length space.now.slots }

@@ -62,7 +62,7 @@ private_lines limit order superblocks tenants t trace =
     let own = own_list t (opening_history limit order superblocks tenants (events_of (lines_of_trace trace))) in
     texts_for t (private_run limit order own empty_machine).replies
 
--- In the output of any trace, the lines of a tenant are those of its private machine. With at most 2 ^ 64 tenants, different
+-- In the output of any trace, the lines of a tenant are the lines of its private machine. With at most 2 ^ 64 tenants, different
 -- numbers have different decimals, so a line of one tenant never counts as a line of another.
 abbrev pub OwnLines : Type 0
 OwnLines = (limit order superblocks tenants t : ℕ) (trace : List ℕ) → tenants ≤ 2 ^ 64 → t < tenants →
@@ -83,7 +83,7 @@ abbrev pub AllShown : Type 0
 AllShown = (limit order : ℕ) (trace : List ℕ) (w : World) →
     shown_lines None limit order (lines_of_trace trace) w ≡ output_of limit order trace w
 
--- if only tenant t is shown, a trace shows exactly the lines of t in its whole output, byte for byte, from any world
+-- if only tenant t is shown, a trace shows exactly the lines of t in its whole output, byte for byte, in any world
 abbrev pub OwnShown : Type 0
 OwnShown = (limit order t : ℕ) (trace : List ℕ) (w : World) → length w.machines ≤ 2 ^ 64 → t < length w.machines →
     shown_lines (Some t) limit order (lines_of_trace trace) w ≡ with_line_feeds (lines_for t (output_of limit order trace w))
@@ -98,11 +98,11 @@ abbrev pub EndedAllButTail : Type 0
 EndedAllButTail = (given : List ℕ) →
     (tail : List ℕ) × (given ≡ with_line_feeds (ended_lines given) ++ tail) × (Contains tail line_feed → ⊥)
 
--- if bytes are added to a trace, the lines that end in LF before stay the first lines of the trace
+-- if more bytes are added to a trace, the lines that ended in LF are still its first lines
 abbrev pub EndedLinesStay : Type 0
 EndedLinesStay = (given more : List ℕ) → (rest : List (List ℕ)) × (lines_of_trace (given ++ more) ≡ ended_lines given ++ rest)
 
--- if bytes are added to a trace, the text shown for the lines that end in LF before stays the beginning of the text that is shown
+-- if more bytes are added to a trace, what it shows still begins with what the lines that ended in LF show
 abbrev pub ShownStays : Type 0
 ShownStays = (only : Option ℕ) (limit order : ℕ) (given more : List ℕ) (w : World) →
     (rest : List ℕ) × (shown_lines only limit order (lines_of_trace (given ++ more)) w

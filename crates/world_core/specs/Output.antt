@@ -23,7 +23,7 @@ abbrev pub events_of : List (List ℕ) → List Event
 events_of [] = []
 events_of (line ∷ lines) = event_in (reading_of line) ++ events_of lines
 
--- True if a reply to this addressee is shown. If no tenant is named, all replies are shown; otherwise only those to that tenant.
+-- True if a reply to this addressee is shown: any reply if no tenant is named, or else only a reply to the named tenant.
 abbrev pub is_shown : Option ℕ → Addressee → Bool
 is_shown None addressee = true
 is_shown (Some t) Addressee.Admin = false

@@ -7,7 +7,7 @@ use Rattle.slab_core.proofs.FitsAfterReaping.{fits_by_free, fits_by_slabs, fits_
 use Rattle.slab_core.proofs.Slabs.would_fit.Goals as goal
 use Rattle.slab_core.proofs.Slabs.would_fit.Goals.{Then-has_free, After-would_fit_in_slabs}
 
--- if a free block is large enough, the result true is right
+-- if a free block is large enough, the result `true` is right
 free : (c : Then-has_free) → (c.has_free.result ≡ true) ↔ WouldFit c.args.space.now c.args.buddy.now c.args.self.now c.args.t c.args.k
 free c =
     fits_by_free c.laws_with.ensures.parts.slabs c.requires.agree c.laws_with.ensures.steady c.requires.order c.has_free.result c.if-has_free.true c.has_free.ensures
