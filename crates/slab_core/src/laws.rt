@@ -10,8 +10,8 @@ use buddy_core::Buddy;
 use space_core::Space;
 
 impl Slabs {
-    /// A law: if the memory, the buddy systems and the slabs agree, the invariants of each of the three hold, and tenant `t` is
-    /// steady (`IsSteady`). The laws of `machine_changes` require this. The call does nothing.
+    /// A law: if the parts agree, the invariants of each part hold. `IsSteady`, which the laws of `machine_changes` require,
+    /// holds for tenant `t`. The call does nothing.
     pub fn laws_with(&self, space: &Space, buddy: &Buddy, t: u8)
         requires tenant { t < length space.now.slots }
         requires agree { Agree space.now buddy.now self.now }
