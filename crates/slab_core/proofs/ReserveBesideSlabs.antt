@@ -1,6 +1,6 @@
 -- Reserving a page block beside slabs.
 use Rattle.std.proofs.Common.{◌≡◌, ◌≢◌, ◌↔◌, ℕ, ◌+◌, ◌*◌, ◌/◌, ◌^◌, ◌<◌, Bool, true, false, cond, length, Some, None, IsSome, IfSome, IfNone, refl, sym, ap, ◌∙◌, subst, ⊎_elim, arith}
-use Rattle.std.specs.Prelude.{Option, is_some, MatchOption}
+use Rattle.std.specs.Prelude.{Option, is_some, option_map, MatchOption}
 use Rattle.std.proofs.lemmas.Bool.{cases_eq, eq-eqb, false≢true, ne_eqb}
 use Rattle.std.proofs.lemmas.List.{length-set}
 use Rattle.std.proofs.lemmas.Nat.{pow_pos}
@@ -14,6 +14,7 @@ use Rattle.model_core.proofs.BlocksApart.{has_first}
 use Rattle.model_core.proofs.BlockChoice.{choice_is_found}
 use Rattle.space_core.specs.Content as spaces
 use Rattle.buddy_core.specs.Content as buddies
+use Rattle.buddy_core.specs.declared.ReservedBlock.{ReservedBlock}
 use Rattle.buddy_core.proofs.Holdings.{own_holding, other_holding, taken-with_block}
 use Rattle.klist_core.specs.Places.{place_at}
 use Rattle.slab_tables.specs.Content.{Content, layout_numbers}
@@ -28,7 +29,7 @@ use Rattle.model_core.proofs.Lists.{some_of}
 use Rattle.machine_changes.proofs.PageReserved.{reserved_shows}
 use Rattle.machine_changes.proofs.PageHoldings.{same_space}
 use Rattle.slab_core.specs.Fitting.{HasFreeBlock}
-use Rattle.slab_core.specs.Lending.{IsPageAt}
+use Rattle.slab_core.specs.Lending.{IsPageAt, IsReservedPage}
 use Rattle.slab_core.proofs.GrowOnFreeBlock.{choice_some, choice_none}
 use Rattle.slab_core.proofs.ReturnEmptySlabs.{spares_none}
 
@@ -197,6 +198,38 @@ module _ (r : spaces.Content) (b : buddies.Content) (s : Content) (t k : ℕ) (a
         shows = is.shows;
         page = is.page;
         free = (λ e. record { found = block f some.0; free = some.1.0.0; enough = some.1.0.1 }, λ h. refl);
+        spares = is.spares;
+        agree = is.agree;
+      }
+
+  -- the same for a result that also has the superblock in the block's slot
+  pub record IsBlockServed (b' : buddies.Content) (o : Option ReservedBlock) : Type 0 where
+    pub answer : (m : Machine) → ShowsMachine r b s t m → option_map (λ (x : ReservedBlock). x.first) o ≡ choice s.top m k
+    pub shows : IfSome o (λ x. (m : Machine) → ShowsMachine r b s t m → ShowsMachine r b' s t (with_block (block x.first k) m))
+    pub page : IfSome o (IsReservedPage r b' s t k)
+    pub free : IsSome o ↔ HasFreeBlock b t k
+    pub spares : Spares t r r b b' s s
+    pub agree : Agree r b' s
+
+  pub block_served : IsSteady r b s t → (b' : buddies.Content) (o : Option ReservedBlock)
+      → IfNone o (IsWithout b.top (held b t) (taken b t) k × (b' ≡ b))
+      → IfSome o (λ x. (j : ℕ) × (IsChoice b.top (held b t) (taken b t) k (block x.first j)
+      × (b' ≡ buddies.with_holding t (buddies.with_block x.first k (buddies.holding_of t b)) b)))
+      → IfSome o (λ x. buddies.superblock_at (buddies.holding_of t b) (x.first / 2 ^ b.top) ≡ Some x.superblock)
+      → IsBlockServed b' o
+  block_served st b' None none some under =
+      let is : IsServed b' None = is_served st b' None none tt in
+      record { answer = is.answer; shows = tt; page = tt; free = is.free; spares = is.spares; agree = is.agree }
+  block_served st b' (Some x) none some under =
+      let is : IsServed b' (Some x.first) = is_served st b' (Some x.first) tt some in
+      record {
+        answer = is.answer;
+        shows = is.shows;
+        page = record {
+          page = is.page;
+          under = sym (a.slots t (x.first / 2 ^ s.top)) ∙ subst (λ top. buddies.superblock_at (buddies.holding_of t b) (x.first / 2 ^ top) ≡ Some x.superblock) a.order under;
+        };
+        free = is.free;
         spares = is.spares;
         agree = is.agree;
       }

@@ -1,7 +1,7 @@
 -- Reserving a page block on demand: if no block is found at once, and one would be found after all empty slabs are freed, they
 -- are freed.
 use Rattle.std.proofs.Common.{◌≡◌, ◌↔◌, ℕ, ◌/◌, ◌^◌, ◌≤◌, Bool, true, false, cond, Some, None, IsSome, IfSome, IfNone, refl, sym, ap, ◌∙◌, subst}
-use Rattle.std.specs.Prelude.{Option, is_some}
+use Rattle.std.specs.Prelude.{Option, is_some, option_map}
 use Rattle.std.proofs.lemmas.Bool.{false≢true}
 use Rattle.model_core.specs.Blocks.{block, HasFrame, IsAligned}
 use Rattle.model_core.specs.Machine.{Machine, choice}
@@ -13,6 +13,7 @@ use Rattle.machine_changes.proofs.Reaped.{reaped_shows}
 use Rattle.model_core.proofs.ReapingByNeed.{alloc_reaps, by_need_found, by_need_reaps, by_need_stays}
 use Rattle.space_core.specs.Content as spaces
 use Rattle.buddy_core.specs.Content as buddies
+use Rattle.buddy_core.specs.declared.ReservedBlock.{ReservedBlock}
 use Rattle.slab_tables.specs.Content.{Content, IsSlabs, layout_numbers}
 use Rattle.machine_changes.specs.Shows.{ShowsMachine, Agree}
 use Rattle.machine_changes.specs.Steady.{IsSteady}
@@ -68,6 +69,15 @@ free_fits r b s t k a h =
 pub is_there : {A : Type 0} (o : Option A) (P : Type 0) → IsSome o → IfNone o P
 is_there None P some = absurd (false≢true some)
 is_there (Some x) P some = tt
+
+-- what is so of a block's first frame
+pub first_some : (o : Option ReservedBlock) → is_some (option_map (λ (x : ReservedBlock). x.first) o) ≡ is_some o
+first_some None = refl
+first_some (Some x) = refl
+
+pub first_shown : (o : Option ReservedBlock) (P : ℕ → Type 0) → IfSome o (λ x. P x.first) → IfSome (option_map (λ (x : ReservedBlock). x.first) o) P
+first_shown None P shown = tt
+first_shown (Some x) P shown = shown
 
 -- a block that is reserved after freeing answers the request as the machine does
 pub record IsServedThen (r r' : spaces.Content) (b b' : buddies.Content) (s s' : Content) (t k : ℕ) (o : Option ℕ) : Type 0 where

@@ -1,12 +1,12 @@
 use Rattle.slab_core.proofs.Slabs.reserve.Goals as goal
-use Rattle.slab_core.proofs.ReserveBesideSlabs.{IsServed, is_served}
+use Rattle.slab_core.proofs.ReserveBesideSlabs.{IsBlockServed, block_served}
 
-served : (c : goal.After-reserve) → IsServed c.args.space.now c.args.buddy.now c.args.self.now c.args.t c.args.k
-    c.requires.agree c.laws_with.ensures.parts.buddy c.requires.tenant c.reserve.new.self c.reserve.result
+served : (c : goal.After-reserve_block) → IsBlockServed c.args.space.now c.args.buddy.now c.args.self.now c.args.t c.args.k
+    c.requires.agree c.laws_with.ensures.parts.buddy c.requires.tenant c.reserve_block.new.self c.reserve_block.result
 served c =
-    is_served c.args.space.now c.args.buddy.now c.args.self.now c.args.t c.args.k c.requires.agree c.laws_with.ensures.parts.buddy c.requires.tenant
+    block_served c.args.space.now c.args.buddy.now c.args.self.now c.args.t c.args.k c.requires.agree c.laws_with.ensures.parts.buddy c.requires.tenant
     c.laws_with.ensures.steady
-    c.reserve.new.self c.reserve.result c.reserve.ensures.refused c.reserve.ensures.done
+    c.reserve_block.new.self c.reserve_block.result c.reserve_block.ensures.refused c.reserve_block.ensures.done c.reserve_block.ensures.under
 
 pub returns-clause-answer : goal.returns-clause-answer
 returns-clause-answer c = (served c).answer

@@ -1,5 +1,5 @@
 use Rattle.std.proofs.Common.{◌≡◌, true, false, refl, subst, sym, ◌∙◌}
-use Rattle.std.specs.Prelude.{is_some}
+use Rattle.std.specs.Prelude.{◌↔◌, is_some, option_map}
 use Rattle.std.proofs.lemmas.Bool.{false≢true}
 use Rattle.model_core.specs.Machine.{Machine, choice}
 use Rattle.model_core.specs.Operations.{alloc_step}
@@ -8,20 +8,21 @@ use Rattle.machine_changes.specs.Shows.{ShowsMachine}
 use Rattle.machine_changes.specs.Keeps.{Spares}
 use Rattle.machine_changes.specs.Changes.{IsReturned}
 use Rattle.machine_changes.specs.Fitting.{WouldFit}
+use Rattle.buddy_core.specs.declared.ReservedBlock.{ReservedBlock}
 use Rattle.slab_core.specs.Calls.{idle_at}
 use Rattle.slab_core.specs.Fitting.{HasFreeBlock}
 use Rattle.slab_core.proofs.ReturnEmptySlabs.{spares_twice}
-use Rattle.slab_core.proofs.ReserveByNeed.{found_choice, found_step, free_fits, next_choice, no_choice, refused_step, is_there, IsServedThen, served_then}
-use Rattle.slab_core.proofs.Slabs.reserve_by_need.Goals as goal
+use Rattle.slab_core.proofs.ReserveByNeed.{found_choice, found_step, free_fits, next_choice, no_choice, refused_step, is_there, first_some, first_shown, IsServedThen, served_then}
+use Rattle.slab_core.proofs.Slabs.reserve_block_by_need.Goals as goal
 
 -- a block is found at once
 pub returns-in-Some-clause-answer : goal.returns-in-Some-clause-answer
-returns-in-Some-clause-answer c = λ m h. found_choice c.args.self.now.top c.args.k m c.in-Some.first (c.in-Some.ensures.answer m h)
+returns-in-Some-clause-answer c = λ m h. found_choice c.args.self.now.top c.args.k m c.in-Some.reserved.first (c.in-Some.ensures.answer m h)
 
 pub returns-in-Some-clause-shows : goal.returns-in-Some-clause-shows
 returns-in-Some-clause-shows c = λ m h.
     subst (ShowsMachine c.args.space.now c.reserve.new.buddy c.args.self.now c.args.t)
-    (sym (found_step c.args.self.now.top c.args.k m c.requires.order c.in-Some.first (c.in-Some.ensures.answer m h)))
+    (sym (found_step c.args.self.now.top c.args.k m c.requires.order c.in-Some.reserved.first (c.in-Some.ensures.answer m h)))
     (c.in-Some.ensures.shows m h)
 
 pub returns-in-Some-clause-fits : goal.returns-in-Some-clause-fits
@@ -62,22 +63,24 @@ returns-then-not-fits_by_need-clause-fits c = (
 )
 
 -- if `fits_by_need` returns true, exactly the empty slabs are freed
-gone : (c : goal.After-reserve-2) → IsReturned c.args.space.now c.give_back_all.new.space c.args.buddy.now c.give_back_all.new.buddy
+gone : (c : goal.After-reserve_then) → IsReturned c.args.space.now c.give_back_all.new.space c.args.buddy.now c.give_back_all.new.buddy
     c.args.self.now c.give_back_all.new.self c.args.t (idle_at (λ i. true) c.args.space.now c.args.self.now c.args.t)
 gone c =
     subst (λ b. IsReturned c.args.space.now c.give_back_all.new.space b c.give_back_all.new.buddy c.args.self.now c.give_back_all.new.self c.args.t
     (idle_at (λ i. true) c.args.space.now c.args.self.now c.args.t)) c.in_default.ensures.refused (rw c.fits_by_need.ensures.same at c.give_back_all.ensures.returned)
 
-fits : (c : goal.After-reserve-2) → WouldFit c.args.space.now c.args.buddy.now c.args.self.now c.args.t c.args.k
+fits : (c : goal.After-reserve_then) → WouldFit c.args.space.now c.args.buddy.now c.args.self.now c.args.t c.args.k
 fits c =
     subst (λ b. WouldFit c.args.space.now b c.args.self.now c.args.t c.args.k) c.in_default.ensures.refused
     (c.fits_by_need.ensures.fits.0 c.if-not-fits_by_need.false)
 
-served : (c : goal.After-reserve-2) → IsServedThen c.args.space.now c.give_back_all.new.space c.args.buddy.now c.reserve-2.new.buddy
-    c.args.self.now c.give_back_all.new.self c.args.t c.args.k c.reserve-2.result
+served : (c : goal.After-reserve_then) → IsServedThen c.args.space.now c.give_back_all.new.space c.args.buddy.now c.reserve_then.new.buddy
+    c.args.self.now c.give_back_all.new.self c.args.t c.args.k (option_map (λ (x : ReservedBlock). x.first) c.reserve_then.result)
 served c =
     served_then c.laws_with.ensures.steady (gone c) c.laws_with.ensures.parts.slabs c.requires.agree c.give_back_all.ensures.agree
-    c.requires.order (fits c) c.in_default.ensures.answer c.reserve-2.result c.reserve-2.ensures.answer c.reserve-2.ensures.shows c.reserve-2.ensures.free
+    c.requires.order (fits c) c.in_default.ensures.answer (option_map (λ (x : ReservedBlock). x.first) c.reserve_then.result) c.reserve_then.ensures.answer
+    (first_shown c.reserve_then.result _ c.reserve_then.ensures.shows)
+    (subst (λ v. (v ≡ true) ↔ HasFreeBlock c.give_back_all.new.buddy c.args.t c.args.k) (sym (first_some c.reserve_then.result)) c.reserve_then.ensures.free)
 
 pub returns-clause-answer : goal.returns-clause-answer
 returns-clause-answer c = (served c).answer
@@ -86,14 +89,14 @@ pub returns-clause-shows : goal.returns-clause-shows
 returns-clause-shows c = (served c).shows
 
 pub returns-clause-fits : goal.returns-clause-fits
-returns-clause-fits c = (λ e. fits c, λ r. (served c).some)
+returns-clause-fits c = (λ e. fits c, λ r. sym (first_some c.reserve_then.result) ∙ (served c).some)
 
 pub returns-clause-refused : goal.returns-clause-refused
-returns-clause-refused c = is_there c.reserve-2.result _ (served c).some
+returns-clause-refused c = is_there c.reserve_then.result _ (sym (first_some c.reserve_then.result) ∙ (served c).some)
 
 pub returns-clause-spares : goal.returns-clause-spares
 returns-clause-spares c =
     spares_twice
     (subst (λ b. Spares c.args.t c.args.space.now c.give_back_all.new.space b c.give_back_all.new.buddy c.args.self.now c.give_back_all.new.self)
     c.in_default.ensures.refused (rw c.fits_by_need.ensures.same at c.give_back_all.ensures.spares))
-    c.reserve-2.ensures.spares
+    c.reserve_then.ensures.spares
