@@ -13,12 +13,13 @@ use Rattle.words_core.specs.declared.reply.Refusal.TheVariants.{BadOrder, NotABl
 use Rattle.world_core.specs.PrivateStep.{command_step, with_body, alloc_body, free_body, read_body, write_body}
 use Rattle.space_core.specs.Content as spaces
 use Rattle.buddy_core.specs.Content as buddies
+use Rattle.buddy_core.specs.declared.ReservedBlock.{ReservedBlock}
 use Rattle.slab_tables.specs.Content as tables
 use Rattle.machine_changes.specs.Pages.{released, IsInReach, IsWritten, stored}
 use Rattle.machine_changes.proofs.PageReleased.{released_shows, released_agrees}
 use Rattle.machine_changes.specs.Shows.{Agree, frame_under, machine_frame_of, has_slab}
 use Rattle.machine_changes.specs.Steady.{IsSteady}
-use Rattle.std.specs.Prelude.{is_some}
+use Rattle.std.specs.Prelude.{is_some, option_map}
 use Rattle.std.proofs.lemmas.Bool.{false≢true, le-leb, leb-true, and_parts, and_from, false_from_ne_true, le-ltb}
 use Rattle.machine_changes.specs.Keeps.{Spares}
 use Rattle.kernel_core.specs.Content.{KernelContent, content_of}
@@ -77,14 +78,25 @@ alloc_done r r' b b' s s' t o x takes =
     (by_none (λ o. alloc_body (ok_or o AllocRefusal.NoFrames)) x (λ first. refl) takes.refused)
 
 -- what holds of a block that is found holds of the result
-pub ok_told : (P : ℕ → Type 0) (o : Option ℕ) → IfSome o P → IfOk (ok_or o Refusal.NoFrames) P
+pub ok_told : {A : Type 0} (P : A → Type 0) (o : Option A) → IfSome o P → IfOk (ok_or o Refusal.NoFrames) P
 ok_told P None p = tt
-ok_told P (Some first) p = p
+ok_told P (Some found) p = p
 
 -- the body of the reply is that of the result
 pub allocated : (o : Option ℕ) → body_of Frame (ok_or o Refusal.NoFrames) ≡ alloc_body (ok_or o AllocRefusal.NoFrames)
 allocated (Some first) = refl
 allocated None = refl
+
+-- the same for a result that also has the superblock
+pub block_allocated : (o : Option ReservedBlock)
+    → body_of (λ (block : ReservedBlock). Frame block.first) (ok_or o Refusal.NoFrames)
+    ≡ alloc_body (ok_or (option_map (λ (x : ReservedBlock). x.first) o) AllocRefusal.NoFrames)
+block_allocated (Some block) = refl
+block_allocated None = refl
+
+pub first_none : (o : Option ReservedBlock) (P : Type 0) → IfNone o P → IfNone (option_map (λ (x : ReservedBlock). x.first) o) P
+first_none (Some block) P none = tt
+first_none None P none = none
 
 -- Freeing
 

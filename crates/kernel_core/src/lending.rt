@@ -153,14 +153,13 @@ impl Kernel {
             return Err(Refusal::NoTenant);
         };
         self.laws();
-        let first = self.alloc(t, order)?;
+        let block = self.alloc_block(t, order)?;
         self.laws();
-        let superblock = self.space.machine_of(t, first >> self.order()).unwrap();
         Ok(Span {
             tenant: t,
-            place: FRAME_BYTES * first,
+            place: FRAME_BYTES * block.first,
             bytes: FRAME_BYTES << order,
-            superblock,
+            superblock: block.superblock,
         })
     }
 

@@ -5,13 +5,14 @@ ghost use Rattle.model_core.specs.declared.limits.TheConstants.{MOST_ORDER};
 ghost use Rattle.space_core.specs.Windows.{home_of, window_of, with_window};
 ghost use Rattle.machine_changes.specs.Pages.{IsInReach};
 ghost use Rattle.machine_changes.specs.Slots.{HoldTogether};
-ghost use Rattle.slab_core.specs.Lending.{IsPageAt};
+ghost use Rattle.slab_core.specs.Lending.{IsPageAt, IsReservedPage};
 ghost use Rattle.words_core.specs.declared.event.Command.TheVariants as Command;
 ghost use Rattle.words_core.specs.declared.reply.Body.TheVariants.{Frame, Freed, Bytes, Written};
 ghost use Rattle.kernel_core.specs.Content.{superblock_at};
 ghost use Rattle.kernel_core.specs.Steps.{StepsMachine, body_of};
 
 use crate::Kernel;
+use buddy_core::ReservedBlock;
 use model_core::limits::{FRAME_BYTES, MOST_BYTES};
 use space_core::Space;
 use words_core::Refusal;
@@ -31,6 +32,21 @@ impl Kernel {
         let k = order as u8;
         self.slabs
             .reserve_by_need(&mut self.space, &mut self.buddy, t, k)
+            .ok_or(Refusal::NoFrames)
+    }
+
+    /// Does the same as [`Kernel::alloc`]. It also returns all that a caller needs to lend the block.
+    #[inline(always)]
+    pub(crate) fn alloc_block(&mut self, t: u8, order: u32) -> Result<ReservedBlock, Refusal>
+        requires { t < self.old.tenants }
+        ensures steps { StepsMachine self.old t (Command.Alloc order) self.new (body_of (λ block. Frame block.first) result) }
+        ensures page { IfOk result (IsReservedPage self.new.space self.new.buddy self.new.slabs t order) }
+    {
+        if order > u32::from(self.buddy.order()) {
+            return Err(Refusal::BadOrder);
+        }
+        self.slabs
+            .reserve_block_by_need(&mut self.space, &mut self.buddy, t, order as u8)
             .ok_or(Refusal::NoFrames)
     }
 
