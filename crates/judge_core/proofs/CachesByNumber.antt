@@ -1,4 +1,4 @@
--- If the numbers of caches rise, changing the cache with a number changes at most one item of the list.
+-- If the keys of a list rise, as the numbers of caches do, then changing all items with one key changes at most one item.
 use Rattle.std.proofs.Common.{◌≡◌, ◌≢◌, ℕ, suc, ◌+◌, ◌<◌, ◌≤◌, Bool, true, false, not, eqb, ltb, cond, refl, ap, ◌∙◌, arith}
 use Rattle.std.proofs.Common.{List, [], ◌∷◌, length, map, get_or, Option, Some, None}
 use Rattle.std.proofs.Math.ListN.{set}
@@ -8,15 +8,15 @@ use Rattle.std.proofs.lemmas.Bool.{eqb-true, eqb-false, ne_eqb, ltb-true, ltb-fa
 use Rattle.model_core.specs.WellFormed.{RisesFrom}
 use Rattle.promise_core.specs.Holdings.{KnownCache}
 
--- the index of the first item with the key, or the length of the list if there is none
+-- the index of the first item with key n, or the length of the list if no item has this key
 abbrev index : {X : Type 0} → (X → ℕ) → ℕ → List X → ℕ
 index key n xs = prefix_len (λ x. not (eqb (key x) n)) xs
 
--- the list after every item with the key is changed
+-- the list after `change` is applied to every item with key n
 abbrev changed : {X : Type 0} → (X → ℕ) → ℕ → (X → X) → List X → List X
 changed {X} key n change xs = map {B = X} (λ (x : X). if eqb (key x) n then change x else x) xs
 
--- if all keys are greater than n, changing the items with key n changes nothing
+-- if the keys rise and all are greater than n, changing the items with key n changes nothing
 others_stay : {X : Type 0} (key : X → ℕ) (n m : ℕ) (change : X → X) (xs : List X) → n < m → RisesFrom m (map key xs)
     → changed key n change xs ≡ xs
 others_stay key n m change [] lt rises = refl
@@ -53,7 +53,7 @@ nowhere {X} key n change (x ∷ xs) le = go (eqb (key x) n) le (λ le. nowhere k
     go true le rest = absurd (omega arith)
     go false le rest = ap (λ ys. x ∷ ys) (rest (omega arith))
 
--- if an item has the key, only this item is changed ..
+-- if the keys rise and an item has key n, changing the items with key n changes only this item
 pub changed_at : {X : Type 0} (key : X → ℕ) (n i : ℕ) (change : X → X) (d : X) (xs : List X) → RisesFrom 0 (map key xs)
     → position (λ x. eqb (key x) n) xs ≡ Some i → changed key n change xs ≡ set xs i (change (get_or xs i d))
 changed_at {X} key n i change d xs rises is = go (ltb (index key n xs) (length xs)) refl is
@@ -65,7 +65,7 @@ changed_at {X} key n i change d xs rises is = go (ltb (index key n xs) (length x
         at_index key n 0 change d xs rises (ltb-true _ _ lt) ∙ ap (λ k. set xs k (change (get_or xs k d))) e
     go false lt is = absurd (cc)
 
--- .. and if none has it, nothing is changed
+-- if no item has key n, changing the items with key n changes nothing
 pub changed_none : {X : Type 0} (key : X → ℕ) (n : ℕ) (change : X → X) (xs : List X) → position (λ x. eqb (key x) n) xs ≡ None
     → changed key n change xs ≡ xs
 changed_none key n change xs none = go (ltb (index key n xs) (length xs)) refl none
@@ -75,7 +75,7 @@ changed_none key n change xs none = go (ltb (index key n xs) (length xs)) refl n
     go true lt is = absurd (cc)
     go false lt is = nowhere key n change xs (ltb-false _ _ lt)
 
--- a cache keeps its number if only its live objects change, or nothing does
+-- a cache keeps its number if a call changes only its live objects when it succeeds, and changes nothing when it fails
 pub number_stays : {E : Type 0} (r : Result (Unit {0}) E) (change : List ℕ → List ℕ) (old new : KnownCache)
     → IfOk r (λ _. new ≡ record old { live = change old.live }) → OnErr r (new ≡ old) → new.number ≡ old.number
 number_stays (Ok u) change old new ok err = ap (λ (c : KnownCache). c.number) ok
@@ -85,7 +85,7 @@ pub none_of : {X : Type 0} (o : Option X) → ((x : X) → o ≡ Some x → ⊥)
 none_of None not = refl
 none_of (Some x) not = absurd (not x refl)
 
--- if no item has the key, each item has another key
+-- if a search for key n finds no item, every item has another key
 pub all_other : {X : Type 0} (key : X → ℕ) (n : ℕ) (xs : List X) → find (λ x. eqb (key x) n) xs ≡ None
     → Each (λ x. key x ≢ n) xs
 all_other key n [] none = tt

@@ -1,4 +1,4 @@
--- The tests of the definitions, in the order in which the code computes them.
+-- The code computes the tests of the definitions in other ways, and gets the same results.
 use Rattle.std.proofs.Common.{◌≡◌, ℕ, zero, suc, replicate, ◌+◌, ◌*◌, ◌^◌, ◌-◌, ◌<◌, get_or, drop, sym, Bool, true, false, not, ◌||◌, ◌==◌, if◌then◌else◌, List, [], ◌∷◌, ◌++◌, map, find, filter, length, reverse, Some, option_map, refl, ap, ◌∙◌, cond, arith, length-append}
 use Rattle.std.specs.List.{list_any, flat_map, sum_by}
 use Rattle.std.specs.Prelude.{MatchOption, nat_le}
@@ -47,7 +47,8 @@ pub vacant_sum : (order k : ℕ) (h : Holdings)
 unfolding vacant_blocks
 vacant_sum order k h = passing_flat (is_vacant h) (blocks_of_slot order k) h.slots
 
--- how many of `n` blocks, from number `begin` on, are vacant
+-- the number of vacant blocks among the `n` aligned blocks of order k from block number `begin` on; block i begins at frame i * 2
+-- ^ k
 abbrev pub vacant_from : Holdings → ℕ → ℕ → ℕ → ℕ
 vacant_from h k begin n = length (filter (is_vacant h) (map (λ i. block (i * 2 ^ k) k) (range_with_len begin n)))
 
@@ -77,7 +78,7 @@ match_found u (v ∷ vs) = go (v == u) refl (match_found u vs)
     go true e rest = (eqb-true v u e, refl)
     go false e rest = rest
 
--- two ways to compute whether the objects of a slab end inside it have the same result
+-- two ways to compute whether the last object of a slab ends inside the slab have the same result
 pub inside_slab : (origin count chunk size first order : ℕ)
     → nat_le (origin + ((count - 1) * chunk + size)) (FRAME_BYTES * first + FRAME_BYTES * 2 ^ order)
     ≡ nat_le (origin + (count - 1) * chunk + size) (FRAME_BYTES * (first + 2 ^ order))
@@ -86,7 +87,7 @@ inside_slab origin count chunk size first order =
     let frames : FRAME_BYTES * first + FRAME_BYTES * 2 ^ order ≡ FRAME_BYTES * (first + 2 ^ order) = omega arith in
     (λ i. nat_le (objects i) (frames i))
 
--- in a list of copies of x, with default x, the item at every index is x
+-- a lookup in a list of copies of x, with default x, returns x at every index
 pub same_at : {X : Type 0} (n k : ℕ) (x : X) → get_or (replicate n x) k x ≡ x
 same_at zero k x = refl
 same_at (suc n) zero x = refl

@@ -14,8 +14,8 @@ use Rattle.model_core.specs.Reach.{within_block}
 use Rattle.judge_core.specs.Inside.{ArePages}
 use Rattle.judge_core.proofs.RisingKeys.{any_kept, each_from, put_rises, put_behind}
 
--- if a test passes only blocks with frames between `begin` and `end`, only blocks that begin between `low` and `end` have to be
--- tested
+-- Let a test pass only blocks that end after frame `begin` and begin before frame `end`. Then the test passes some page block
+-- exactly if it passes one that begins from frame `low` to frame `end - 1`.
 pub near_part : (longest : ℕ) (pages : List Block) (begin end low : ℕ) → ArePages longest pages → low ≡ begin + 1 - 2 ^ longest → (test : Block → Bool)
     → ((b : Block) → test b ≡ true → (begin < b.first + 2 ^ b.order) × (b.first < end))
     → list_any test pages ≡ list_any test (filter (λ b. nat_le low b.first && nat_lt b.first end) pages)
@@ -26,7 +26,8 @@ near_part longest pages begin end low are is_low test tells =
     let few : 2 ^ (get_or pages k d).order ≤ 2 ^ longest = pow-le-pow_right (omega arith) short in
     and_from _ _ (le-leb low (get_or pages k d).first (omega (arith, at.0, few, is_low))) (lt-ltb (get_or pages k d).first end at.1)))
 
--- after a block is put in, the blocks still rise, and none has an order above the new maximum
+-- after a block is put in, the blocks are still in ascending order, and no order is above the larger of `longest` and the block's
+-- order
 pub pages_put : (longest : ℕ) (b : Block) (pages : List Block) → ArePages longest pages → b.order ≤ MOST_ORDER
     → ArePages (max longest b.order) (put_rising (λ x. x.first) b pages)
 pages_put longest b pages are small = record {
@@ -52,7 +53,7 @@ pages_less longest test pages are = record {
   short = All-filter test (λ (x : Block). x.order ≤ longest) pages are.short;
 }
 
--- if block a has the frames from `begin` up to `end`, every block that overlaps it has a frame among them
+-- if block a has the frames from `begin` to `end - 1`, every block that overlaps a ends after `begin` and begins before `end`
 pub overlap_near : (a b : Block) (begin end : ℕ) → begin ≡ a.first → end ≡ a.first + 2 ^ a.order → overlaps a b ≡ true
     → (begin < b.first + 2 ^ b.order) × (b.first < end)
 overlap_near a b begin end is_begin is_end e = let p = and_parts (ltb a.first (b.first + 2 ^ b.order)) (ltb b.first (a.first + 2 ^ a.order)) e in

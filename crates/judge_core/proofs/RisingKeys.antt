@@ -13,7 +13,7 @@ use Rattle.model_core.specs.Machine.{put_rising}
 use Rattle.model_core.specs.WellFormed.{RisesFrom}
 use Rattle.model_core.proofs.Lists.{rises_above}
 
--- if a test passes before index `i` and fails from there on, its prefix has length `i`
+-- if the items before index `i` pass a test and all items from `i` on fail it, the prefix of items that pass has length `i`
 pub prefix_point : {X : Type 0} (p : X → Bool) (i : ℕ) (xs : List X) → i ≤ length xs
     → ((k : ℕ) (d : X) → k < i → p (get_or xs k d) ≡ true)
     → ((k : ℕ) (d : X) → i ≤ k → k < length xs → p (get_or xs k d) ≡ false) → prefix_len p xs ≡ i
@@ -25,7 +25,7 @@ prefix_point p (suc i) (x ∷ xs) le before behind =
     (λ k d from lt. behind (suc k) d (omega arith) (omega arith)) in
     ap (λ (t : Bool). cond t (1 + prefix_len p xs) 0) (before 0 x (omega arith)) ∙ omega (arith, rest)
 
--- if the test fails at index `near`, the length of the prefix depends only on the first `near` items
+-- if item `near` fails a test, the first `near` items alone have the same prefix of items that pass
 pub prefix_near : {X : Type 0} (p : X → Bool) (near : ℕ) (xs : List X) (d : X) → near < length xs → p (get_or xs near d) ≡ false
     → prefix_len p (take near xs) ≡ prefix_len p xs
 prefix_near p near [] d lt stops = absurd (omega arith)
@@ -39,7 +39,7 @@ behind_cons p x xs = go (p x) (omega arith)
     go true one_more = sym (ap (λ n. drop n (x ∷ xs)) one_more)
     go false one_more = refl
 
--- if the items from b up to i are removed, removing the item at b also removes item i
+-- if the items from index b to i - 1 are already removed, removing the item that is now at index b removes item i of `xs`
 pub remove_next : {X : Type 0} (xs : List X) (b i : ℕ) → b ≤ i → i < length xs
     → remove (take b xs ++ drop i xs) b ≡ take b xs ++ drop (i + 1) xs
 remove_next {X} xs b i le lt =
@@ -55,7 +55,8 @@ any_found test (x ∷ xs) = go (test x) (any_found test xs)
     go true rest = refl
     go false rest = rest
 
--- if every item that passes a test passes p, the test passes some item exactly if it passes some item that passes p
+-- if every item that passes the test passes p, keeping only the items that pass p does not change whether some item passes the
+-- test
 pub any_kept : {X : Type 0} (test p : X → Bool) (xs : List X) → Each (λ x. test x ≡ true → p x ≡ true) xs → list_any test xs ≡ list_any test (filter p xs)
 any_kept test p [] all = refl
 any_kept test p (x ∷ xs) (passes, all) = go (p x) (test x) refl passes (any_kept test p xs all)
@@ -93,7 +94,7 @@ module _ {X : Type 0} (key : X → ℕ) where
   all_from : (n : ℕ) (x : X) (xs : List X) → IsNonDecreasingBy key (x ∷ xs) → n ≤ key x → Each (λ y. n ≤ key y) xs
   all_from n x xs rise le = each_from (λ y. n ≤ key y) xs (λ k d lt. let up = rise 0 (suc k) d (omega arith) (omega arith) in omega arith)
 
-  -- the first item with a key of at least `low` comes right after the items with keys below `low`
+  -- the first item whose key is at least `low` comes right after the prefix of items whose keys are below `low`
   pub found_from : (low : ℕ) (xs : List X) → find (is_from low) xs ≡ find (λ x. true) (take 1 (drop (prefix_len (is_below low) xs) xs))
   found_from low [] = refl
   found_from low (x ∷ xs) = go (is_below low x) refl (found_from low xs) ∙ ap (λ ys. find (λ x. true) (take 1 ys)) (sym (behind_cons (is_below low) x xs))
@@ -103,8 +104,8 @@ module _ {X : Type 0} (key : X → ℕ) where
       go true e rest = ap (λ t. cond t (Some x) (find (is_from low) xs)) (lt-leb low (key x) (ltb-true _ _ e)) ∙ rest
       go false e rest = ap (λ t. cond t (Some x) (find (is_from low) xs)) (le-leb low (key x) (ltb-false _ _ e))
 
-  -- A search finds the first item with a key of at least `low`, or nothing. This needs a test that fails below `low` and that,
-  -- once it fails for a key from `low` on, fails for all greater keys too.
+  -- Let the test fail for each key below `low`. If it fails for an item whose key is at least `low`, let it fail for every item
+  -- whose key is not smaller. Then a search with the test finds the first item whose key is at least `low`, or nothing.
   pub first_decides : (low : ℕ) (test there : X → Bool) (xs : List X) → IsNonDecreasingBy key xs → ((x : X) → key x < low → test x ≡ false)
       → ((x : X) → low ≤ key x → test x ≡ there x) → ((x y : X) → low ≤ key x → key x ≤ key y → there x ≡ false → there y ≡ false)
       → find test xs ≡ option_map_or (λ x. cond (there x) (Some x) None) (find (is_from low) xs) None
@@ -133,7 +134,7 @@ module _ {X : Type 0} (key : X → ℕ) where
       (λ x le. ap (λ t. t && is_below end x) (le-leb low (key x) le))
       (λ x y le up fails. let past : end ≤ key x = ltb-false _ _ fails in le-ltb _ _ (omega arith))
 
-  -- among items from `low` on, those below `end` are a prefix
+  -- if the keys rise and all are at least `low`, the items with keys below `end` are a prefix of the list
   below_kept : (low end : ℕ) (xs : List X) → IsNonDecreasingBy key xs → Each (λ y. low ≤ key y) xs
       → filter (is_within low end) xs ≡ take (prefix_len (is_below end) xs) xs
   below_kept low end [] rise from = refl
@@ -163,7 +164,7 @@ module _ {X : Type 0} (key : X → ℕ) where
       go true e rest = ap (λ t. cond (t && is_below end x) (x ∷ filter (is_within low end) xs) (filter (is_within low end) xs)) (lt-leb low (key x) (ltb-true _ _ e)) ∙ rest
       go false e rest = below_kept low end (x ∷ xs) rise (ltb-false _ _ e, all_from low x xs rise (ltb-false _ _ e))
 
-  -- the items that do not have the key
+  -- the items whose keys differ from n
   abbrev others : ℕ → List X → List X
   others n xs = filter (λ x. not (key x == n)) xs
 
@@ -197,7 +198,7 @@ module _ {X : Type 0} (key : X → ℕ) where
           ap (λ t. cond (not t) (x ∷ others n xs) (others n xs)) (ne_eqb (key x) n (λ same. absurd (omega arith))) ∙ ap (λ ys. x ∷ ys) rest
       go false e rest = others_behind n (x ∷ xs) rise (ltb-false _ _ e, all_from n x xs rise (ltb-false _ _ e))
 
-  -- an item is put after the items whose keys are not greater
+  -- `put_rising` inserts an item right after the prefix of items whose keys are not greater than its key
   pub put_behind : (x : X) (ys : List X) → put_rising key x ys ≡ insert ys (prefix_len (is_below (key x + 1)) ys) x
   put_behind x [] = refl
   put_behind x (y ∷ ys) = go (ltb (key x) (key y)) refl (put_behind x ys) (omega arith)

@@ -1,4 +1,4 @@
--- Walking from slab to slab of a cache over the frames of a slot.
+-- Marking the frames of a slot that lie in slabs of a cache: a walk over the live objects, one slab at a time.
 use Rattle.std.proofs.Common.{◌≡◌, ℕ, ◌+◌, ◌*◌, ◌/◌, ◌^◌, ◌<◌, ◌≤◌, Bool, true, false, cond, List, [], ◌∷◌, length, get_or, drop, refl, sym, ap, ◌∙◌, arith}
 use Rattle.std.specs.Prelude.{◌||◌, nat_lt}
 use Rattle.std.specs.List.{list_any, prefix_len, AllByRecursion as Each}
@@ -14,15 +14,16 @@ use Rattle.promise_core.specs.Holdings.{KnownCache, slab_around}
 use Rattle.judge_core.proofs.RisingKeys.{behind_cons, each_from}
 use Rattle.judge_core.proofs.SlabPlaces.{first_of, place_inside, first_same, first_rises, ends_before}
 
--- whether a block contains the frame
+-- whether block b contains frame x
 abbrev pub has_over_block : ℕ → Block → Bool
 has_over_block x b = overlaps (block x 0) b
 
--- whether the slab of the object at a place contains the frame
+-- whether the slab of cache c around place p contains frame x
 abbrev pub has_over : KnownCache → ℕ → ℕ → Bool
 has_over c x p = overlaps (block x 0) (slab_around c p)
 
--- the slab of an object before the aligned block around the slot's first frame contains no frame of the slot
+-- Let `a` be the first place of the aligned block of the cache's order around frame `first`. The slabs around live objects before
+-- `a` contain no frame from `first` on, so a search for such a frame may skip these objects.
 pub any_from : (c : KnownCache) (first x a : ℕ) (live : List ℕ) → a ≡ 4096 * (first / 2 ^ c.order * 2 ^ c.order) → first ≤ x
     → list_any (has_over c x) (drop (prefix_len (λ p. nat_lt p a) live) live) ≡ list_any (has_over c x) live
 any_from c first x a [] is_a from = refl
@@ -40,7 +41,7 @@ any_from c first x a (p ∷ live) is_a from = ap (list_any (has_over c x)) (behi
         rest ∙ sym (ap (λ t. t || list_any (has_over c x) live) (ends_before c (block x 0) (4096 * (x / 2 ^ c.order * 2 ^ c.order)) p refl (omega (arith, before, low))))
     go false e rest = refl
 
--- if the test has result v for all items of a prefix, a search that begins with v may skip the prefix
+-- if `test` has result v for each item that passes p, a search whose result so far is v may skip the prefix of items that pass p
 same_passed : (test p : ℕ → Bool) (v : Bool) (xs : List ℕ) → Each (λ x. p x ≡ true → test x ≡ v) xs
     → (v || list_any test (drop (prefix_len p xs) xs)) ≡ (v || list_any test xs)
 same_passed test p v [] all = refl
@@ -55,7 +56,8 @@ same_passed test p v (x ∷ xs) (same, all) = ap (λ ys. v || list_any test ys) 
     go true e rest = rest ∙ absorb v (test x) (list_any test xs) (same e)
     go false e rest = refl
 
--- Of ascending places, those before the end of the slab around the first one are in that slab.
+-- `rest` has ascending places, and `b` is the end of the slab around its first place. All places of `rest` below `b` are in this
+-- slab.
 module _ (c : KnownCache) (first b : ℕ) (rest : List ℕ) (rise : IsNonDecreasing rest) (some : 0 < length rest) (here : first ≡ get_or rest 0 first)
     (is_b : b ≡ 4096 * ((slab_around c first).first + 2 ^ c.order)) where
   later : (k d : ℕ) → k < length rest → first ≤ get_or rest k d
@@ -97,7 +99,7 @@ module _ (c : KnownCache) (first b : ℕ) (rest : List ℕ) (rise : IsNonDecreas
           next true e = omega arith
           next false e = absurd (false≢true e)
 
-  -- if the slab around the first place begins after a frame, no slab of these places contains the frame
+  -- if the slab around the first place begins after frame x, no slab around a place of `rest` contains frame x
   pub none_behind : (x : ℕ) → x < (slab_around c first).first → list_any (has_over c x) rest ≡ false
   none_behind x behind = list_any_none (has_over c x) rest (λ k d lt.
       let rises = first_rises c.order first (get_or rest k d) (later k d lt) in

@@ -1,4 +1,5 @@
--- Counts vacant blocks by their marks, and joins pairs of marks into the marks of the next order.
+-- The marks of a slot's blocks: the clear marks count the vacant blocks, and pairs of marks join into the marks of the next
+-- order.
 use Rattle.std.proofs.Common.{◌≡◌, ℕ, zero, suc, ◌+◌, ◌-◌, ◌*◌, ◌^◌, ◌<◌, ◌≤◌, Bool, true, false, not, cond, List, [], ◌∷◌, length, get_or, take, inl, inr, refl, sym, ap, ◌∙◌, arith}
 use Rattle.std.specs.Prelude.{◌||◌, filter}
 use Rattle.std.specs.List.{list_any}
@@ -18,7 +19,7 @@ bool_same true false there back = sym (there refl)
 bool_same false true there back = back refl
 bool_same false false there back = refl
 
--- The next lemmas show that a block overlaps another exactly if one of its halves does.
+-- The next lemmas show that block a overlaps block b exactly if one of the halves of a overlaps b.
 double : (k : ℕ) → 2 ^ (k + 1) ≡ 2 * 2 ^ k
 double k = pow-add 2 k 1 ∙ omega arith
 
@@ -68,11 +69,11 @@ taken_halves h f k = not-not (list_any (overlaps (block f (k + 1))) (known_block
     ∙ (λ i. sym (not-not (list_any (overlaps (block f k)) (known_blocks h))) i
     || sym (not-not (list_any (overlaps (block (f + 2 ^ k) k)) (known_blocks h))) i)
 
--- each block of order k in slot u has a mark, which is set if a frame of the block is taken
+-- mark i belongs to block i of order k in slot u, and is set exactly if a frame of this block is taken
 abbrev pub AreMarks : Holdings → ℕ → ℕ → ℕ → List Bool → Type 0
 AreMarks h order k u taken = (i : ℕ) → i < 2 ^ (order - k) → get_or taken i false ≡ not (is_vacant h (block ((u * 2 ^ (order - k) + i) * 2 ^ k) k))
 
--- there are two marks of order k for each mark of the next order
+-- a slot has two blocks of order k for each block of order k + 1
 pub pairs_of : (order k : ℕ) → k < order → 2 ^ (order - k) ≡ 2 * 2 ^ (order - (k + 1))
 pairs_of order k less = ap (λ n. 2 ^ n) (omega (arith, less)) ∙ double (order - (k + 1))
 
@@ -97,7 +98,8 @@ joined h order k u taken next less marks pair i in_slot =
     odd : (n : ℕ) → (u * n + (2 * i + 1)) * 2 ^ k ≡ (u * n + 2 * i) * 2 ^ k + 2 ^ k
     odd n = omega arith
 
--- if the first n blocks have as many vacant blocks as the first n marks have clear ones, so have the first n + 1
+-- Let the number of clear marks among the first n be the number of vacant blocks among the first n. If mark n is right for block
+-- n, the same is true of the first n + 1.
 one_more : (h : Holdings) (k begin n : ℕ) (taken : List Bool) → n < length taken
     → get_or taken n false ≡ not (is_vacant h (block ((begin + n) * 2 ^ k) k))
     → length (filter not (take n taken)) ≡ vacant_from h k begin n

@@ -5,7 +5,7 @@ use Rattle.model_core.specs.Blocks.{block}
 use Rattle.model_core.specs.Operations.{overlaps}
 use Rattle.judge_core.proofs.vacancy.mark_blocks.Given as goal
 
--- the frames of the blocks so far are marked
+-- a frame of the slot is marked exactly if it was marked at the start or is in a block that the loop has passed
 abbrev pub invariant-loop-other : goal.invariant-loop-other
 invariant-loop-other l = (f : ℕ) → f < 2 ^ l.slot.order → slice_index_or l.taken f false
     ≡ (slice_index_or l.fn.taken f false || list_any (overlaps (block (l.slot.first + f) 0)) (take l.other-index l.blocks))

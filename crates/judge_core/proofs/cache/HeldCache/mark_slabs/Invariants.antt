@@ -5,7 +5,8 @@ use Rattle.std.specs.List.Sorted.{IsNonDecreasing}
 use Rattle.judge_core.proofs.SlabMarks.{has_over}
 use Rattle.judge_core.proofs.cache.HeldCache.mark_slabs.Given as goal
 
--- the frames that are marked and the frames of the remaining slabs are together all frames to mark
+-- The remaining live objects are in ascending order. A frame of the slot is marked or in the slab of one of them exactly if it
+-- was marked at the start or is in the slab of any live object.
 abbrev pub invariant-slabs : goal.invariant-slabs
 invariant-slabs l = record {
   rise : IsNonDecreasing l.rest;

@@ -3,7 +3,7 @@ use Rattle.promise_core.specs.Holdings.{is_vacant, blocks_of_slot}
 use Rattle.judge_core.proofs.VacantBlockMarks.{AreMarks}
 use Rattle.judge_core.proofs.held.Held.add_vacant.Given as goal
 
--- the counts of the orders below k are done, and the marks are those of order k
+-- the slot's vacant blocks of each order below k are added to the counts, and the marks are those of the slot's blocks of order k
 abbrev pub invariant-loop-k : goal.invariant-loop-k
 invariant-loop-k l = record {
   long : length l.counts ≡ 9;

@@ -3,7 +3,7 @@ use Rattle.std.specs.List.{sum_by}
 use Rattle.promise_core.specs.Holdings.{is_vacant, blocks_of_slot}
 use Rattle.judge_core.proofs.held.Held.vacant_by_order.Given as goal
 
--- the counts are the numbers of vacant blocks in the slots so far
+-- count k is the number of vacant blocks of order k in the slots that the loop has passed
 abbrev pub invariant-loop-slot : goal.invariant-loop-slot
 invariant-loop-slot l = record {
   long : length l.counts ≡ 9;
