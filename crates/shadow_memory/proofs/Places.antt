@@ -36,7 +36,7 @@ leb_scaled a p = grind (arith, nat_tests)
 ltb_scaled : (c p : ℕ) → ltb p (4096 * c) ≡ ltb (p / 4096) c
 ltb_scaled c p = grind (arith, nat_tests)
 
--- a place lies in a block if it is between the block's first place and its end
+-- a place lies in a block exactly if it is at or after the block's first place and before the block's end
 pub in_frames : (b : Block) (place : ℕ) → (nat_le (4096 * b.first) place && nat_lt place (4096 * (b.first + 2 ^ b.order))) ≡ in_block place b
 in_frames b place = ap (λ (t : Bool). t && ltb place (4096 * (b.first + 2 ^ b.order))) (leb_scaled b.first place)
     ∙ ap (λ (t : Bool). leb b.first (place / 4096) && t) (ltb_scaled (b.first + 2 ^ b.order) place)

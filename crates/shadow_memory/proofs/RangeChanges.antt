@@ -1,4 +1,4 @@
--- Changes of ranges, and the summaries after them.
+-- Changes of the stored bytes of a range, and the summaries after these changes.
 use Rattle.std.proofs.Common.{◌≡◌, ◌≢◌, ◌⊎◌, ℕ, ◌+◌, ◌-◌, ◌*◌, ◌/◌, ◌<◌, ◌≤◌, Bool, true, false, leb, ltb, eqb, List, length, get_or, min, max, Option, Some, None, inl, inr, refl, sym, ap, ◌∙◌, subst, arith}
 use Rattle.std.specs.Prelude.{if◌then◌else◌, ◌&&◌}
 use Rattle.std.proofs.Math.ListN.{set}
@@ -12,7 +12,8 @@ use Rattle.shadow_memory.specs.declared.summary.Summary.{Summary}
 use Rattle.shadow_memory.specs.Inside.{CellStep, shown_kept, within}
 use Rattle.shadow_memory.specs.Summaries.{IsSummarizedBy, any_summary, cell_in, AreSummarized, IsChanged}
 
--- if the byte at index k is then set to the result of the step, the step is made up to index k
+-- if the step is made from index `low` to index k - 1, and byte k is then set to the result of the step, the step is made up to
+-- index k
 pub changed_more : (step : CellStep) (first low k : ℕ) (old new : List KeptByte) (kept : KeptByte) → low ≤ k → k < length new
     → IsChanged step first low k old new → shown_kept kept ≡ step (first + k) (cell_in new k)
     → IsChanged step first low (k + 1) old (set new k kept)
@@ -31,7 +32,7 @@ changed_more step first low k old new kept le lt was is = record {
     here : cell_in (set new k kept) k ≡ step (first + k) (cell_in old k)
     here = ap shown_kept (get_or-set_same new k kept Kept.Fresh lt) ∙ (is ∙ ap (step (first + k)) (was.behind k (omega arith)))
 
--- a step in each of two adjacent ranges is a step in the range that they form
+-- if a step is made in two adjacent ranges, one after the other, it is made in the range that they form together
 pub changed_join : (step : CellStep) (first low m high : ℕ) (old mid new : List KeptByte) → low ≤ m → m ≤ high
     → IsChanged step first low m old mid → IsChanged step first m high mid new → IsChanged step first low high old new
 changed_join step first low m high old mid new le more one two = record {
@@ -52,7 +53,8 @@ changed_left step first low high old same = record {
   behind = λ k ge. refl;
 }
 
--- if the step is then made in the next part of `size` places, it is made up to the end of that part, but not beyond `high`
+-- A part has `size` places. If the step is made from `low` up to a part, and then in this part, it is made from `low` up to the
+-- end of this part. No step is made from `high` on.
 pub changed_part : (step : CellStep) (first size part low high begin end : ℕ) (old mid new : List KeptByte) → low < part * size + size → part * size < high
     → low ≤ high → begin ≡ max (part * size) low → end ≡ min (part * size + size) high
     → IsChanged step first low (max low (min (part * size) high)) old mid → IsChanged step first begin end mid new
@@ -68,7 +70,7 @@ any_marked : (cell : Option Cell) → IsSummarizedBy any_summary cell
 any_marked None = tt
 any_marked (Some cell) = (tt, λ e. absurd (cc))
 
--- if a summary allows what was left, the part's summary does too, once it is set to this one
+-- if `after` allows what was left at a place, the part's summary allows it too once it is set to `after`
 mark_set : (summaries : List Summary) (part : ℕ) (after : Summary) (cell : Option Cell) → IsSummarizedBy after cell → IsSummarizedBy (get_or (set summaries part after) part any_summary) cell
 mark_set summaries part after cell marked = elim (cases_lt part (length summaries)) [
   | inl lt ↦ subst (λ (m : Summary). IsSummarizedBy m cell) (sym (get_or-set_same summaries part after any_summary lt)) marked
@@ -76,7 +78,8 @@ mark_set summaries part after cell marked = elim (cases_lt part (length summarie
       (sym (ap (λ (ms : List Summary). get_or ms part any_summary) (set_past summaries part after ge) ∙ get_or_past summaries part any_summary ge)) (any_marked cell)
 ]
 
--- the summaries still hold if places of a part are changed and the part's summary is set to one that holds after the change
+-- Let a step change places of only one part, and let `after` allow what is left in this part afterwards. If the part's summary is
+-- set to `after`, each summary allows what was left in its part.
 pub marked_part : (step : CellStep) (first size part low high : ℕ) (summaries : List Summary) (summary after : Summary) (all : Bool) (old new : List KeptByte)
     → ((k : ℕ) → part * size ≤ k → k < part * size + size → k / size ≡ part)
     → ((k : ℕ) → k / size ≡ part → (part * size ≤ k) × (k < part * size + size))
@@ -116,7 +119,7 @@ marked_part step first size part low high summaries summary after all old new he
       ]
     ]
 
--- if the part's summary shows that the step leaves the part unchanged, the old bytes are also the bytes after the step
+-- if the part's summary shows that the step leaves the part unchanged, then the step in a range of the part changes nothing
 pub left_part : (step : CellStep) (first size part low high : ℕ) (summaries : List Summary) (summary : Summary) (old : List KeptByte)
     → ((k : ℕ) → part * size ≤ k → k < part * size + size → k / size ≡ part)
     → part * size ≤ low → high ≤ part * size + size → summary ≡ get_or summaries part any_summary
@@ -126,7 +129,7 @@ left_part step first size part low high summaries summary old here begins ends i
     (λ k from below. same (first + k) (cell_in old k) (subst (λ (m : Summary). IsSummarizedBy m (cell_in old k)) (sym is)
     (subst (λ (n : ℕ). IsSummarizedBy (get_or summaries n any_summary) (cell_in old k)) (here k (omega arith) (omega arith)) (were k))))
 
--- a step at the indices of the places from `begin` to `end - 1` is, at every place, the step within this range
+-- a step at the indices that the places from `begin` to `end - 1` have is `within begin end step` at every stored place
 pub changed_within : (step : CellStep) (first low high begin end : ℕ) (old new : List KeptByte) → low ≡ min (begin - first) (length old)
     → high ≡ max (min (end - first) (length old)) low → IsChanged step first low high old new
     → (k : ℕ) → k < length old → cell_in new k ≡ within begin end step (first + k) (cell_in old k)
@@ -142,7 +145,7 @@ changed_within step first low high begin end old new is_low is_high by k lt = el
         → (if b then step (first + k) (cell_in old k) else cell_in old k) ≡ within begin end step (first + k) (cell_in old k)
     at e = ap (λ (t : Bool). if t then step (first + k) (cell_in old k) else cell_in old k) (sym e)
 
--- putting bytes leaves the places outside them unchanged
+-- putting bytes changes no place outside their range
 put_beside : (holder : Holder) (begin place : ℕ) (bytes : List ℕ) (cell : Option Cell)
     → (place < begin) ⊎ (begin + length bytes ≤ place)
     → with_bytes holder begin bytes (λ _. cell) place ≡ cell
@@ -163,12 +166,12 @@ module _ (holder : Holder) (begin first low high from to : ℕ) (bytes : List �
   abbrev put_step : CellStep
   put_step place cell = with_bytes holder begin bytes (λ _. cell) place
 
-  -- no place before the bytes changes
+  -- the step at the indices before the bytes changes nothing
   pub put_before : low ≤ high → IsChanged put_step first low from old old
   put_before order = changed_left put_step first low from old
       (λ k over under. put_beside holder begin (first + k) bytes (cell_in old k) (inl (omega arith)))
 
-  -- if one more byte is put, the step is made at one more place
+  -- if the step is made before index k, and the byte that is put at index k is then stored, the step is made up to index k
   pub put_more : (k : ℕ) (new : List KeptByte) (kept : KeptByte) → low ≤ high → from ≤ k → k < to → k < length new
       → IsChanged put_step first low k old new
       → shown_kept kept ≡ Some (record { holder = holder; byte = get_or bytes (first + k - begin) 0; sure = true })
@@ -176,7 +179,7 @@ module _ (holder : Holder) (begin first low high from to : ℕ) (bytes : List �
   put_more k new kept order over under lt was is = changed_more put_step first low k old new kept (omega arith) lt was
       (is ∙ sym (put_on holder begin (first + k) bytes (cell_in new k) (omega arith) (omega arith)))
 
-  -- no place behind the bytes changes
+  -- if the step is made at all places of the bytes, it is made up to `high`, since it changes no place behind the bytes
   pub put_behind : (k : ℕ) (new : List KeptByte) → low ≤ high → from ≤ k → to ≤ k → k ≤ to
       → IsChanged put_step first low k old new → IsChanged put_step first low high old new
   put_behind k new order over under most was = changed_join put_step first low k high old new new (omega arith)

@@ -1,4 +1,4 @@
--- The bytes that a read may report.
+-- If the holder of a range is an object, the object begins at or before the range.
 use Rattle.std.proofs.Common.{◌≡◌, ℕ, ◌+◌, ◌<◌, ◌≤◌, Bool, true, false, leb, List, [], ◌∷◌, length, get_or, drop, Option, Some, None, refl, sym, ap, ◌∙◌, arith}
 use Rattle.std.specs.Prelude.{if◌then◌else◌, ◌&&◌, not, find, nat_lt}
 use Rattle.std.specs.List.{list_any}
@@ -8,7 +8,7 @@ use Rattle.model_core.specs.Reach.{is_within, within_block}
 use Rattle.promise_core.specs.Holdings.{Holdings, KnownCache}
 use Rattle.promise_core.specs.Bytes.{Holder, Cells, may_be, may_all_be, known_fresh_byte, object_with, holder_of}
 
--- an object that contains a range begins at or before the range
+-- if a search finds an object that contains a range, the object begins at or before the range
 found_begins : (place len size : ℕ) (live : List ℕ) (p : ℕ) → find (λ first. is_within place len first size) live ≡ Some p → p ≤ place
 found_begins place len size [] p e = cc
 found_begins place len size (q ∷ live) p e =

@@ -1,4 +1,4 @@
--- The steps of the changes that replies make.
+-- The change that a reply makes is a step at each place of a range.
 use Rattle.std.proofs.Common.{◌≡◌, ℕ, ◌+◌, ◌-◌, ◌*◌, ◌^◌, ◌<◌, ◌≤◌, Bool, true, false, not, leb, ltb, List, length, get_or, min, max, Option, Some, None, option_map, inl, inr, refl, sym, ap, ◌∙◌, subst, arith}
 use Rattle.std.specs.Prelude.{if◌then◌else◌, ◌&&◌, ◌||◌, ◌==◌, nat_le, nat_lt, slice_index}
 use Rattle.std.specs.Option.{option_and_then}
@@ -51,7 +51,8 @@ removed_part true test place x = refl
 removed_part false test place None = refl
 removed_part false test place (Some cell) = refl
 
--- in a block, doubting or forgetting the bytes of holders that pass the test is a step within the block's places
+-- Doubting within the places of a block doubts exactly the bytes in the block whose holder passes the test. Forgetting within
+-- these places forgets exactly these bytes.
 pub doubted_in : (b : Block) (begin end : ℕ) → begin ≡ 4096 * b.first → end ≡ 4096 * (b.first + 2 ^ b.order)
     → (test : Holder → Bool) (place : ℕ) (cells : Cells)
     → within begin end (doubted_of test) place (cells place) ≡ doubted (λ place holder. in_block place b && test holder) cells place
@@ -68,12 +69,13 @@ removed_in b begin end is_begin is_end test place cells =
     (ap (λ (n : ℕ). nat_le n place && nat_lt place end) is_begin ∙ (ap (λ (n : ℕ). nat_le (4096 * b.first) place && nat_lt place n) is_end ∙ in_frames b place))
     ∙ removed_part (in_block place b) test place (cells place)
 
--- forgetting the bytes at all places is a step within the places below 2 ^ 32
+-- at a place below 2 ^ 32, forgetting within the range from 0 to 2 ^ 32 is forgetting without a range
 pub removed_all : (test : Holder → Bool) (place : ℕ) (cells : Cells) → place < 2 ^ 32
     → within 0 (2 ^ 32) (removed_of test) place (cells place) ≡ without (λ place. test) cells place
 removed_all test place cells lt = ap (λ (t : Bool). if t then removed_of test place (cells place) else cells place) (in_all place lt)
 
--- if the range from `first` to `end - 1` covers an object's reach, no place outside it has a byte of the object
+-- if the range from `first` to `end - 1` has all places within the reach of the object at `first`, a byte outside this range is
+-- not of this object
 not_there : (reach : List ℕ) (number first end place : ℕ) (holder : Holder) → IsHolderNear reach place holder
     → (place < first + slice_index reach number → place < end) → (leb first place && ltb place end) ≡ false
     → is_same (Holder.Object number first) holder ≡ false
@@ -94,7 +96,7 @@ not_there reach number first end place (Holder.Object n p) near far off = go (n 
     go true false en ep = refl
     go false b en ep = refl
 
--- doubting the bytes of an object within its reach doubts all of its bytes
+-- doubting an object's bytes from its first place to the end of its reach doubts all bytes that the object left
 doubted_object : (reach : List ℕ) (number first end place : ℕ) (cells : Cells) → IsNear reach place (cells place)
     → (place < first + slice_index reach number → place < end)
     → within first end (doubted_of (is_same (Holder.Object number first))) place (cells place)
@@ -108,7 +110,7 @@ doubted_object reach number first end place cells near far = go (leb first place
     go false off (Some cell) near = ap (λ (sure : Bool). Some (record cell { sure = sure }))
         (sym (ap (λ (t : Bool). cell.sure && not t) (not_there reach number first end place cell.holder near far off) ∙ and-true cell.sure))
 
--- so a give of an object puts all of its bytes in doubt
+-- so the change for a give puts all bytes that the object left in doubt
 pub given : (old new : Left) (reach : List ℕ) (number first begin end : ℕ) → AreSlots old.order old.slots reach → begin ≡ first
     → end ≡ min (begin + slice_index reach number) (2 ^ 64 - 1) → new.order ≡ old.order
     → AreStepped old.order (within begin end (doubted_of (is_same (Holder.Object number first)))) old.slots new.slots
@@ -122,7 +124,7 @@ given old new reach number first begin end are is_begin is_end e after =
     far : (place : ℕ) → place < 2 ^ 32 → place < first + slice_index reach number → place < end
     far place low near = omega arith
 
--- putting bytes is a step within their places
+-- limiting a put to the range of its bytes does not change the result
 put_there : (holder : Holder) (begin : ℕ) (bytes : List ℕ) (from end : ℕ) → from ≡ begin → end ≡ begin + length bytes → (place : ℕ) (cells : Cells)
     → within from end (λ place cell. with_bytes holder begin bytes (λ _. cell) place) place (cells place) ≡ with_bytes holder begin bytes cells place
 put_there holder begin bytes from end is_from is_end place cells =
@@ -135,7 +137,7 @@ put_there holder begin bytes from end is_from is_end place cells =
     go true = refl
     go false = refl
 
--- a step that puts bytes into held slots adds these bytes to what was left
+-- if all the bytes are in held slots, the step that puts them makes them what was left at their places
 pub put : (old new : Left) (holder : Holder) (begin : ℕ) (bytes : List ℕ) (from end : ℕ) → from ≡ begin → end ≡ begin + length bytes
     → new.order ≡ old.order → ((j : ℕ) → j < length bytes → has_place old (begin + j) ≡ true)
     → AreStepped old.order (within from end (λ place cell. with_bytes holder begin bytes (λ _. cell) place)) old.slots new.slots
@@ -172,7 +174,8 @@ near_holder more begin end place (Holder.Object n p) before far le lt =
     let f = far n p refl in
     (omega (arith, b), omega (arith, f))
 
--- what was left stays within the reach when bytes are put, if the reach was extended to their end
+-- Let the reach be extended to the end of the bytes. Then every byte that an object left is within the reach after the bytes are
+-- put.
 pub near_put : (reach more : List ℕ) (holder : Holder) (begin : ℕ) (bytes : List ℕ) (from end : ℕ) → ((n : ℕ) → slice_index reach n ≤ slice_index more n)
     → ((n p : ℕ) → holder ≡ Holder.Object n p → p ≤ begin)
     → ((n p : ℕ) → holder ≡ Holder.Object n p → begin + length bytes ≤ p + slice_index more n) → (place : ℕ) (cell : Option Cell)
@@ -192,7 +195,7 @@ abbrev pub not_beside : ℕ → ℕ → ℕ → Holder → Bool
 not_beside number first size holder =
     not (is_object (λ n p. n == number && (p == first || (nat_le (first + size) p || nat_le (p + size) first))) holder)
 
--- a take of the object forgets the bytes that these holders left in its slab
+-- the change for a take forgets the bytes in the slab whose holders cannot share a slab with the object
 pub taken : (number first size : ℕ) (slab : Block) (begin end : ℕ) → begin ≡ 4096 * slab.first → end ≡ 4096 * (slab.first + 2 ^ slab.order)
     → (c : KnownCache) → c.number ≡ number → c.size ≡ size → slab_around c first ≡ slab → (place : ℕ) (cells : Cells)
     → within begin end (removed_of (not_beside number first size)) place (cells place) ≡ with_object first (Some c) cells place
@@ -206,7 +209,7 @@ taken number first size slab begin end is_begin is_end c is_number is_size is_sl
 abbrev pub elsewhere : ℕ → Holder → Bool
 elsewhere number holder = not (is_object (λ n p. n == number) holder)
 
--- a holder that is not an object of the cache cannot share a slab with one
+-- a holder that is not an object of the cache cannot share a slab with an object of the cache
 not_beside_else : (number first size : ℕ) (h : Holder) → elsewhere number h ≡ true → not_beside number first size h ≡ true
 not_beside_else number first size Holder.Page is = refl
 not_beside_else number first size (Holder.Object n p) is = go (n == number) is
@@ -215,7 +218,7 @@ not_beside_else number first size (Holder.Object n p) is = go (n == number) is
     go true is = absurd (false≢true is)
     go false is = refl
 
--- objects that do not overlap can be in one slab
+-- two objects of a cache that do not overlap can be in one slab
 is_beside : (first size p : ℕ) → (p < first + size → first < p + size → ⊥) → (p == first || (leb (first + size) p || leb (p + size) first)) ≡ true
 is_beside first size p apart = elim (cases_lt p (first + size)) [
   | inr ge ↦ ap (λ (t : Bool). p == first || (t || leb (p + size) first)) (le-leb (first + size) p ge) ∙ or-true (p == first)
@@ -226,7 +229,8 @@ is_beside first size p apart = elim (cases_lt p (first + size)) [
   ]
 ]
 
--- outside the places from `low` to `high - 1`, exactly the holders outside the object's cache cannot share a slab with it
+-- at a place of the slab outside the range from `low` to `high - 1`, a holder cannot share a slab with the object exactly if it
+-- is not an object of the same cache
 far_beside : (reach : List ℕ) (number first size begin end low high place : ℕ) (h : Holder) → place < 2 ^ 32
     → low ≡ max begin (first - size) → high ≡ min end (min (first + size + slice_index reach number) (2 ^ 64 - 1)) → begin ≤ place → place < end
     → (leb low place && ltb place high) ≡ false → IsHolderNear reach place h → not_beside number first size h ≡ elsewhere number h
@@ -247,7 +251,8 @@ far_beside reach number first size begin end low high place (Holder.Object n p) 
     go true e = ap not (is_beside first size p (apart (eqb-true n number e)))
     go false e = refl
 
--- so after the bytes outside the object's cache are forgotten, only places from `low` to `high - 1` are left to be searched
+-- so once the slab's bytes of holders outside the object's cache are forgotten, only the places from `low` to `high - 1` can have
+-- more bytes to forget
 narrowed : (reach : List ℕ) (number first size begin end low high place : ℕ) (x : Option Cell) → place < 2 ^ 32
     → low ≡ max begin (first - size) → high ≡ min end (min (first + size + slice_index reach number) (2 ^ 64 - 1)) → IsNear reach place x
     → within low high (removed_of (not_beside number first size)) place (within begin end (removed_of (elsewhere number)) place x)
@@ -288,7 +293,7 @@ narrowed reach number first size begin end low high place (Some cell) small is_l
         (sym (far_beside reach number first size begin end low high place cell.holder small is_low is_high (over is) (under is) far near))
     go false false far off = refl
 
--- so these two steps are a take
+-- so these two steps together are the change for a take
 pub taken_twice : (reach : List ℕ) (number first size : ℕ) (slab : Block) (begin end low high : ℕ) → begin ≡ 4096 * slab.first
     → end ≡ 4096 * (slab.first + 2 ^ slab.order) → low ≡ max begin (first - size)
     → high ≡ min end (min (first + size + slice_index reach number) (2 ^ 64 - 1))

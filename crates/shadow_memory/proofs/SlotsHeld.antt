@@ -1,4 +1,4 @@
--- Adding and removing slots.
+-- The slots of shadow memory after a slot is added or removed.
 use Rattle.std.proofs.Common.{◌≡◌, ℕ, ◌+◌, ◌-◌, ◌*◌, ◌^◌, ◌≤◌, Bool, true, false, not, List, [], ◌∷◌, get_or, Option, Some, None, replicate, inl, inr, refl, sym, ap, ◌∙◌, subst, arith}
 use Rattle.std.specs.Prelude.{if◌then◌else◌, ◌==◌, filter}
 use Rattle.std.specs.List.{list_any, AllByRecursion}
@@ -42,7 +42,7 @@ kept : (x : Option Cell) → option_and_then (λ (cell : Cell). if false then No
 kept None = refl
 kept (Some cell) = refl
 
--- without slot `u`, what was left in it is gone, and nothing else is
+-- without slot `u`, nothing is left at the places of slot `u`, and what was left at all other places is unchanged
 left_less : (order u place : ℕ) (ss : List LeftSlot)
     → left_in order (less u ss) place ≡ option_and_then (λ (cell : Cell). if slot_of order place == u then None else Some cell) (left_in order ss place)
 left_less order u place [] = refl

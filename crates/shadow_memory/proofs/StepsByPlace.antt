@@ -1,4 +1,4 @@
--- A step at each place of some slots.
+-- A step that is made at each place of a list of slots.
 use Rattle.std.proofs.Common.{◌≡◌, ℕ, zero, suc, ◌+◌, ◌-◌, ◌*◌, ◌^◌, ◌<◌, ◌≤◌, Bool, true, false, leb, ltb, List, [], ◌∷◌, length, get_or, drop, Option, None, refl, sym, ap, ◌∙◌, subst, arith}
 use Rattle.std.specs.Prelude.{if◌then◌else◌, ◌&&◌, ◌||◌, ◌==◌}
 use Rattle.std.specs.List.{list_any, AllByRecursion}
@@ -10,7 +10,7 @@ use Rattle.shadow_memory.specs.Inside.{CellStep, IsNear, StaysNear, IsSlotWhole,
 use Rattle.std.proofs.lemmas.List.{at_drop_more}
 use Rattle.shadow_memory.proofs.Places.{inside_slot, inside_behind}
 
--- the slot after a step at each of its places
+-- `new` is the slot `old` after a step at each of its places
 pub record IsStepped (order : ℕ) (step : CellStep) (old new : LeftSlot) : Type 0 where
   pub slot : new.slot ≡ old.slot
   pub len : length new.cells ≡ length old.cells
@@ -33,7 +33,7 @@ stepped_at order step s t x y place true more is w here has rest =
     (omega arith, here.cells k within_cells ∙ ap (λ (p : ℕ). step p (get_or s.cells k None)) back)
 stepped_at order step s t x y place false more is w here has rest = rest has
 
--- if each slot is stepped, the list of slots is stepped
+-- if the step is made in each slot of a list, it is made in the list
 pub stepped : (order : ℕ) (step : CellStep) (ss ts : List LeftSlot) → length ts ≡ length ss
     → ((k : ℕ) (d : LeftSlot) → k < length ss → IsStepped order step (get_or ss k d) (get_or ts k d))
     → AllByRecursion (IsSlotWhole order) ss → AreStepped order step ss ts
@@ -77,7 +77,8 @@ none_left order place (s ∷ ss) off = go (s.slot == slot_of order place) (none_
     go true rest off = absurd (false≢true (sym off))
     go false rest off = rest off
 
--- if the step takes everything within `reach` into `more`, what was left is within `more` after the step
+-- Let what was left be within `reach`, and let the step turn every cell within `reach` into a cell within `more`. Then what is
+-- left after the step is within `more`.
 pub near_after : (order : ℕ) (reach more : List ℕ) (step : CellStep) (ss ts : List LeftSlot) → AreStepped order step ss ts
     → ((place : ℕ) → IsNear reach place (left_in order ss place))
     → ((place : ℕ) (cell : Option Cell) → IsNear reach place cell → IsNear more place (step place cell))
@@ -95,7 +96,8 @@ near_within begin end step keeps reach place cell near = go (leb begin place && 
     go true = keeps reach place cell near
     go false = near
 
--- if a step is a change at each place, and the change adds nothing outside the slots, the step makes this change
+-- if a step has the result of a change at each place below 2 ^ 32, and the change adds nothing outside the slots, the step makes
+-- this change
 pub becomes : (old new : Left) (step : CellStep) (change : Cells → Cells) → new.order ≡ old.order → AreStepped old.order step old.slots new.slots
     → ((place : ℕ) → place < 2 ^ 32 → step place (left_at old place) ≡ change (left_at old) place)
     → ((place : ℕ) → has_place old place ≡ false → left_at old place ≡ None → change (left_at old) place ≡ None)
@@ -111,7 +113,7 @@ becomes old new step change e after same none = record {
     go place false off = none_left old.order place new.slots (ap (list_any (λ u. u == slot_of old.order place)) after.slots ∙ off)
         ∙ sym (none place off (none_left old.order place old.slots off))
 
--- a search from slot `i` on for a place of this slot finds the slot's cell
+-- for a place of the slot at index `i`, a lookup in the list of slots from index `i` on returns the slot's cell
 pub found_slot : (order place i : ℕ) (ss : List LeftSlot) (s : LeftSlot) → i < length ss → s ≡ get_or ss i s → (s.slot == slot_of order place) ≡ true
     → left_in order (drop i ss) place ≡ get_or s.cells (place - s.slot * slot_places order) None
 found_slot order place i ss s lt is here = at_drop_more (λ (xs : List LeftSlot). left_in order xs place) ss i s lt
@@ -134,7 +136,7 @@ low_place order place (s ∷ ss) w has = go (s.slot == slot_of order place) refl
         omega arith
     go false is rest has = rest has
 
--- if the step takes everything within `reach` into `more`, the slots keep their invariant, with the reach `more`
+-- if the step turns every cell within `reach` into a cell within `more`, the slots keep their invariant, with the reach `more`
 pub slots_after : (order : ℕ) (reach more : List ℕ) (step : CellStep) (ss ts : List LeftSlot) → AreStepped order step ss ts → AreSlots order ss reach
     → ((place : ℕ) (cell : Option Cell) → IsNear reach place cell → IsNear more place (step place cell)) → AreSlots order ts more
 slots_after order reach more step ss ts after are keeps = record {
@@ -158,7 +160,8 @@ slot_ends order i ss ts d slot places w lt same is_slot is_places =
     let product : slot * places ≡ (get_or ts i d).slot * slot_places order = ap (λ (n : ℕ). n * places) is_slot ∙ ap (λ (n : ℕ). (get_or ts i d).slot * n) is_places in
     omega (arith, product, all, low)
 
--- if a place is in slot `i` and in no earlier slot, the slot's cells from the place on are what was left
+-- if a place is in the slot at index `i` and in no earlier slot of the list, the slot's cells from this place on are what was
+-- left there
 pub kept_behind : (order place i index : ℕ) (ss : List LeftSlot) (s : LeftSlot) → AllByRecursion (IsSlotWhole order) ss → i < length ss
     → s ≡ get_or ss i s → s.slot ≡ slot_of order place → index ≡ place - s.slot * slot_places order
     → ((p : ℕ) → slot_of order p ≡ slot_of order place → left_in order (drop i ss) p ≡ left_in order ss p)

@@ -1,4 +1,4 @@
--- Places behind the stored ones.
+-- The places of a slot behind its stored bytes, at which nothing was left.
 use Rattle.std.proofs.Common.{◌≡◌, ℕ, zero, suc, ◌+◌, ◌-◌, ◌/◌, ◌<◌, ◌≤◌, ◌++◌, Bool, true, false, leb, ltb, List, [], ◌∷◌, length, get_or, map, take, Option, None, replicate, inl, inr, refl, sym, ap, ◌∙◌, subst, arith, take_all}
 use Rattle.std.specs.Prelude.{if◌then◌else◌, ◌&&◌}
 use Rattle.std.proofs.lemmas.Bool.{cases_lt}
@@ -10,7 +10,7 @@ use Rattle.shadow_memory.specs.declared.kept.KeptByte.TheVariants as Kept
 use Rattle.shadow_memory.specs.Inside.{CellStep, padded, shown_kept, within}
 use Rattle.shadow_memory.specs.Summaries.{IsSummarizedBy, any_summary, cell_in, AreSummarized}
 
--- padding does not change what is stored at a place
+-- padding the stored bytes does not change what a lookup returns
 pub padded_at : (n k : ℕ) (xs : List KeptByte) → get_or (padded n xs) k Kept.Fresh ≡ get_or xs k Kept.Fresh
 padded_at n k xs = elim (cases_lt k (length xs)) [
   | inl lt ↦ get_or_append_left xs (replicate (n - length xs) Kept.Fresh) Kept.Fresh k lt
@@ -34,7 +34,7 @@ shown_at n k xs = map_at k (padded n xs) ∙ ap shown_kept (padded_at n k xs)
 pub shown_len : (n : ℕ) (xs : List KeptByte) → length xs ≤ n → length (map shown_kept (padded n xs)) ≡ n
 shown_len n xs le = length-map (padded n xs) shown_kept ∙ padded_len n xs le
 
--- extending the stored bytes to n places pads them
+-- resizing the stored bytes to n, with `Fresh` at the new places, pads them to n places
 pub grown : (n : ℕ) (xs : List KeptByte) → length xs ≤ n → take n xs ++ replicate (n - length xs) Kept.Fresh ≡ padded n xs
 grown n xs le = ap (λ (ys : List KeptByte). ys ++ replicate (n - length xs) Kept.Fresh) (take_all n xs le)
 
@@ -42,7 +42,7 @@ pub enough : (n : ℕ) (xs : List KeptByte) → n ≤ length xs → xs ≡ padde
 enough n xs le = let none : n - length xs ≡ 0 = omega arith in
     sym (ap (λ (m : ℕ). xs ++ replicate m Kept.Fresh) none ∙ append-nil xs)
 
--- a change of the stored places is a change of all places, if it leaves the others unchanged
+-- if a change leaves the places behind the stored bytes unchanged, making it at the stored places makes it at all places
 pub changed_all : (step : CellStep) (first begin end places : ℕ) (old mid new : List KeptByte) → length new ≡ length mid
     → ((k : ℕ) → cell_in mid k ≡ cell_in old k)
     → ((k : ℕ) → k < length mid → cell_in new k ≡ within begin end step (first + k) (cell_in mid k))

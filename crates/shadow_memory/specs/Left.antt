@@ -1,4 +1,4 @@
--- What was left in the slots that a tenant holds.
+-- Shadow memory: the slots that a tenant holds, and the byte that was left at each of their places, with its holder.
 use Rattle.std.specs.Prelude.{◌≡◌, ℕ, ◌-◌, ◌*◌, ◌^◌, Bool, List, [], ◌∷◌, map, Option, None, slice_index_or, if◌then◌else◌, ◌==◌}
 use Rattle.std.specs.List.{list_any}
 use Rattle.model_core.specs.declared.limits.TheConstants.{FRAME_BYTES}
@@ -39,7 +39,7 @@ left_slots left = slots_in left.slots
 abbrev pub has_place : Left → ℕ → Bool
 has_place left place = list_any (λ u. u == slot_of left.order place) (left_slots left)
 
--- `new` has the slots `held`, and what was left in them is changed by `change`
+-- `new` has the order of `old` and the slots `held`, and its cells are the cells of `old` after `change`
 pub record Becomes (old : Left) (held : List ℕ) (change : Cells → Cells) (new : Left) : Type 0 where
   pub order : new.order ≡ old.order
   pub slots : left_slots new ≡ held

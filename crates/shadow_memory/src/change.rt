@@ -1,4 +1,4 @@
-//! How replies change what was left at a place.
+//! The changes that replies make to what was left at a place.
 
 ghost use Rattle.std.specs.Prelude.{◌≡◌, ℕ, ◌+◌, ◌-◌, ◌^◌, ◌<◌, ◌≤◌, Bool, true, false, not, length, Option, None};
 ghost use Rattle.promise_core.specs.Bytes.{Cell, with_bytes};
@@ -30,8 +30,8 @@ pub(crate) trait Change {
     fn leaves(&self, summary: Summary) -> bool
         ensures { result ≡ true → (place : ℕ) (cell : Option Cell) → IsSummarizedBy summary cell → step self.now place cell ≡ cell };
 
-    /// Returns a summary that holds after the change, for places where `summary` held before it. `all` is true if the change is
-    /// made at all of these places, and false if it may be made at only some of them.
+    /// Returns a summary of some places after the change. `summary` is their summary before the change. `all` is true if the
+    /// change is made at all of these places, and false if it may be made at only some of them.
     fn summary_after(&self, summary: Summary, all: bool) -> Summary
         ensures changed { (place : ℕ) (cell : Option Cell) → IsSummarizedBy summary cell → IsSummarizedBy result (step self.now place cell) }
         ensures kept { all ≡ false → (cell : Option Cell) → IsSummarizedBy summary cell → IsSummarizedBy result cell };
@@ -140,7 +140,7 @@ impl<T: HolderPredicate> Change for Remove<T> {
     }
 }
 
-/// The change that leaves these bytes of the holder at the places from `begin` on.
+/// The change that stores these bytes at the places from `begin` on, as bytes that the holder left.
 #[derive(Drop)]
 pub(crate) struct Put<'a> {
     pub holder: RangeHolder,

@@ -98,7 +98,7 @@ impl HolderPredicate for IsPage {
     }
 }
 
-/// The test that passes for the object of this cache that begins at this place.
+/// The test that passes for the object that begins at `first` and belongs to the cache with this number.
 #[derive(Drop)]
 pub(crate) struct IsObject {
     pub number: u32,
@@ -126,7 +126,7 @@ impl HolderPredicate for IsObject {
     }
 }
 
-/// The test that passes for the objects of this cache.
+/// The test that passes for the objects of the cache with this number.
 #[derive(Drop)]
 pub(crate) struct IsOfCache {
     pub number: u32,
@@ -182,7 +182,7 @@ impl HolderPredicate for IsNotBeside {
     }
 }
 
-/// The test that passes for objects outside all slabs that have a live object of their cache.
+/// The test that passes for an object if no slab with a live object of its cache contains the object's first place.
 #[derive(Drop)]
 pub(crate) struct IsInNoSlab<'a> {
     pub held: &'a Held,

@@ -26,7 +26,7 @@ pub(crate) enum KeptByte {
     },
 }
 
-// There is one of these for each byte of a slot, so its size matters.
+// There is one `KeptByte` for each byte of a slot, so its size matters.
 const _: () = prove!(size_of::<KeptByte>() == 8);
 
 impl KeptByte {

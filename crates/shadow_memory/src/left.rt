@@ -1,4 +1,4 @@
-//! What was left in the slots of a tenant, and how replies change it.
+//! The shadow memory of a tenant, and how replies change it.
 
 ghost use Rattle.std.specs.Prelude.{◌≡◌, ℕ, ◌+◌, ◌*◌, ◌^◌, ◌<◌, ◌≤◌, ◌==◌, ◌&&◌, not, filter, length, [], ◌∷◌, Some, true, false, OnOk, OnErr, option_map, slice_index};
 ghost use Rattle.std.specs.List.{list_any};
@@ -25,7 +25,7 @@ use std::marker::Model;
 pub struct ShadowMemory {
     order: u8,
     slots: Vec<SlotBytes>,
-    /// Indexed by cache number: each byte that was left in an object of the cache lies fewer than this many bytes after the
+    /// Indexed by cache number. Each byte that an object of the cache left lies fewer than this number of bytes after the
     /// object's first byte.
     reach: [u64; 256],
 }
@@ -134,8 +134,8 @@ impl ShadowMemory {
         self.change(begin, end, &Doubt(IsObject { number, first }));
     }
 
-    /// Follows a take of the object of `size` bytes at `first` of the cache with this number, in this slab: forgets the bytes
-    /// that were left in the slab by holders that cannot be in the same slab as the object.
+    /// Follows a take of the object at `first` of the cache with this number, which lies in `slab` and has `size` bytes. Forgets
+    /// the bytes that were left in the slab by holders that cannot share a slab with the object.
     pub fn take(&mut self, slab: &FrameBlock, number: u8, first: u32, size: u32)
         ensures { (c : KnownCache) → c.number ≡ number → c.size ≡ size → slab_around c first ≡ slab.now
             → Becomes self.old (left_slots self.old) (with_object first (Some c)) self.new }
@@ -164,7 +164,7 @@ impl ShadowMemory {
         self.change(0, 1u64 << 32, &Remove(IsOfCache { number }));
     }
 
-    /// Follows a reap: forgets the bytes that were left by objects that lie in no slab with a live object of their cache.
+    /// Follows a reap: forgets the bytes of each object whose first place is in no slab with a live object of its cache.
     pub fn reap(&mut self, held: &Held)
         ensures { Becomes self.old (left_slots self.old) (without (λ place. is_object (is_in_no_slab held.now))) self.new }
     {
@@ -178,7 +178,8 @@ impl ShadowMemory {
         left_in(&self.slots, self.order, place)
     }
 
-    /// Returns the stored bytes from a place on, at most to the end of its slot. A slot that the tenant does not hold has none.
+    /// Returns the stored bytes from a place on, at most to the end of its slot. Returns no bytes if the tenant does not hold the
+    /// slot.
     pub(crate) fn kept_from(&self, place: u32) -> &[KeptByte]
         ensures { AreFrom self.now place result.now }
     {
@@ -209,7 +210,7 @@ fn reach_of(reach: &[u64; 256], number: u32) -> u64
     reach.get(number as usize).copied().unwrap_or(0)
 }
 
-/// If the holder is an object, raises the reach of its cache so that it covers the object's bytes below `end`.
+/// If the holder is an object, raises its cache's reach to at least the number of bytes from the object's first place to `end`.
 fn extend_reach(reach: &mut [u64; 256], holder: RangeHolder, end: u64)
     ensures more { (n : ℕ) → slice_index reach.old n ≤ slice_index reach.new n }
     ensures near { (number first : ℕ) → shown_holder holder ≡ Holder.Object number first

@@ -1,5 +1,5 @@
-//! Changes of the stored bytes of a range of places. They skip the parts that a change does not affect, according to their
-//! summaries.
+//! Functions that change the stored bytes of a range of places. They skip each frame or chunk that the change does not affect,
+//! according to its summary.
 
 ghost use Rattle.std.specs.Prelude.{◌≡◌, ℕ, ◌+◌, ◌*◌, ◌^◌, ◌<◌, ◌≤◌, length};
 ghost use Rattle.shadow_memory.specs.Inside.{within};

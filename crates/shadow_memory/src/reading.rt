@@ -84,7 +84,7 @@ fn may_be_read(
     }
 }
 
-/// Returns whether the byte is the one that the holder left. If so, the fresh byte is not needed.
+/// Returns whether this holder left this byte. If it did, a read may report the byte, and the fresh byte is not needed.
 fn is_left(holder: RangeHolder, left: LeftByte, byte: u8) -> bool
     ensures { (fresh : ℕ) → result ≡ true → may_be (shown_holder holder) fresh (Some (shown_cell left)) byte ≡ true }
 {

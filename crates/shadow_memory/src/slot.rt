@@ -20,8 +20,8 @@ pub(crate) struct SlotBytes {
     slot: u16,
     /// The number of places in the slot.
     places: usize,
-    /// The stored bytes of the first places of the slot. Nothing was left at the later ones. The capacity is enough for all
-    /// places.
+    /// The stored bytes of the first places of the slot. Nothing was left at the places behind them. The capacity is enough for
+    /// all places.
     cells: Vec<KeptByte>,
     /// The summary of each chunk.
     chunks: Vec<Summary>,
@@ -72,7 +72,7 @@ impl SlotBytes {
         kept_at(&self.cells, index).left()
     }
 
-    /// Returns the stored bytes from the slot's place number `index` on. They may end before the slot does.
+    /// Returns the stored bytes from `index` places after the slot's first place on. They may end before the slot does.
     pub fn kept_from(&self, index: usize) -> &[KeptByte]
         ensures len { length result.now ≤ length self.now.cells - index }
         ensures kept { (j : ℕ) → j < length result.now → shown_kept (slice_index_or result.now j Kept.Fresh)

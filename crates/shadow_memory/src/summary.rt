@@ -54,7 +54,7 @@ impl Summary {
 }
 
 impl Owners {
-    /// Returns owners that include these and the holder.
+    /// Returns owners that include these owners and the holder.
     fn with(self, holder: RangeHolder) -> Owners
         ensures more { (h : Holder) → MayOwn self h → MayOwn result h }
         ensures owners { MayOwn result (shown_holder holder) }
