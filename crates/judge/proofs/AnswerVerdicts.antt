@@ -1,4 +1,4 @@
--- Verdicts on answers, by the tests of each command.
+-- The verdicts on answers to an alloc, a free, a take, a read and a write follow from the results of the judge's tests.
 use Rattle.std.proofs.Common.{◌≡◌, ℕ, ◌<◌, ◌≤◌, Bool, true, false, not, ◌&&◌, [], ◌∷◌, length, Option, Some, None, Err, refl, ap, sym, ◌∙◌}
 use Rattle.std.specs.Prelude.{◌==◌, is_none, find, nat_le, option_map}
 use Rattle.std.specs.Option.{option_map_or, option_eq}
@@ -21,7 +21,7 @@ use Rattle.shadow_memory.specs.Left.{left_at}
 use Rattle.judge.specs.Judged.{broken, known_at, tenant_verdict}
 use Rattle.judge.specs.Seen.{Seen, state_of}
 
--- An answer that allocates a page block
+-- An answer to an alloc
 
 module _ (t k f : ℕ) (w : Known) (x : Seen) where
   pub too_large : x.left.order < k → tenant_verdict (On.Tenant t (Command.Alloc k)) (Say.Frame f) w x ≡ Err Promise.Refusals
@@ -34,7 +34,7 @@ module _ (t k f : ℕ) (w : Known) (x : Seen) where
   unfolding due state_after
   stands le b is = λ i. broken ((Promise.Refusals, is_none (first_due ((le-ltb x.left.order k le i, Refusal.BadOrder) ∷ []))) ∷ (Promise.Blocks, is i) ∷ [])
 
--- An answer that frees a page block
+-- An answer to a free
 
 module _ (t f k : ℕ) (w : Known) (x : Seen) where
   pub freed_if : (o : Option Block) → find (λ b. b.first == f) x.has.pages ≡ o → tenant_verdict (On.Tenant t (Command.Free f)) (Say.Freed k) w x

@@ -1,4 +1,4 @@
--- The state after the answer to each command of the administrator.
+-- The state after an allowed answer to each command of the administrator.
 use Rattle.std.proofs.Common.{◌≡◌, ℕ, ◌+◌, ◌*◌, ◌^◌, ◌≤◌, Bool, true, false, not, List, [], ◌∷◌, map, length, replicate, slice_set, Option, Some, None, Ok, Err, refl, ap, sym, ◌∙◌, arith}
 use Rattle.std.specs.Prelude.{Result, ◌==◌, ◌&&◌, ◌||◌, filter, if◌then◌else◌, nat_lt, slice_index_or}
 use Rattle.std.specs.List.{list_any}
@@ -68,7 +68,7 @@ granted t told u m w old h l kept has left = record {
   state = λ i. Some (record { has = sym has i; cells = sym left.cells i; may_have_empty = λ n. slice_index_or old.may_have_empty n false; told = None });
 }
 
--- the granted slot is new, and its places are below 2 ^ 32
+-- the tenant does not hold slot u, and the places of slot u are below 2 ^ 32
 pub record IsNewSlot (u : ℕ) (x : Seen) : Type 0 where
   pub new : has_slot x.has u ≡ false
   pub low : (u + 1) * 2 ^ x.left.order * FRAME_BYTES ≤ 2 ^ 32
@@ -101,7 +101,7 @@ drop_put u (x ∷ xs) e = go (nat_lt u x) (x == u) refl (drop_put u xs) e
     go false false is rest e = ap (λ d. if not d then x ∷ filter (λ v. not (v == u)) (put_rising (λ v. v) u xs) else filter (λ v. not (v == u)) (put_rising (λ v. v) u xs)) is
         ∙ ap (λ zs. x ∷ zs) (rest (ap (λ d. d || list_any (λ v. v == u) xs) (sym is) ∙ e))
 
--- granting a slot and taking it back at once changes nothing
+-- granting a slot that is not held, and taking it back at once, leaves the holdings unchanged
 pub granted_back : (u : ℕ) (h g k : Holdings) → has_slot h u ≡ false → g ≡ record h { slots = put_rising (λ v. v) u h.slots }
     → k ≡ record g { slots = filter (λ v. not (v == u)) g.slots } → k ≡ h
 granted_back u h g k new granted back = back ∙ (ap (λ (y : Holdings). record y { slots = filter (λ v. not (v == u)) y.slots }) granted

@@ -1,4 +1,4 @@
--- The state after the answer to each command.
+-- The state after an allowed answer to each command of a tenant.
 use Rattle.std.proofs.Common.{◌≡◌, ℕ, ◌<◌, ◌≤◌, Bool, true, false, not, List, [], ◌∷◌, length, Option, Some, None, Ok, refl, ap, sym, subst, ◌∙◌, arith}
 use Rattle.std.specs.Prelude.{◌==◌, ◌&&◌, ◌||◌, filter, nat_lt, slice_index_or}
 use Rattle.std.proofs.lemmas.Bool.{ltb-true, ltb-false, eqb-true}
@@ -142,7 +142,7 @@ given t number place w old h l kept has left = record {
   state = λ i. Some (record { has = sym has i; cells = sym left.cells i; may_have_empty = λ n. slice_index_or old.may_have_empty n false; told = None });
 }
 
--- no cache with a number at or above the limit is in use
+-- no cache with a number of `MOST_CACHES` or above is in use
 in_use_below : (h : Holdings) (n : ℕ) → AreNumbered h → (nat_lt n MOST_CACHES && is_in_use (known_cache h n)) ≡ is_in_use (known_cache h n)
 in_use_below h n low = go (nat_lt n MOST_CACHES) refl (known_cache h n) refl
   where

@@ -1,4 +1,4 @@
--- Lists, one item at a time.
+-- Tests and counts over lists, one item at a time.
 use Rattle.std.proofs.Common.{◌≡◌, ℕ, suc, ◌+◌, ◌-◌, ◌<◌, ◌≤◌, Bool, true, false, not, ◌&&◌, List, [], ◌∷◌, length, filter, take, length-take, get_or, cond, ◌==◌, Option, Some, None, refl, ap, ◌∙◌, sym, arith}
 use Rattle.std.specs.List.{list_all, range_with_len}
 use Rattle.std.specs.Int.{from_bool}
@@ -7,12 +7,12 @@ use Rattle.std.proofs.lemmas.List.Filters.{length-filter_both, length-filter_mor
 use Rattle.std.proofs.lemmas.Bool.{eqb-true}
 use Rattle.model_core.specs.Reports.{split_share}
 
--- a test of all numbers from k to below n tests k, and then the others
+-- a test passes for all numbers from k to n - 1 exactly if it passes for k and for all numbers from k + 1 to n - 1
 pub all_from : (p : ℕ → Bool) (k n : ℕ) → k < n
     → list_all p (range_with_len k (n - k)) ≡ (p k && list_all p (range_with_len (k + 1) (n - (k + 1))))
 all_from p k n lt = let e : n - k ≡ suc (n - (k + 1)) = omega arith in ap (λ m. list_all p (range_with_len k m)) e
 
--- testing in groups gives the same result as testing one by one
+-- eleven tests in groups give the same result as the eleven tests one by one
 pub grouped : (a b c d e f g h i j k : Bool) → list_all (λ x. x) ((a && b) ∷ ((c && d) && (e && f)) ∷ (g && h) ∷ i ∷ j ∷ k ∷ [])
     ≡ list_all (λ x. x) (a ∷ b ∷ c ∷ d ∷ e ∷ f ∷ g ∷ h ∷ i ∷ j ∷ k ∷ [])
 grouped false b c d e f g h i j k = refl
@@ -36,7 +36,8 @@ same_share (Some i) (Some j) free split = go (i == j) refl
     go true e = ap (λ k. split == split_share free (Some k)) (sym (eqb-true i j e))
     go false e = refl
 
--- one more item is counted if it passes
+-- Let n be the number of the first i items that pass, and let `more` be 1 if item i passes and 0 if it fails. Then n + more of
+-- the first i + 1 items pass.
 pub one_more : (p : ℕ → Bool) (xs : List ℕ) (i n more : ℕ) (b : Bool) → i < length xs → n ≡ length (filter p (take i xs)) → b ≡ p (get_or xs i 0)
     → more ≡ from_bool b → n + more ≡ length (filter p (take (i + 1) xs))
 one_more p xs i n more b there is test bit =
@@ -47,7 +48,7 @@ one_more p xs i n more b there is test bit =
     number true = refl
     number false = refl
 
--- the count is at most the number of items
+-- the number of the first i items that pass, plus 0 or 1, is at most i + 1
 pub count_within : (p : ℕ → Bool) (xs : List ℕ) (i n more : ℕ) (b : Bool) → n ≡ length (filter p (take i xs)) → more ≡ from_bool b → n + more ≤ i + 1
 count_within p xs i n more b is bit =
     let both = length-filter_both p (λ x. not (p x)) (λ x. refl) (take i xs) in

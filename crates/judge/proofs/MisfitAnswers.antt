@@ -1,4 +1,4 @@
--- Answers that do not fit the command.
+-- Answers and tables that do not fit the event.
 use Rattle.std.proofs.Common.{◌≡◌, ℕ, true, false, Option, Some, None, refl}
 use Rattle.words_core.specs.declared.event.Command.{Command}
 use Rattle.words_core.specs.declared.event.Event.{Event}
@@ -15,7 +15,7 @@ use Rattle.model_core.specs.declared.owner.Owner.{Owner}
 use Rattle.promise_core.specs.State.{State, state_after}
 use Rattle.judge.specs.Judged.{IsUnfit}
 
--- the answer has the kind that the event requires; tables are not answers
+-- the answer has the kind that the event requires; no answer fits a report or a pool command, which require tables
 abbrev pub IsKindOf : Event → Answer → Type 0
 IsKindOf (On.Tenant t (Command.Alloc k)) a = (f : ℕ) × (a ≡ Answer.Frame f)
 IsKindOf (On.Tenant t (Command.Free f)) a = (k : ℕ) × (a ≡ Answer.Freed k)
@@ -53,7 +53,7 @@ unfit (On.Admin (Do.Reset t)) (Answer.WasReset named m) other order s not_refuse
 unfit (On.Admin (Do.Move t u)) (Answer.Moved named told m) other order s not_refused = absurd (other (named, told, m, refl))
 unfit e a other order s not_refused = refl
 
--- a table that does not fit the event leads to no state
+-- after a table that does not fit the event, there is no state
 
 pub no_pool_table : (order : ℕ) (s : State) (b : Body) → is_table b ≡ true → ((os : ArrayVec (Option Owner)) → b ≡ Say.Owners os → ⊥)
     → state_after order (On.Admin Do.Pool) b s ≡ None

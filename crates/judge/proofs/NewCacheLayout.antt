@@ -1,4 +1,4 @@
--- Facts about a new cache with an allowed layout.
+-- If the answer to a command for a new cache is allowed, the cache's number is new, and its layout is one that a cache may have.
 use Rattle.std.proofs.Common.{◌≡◌, ℕ, ◌+◌, ◌-◌, ◌*◌, ◌%◌, ◌^◌, ◌≤◌, Bool, true, false, not, ◌&&◌, refl, arith, [], ◌∷◌, Option, Some, None, Ok}
 use Rattle.std.specs.Prelude.{if◌then◌else◌, is_none, nat_le, nat_lt, ◌==◌, length}
 use Rattle.std.proofs.lemmas.Bool.{and_parts, leb-true, eqb-true}
@@ -62,7 +62,7 @@ module _ (size align t number chunk q n colours : ℕ) (p : ArrayVec ℕ) (w : K
             (first_due ((nat_le MOST_CACHES (length x.has.caches), Refusal.NoCacheSlot) ∷ [])) a.1).0,
       )
 
-  -- if the answer is allowed, the new cache has a layout that a cache may have; its objects fit into a slab
+  -- if the answer is allowed, the new cache has a layout that a cache may have, and its objects fit into a slab
   pub cut_where_allowed : x.left.order ≤ MOST_ORDER
       → tenant_verdict (On.Tenant t (Command.Cache size align p)) (Say.Cache number chunk q n colours) w x ≡ Ok tt
       → IsKnownLayout size align chunk q n

@@ -5,7 +5,7 @@ use Rattle.promise_core.specs.State.{opening_state, opening}
 use Rattle.judge.specs.Seen.{Seen, state_of, IsOpeningTenant}
 use Rattle.judge.specs.KnownMachine.{SeenMachine, ShowsKnown}
 
--- a fact that holds for each tenant and for one more tenant holds for each tenant of the longer list
+-- if P is true of each tenant of a list and of one more tenant, P is true of each tenant of the list with this tenant at its end
 pub each_more : (P : Seen → Type 0) (xs : List Seen) (z : Seen) → ((k : ℕ) (y : Seen) → slice_get xs k ≡ Some y → P y) → P z
     → (k : ℕ) (y : Seen) → slice_get (xs ++ z ∷ []) k ≡ Some y → P y
 each_more P [] z each new zero y at = let is : z ≡ y = cc in subst P is new

@@ -1,4 +1,4 @@
--- The verdict on a reply and what is known after it, from the reply's addressee and the verdict on its body.
+-- The verdict on a reply, and what is known after it, follow from the reply's addressee and from the verdict on its body.
 use Rattle.std.proofs.Common.{◌≡◌, ℕ, zero, suc, ◌<◌, Bool, true, false, ◌&&◌, List, [], ◌∷◌, length, drop, map, Option, Some, None, Result, Ok, Err, is_some, unwrap_or, slice_get, slice_set, refl, ap, sym, subst, ◌∙◌, inl, inr, arith}
 use Rattle.std.specs.Prelude.{if◌then◌else◌, option_map}
 use Rattle.std.specs.Option.{option_map_or}
@@ -65,7 +65,7 @@ module _ (event : Event) (reply : Reply) (w : Known) where
       verdict_is (kept event reply w s) after
       ∙ ap (λ b. turn (broken ((Promise.Form, b && is_some (state_after w.order event reply.body s)) ∷ drop 1 (kept event reply w s))) after) right
 
--- if a reply leaves what is known unchanged, its verdict is right with an unchanged machine
+-- if v is the verdict on a reply, and the reply changes nothing that is known, then v is right with an unchanged machine
 unchanged : (event : Event) (reply : Reply) (x : SeenMachine) (v : Result (Unit {0}) Promise) → allowed event reply (known_of x) ≡ turn v (known_of x)
     → IsJudged event reply x x (failing v)
 unchanged event reply x (Ok u) is = (is, record { order = refl; superblocks = refl; tenants = refl })
@@ -105,7 +105,7 @@ misjudged event reply x t name within right none =
       refl,
     )
 
--- the machine with other owners and one tenant replaced
+-- the machine x with these owners, and with z as tenant t
 abbrev pub with_tenant : SeenMachine → List (Option Owner) → ℕ → Seen → SeenMachine
 with_tenant x owners t z = record { order = x.order; owners = owners; tenants = slice_set x.tenants t z }
 
@@ -131,7 +131,7 @@ as_before x t y z owners here same is =
 
 module _ (event : Event) (reply : Reply) (x : SeenMachine) (t : ℕ) (y z : Seen) (name : named event ≡ Some t)
     (right : is_for event true reply.addressee ≡ true) (here : slice_get x.tenants t ≡ Some y) (order : y.left.order ≡ x.order) where
-  -- the verdict on a reply to a tenant's command is the tenant's verdict
+  -- if the event names tenant t and the addressee is right, the verdict on the reply is the tenant's verdict
   on_tenant : (v : Result (Unit {0}) Promise) → tenant_verdict event reply.body (known_of x) y ≡ v
       → allowed event reply (known_of x)
       ≡ turn v (known_after event reply.body (known_of x) (unwrap_or (state_after x.order event reply.body (state_of y)) (state_of y)))
@@ -153,7 +153,7 @@ module _ (event : Event) (reply : Reply) (x : SeenMachine) (t : ℕ) (y z : Seen
             ∙ sym (map-set state_of x.tenants t z)) i;
       }))
 
-  -- if the result is right for the tenant and for the owners, it is right for the machine with both
+  -- if the result is right for the tenant and for the owners, it is right for the machine in which both are replaced
   pub tenant_judged : (result : Result (Unit {0}) Failure) (owners : List (Option Owner)) → IsVerdictFor event reply.body (known_of x) y z result
       → length (owners_after event reply.body x.owners) ≡ length x.owners → AreOwnersAfter event reply.body x.owners owners result
       → IsJudged event reply x (with_tenant x owners t z) result
@@ -203,7 +203,7 @@ unfolding allowed owners_after
 pool_judged reply x v right is = unchanged (On.Admin Do.Pool) reply x v
     (addressed (On.Admin Do.Pool) reply (known_of x) opening_state right ∙ ap (λ r. turn r (known_of x)) (sym is))
 
--- a result that is right for every tenant after a pool command is right for the machine
+-- if a result is right for every tenant after a pool command, it is right for the machine
 pub pool_answered : (reply : Reply) (x : SeenMachine) (result : Result (Unit {0}) Failure) → is_for (On.Admin Do.Pool) true reply.addressee ≡ true
     → ((w : Known) (y : Seen) → IsVerdictFor (On.Admin Do.Pool) reply.body w y y result) → IsJudged (On.Admin Do.Pool) reply x x result
 pool_answered reply x result right judged = go result (judged (known_of x) nobody)

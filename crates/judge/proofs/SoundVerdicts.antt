@@ -1,4 +1,4 @@
--- The consequences of a verdict without a broken promise; a tenant's state keeps its invariant.
+-- If the verdict on a reply is `Ok`, each promise is kept, and the tenant's state keeps its invariant.
 use Rattle.std.proofs.Common.{◌≡◌, ℕ, ◌<◌, ◌≤◌, Bool, true, false, List, [], ◌∷◌, drop, is_some, Some, Ok, Err, refl, ap, sym, subst, ◌∙◌, inl, inr}
 use Rattle.std.specs.Prelude.{Result, OnOk, ◌==◌, if◌then◌else◌}
 use Rattle.std.specs.List.{list_any}
@@ -102,7 +102,8 @@ number_step w event body s s' e limit l g = absurd (cc)
 
 -- The invariant
 
--- the invariant holds after a reply that keeps each promise, if the left bytes are those of the held slots
+-- if the invariant holds before a reply that keeps each promise, and shadow memory then has exactly the held slots, the invariant
+-- holds after the reply
 pub sound_after : (event : Event) (body : Body) (w : Known) (old new : Seen) → LieInSlots old.has old.left → IsFollowed event body w old new
     → ((u : ℕ) → list_any (λ v. v == u) (left_slots new.left) ≡ has_slot new.has u) → LieInSlots new.has new.left
 sound_after event body w old new sound follows slots =
@@ -118,7 +119,7 @@ sound_after event body w old new sound follows slots =
       numbered = number_step v event body (state_of old) (state_of new) follows.state refl n.layout sound.numbered;
     }
 
--- the verdict `Ok` on a tenant is also the verdict on an equal one
+-- if the tenants x and y are equal and the verdict for y is `Ok`, the verdict for x is `Ok`
 pub kept_in : (event : Event) (body : Body) (w : Known) (x y : Seen) → x ≡ y → Ok tt ≡ tenant_verdict event body w y → tenant_verdict event body w x ≡ Ok tt
 kept_in event body w x y same kept = subst (λ z. tenant_verdict event body w z ≡ Ok tt) (sym same) (sym kept)
 
@@ -133,13 +134,13 @@ pub followed : (event : Event) (body : Body) (w : Known) (x y new : Seen) → x 
 followed event body w x y new same kept follows =
     subst (λ z. IsFollowed event body w z new) same (follows (kept_in event body w x y same kept))
 
--- if the slots stay, the left bytes are still those of the held slots
+-- if neither the held slots nor the slots of shadow memory change, shadow memory still has exactly the held slots
 pub same_slots : (old new : Seen) (change : Cells → Cells) → LieInSlots old.has old.left → Becomes old.left (left_slots old.left) change new.left
     → new.has.slots ≡ old.has.slots → (u : ℕ) → list_any (λ v. v == u) (left_slots new.left) ≡ has_slot new.has u
 same_slots old new change sound becomes same u =
     ap (list_any (λ v. v == u)) becomes.slots ∙ sound.slots u ∙ sym (ap (list_any (λ v. v == u)) same)
 
--- a fact about successful calls holds if the call cannot fail
+-- if a call cannot fail, what is true after a successful call is true
 pub if_kept : {E : Type 0} (r : Result (Unit {0}) E) (P : Type 0) → ((e : E) → r ≡ Err e → ⊥) → OnOk r P → P
 if_kept (Ok u) P not h = h
 if_kept (Err e) P not h = absurd (not e refl)

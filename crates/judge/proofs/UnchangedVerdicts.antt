@@ -1,4 +1,4 @@
--- Verdicts after which nothing changes.
+-- Verdicts on replies that leave the tenant unchanged.
 use Rattle.std.proofs.Common.{◌≡◌, ℕ, true, false, [], Some, None, Option, Ok, Err, is_some, refl, ap, sym, subst, ◌∙◌}
 use Rattle.std.specs.Prelude.{Bool, Result, List, ◌∷◌, ◌&&◌, ◌==◌, not, drop, length, is_none, nat_le, nat_lt, IfSome}
 use Rattle.std.specs.List.{AllByRecursion, list_any}
@@ -26,7 +26,7 @@ use Rattle.judge.specs.declared.verdict.Failure.TheVariants as Of
 use Rattle.judge.specs.Judged.{broken, on_refusal, verdict_on, known_at, tenant_verdict, failing, IsVerdictFor}
 use Rattle.judge.specs.Seen.{Seen, state_of}
 
--- if a reply leaves the tenant's state unchanged, its verdict is right for the unchanged tenant
+-- if a reply would leave the tenant's state unchanged, its verdict is right with the tenant unchanged
 pub settled : (event : Event) (body : Body) (w : Known) (x : Seen) (result : Result (Unit {0}) Failure) → result ≡ failing (tenant_verdict event body w x)
     → state_after x.left.order event body (state_of x) ≡ Some (state_of x) → IsVerdictFor event body w x x result
 settled event body w x result is stays = subst (IsVerdictFor event body w x x) (sym is) (go (tenant_verdict event body w x) refl)
@@ -35,7 +35,7 @@ settled event body w x result is stays = subst (IsVerdictFor event body w x x) (
     go (Ok u) same = record { kept = same; order = refl; state = stays }
     go (Err promise) same = (same, refl)
 
--- a reply that does not fit the command breaks the promise Form
+-- a reply that does not fit the event breaks the promise `Form`
 pub formless : (event : Event) (body : Body) (w : Known) (s : State) → state_after w.order event body s ≡ None → verdict_on event body w s ≡ Err Promise.Form
 formless event body w s none =
     ap (λ o. broken ((Promise.Form, is_some o) ∷ drop 1 (kept event (record { addressee = To.Nobody; body = body }) w s))) none
@@ -44,7 +44,7 @@ pub misfit : (event : Event) (body : Body) (w : Known) (x : Seen) → state_afte
     → IsVerdictFor event body w x x (Err (Of.Broken Promise.Form))
 misfit event body w x none = (formless event body (known_at x w) (state_of x) none, refl)
 
--- if the result is this failure, a verdict for the failure is a verdict for the result
+-- if a call returned the failure f, and f is the right result, then the call's result is right
 pub failed_by : (event : Event) (body : Body) (w : Known) (x y : Seen) (f : Failure) (result : Result (Unit {0}) Failure) → IsErrAnd result (λ e. e ≡ f)
     → IsVerdictFor event body w x y (Err f) → IsVerdictFor event body w x y result
 failed_by event body w x y f (Ok u) fails judged = absurd fails
@@ -54,7 +54,7 @@ pub broken_off : (event : Event) (body : Body) (w : Known) (x : Seen) (promise :
     → IsErrAnd result (λ e. e ≡ Of.Broken promise) → Err promise ≡ tenant_verdict event body w x → IsVerdictFor event body w x x result
 broken_off event body w x promise result is broken = failed_by event body w x x (Of.Broken promise) result is (sym broken, refl)
 
--- the verdict on a refusal depends on the refusal that is due, and on whether `NoFrames` and `SlotBusy` may come
+-- the verdict on a refusal is `on_refusal` of the refusal that is due, if any, and of whether `NoFrames` and `SlotBusy` may come
 refusal_is : (event : Event) (r : Refusal) (w : Known) (s : State) → verdict_on event (Say.Refused r) w s
     ≡ on_refusal r (due event w s) (room event (Say.Refused Refusal.NoFrames) w s) (busy event (Say.Refused Refusal.SlotBusy) w s)
 unfolding state_after
@@ -73,7 +73,7 @@ unfolding state_after
 refused event r w x result asked full taken is is_due is_full is_taken = settled event (Say.Refused r) w x result
     (is ∙ ap failing ((λ i. on_refusal r (is_due i) (is_full i) (is_taken i)) ∙ sym (refusal_is event r (known_at x w) (state_of x)))) refl
 
--- a refusal of a reset or of a pool command is judged as one that is not due, and neither `NoFrames` nor `SlotBusy` may come
+-- no refusal of a reset or of a pool command is ever due, and neither `NoFrames` nor `SlotBusy` may come
 pub admin_refused : (m : AdminCommand) (r : Refusal) (w : Known) (x : Seen) (result : Result (Unit {0}) Failure) → ((t : ℕ) → m ≡ Do.Grant t → ⊥)
     → ((t u : ℕ) → m ≡ Do.TakeBack t u → ⊥) → ((t u : ℕ) → m ≡ Do.Move t u → ⊥) → result ≡ failing (on_refusal r None false false)
     → IsVerdictFor (On.Admin m) (Say.Refused r) w x x result
@@ -110,7 +110,7 @@ plain_due t (Command.Give number place) w s = let cache = known_cache s.has numb
 plain_due t Command.Reap w s = tt
 plain_due t Command.Report w s = tt
 
--- if the refusal that is due is not `NoFrames`, whether frames are left matters only if none is due
+-- If a refusal is due, let it not be `NoFrames`. Then whether frames are left matters only if no refusal is due.
 pub full_or_due : (r : Refusal) (asked : Option Refusal) (full room busy : Bool) → IfSome asked IsPlain → (asked ≡ None → full ≡ room)
     → on_refusal r asked full busy ≡ on_refusal r asked room busy
 full_or_due r None full room busy plain same = ap (λ b. on_refusal r None b busy) (same refl)
@@ -119,7 +119,7 @@ full_or_due Refusal.NoFrames (Some d) full room busy plain same =
     ap (λ is. test is full) plain ∙ sym (ap (λ is. test is room) plain)
 full_or_due r (Some d) full room busy plain same = refl
 
--- if `NoSlot` is due, it does not matter whether the slot is busy
+-- if `NoSlot` is due, it does not matter whether the slot may be busy
 pub late_busy : (r : Refusal) (busy : Bool) → on_refusal r (Some Refusal.NoSlot) false false ≡ on_refusal r (Some Refusal.NoSlot) false busy
 late_busy Refusal.SlotBusy busy = refl
 late_busy r busy = refl

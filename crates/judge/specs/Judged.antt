@@ -1,4 +1,4 @@
--- Verdicts on the reply to one event, and the state after it.
+-- Verdicts on the reply to one event, and the state after the reply.
 use Rattle.std.specs.Prelude.{◌≡◌, ℕ, Bool, true, not, List, [], ◌∷◌, drop, Option, Some, None, Result, Ok, Err, is_some, if◌then◌else◌, ◌||◌}
 use Rattle.std.specs.Option.{option_map_or}
 use Rattle.model_core.specs.declared.owner.Owner.{Owner}
@@ -18,7 +18,7 @@ use Rattle.judge.specs.Seen.{Seen, state_of}
 use Rattle.judge.specs.KnownMachine.{SeenMachine, KeepsSizes, known_of}
 use Rattle.judge.specs.Adding.{is_addition, IsAllowedAddition}
 
--- `Ok` if all promises are kept, or else the first that is not
+-- `Ok` if all promises are kept, or else the first promise that is not kept
 abbrev pub broken : List (Promise × Bool) → Result (Unit {0}) Promise
 broken [] = Ok tt
 broken ((promise, kept) ∷ rest) = if kept then broken rest else Err promise
@@ -36,7 +36,7 @@ on_refusal refusal due full busy = broken (
     ∷ (Promise.Room, not (is_one refusal Refusal.NoFrames) || full)
     ∷ (Promise.Busy, not (is_one refusal Refusal.SlotBusy) || busy) ∷ [])
 
--- the verdict alone, without the value
+-- the verdict in this result, without the result's value
 abbrev pub only_verdict : {A : Type 0} → Result A Promise → Result (Unit {0}) Promise
 only_verdict (Ok _) = Ok tt
 only_verdict (Err promise) = Err promise
@@ -46,7 +46,7 @@ abbrev pub failing : Result (Unit {0}) Promise → Result (Unit {0}) Failure
 failing (Ok _) = Ok tt
 failing (Err promise) = Err (Failure.Broken promise)
 
--- what is known of a machine, with the largest number of caches and with this tenant's order
+-- what is known of a machine, but with `MOST_CACHES` as the limit of caches, and with the order of this tenant's slots
 abbrev pub known_at : Seen → Known → Known
 known_at x w = record w { limit = MOST_CACHES; order = x.left.order }
 
@@ -54,13 +54,14 @@ known_at x w = record w { limit = MOST_CACHES; order = x.left.order }
 abbrev pub tenant_verdict : Event → Body → Known → Seen → Result (Unit {0}) Promise
 tenant_verdict event body w x = verdict_on event body (known_at x w) (state_of x)
 
--- the reply keeps every promise, and the tenant is updated by it
+-- The reply keeps every promise. `new` is the tenant `old` after the reply, and its slots have the same order.
 pub record IsFollowed (event : Event) (body : Body) (w : Known) (old new : Seen) : Type 0 where
   pub kept : tenant_verdict event body w old ≡ Ok tt
   pub order : new.left.order ≡ old.left.order
   pub state : state_after old.left.order event body (state_of old) ≡ Some (state_of new)
 
--- the reply is followed; or it breaks a promise, or memory runs out for what it adds, and then the tenant is unchanged
+-- If the result is `Ok`, the reply is followed. If it is a failure, the tenant is unchanged. Then the failure is the first
+-- promise that the reply breaks, or memory runs out for what an allowed reply adds.
 abbrev pub IsVerdictFor : Event → Body → Known → Seen → Seen → Result (Unit {0}) Failure → Type 0
 IsVerdictFor event body w old new (Ok _) = IsFollowed event body w old new
 IsVerdictFor event body w old new (Err (Failure.Broken promise)) = (tenant_verdict event body w old ≡ Err promise) × (new ≡ old)
@@ -71,12 +72,13 @@ IsVerdictFor event body w old new (Err (Failure.Memory error)) =
 abbrev pub IsUnfit : Event → Answer → Type 0
 IsUnfit event answer = (order : ℕ) (s : State) → ((r : Refusal) → answer ≡ Answer.Refused r → ⊥) → state_after order event (body_of_answer answer) s ≡ None
 
--- the owners are updated by a reply that keeps every promise, and otherwise unchanged
+-- if the result is `Ok`, `new` has the owners after the reply; if it is a failure, the owners are unchanged
 abbrev pub AreOwnersAfter : Event → Body → List (Option Owner) → List (Option Owner) → Result (Unit {0}) Failure → Type 0
 AreOwnersAfter event body old new (Ok _) = new ≡ owners_after event body old
 AreOwnersAfter event body old new (Err failure) = new ≡ old
 
--- the verdict on a reply, and the machine's state after it
+-- The result is the verdict on the reply. After `Ok`, `new` is the machine after the allowed reply, and has the same sizes. After
+-- a failure, the machine is unchanged; if memory ran out, the reply is an allowed addition.
 abbrev pub IsJudged : Event → Reply → SeenMachine → SeenMachine → Result (Unit {0}) Failure → Type 0
 IsJudged event reply old new (Ok _) = (allowed event reply (known_of old) ≡ Ok (known_of new)) × KeepsSizes old new
 IsJudged event reply old new (Err (Failure.Broken promise)) = (allowed event reply (known_of old) ≡ Err promise) × (new ≡ old)

@@ -1,4 +1,4 @@
--- The state of a machine, its sizes, what is known of it, and the verdict on a reply.
+-- The state of a machine that the judge stores, its sizes, and what a verdict on a reply means.
 use Rattle.std.specs.Prelude.{◌≡◌, ℕ, ◌≤◌, List, Option, Some, Result, Ok, Err, length, map, slice_get}
 use Rattle.model_core.specs.declared.owner.Owner.{Owner}
 use Rattle.model_core.specs.declared.limits.TheConstants.{MOST_CACHES, MOST_ORDER, MOST_SUPERBLOCKS}
@@ -19,12 +19,12 @@ known_of x = record { limit = MOST_CACHES; order = x.order; owners = x.owners; s
 abbrev pub ShowsKnown : SeenMachine → Known → Type 0
 ShowsKnown x w = w ≡ known_of x
 
--- the verdict is the one that the definitions give; after an allowed reply, the new machine shows what is known then
+-- the verdict is the one that the definitions give; after an allowed reply, `new` shows what is known after this reply
 abbrev pub IsVerdict : Result (Unit {0}) Promise → Result Known Promise → SeenMachine → Type 0
 IsVerdict (Ok _) allowed new = (after : Known) × (allowed ≡ Ok after) × ShowsKnown new after
 IsVerdict (Err promise) allowed new = allowed ≡ Err promise
 
--- the sizes are within the limits, and slots of all tenants have the same order
+-- the sizes are within the limits, and the slots of every tenant have the machine's order
 pub record FitsLimits (x : SeenMachine) : Type 0 where
   pub small : x.order ≤ MOST_ORDER
   pub few : length x.owners ≤ MOST_SUPERBLOCKS

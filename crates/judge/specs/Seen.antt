@@ -28,7 +28,8 @@ pub record IsOpeningTenant (order : ℕ) (x : Seen) : Type 0 where
 abbrev pub AreNumbered : Holdings → Type 0
 AreNumbered h = (c : KnownCache) → IsIn c h.caches → c.number < MOST_CACHES
 
--- the left bytes are those of the held slots; blocks and slabs lie in these slots, objects in their slabs
+-- Shadow memory has exactly the held slots. Page blocks and slabs are in held slots and share no frame, live objects are on a
+-- grid of their slab, and the numbers of caches are below the limit.
 pub record LieInSlots (h : Holdings) (left : Left) : Type 0 where
   pub sized : left.order ≤ MOST_ORDER
   pub slots : (u : ℕ) → list_any (λ v. v == u) (left_slots left) ≡ has_slot h u

@@ -36,7 +36,7 @@ pub(crate) fn is_for(event: &Event, exists: bool, addressee: Addressee) -> bool
     }
 }
 
-/// Judges the reply to an event that names an unknown tenant.
+/// Judges the reply to an event that names an unknown tenant. `is_no_tenant` says whether the reply is the refusal `NoTenant`.
 pub(crate) fn judge_stranger(event: &Event, addressee: Addressee, is_no_tenant: bool) -> Verdict
     ensures { result ≡ broken ((Promise.Form, is_for event.now false addressee) ∷ (Promise.Refusals, is_no_tenant) ∷ []) }
 {

@@ -62,7 +62,7 @@ impl Tenant {
         !self.held.has_slot(slot.into()) && end <= 1u64 << 32
     }
 
-    /// Judges and follows an answer that takes back this slot of tenant `t`. The answer reports this superblock.
+    /// Judges and follows an answer to a take-back of this slot of tenant `t`. The answer reports this superblock.
     pub(crate) fn drop_superblock(
         &mut self,
         owners: &mut [Option<Owner>],

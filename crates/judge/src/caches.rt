@@ -26,7 +26,7 @@ use promise_core::promise::Promise;
 use words_core::Refusal;
 
 impl Tenant {
-    /// Judges and follows an answer that makes a cache with this number and this layout.
+    /// Judges and follows an answer that reports a new cache with this number and this layout.
     pub(crate) fn add_cache(
         &mut self,
         number: u8,
@@ -43,7 +43,7 @@ impl Tenant {
         Ok(())
     }
 
-    /// Returns the verdict on an answer that makes a cache with this number and this layout.
+    /// Returns the verdict on an answer that reports a new cache with this number and this layout.
     fn judge_layout(&self, number: u8, layout: &KnownLayout) -> Verdict
         ensures { (t : ℕ) (p : Pattern ℕ) (w : Known) → let l = layout.now in result
             ≡ tenant_verdict (On.Tenant t (Command.Cache l.size l.align p)) (Say.Cache number l.chunk l.order l.count l.colours) w
@@ -58,7 +58,7 @@ impl Tenant {
         }
     }
 
-    /// Returns whether the number is below the limit and no cache has it.
+    /// Returns whether the number is below the limit and no cache of the tenant has it.
     fn is_new_cache(&self, number: u8) -> bool
         ensures { result ≡ (nat_lt number MOST_CACHES && is_none (known_cache self.now.has number)) }
     {
@@ -83,7 +83,7 @@ impl Tenant {
         }
     }
 
-    /// Judges and follows an answer that destroys the cache with this number and frees this many frames.
+    /// Judges and follows an answer to a destroy of the cache with this number. The answer reports this many freed frames.
     pub(crate) fn drop_cache(&mut self, number: u32, frames: u32) -> Result<(), Failure>
         ensures { (t : ℕ) (w : Known)
             → IsVerdictFor (On.Tenant t (Command.Destroy number)) (Say.Destroyed frames) w self.old self.new result }
@@ -112,7 +112,7 @@ impl Tenant {
         }
     }
 
-    /// Judges and follows an answer to a reap. The answer frees this many frames.
+    /// Judges and follows an answer to a reap. The answer reports this many freed frames.
     pub(crate) fn drop_empty_slabs(&mut self, frames: u32) -> Result<(), Failure>
         ensures { (t : ℕ) (w : Known) → IsVerdictFor (On.Tenant t Command.Reap) (Say.Reaped frames) w self.old self.new result }
     {
@@ -126,7 +126,7 @@ impl Tenant {
         Ok(())
     }
 
-    /// Returns whether this many frames can be freed with empty slabs of the cache `only`, or of all caches if `only` is `None`.
+    /// Returns whether this many frames can come from empty slabs of the cache `only`, or of all caches if `only` is `None`.
     fn can_come_back(&self, only: Option<u32>, frames: u32) -> bool
         ensures { result ≡ can_come_back self.now.left.order
             (filter (λ c. option_map_or (λ number. c.number == number) only true) self.now.has.caches) frames

@@ -46,7 +46,7 @@ pub(crate) fn frames_in(count: u32, order: u8) -> u64
     u64::from(count) * (1u64 << order)
 }
 
-/// Returns the size of the blocks of order `k` and above, in blocks of `2^k` frames.
+/// Returns the total size of the counted blocks of order `k` and above, in units of `2^k` frames.
 pub(crate) fn frames_from(counts: &[u32], k: u8) -> u64
     requires { length counts.now ≤ ORDERS }
     ensures { result ≡ frames_of_counts (drop k counts.now) }
@@ -66,7 +66,7 @@ pub(crate) fn count_at(counts: &[u32], order: u8) -> u32
     counts.get(usize::from(order)).copied().unwrap_or(0)
 }
 
-/// Returns the greatest order below `end` that has blocks, if any does.
+/// Returns the greatest order below `end` with a count other than 0, or `None` if there is none.
 pub(crate) fn greatest(counts: &[u32], end: u8) -> Option<u8>
     ensures value { result ≡ greatest (slice_index counts.now) end }
     ensures small { IfSome result (λ k. k < end) }

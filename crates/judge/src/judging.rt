@@ -67,8 +67,8 @@ impl KnownMachine {
         }
     }
 
-    /// Judges an answer to an event that names no tenant, which is the pool command. That command requires a table of owners, and
-    /// no refusal is due.
+    /// Judges an answer to an event that names no tenant, which is the pool command. Every answer breaks a promise: only a table
+    /// of owners is allowed, and a table is not an answer.
     fn judge_unnamed(
         &self,
         event: &Event,

@@ -17,7 +17,7 @@ use std::marker::Model;
 #[derive(Debug, Drop)]
 pub struct KnownMachine {
     pub(crate) order: u8,
-    /// Indexed by superblock. `None` if nobody owns it.
+    /// Indexed by superblock. `None` if nobody owns the superblock.
     pub(crate) owners: Vec<Option<Owner>>,
     /// Indexed by the tenant's number.
     pub(crate) tenants: Vec<Tenant>,

@@ -18,7 +18,7 @@ use promise_core::promise::Promise;
 use words_core::Refusal;
 
 impl Tenant {
-    /// Judges and follows an answer to a take from the cache. The answer returns the object at the place.
+    /// Judges and follows an answer to a take from the cache with this number. The answer reports the object at the place.
     pub(crate) fn add_object(&mut self, number: u32, place: u32) -> Result<(), Failure>
         ensures { (t : ℕ) (w : Known)
             → IsVerdictFor (On.Tenant t (Command.Take number)) (Say.Object place) w self.old self.new result }

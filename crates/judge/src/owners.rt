@@ -116,7 +116,7 @@ fn is_same(a: Option<Owner>, b: Option<Owner>) -> bool
     a == b
 }
 
-/// Makes the slot of the tenant the owner of the superblock, if the superblock exists.
+/// Makes this slot of the tenant the owner of the superblock, if the superblock exists.
 pub(crate) fn set_owner(owners: &mut [Option<Owner>], superblock: u16, tenant: u8, slot: u16)
     ensures { owners.new ≡ slice_set owners.old superblock (Some (owned_by tenant slot)) }
 {

@@ -14,7 +14,7 @@ use judge_core::FrameBlock;
 use promise_core::promise::Promise;
 
 impl Tenant {
-    /// Judges and follows an answer that allocates the page block of `2^k` frames at the frame.
+    /// Judges and follows an answer to an alloc of `2^k` frames. The answer reports the block at the frame.
     pub(crate) fn add_block(&mut self, k: u32, frame: u32) -> Result<(), Failure>
         ensures { (t : ℕ) (w : Known) → IsVerdictFor (On.Tenant t (Command.Alloc k)) (Say.Frame frame) w self.old self.new result }
     {
@@ -42,7 +42,7 @@ impl Tenant {
         Ok(block)
     }
 
-    /// Judges and follows an answer that frees a block of `2^k` frames at the frame.
+    /// Judges and follows an answer to a free of the page block at the frame. The answer reports a block of `2^k` frames.
     pub(crate) fn drop_block(&mut self, frame: u32, k: u8) -> Result<(), Failure>
         ensures { (t : ℕ) (w : Known) → IsVerdictFor (On.Tenant t (Command.Free frame)) (Say.Freed k) w self.old self.new result }
     {

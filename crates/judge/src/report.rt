@@ -70,7 +70,7 @@ fn tells_state(held: &Held, order: u8, may_have_empty: &[bool], r: &Report) -> b
     ])
 }
 
-/// Returns whether all of these are true.
+/// Returns whether all of these tests passed.
 fn are_all(tests: &[bool]) -> bool
     ensures { result ≡ list_all (λ is_passed. is_passed) tests.now }
 {
@@ -84,8 +84,8 @@ fn has_rows(held: &Held, order: u8, free: &[u32], rows: &[CacheRow]) -> bool
     free.len() == usize::from(order) + 1 && rows.len() == held.caches().len()
 }
 
-/// Returns whether the report has as many frames as the held slots, whether its live and free frames add up to that number, and
-/// whether they agree with the taken and free blocks in its rows.
+/// Returns whether the report's numbers of frames are right. Its frames are those of the held slots, and the sum of its live and
+/// free frames. Its free frames are those of the free blocks in its rows, and its live frames are those of the taken blocks.
 fn has_frames(held: &Held, order: u8, r: &Report, free: &[u32], taken: &[u32]) -> bool
     requires order { order ≤ MOST_ORDER }
     requires free { length free.now ≤ ORDERS }
@@ -111,7 +111,8 @@ fn is_split(order: u8, r: &Report, free: &[u32]) -> bool
     r.top == top && r.split == split_share(r.free, top)
 }
 
-/// Returns whether, for each order, the number of taken blocks is the number of page blocks and slabs.
+/// Returns whether, for each order, the reported number of taken blocks is the number of page blocks plus the number of slabs in
+/// the rows.
 fn are_all_taken(held: &Held, order: u8, rows: &[CacheRow], taken: &[u32]) -> bool
     requires order { order ≤ MOST_ORDER }
     requires rows { length rows.now ≤ CACHES }

@@ -18,8 +18,8 @@ pub(crate) fn are_rows(caches: &[HeldCache], may_have_empty: &[bool], rows: &[Ca
         .all(|(cache, row)| is_row(cache, may_have_empty, row))
 }
 
-/// Returns whether the row is right for this cache: its numbers of live objects and of slabs are the cache's, and it has empty
-/// slabs only if the cache may have some.
+/// Returns whether the row is right for this cache. It must have the cache's number, number of live objects, and numbers of full
+/// and partial slabs. It may count empty slabs only if the cache may have some.
 fn is_row(cache: &HeldCache, may_have_empty: &[bool], row: &CacheRow) -> bool
     ensures { result ≡ is_row (λ n. slice_index_or may_have_empty.now n false) (cache.now, row.now) }
 {

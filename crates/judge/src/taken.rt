@@ -11,7 +11,7 @@ use judge_core::{FrameBlock, Held, HeldCache};
 use model_core::report::CacheRow;
 use words_core::{CACHES, Report};
 
-/// Returns whether `count` blocks of `2^k` frames are taken, according to the page blocks and these cache rows.
+/// Returns whether exactly `count` blocks of `2^k` frames are taken, according to the page blocks and these cache rows.
 pub(crate) fn are_taken(held: &Held, rows: &[CacheRow], k: u8, count: u32) -> bool
     requires { length rows.now ≤ CACHES }
     ensures { result ≡ (count == known_count held.now rows.now k) }

@@ -169,7 +169,8 @@ impl Tenant {
     }
 }
 
-/// Forgets a report, if there is one. Storing `None` clears a whole report, so it is stored only if needed.
+/// Forgets a report, if there is one. Storing `None` clears the memory of a whole report, so it is done only if there is a
+/// report.
 pub(crate) fn forget(report: &mut Option<Report>)
     ensures { report.new ≡ None }
 {

@@ -19,7 +19,7 @@ use Rattle.judge.proofs.KnownAfterAdmin.{granted, new_slot, IsNewSlot, slots_gra
 use Rattle.judge.proofs.UnchangedVerdicts.{broken_off, failed_by}
 use Rattle.judge.proofs.tenant.Tenant.add_superblock.Goals as goal
 
--- the judged tests give the verdict on the grant
+-- the verdict on an answer to a grant follows from the refusal that is due and from the tests of the superblock and of the slot
 granting : (t named u m : ℕ) (w : Known) (x : Seen) (os : List (Option Owner)) (asked : Option Refusal) (right : Bool) (v : Result (Unit {0}) Promise)
     → ((s : ℕ) (k : Known) (y : State) → asked ≡ due (On.Admin (Do.Grant s)) (record k { owners = os }) y)
     → right ≡ ((named == t && option_map_or is_none (slice_get os m) false)
