@@ -40,28 +40,28 @@ abbrev pub is_object_live : Holdings → Holder → ℕ → Bool
 is_object_live h Holder.Page place = list_any (in_block place) h.pages
 is_object_live h (Holder.Object number first) place = list_any (λ c. c.number == number && list_any (λ p. p == first) c.live) h.caches
 
--- What is known, state s, is true of machine m. Slots have 2 ^ order frames.
+-- The known state s is true of machine m. Slots have 2 ^ order frames.
 pub record Meets (order : ℕ) (s : State) (m : Machine) : Type 0 where
   pub has : s.has ≡ holdings_of m
   -- a cache that has a slab is known as one that may have an empty slab
   pub may_have_empty : (c : Cache) (slab : Slab) → Contains m.caches c → Contains c.slabs slab → s.may_have_empty c.number ≡ true
   -- a byte whose holder is not live is in doubt
   pub lives : (place : ℕ) (cell : Cell) → s.cells place ≡ Some cell → cell.sure ≡ true → is_object_live s.has cell.holder place ≡ true
-  -- each byte outside slabs is one that a page block may have there
+  -- each byte outside slabs is a byte that a page block may have there
   pub page_bytes : (place byte : ℕ) → in_slab m place ≡ false → m.bytes place ≡ Some byte → may_be Holder.Page 0 (s.cells place) byte ≡ true
-  -- each byte of an object, live or not, is one that the object may have there
+  -- each byte of an object, live or not, is a byte that the object may have there
   pub object_bytes : (o : Object) (j byte : ℕ) → IsObject m o → j < o.cache.size → m.bytes (place_of o + j) ≡ Some byte
       → may_be (Holder.Object o.cache.number (place_of o)) (pattern_byte o.cache.pattern j) (s.cells (place_of o + j)) byte ≡ true
   -- a valid report has the empty slabs and the free blocks of the machine
   pub empty_told : (r : Report) → s.told ≡ Some r → map (λ row. row.empty) r.caches.items ≡ map (λ row. row.empty) (rows_of_caches m)
   pub free_told : (r : Report) → s.told ≡ Some r → map (λ row. row.free) r.orders.items ≡ map (λ row. row.free) (order_rows order m (order + 1))
 
--- This reply to a tenant's command keeps each promise, and what is known after it is true of this machine.
+-- The reply `body` to a tenant's command keeps each promise, and what is known after the reply is true of the machine `after`.
 pub record IsKeptBy (limit order : ℕ) (command : Command) (s : State) (body : Body) (after : Machine) : Type 0 where
   pub allowed : (t : ℕ) (owners : List (Option Owner)) (states : List State)
       → list_all (λ p. p.1) (kept (Event.Tenant t command) (record { addressee = Addressee.Tenant t; body = body }) (record { limit = limit; order = order; owners = owners; states = states }) s) ≡ true
   pub meets : (t : ℕ) → (next : State) × (state_after order (Event.Tenant t command) body s ≡ Some next) × Meets order next after
 
--- The private machine's reply to the command keeps each promise, and what is known after it is true of the machine after it.
+-- The private machine's reply to the command keeps each promise, and what is then known is true of the machine after the command.
 abbrev pub IsPromiseKept : ℕ → ℕ → Command → Machine → State → Type 0
 IsPromiseKept limit order command m s = IsKeptBy limit order command s (command_step limit order command m).answer (command_step limit order command m).machine
