@@ -53,7 +53,7 @@ unfit (On.Admin (Do.Reset t)) (Answer.WasReset named m) other order s not_refuse
 unfit (On.Admin (Do.Move t u)) (Answer.Moved named told m) other order s not_refused = absurd (other (named, told, m, refl))
 unfit e a other order s not_refused = refl
 
--- after a table that does not fit the event, there is no state
+-- there is no state after a table that does not fit the event
 
 pub no_pool_table : (order : ℕ) (s : State) (b : Body) → is_table b ≡ true → ((os : ArrayVec (Option Owner)) → b ≡ Say.Owners os → ⊥)
     → state_after order (On.Admin Do.Pool) b s ≡ None

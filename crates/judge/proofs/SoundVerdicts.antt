@@ -140,7 +140,7 @@ pub same_slots : (old new : Seen) (change : Cells → Cells) → LieInSlots old.
 same_slots old new change sound becomes same u =
     ap (list_any (λ v. v == u)) becomes.slots ∙ sound.slots u ∙ sym (ap (list_any (λ v. v == u)) same)
 
--- if a call cannot fail, what is true after a successful call is true
+-- if a call cannot fail, what its contract says about success is true
 pub if_kept : {E : Type 0} (r : Result (Unit {0}) E) (P : Type 0) → ((e : E) → r ≡ Err e → ⊥) → OnOk r P → P
 if_kept (Ok u) P not h = h
 if_kept (Err e) P not h = absurd (not e refl)

@@ -26,7 +26,7 @@ use Rattle.judge.specs.declared.verdict.Failure.TheVariants as Of
 use Rattle.judge.specs.Judged.{broken, on_refusal, verdict_on, known_at, tenant_verdict, failing, IsVerdictFor}
 use Rattle.judge.specs.Seen.{Seen, state_of}
 
--- if a reply would leave the tenant's state unchanged, its verdict is right with the tenant unchanged
+-- if a reply leaves the tenant's state as it is, the reply's verdict is right with an unchanged tenant
 pub settled : (event : Event) (body : Body) (w : Known) (x : Seen) (result : Result (Unit {0}) Failure) → result ≡ failing (tenant_verdict event body w x)
     → state_after x.left.order event body (state_of x) ≡ Some (state_of x) → IsVerdictFor event body w x x result
 settled event body w x result is stays = subst (IsVerdictFor event body w x x) (sym is) (go (tenant_verdict event body w x) refl)
@@ -54,7 +54,8 @@ pub broken_off : (event : Event) (body : Body) (w : Known) (x : Seen) (promise :
     → IsErrAnd result (λ e. e ≡ Of.Broken promise) → Err promise ≡ tenant_verdict event body w x → IsVerdictFor event body w x x result
 broken_off event body w x promise result is broken = failed_by event body w x x (Of.Broken promise) result is (sym broken, refl)
 
--- the verdict on a refusal is `on_refusal` of the refusal that is due, if any, and of whether `NoFrames` and `SlotBusy` may come
+-- the verdict on a refusal is what `on_refusal` gives for the due refusal, if any, and for whether `NoFrames` and `SlotBusy` may
+-- come
 refusal_is : (event : Event) (r : Refusal) (w : Known) (s : State) → verdict_on event (Say.Refused r) w s
     ≡ on_refusal r (due event w s) (room event (Say.Refused Refusal.NoFrames) w s) (busy event (Say.Refused Refusal.SlotBusy) w s)
 unfolding state_after

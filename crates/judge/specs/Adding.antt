@@ -27,7 +27,7 @@ is_addition (Body.Report report) = false
 is_addition (Body.Refused refusal) = false
 is_addition (Body.Fault fault) = false
 
--- the reply adds something to the state, and it is allowed after what is known of the machine x
+-- the reply adds something to the state, and what is known of the machine x allows it
 pub record IsAllowedAddition (event : Event) (reply : Reply) (x : SeenMachine) : Type 0 where
   pub adds : is_addition reply.body ≡ true
   pub allowed : (w : Known) → ShowsKnown x w → (after : Known) × (allowed event reply w ≡ Ok after)

@@ -54,7 +54,7 @@ known_at x w = record w { limit = MOST_CACHES; order = x.left.order }
 abbrev pub tenant_verdict : Event → Body → Known → Seen → Result (Unit {0}) Promise
 tenant_verdict event body w x = verdict_on event body (known_at x w) (state_of x)
 
--- The reply keeps every promise. `new` is the tenant `old` after the reply, and its slots have the same order.
+-- The reply keeps every promise. `new` is the tenant `old` after the reply, with slots of the same order.
 pub record IsFollowed (event : Event) (body : Body) (w : Known) (old new : Seen) : Type 0 where
   pub kept : tenant_verdict event body w old ≡ Ok tt
   pub order : new.left.order ≡ old.left.order

@@ -1,4 +1,4 @@
--- The state of a machine that the judge stores, its sizes, and what a verdict on a reply means.
+-- The state that the judge stores of a machine, its sizes, and what a verdict on a reply means.
 use Rattle.std.specs.Prelude.{◌≡◌, ℕ, ◌≤◌, List, Option, Some, Result, Ok, Err, length, map, slice_get}
 use Rattle.model_core.specs.declared.owner.Owner.{Owner}
 use Rattle.model_core.specs.declared.limits.TheConstants.{MOST_CACHES, MOST_ORDER, MOST_SUPERBLOCKS}

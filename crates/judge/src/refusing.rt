@@ -91,7 +91,7 @@ impl Tenant {
         }
     }
 
-    /// Returns whether all slabs of the cache with live objects are full, and no block can hold another slab.
+    /// Returns whether every slab of the cache that has a live object is full, and no block is vacant for a new slab.
     fn is_used_up(&self, cache: &HeldCache) -> bool
         ensures { result ≡ is_used_up self.now.left.order self.now.has cache.now }
     {

@@ -84,8 +84,8 @@ fn has_rows(held: &Held, order: u8, free: &[u32], rows: &[CacheRow]) -> bool
     free.len() == usize::from(order) + 1 && rows.len() == held.caches().len()
 }
 
-/// Returns whether the report's numbers of frames are right. Its frames are those of the held slots, and the sum of its live and
-/// free frames. Its free frames are those of the free blocks in its rows, and its live frames are those of the taken blocks.
+/// Returns whether the report's numbers of frames are right. Its frames must be those of the held slots, and the sum of its live
+/// and free frames. Its free frames must be those of the free blocks in its rows, and its live frames those of the taken blocks.
 fn has_frames(held: &Held, order: u8, r: &Report, free: &[u32], taken: &[u32]) -> bool
     requires order { order ≤ MOST_ORDER }
     requires free { length free.now ≤ ORDERS }

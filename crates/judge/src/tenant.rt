@@ -169,8 +169,7 @@ impl Tenant {
     }
 }
 
-/// Forgets a report, if there is one. Storing `None` clears the memory of a whole report, so it is done only if there is a
-/// report.
+/// Forgets a report, if there is one. Storing `None` clears the memory of a whole report, so this is done only if needed.
 pub(crate) fn forget(report: &mut Option<Report>)
     ensures { report.new ≡ None }
 {

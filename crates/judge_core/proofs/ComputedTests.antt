@@ -47,8 +47,7 @@ pub vacant_sum : (order k : ℕ) (h : Holdings)
 unfolding vacant_blocks
 vacant_sum order k h = passing_flat (is_vacant h) (blocks_of_slot order k) h.slots
 
--- the number of vacant blocks among the `n` aligned blocks of order k from block number `begin` on; block i begins at frame i * 2
--- ^ k
+-- how many of the `n` aligned blocks of order k from number `begin` on are vacant; block i begins at frame i * 2 ^ k
 abbrev pub vacant_from : Holdings → ℕ → ℕ → ℕ → ℕ
 vacant_from h k begin n = length (filter (is_vacant h) (map (λ i. block (i * 2 ^ k) k) (range_with_len begin n)))
 

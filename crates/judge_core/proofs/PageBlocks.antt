@@ -15,7 +15,7 @@ use Rattle.judge_core.specs.Inside.{ArePages}
 use Rattle.judge_core.proofs.RisingKeys.{any_kept, each_from, put_rises, put_behind}
 
 -- Let a test pass only blocks that end after frame `begin` and begin before frame `end`. Then the test passes some page block
--- exactly if it passes one that begins from frame `low` to frame `end - 1`.
+-- exactly if it passes one whose first frame is from `low` to `end - 1`. Here `low` is `begin` + 1 - 2 ^ `longest`.
 pub near_part : (longest : ℕ) (pages : List Block) (begin end low : ℕ) → ArePages longest pages → low ≡ begin + 1 - 2 ^ longest → (test : Block → Bool)
     → ((b : Block) → test b ≡ true → (begin < b.first + 2 ^ b.order) × (b.first < end))
     → list_any test pages ≡ list_any test (filter (λ b. nat_le low b.first && nat_lt b.first end) pages)
@@ -26,8 +26,7 @@ near_part longest pages begin end low are is_low test tells =
     let few : 2 ^ (get_or pages k d).order ≤ 2 ^ longest = pow-le-pow_right (omega arith) short in
     and_from _ _ (le-leb low (get_or pages k d).first (omega (arith, at.0, few, is_low))) (lt-ltb (get_or pages k d).first end at.1)))
 
--- after a block is put in, the blocks are still in ascending order, and no order is above the larger of `longest` and the block's
--- order
+-- after a block is put in, the blocks still ascend, and no order is above the larger of `longest` and the new block's order
 pub pages_put : (longest : ℕ) (b : Block) (pages : List Block) → ArePages longest pages → b.order ≤ MOST_ORDER
     → ArePages (max longest b.order) (put_rising (λ x. x.first) b pages)
 pages_put longest b pages are small = record {

@@ -25,7 +25,7 @@ prefix_point p (suc i) (x ∷ xs) le before behind =
     (λ k d from lt. behind (suc k) d (omega arith) (omega arith)) in
     ap (λ (t : Bool). cond t (1 + prefix_len p xs) 0) (before 0 x (omega arith)) ∙ omega (arith, rest)
 
--- if item `near` fails a test, the first `near` items alone have the same prefix of items that pass
+-- if item `near` fails a test, the prefix of items that pass is as long in the first `near` items as in the whole list
 pub prefix_near : {X : Type 0} (p : X → Bool) (near : ℕ) (xs : List X) (d : X) → near < length xs → p (get_or xs near d) ≡ false
     → prefix_len p (take near xs) ≡ prefix_len p xs
 prefix_near p near [] d lt stops = absurd (omega arith)

@@ -1,5 +1,5 @@
--- The private machine's reply to each command keeps the promises. Each law is about a well-formed machine of which a known state
--- is true. Each law is the contract of a function of `laws` or `object_laws`.
+-- The private machine's reply to each command keeps the promises. Each law is about a well-formed machine and a known state that
+-- is true of it. Each law is the contract of a function of `laws` or `object_laws`.
 use Rattle.std.specs.Prelude.{ℕ, ◌≤◌}
 use Rattle.arrayvec.specs.ArrayVec.{ArrayVec}
 use Rattle.model_core.specs.Machine.{Machine}

@@ -54,7 +54,7 @@ changed_left step first low high old same = record {
 }
 
 -- A part has `size` places. If the step is made from `low` up to a part, and then in this part, it is made from `low` up to the
--- end of this part. No step is made from `high` on.
+-- end of this part. No step is made at index `high` or later.
 pub changed_part : (step : CellStep) (first size part low high begin end : ℕ) (old mid new : List KeptByte) → low < part * size + size → part * size < high
     → low ≤ high → begin ≡ max (part * size) low → end ≡ min (part * size + size) high
     → IsChanged step first low (max low (min (part * size) high)) old mid → IsChanged step first begin end mid new
@@ -129,7 +129,7 @@ left_part step first size part low high summaries summary old here begins ends i
     (λ k from below. same (first + k) (cell_in old k) (subst (λ (m : Summary). IsSummarizedBy m (cell_in old k)) (sym is)
     (subst (λ (n : ℕ). IsSummarizedBy (get_or summaries n any_summary) (cell_in old k)) (here k (omega arith) (omega arith)) (were k))))
 
--- a step at the indices that the places from `begin` to `end - 1` have is `within begin end step` at every stored place
+-- a step at the indices of the places from `begin` to `end - 1` changes every stored place by `within begin end step`
 pub changed_within : (step : CellStep) (first low high begin end : ℕ) (old new : List KeptByte) → low ≡ min (begin - first) (length old)
     → high ≡ max (min (end - first) (length old)) low → IsChanged step first low high old new
     → (k : ℕ) → k < length old → cell_in new k ≡ within begin end step (first + k) (cell_in old k)

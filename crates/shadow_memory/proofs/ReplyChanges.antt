@@ -51,8 +51,8 @@ removed_part true test place x = refl
 removed_part false test place None = refl
 removed_part false test place (Some cell) = refl
 
--- Doubting within the places of a block doubts exactly the bytes in the block whose holder passes the test. Forgetting within
--- these places forgets exactly these bytes.
+-- Doubting within the places of a block doubts exactly the block's bytes whose holder passes the test. Forgetting within these
+-- places forgets exactly these bytes.
 pub doubted_in : (b : Block) (begin end : ℕ) → begin ≡ 4096 * b.first → end ≡ 4096 * (b.first + 2 ^ b.order)
     → (test : Holder → Bool) (place : ℕ) (cells : Cells)
     → within begin end (doubted_of test) place (cells place) ≡ doubted (λ place holder. in_block place b && test holder) cells place
@@ -69,13 +69,13 @@ removed_in b begin end is_begin is_end test place cells =
     (ap (λ (n : ℕ). nat_le n place && nat_lt place end) is_begin ∙ (ap (λ (n : ℕ). nat_le (4096 * b.first) place && nat_lt place n) is_end ∙ in_frames b place))
     ∙ removed_part (in_block place b) test place (cells place)
 
--- at a place below 2 ^ 32, forgetting within the range from 0 to 2 ^ 32 is forgetting without a range
+-- at a place below 2 ^ 32, forgetting within the range from 0 to 2 ^ 32 does the same as forgetting without a range
 pub removed_all : (test : Holder → Bool) (place : ℕ) (cells : Cells) → place < 2 ^ 32
     → within 0 (2 ^ 32) (removed_of test) place (cells place) ≡ without (λ place. test) cells place
 removed_all test place cells lt = ap (λ (t : Bool). if t then removed_of test place (cells place) else cells place) (in_all place lt)
 
--- if the range from `first` to `end - 1` has all places within the reach of the object at `first`, a byte outside this range is
--- not of this object
+-- if the range from `first` to `end - 1` has all places within the reach of the object at `first`, this object left no byte
+-- outside the range
 not_there : (reach : List ℕ) (number first end place : ℕ) (holder : Holder) → IsHolderNear reach place holder
     → (place < first + slice_index reach number → place < end) → (leb first place && ltb place end) ≡ false
     → is_same (Holder.Object number first) holder ≡ false
@@ -110,7 +110,7 @@ doubted_object reach number first end place cells near far = go (leb first place
     go false off (Some cell) near = ap (λ (sure : Bool). Some (record cell { sure = sure }))
         (sym (ap (λ (t : Bool). cell.sure && not t) (not_there reach number first end place cell.holder near far off) ∙ and-true cell.sure))
 
--- so the change for a give puts all bytes that the object left in doubt
+-- so the change for a give puts in doubt all bytes that the object left
 pub given : (old new : Left) (reach : List ℕ) (number first begin end : ℕ) → AreSlots old.order old.slots reach → begin ≡ first
     → end ≡ min (begin + slice_index reach number) (2 ^ 64 - 1) → new.order ≡ old.order
     → AreStepped old.order (within begin end (doubted_of (is_same (Holder.Object number first)))) old.slots new.slots
@@ -137,7 +137,7 @@ put_there holder begin bytes from end is_from is_end place cells =
     go true = refl
     go false = refl
 
--- if all the bytes are in held slots, the step that puts them makes them what was left at their places
+-- if all the bytes are in held slots, the step that puts them changes what was left exactly as `with_bytes` does
 pub put : (old new : Left) (holder : Holder) (begin : ℕ) (bytes : List ℕ) (from end : ℕ) → from ≡ begin → end ≡ begin + length bytes
     → new.order ≡ old.order → ((j : ℕ) → j < length bytes → has_place old (begin + j) ≡ true)
     → AreStepped old.order (within from end (λ place cell. with_bytes holder begin bytes (λ _. cell) place)) old.slots new.slots
@@ -195,7 +195,7 @@ abbrev pub not_beside : ℕ → ℕ → ℕ → Holder → Bool
 not_beside number first size holder =
     not (is_object (λ n p. n == number && (p == first || (nat_le (first + size) p || nat_le (p + size) first))) holder)
 
--- the change for a take forgets the bytes in the slab whose holders cannot share a slab with the object
+-- the change for a take forgets the slab's bytes whose holders cannot share a slab with the object
 pub taken : (number first size : ℕ) (slab : Block) (begin end : ℕ) → begin ≡ 4096 * slab.first → end ≡ 4096 * (slab.first + 2 ^ slab.order)
     → (c : KnownCache) → c.number ≡ number → c.size ≡ size → slab_around c first ≡ slab → (place : ℕ) (cells : Cells)
     → within begin end (removed_of (not_beside number first size)) place (cells place) ≡ with_object first (Some c) cells place

@@ -33,7 +33,7 @@ stepped_at order step s t x y place true more is w here has rest =
     (omega arith, here.cells k within_cells ∙ ap (λ (p : ℕ). step p (get_or s.cells k None)) back)
 stepped_at order step s t x y place false more is w here has rest = rest has
 
--- if the step is made in each slot of a list, it is made in the list
+-- if the step is made in each slot of a list, it is made at every place of the list
 pub stepped : (order : ℕ) (step : CellStep) (ss ts : List LeftSlot) → length ts ≡ length ss
     → ((k : ℕ) (d : LeftSlot) → k < length ss → IsStepped order step (get_or ss k d) (get_or ts k d))
     → AllByRecursion (IsSlotWhole order) ss → AreStepped order step ss ts

@@ -13,7 +13,7 @@ shown_kept KeptByte.Fresh = None
 shown_kept (KeptByte.Page byte sure) = Some (record { holder = Holder.Page; byte = byte; sure = sure })
 shown_kept (KeptByte.Object cache byte sure first) = Some (record { holder = Holder.Object cache first; byte = byte; sure = sure })
 
--- the stored bytes, extended by `Fresh` to one for each of `places` places
+-- the stored bytes, with `Fresh` added at the end until there is one for each of `places` places
 abbrev pub padded : ℕ → List KeptByte → List KeptByte
 padded places kept = kept ++ replicate (places - length kept) KeptByte.Fresh
 
@@ -71,8 +71,7 @@ pub record AreSlots (order : ℕ) (slots : List LeftSlot) (reach : List ℕ) : T
   pub whole : AllByRecursion (IsSlotWhole order) slots
   pub near : (place : ℕ) → IsNear reach place (left_in order slots place)
 
--- `new` has the slots of `old`, and each cell of `new` is the cell of `old` after the step. All places of the slots are below 2 ^
--- 32.
+-- `new` has the slots of `old`, and each cell of `new` is the cell of `old` after the step. All places are below 2 ^ 32.
 pub record AreStepped (order : ℕ) (step : CellStep) (old new : List LeftSlot) : Type 0 where
   pub slots : slots_in new ≡ slots_in old
   pub whole : AllByRecursion (IsSlotWhole order) new

@@ -37,7 +37,7 @@ pub(crate) trait Change {
         ensures kept { all ≡ false → (cell : Option Cell) → IsSummarizedBy summary cell → IsSummarizedBy result cell };
 }
 
-/// The change that puts the bytes of every holder that passes the test in doubt.
+/// The change that puts in doubt the bytes of every holder that passes the test.
 #[derive(Drop)]
 pub(crate) struct Doubt<T>(pub T);
 

@@ -6,7 +6,7 @@ use Rattle.judge_core.proofs.SlabMarks.{has_over}
 use Rattle.judge_core.proofs.cache.HeldCache.mark_slabs.Given as goal
 
 -- The remaining live objects are in ascending order. A frame of the slot is marked or in the slab of one of them exactly if it
--- was marked at the start or is in the slab of any live object.
+-- was marked at the start or is in the slab of some live object.
 abbrev pub invariant-slabs : goal.invariant-slabs
 invariant-slabs l = record {
   rise : IsNonDecreasing l.rest;
