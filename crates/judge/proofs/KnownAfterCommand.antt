@@ -1,4 +1,4 @@
--- The state after an allowed answer to each command of a tenant.
+-- After an allowed answer to a tenant's command, the judge stores the state that the definitions give.
 use Rattle.std.proofs.Common.{◌≡◌, ℕ, ◌<◌, ◌≤◌, Bool, true, false, not, List, [], ◌∷◌, length, Option, Some, None, Ok, refl, ap, sym, subst, ◌∙◌, arith}
 use Rattle.std.specs.Prelude.{◌==◌, ◌&&◌, ◌||◌, filter, nat_lt, slice_index_or}
 use Rattle.std.proofs.lemmas.Bool.{ltb-true, ltb-false, eqb-true}
@@ -24,7 +24,7 @@ use Rattle.judge.specs.Judged.{tenant_verdict, IsFollowed}
 pub nothing : Known
 nothing = record { limit = 0; order = 0; owners = []; states = [] }
 
--- the state with these holdings and these left bytes, and without a valid report
+-- the stored state with these holdings and these left bytes, and without a valid report
 abbrev pub changed : Seen → Holdings → Left → Seen
 changed old h l = record old { has = h; left = l; told = None }
 

@@ -1,4 +1,4 @@
--- The machine before the first event.
+-- Before the first event, the stored machine shows the opening state of the definitions.
 use Rattle.std.proofs.Common.{◌≡◌, ℕ, zero, suc, List, [], ◌∷◌, ◌++◌, length, map, replicate, Some, None, slice_get, refl, ap, sym, subst, ◌∙◌}
 use Rattle.model_core.specs.declared.limits.TheConstants.{MOST_CACHES}
 use Rattle.promise_core.specs.State.{opening_state, opening}

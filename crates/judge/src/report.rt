@@ -1,5 +1,5 @@
-//! Reports. Slots have `2^order` frames. `may_have_empty`, indexed by cache number, says which caches may have an empty slab.
-//! `told` is the last report, while it is valid.
+//! Verdicts on reports. Slots have `2^order` frames. `may_have_empty`, indexed by cache number, says which caches may have an
+//! empty slab. `told` is the last report, while it is valid.
 
 ghost use Rattle.std.specs.Prelude.{◌≡◌, ℕ, ◌+◌, ◌*◌, ◌^◌, ◌≤◌, ◌<◌, ◌==◌, ◌&&◌, nat_le, drop, length, slice_index, slice_index_or, false, true};
 ghost use Rattle.std.specs.List.{list_all, range_with_len, zip};

@@ -1,4 +1,4 @@
--- Lists with rising keys.
+-- Lists with rising keys: what searches in them find, and which items are left after an edit.
 use Rattle.std.proofs.Common.{◌≡◌, ℕ, zero, suc, ◌+◌, ◌-◌, ◌<◌, ◌≤◌, Bool, true, false, not, ltb, cond, List, [], ◌∷◌, ◌++◌, map, length, get_or, take, drop, Some, None, inl, inr, refl, ap, sym, subst, ◌∙◌, arith}
 use Rattle.std.specs.Prelude.{◌&&◌, ◌||◌, ◌==◌, nat_le, nat_lt, filter, find, if◌then◌else◌}
 use Rattle.std.specs.Option.{is_some, option_map_or}

@@ -1,4 +1,4 @@
--- The places of a cache's slabs and objects.
+-- Which slab a place is in, and which slabs overlap a block.
 use Rattle.std.proofs.Common.{◌≡◌, ℕ, zero, suc, ◌+◌, ◌-◌, ◌*◌, ◌/◌, ◌^◌, ◌<◌, ◌≤◌, Bool, true, false, ltb, List, min, cond, Option, Some, None, inl, inr, refl, sym, ap, ◌∙◌, subst, arith}
 use Rattle.std.specs.Prelude.{◌==◌, ◌&&◌, ◌||◌, nat_le, nat_lt, find}
 use Rattle.std.specs.Option.{is_some, option_map_or}

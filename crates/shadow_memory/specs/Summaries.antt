@@ -14,7 +14,7 @@ MayOwn (Owners.One one) holder = holder ≡ shown_holder one
 MayOwn (Owners.Objects number) holder = (first : ℕ) × (holder ≡ Holder.Object number first)
 MayOwn Owners.Any holder = Unit {0}
 
--- Nothing was left, or a byte of one of the summary's owners. If the summary is not sure, the byte is in doubt.
+-- Nothing was left, or a byte of one of the summary's owners was left. If the summary is not sure, this byte is in doubt.
 abbrev pub IsSummarizedBy : Summary → Option Cell → Type 0
 IsSummarizedBy summary None = Unit {0}
 IsSummarizedBy summary (Some cell) = MayOwn summary.owners cell.holder × (summary.sure ≡ false → cell.sure ≡ false)
