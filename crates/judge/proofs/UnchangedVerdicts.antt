@@ -54,8 +54,7 @@ pub broken_off : (event : Event) (body : Body) (w : Known) (x : Seen) (promise :
     → IsErrAnd result (λ e. e ≡ Of.Broken promise) → Err promise ≡ tenant_verdict event body w x → IsVerdictFor event body w x x result
 broken_off event body w x promise result is broken = failed_by event body w x x (Of.Broken promise) result is (sym broken, refl)
 
--- the verdict on a refusal is what `on_refusal` gives for the due refusal, if any, and for whether `NoFrames` and `SlotBusy` may
--- come
+-- the verdict on a refusal follows from the due refusal, if any, and from whether `NoFrames` and `SlotBusy` may come
 refusal_is : (event : Event) (r : Refusal) (w : Known) (s : State) → verdict_on event (Say.Refused r) w s
     ≡ on_refusal r (due event w s) (room event (Say.Refused Refusal.NoFrames) w s) (busy event (Say.Refused Refusal.SlotBusy) w s)
 unfolding state_after

@@ -60,8 +60,8 @@ pub record IsFollowed (event : Event) (body : Body) (w : Known) (old new : Seen)
   pub order : new.left.order ≡ old.left.order
   pub state : state_after old.left.order event body (state_of old) ≡ Some (state_of new)
 
--- If the result is `Ok`, the reply is followed. If it is a failure, the tenant is unchanged. Then the failure is the first
--- promise that the reply breaks, or memory runs out for what an allowed reply adds.
+-- If the result is `Ok`, the reply is followed. If it is a failure, the tenant is unchanged. The failure is the first promise
+-- that the reply breaks, or says that memory ran out for what an allowed reply adds.
 abbrev pub IsVerdictFor : Event → Body → Known → Seen → Seen → Result (Unit {0}) Failure → Type 0
 IsVerdictFor event body w old new (Ok _) = IsFollowed event body w old new
 IsVerdictFor event body w old new (Err (Failure.Broken promise)) = (tenant_verdict event body w old ≡ Err promise) × (new ≡ old)

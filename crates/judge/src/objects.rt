@@ -50,7 +50,7 @@ impl Tenant {
         Ok(cache)
     }
 
-    /// Judges and follows an answer to a give of the object at the place to the cache with this number.
+    /// Judges and follows an answer to a give. The command gives the object at the place back to the cache with this number.
     pub(crate) fn drop_object(&mut self, number: u32, place: u32) -> Result<(), Failure>
         ensures { (t : ℕ) (w : Known)
             → IsVerdictFor (On.Tenant t (Command.Give number place)) Say.Given w self.old self.new result }
