@@ -1,4 +1,4 @@
--- The control records in the kernel's memory.
+-- Every slab of small objects has its control record in the last 32 bytes of its frame in the kernel's memory.
 use Rattle.std.proofs.Common.{◌≡◌, ℕ, ◌+◌, ◌*◌, ◌/◌, ◌%◌, ◌^◌, true, slice_index, sym, ap, ◌∙◌, subst}
 use Rattle.model_core.specs.Layouts.{is_small}
 use Rattle.machine_changes.specs.Records.{is_set}
@@ -8,11 +8,12 @@ use Rattle.machine_changes.proofs.ControlRecords as pages
 use Rattle.kernel_core.specs.Content.{KernelContent, PartsAgree, superblock_at, superblock_bytes}
 use Rattle.kernel_core.specs.Records.{RecordsStand}
 
--- the tables have the kernel's order
+-- the tables of slabs and the kernel have the same superblock order
 same_order : (k : KernelContent) → PartsAgree k → k.slabs.top ≡ k.order
 same_order k agree = sym agree.agree.order ∙ agree.top
 
--- byte i of the record in frame f is a byte of superblock m, in which the frame lies
+-- if the tenant's frame f is machine frame n in superblock m, byte i of its record is byte 4064 + i of the frame in this
+-- superblock
 place_is : (k : KernelContent) (f m n i : ℕ) → n ≡ m * 2 ^ k.slabs.top + f % 2 ^ k.slabs.top
     → record_at k.space k.slabs n i ≡ slice_index (superblock_bytes k m) (4096 * (f % 2 ^ k.slabs.top) + 4064 + i)
 place_is k f m n i is =

@@ -1,4 +1,4 @@
--- The kind of a frame in the kernel and in the machine that it shows, and the frames of a slot, block by block.
+-- A frame has the same kind in the kernel's parts and in the machine that they show. A scan of a slot goes block by block.
 use Rattle.std.proofs.Common.{◌≡◌, ℕ, ◌+◌, ◌*◌, ◌/◌, ◌%◌, ◌^◌, ◌<◌, ◌≤◌, min, mod-lt, lit<, Bool, List, slice_get, Some, None, sym, ap, ◌∙◌, subst, arith, ◌⊎◌, inl, inr, false, cond}
 use Rattle.std.proofs.lemmas.Bool.{cases_order, cases_lt}
 use Rattle.std.proofs.lemmas.Nat.{pow_pos, one_shl, shl_whole, div-mul-add, mod-mul-add}
@@ -28,7 +28,7 @@ use Rattle.kernel_core.specs.Content.{KernelContent, content_of}
 use Rattle.kernel_core.specs.Shows.{ShowsMachine}
 use Rattle.kernel_core.proofs.CallEffects.{steady, opened, known}
 
--- if no taken block begins at a frame, and all that begin before it end at or before it, the frame is not taken
+-- if no taken block begins at frame x, and all taken blocks that begin before x end at or before x, frame x is not taken
 pub free_here : (taken : Taken) (x : ℕ) → AreEndedBefore taken x → None ≡ taken x → IsTaken taken x → ⊥
 free_here taken x ended none (f, k, is, here) = go (cases_order f x)
   where
@@ -37,7 +37,8 @@ free_here taken x ended none (f, k, is, here) = go (cases_order f x)
     go (inr (inl below)) = absurd (omega (arith, ended f k is below, here.1))
     go (inr (inr above)) = absurd (omega (arith, here.0))
 
--- at the end of a taken block, all taken blocks that begin earlier have ended
+-- Let all taken blocks that begin before frame x end at or before x. If a taken block begins at x, then all taken blocks that
+-- begin before its end also end at or before its end.
 pub block_next : (top : ℕ) (held : ℕ → Bool) (taken : Taken) → IsSound top held taken → (x j : ℕ) → AreEndedBefore taken x → taken x ≡ Some j
     → AreEndedBefore taken (x + 2 ^ j)
 block_next top held taken sound x j ended here f k is less = go (cases_order f x)
@@ -51,7 +52,7 @@ block_next top held taken sound x j ended here f k is less = go (cases_order f x
         let some : 0 < 2 ^ k = pow_pos k in
         absurd (omega (arith, above, sound.apart x j f k f here is (omega arith, less) (omega arith, omega (arith, some))))
 
--- at the first frame of a slot, all taken blocks that begin earlier have ended
+-- all taken blocks that begin before the first frame of a slot end at or before this frame
 pub slot_begins : (top : ℕ) (held : ℕ → Bool) (taken : Taken) → IsSound top held taken → (slot : ℕ) → AreEndedBefore taken (slot * 2 ^ top)
 slot_begins top held taken sound slot f k is less = go (cases_lt (slot * 2 ^ top) (f + 2 ^ k))
   where
@@ -67,11 +68,11 @@ slot_begins top held taken sound slot f k is less = go (cases_lt (slot * 2 ^ top
         let same : slot * 2 ^ top / 2 ^ top ≡ f / 2 ^ top = frame_slot top (slot * 2 ^ top) (block f k) (sound.placed f k is).0 (omega (arith, less), over) in
         absurd (omega (arith, before, same, mul-div_cancel slot some))
 
--- 1, shifted by an order of at most 8, is a power of two and does not overflow
+-- 1 shifted left by an order of at most 8 is 2 ^ order, which is between 1 and 256
 pub small_shift : (order : ℕ) → order ≤ 8 → (1 * 2 ^ order % 18446744073709551616 ≡ 2 ^ order) × (0 < 2 ^ order) × (2 ^ order ≤ 256)
 small_shift order few = (one_shl order 64 (omega arith), pow_pos order, pow_mono few)
 
--- the number of a slot's first frame does not overflow
+-- if a slot's number is below 65536 and the order is at most 8, the number of the slot's first frame fits in 32 bits
 pub slot_first : (slot order : ℕ) → slot < 65536 → order ≤ 8 → slot * 2 ^ order % 4294967296 ≡ slot * 2 ^ order
 slot_first slot order small few = shl_whole slot 16 order 32 small (omega (arith, few))
 
@@ -79,7 +80,8 @@ slot_first slot order small few = shl_whole slot 16 order 32 small (omega (arith
 pub frame_of_slot : (slot order at : ℕ) → at < 2 ^ order → ((slot * 2 ^ order + at) / 2 ^ order ≡ slot) × ((slot * 2 ^ order + at) % 2 ^ order ≡ at)
 frame_of_slot slot order at less = (div-mul-add slot (2 ^ order) at less, mod-mul-add slot (2 ^ order) at less)
 
--- if P holds for the first `at` cells and for the frames of the next run, it holds for all cells up to the end of the run
+-- Let P hold for the first `at` cells of `old`, and for `kind` at the next `frames` indices. If `new` keeps the first `at` cells
+-- and has `kind` in the next `frames` cells below `most`, P holds for all these cells of `new`.
 pub runs_more : (P : ℕ → FrameKind → Type 0) (old new : List FrameKind) (at frames most : ℕ) (kind : FrameKind)
     → ((k : ℕ) (cell : FrameKind) → k < at → slice_get old k ≡ Some cell → P k cell)
     → ((k : ℕ) → k < at → slice_get new k ≡ slice_get old k)
@@ -92,7 +94,7 @@ runs_more P old new at frames most kind before kept set here k cell within less 
     go (inl below) = before k cell below (sym (kept k below) ∙ is)
     go (inr above) = subst (λ c. P k c) (sym (set k cell above (omega arith) is)) (here k above less)
 
--- there are three kinds of lists
+-- the kind of a slab list is its number modulo 3, so it is below 3
 pub kind_small : (list : ℕ) → list % 3 < 3
 kind_small list = mod-lt list (lit< tt)
 
@@ -101,13 +103,14 @@ module _ (r : spaces.Content) (b : buddies.Content) (s : Content) (t : ℕ) (st 
   pub none_taken : (IsTaken (buddies.taken_of (buddies.holding_of t b)) f → ⊥) → IsTaken (taken_in m) f → ⊥
   none_taken none (g, k, taken, here) = none (g, k, sym (taken_meets r b s t m st h g) ∙ taken, here)
 
-  -- a taken block at which no slab begins is a page block
+  -- if a frame lies in a taken block at which no slab begins, it lies in a page block of the machine
   pub in_page : (first k : ℕ) → buddies.taken_of (buddies.holding_of t b) first ≡ Some k → HasFrame (block first k) f
       → showing.has_slab s (showing.machine_frame_of s.top r.slots t first) ≡ false → IsTaken (order_in m.blocks) f
   in_page first k taken here none =
       (first, k, h.blocks first ∙ ap (λ v. cond v None (buddies.taken_of (buddies.holding_of t b) first)) none ∙ taken, here)
 
-  -- if a slab begins at a taken block, the block's frames lie in a slab of the kind that the list has
+  -- if a slab of list `head` begins at a taken block, each frame of the block lies in a slab of the machine that has this list's
+  -- kind
   pub in_slab : IsSlabs s → showing.Agree r b s → (first k : ℕ) → buddies.taken_of (buddies.holding_of t b) first ≡ Some k → HasFrame (block first k) f
       → (machine_frame head key kind : ℕ) → showing.machine_frame_of s.top r.slots t first ≡ Some machine_frame → place_at s.lists.places machine_frame ≡ Some (head, key)
       → kind < 3 → head % 3 ≡ kind → IsInSlab m f (is_kind kind)
@@ -131,11 +134,11 @@ module _ (r : spaces.Content) (b : buddies.Content) (s : Content) (t : ℕ) (st 
         passes = y.passes;
       }
 
--- the slab that begins at the frame is in the list
+-- a slab of tenant t begins at frame `first` and is in list `list`
 abbrev pub IsListed : KernelContent → ℕ → ℕ → ℕ → Type 0
 IsListed k t first list = (machine_frame key : ℕ) × (showing.machine_frame_of k.slabs.top k.space.slots t first ≡ Some machine_frame) × (place_at k.slabs.lists.places machine_frame ≡ Some (list, key))
 
--- The facts above hold for a kernel's content and the fields that it was made from.
+-- The facts `none_taken` and `in_slab` for a kernel k that is made from the parts r, b and s.
 module _ (r : spaces.Content) (b : buddies.Content) (s : Content) (t : ℕ) (k : KernelContent) (is : content_of r b s ≡ k) (holds : HoldTogether k.space k.buddy k.slabs)
     (less : t < k.tenants) (m : Machine) (h : ShowsMachine k t m) (f : ℕ) where
   together : HoldTogether r b s

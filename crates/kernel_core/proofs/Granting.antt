@@ -34,7 +34,8 @@ use Rattle.kernel_core.proofs.KernelToWorld.{steps_done, steps_answered, unnamed
 pub free_is_spare : (r : spaces.Content) (b : buddies.Content) (s : tables.Content) (m : ℕ) → HoldTogether r b s → position is_none r.owners ≡ Some m → IsSpare b s m
 free_is_spare r b s m holds free = unowned_is_spare r b s m holds (unowned-from_position r.owners m free)
 
--- superblock m has no owner, and slot u is the least that tenant t does not hold
+-- the parts keep their laws, tenant t exists, m is the first superblock without an owner, and u is the lowest slot that t does
+-- not hold
 pub record IsGrantable (r : spaces.Content) (b : buddies.Content) (s : tables.Content) (t u m : ℕ) : Type 0 where
   pub together : HoldTogether r b s
   pub tenant : t < length b.tenants
@@ -52,7 +53,7 @@ pub changes : (r : spaces.Content) (b : buddies.Content) (s : tables.Content) (t
 changes r b s t u m g =
     granted_shows r b s t u m g.together (has_row r b s t g.together.agree g.tenant) g.least g.slot_below g.below (unowned-from_position r.owners m g.free)
 
--- a grant puts the first superblock without an owner in the least slot that the tenant does not hold
+-- a grant puts the first superblock without an owner in the lowest slot that the tenant does not hold
 pub does_granted : (r : spaces.Content) (b : buddies.Content) (s : tables.Content) (t u m : ℕ) → IsGrantable r b s t u m
     → Does (content_of r b s) t (slot_grant_step b.top) (slice_set r.owners m (Some (owned_by t u))) (content_of (with_grant r t u m) (buddy_after t u m b) s) u
 does_granted r b s t u m g =
@@ -75,14 +76,15 @@ does_granted r b s t u m g =
 abbrev pub granted_reply : ℕ → ℕ → ℕ → Reply
 granted_reply t u m = record { addressee = To.Admin; body = Granted t u m }
 
--- the world after a grant
+-- the reply to a grant, and the world after it
 abbrev granted_world : KernelContent → World → ℕ → ℕ → Machine → ℕ → WorldStep
 granted_world k w t m x u = record {
   reply = granted_reply t u m;
   world = record { owners = slice_set k.space.owners m (Some (owned_by t u)); machines = slice_set w.machines t (after_grant k.order x) };
 }
 
--- a grant in a world returns `granted_reply`, and `granted_world` is the world afterwards
+-- if a kernel shows a world where tenant t has machine x, and m is the first superblock without an owner, a grant gives
+-- `granted_world`
 grant_is : (k : KernelContent) (w : World) (t m : ℕ) (x : Machine) → Shows k w → slice_get w.machines t ≡ Some x → position is_none k.space.owners ≡ Some m
     → world_step cache_limit k.order (On.Admin (Do.Grant t)) w ≡ granted_world k w t m x (next_slot x)
 unfolding world_step grant_step
@@ -97,7 +99,7 @@ grant_is k w t m x shown here free =
       };
     }) shown.owners
 
--- a call that puts the first superblock without an owner in slot u of tenant t, as a grant does, is a step of the world
+-- a call that gives tenant t the first superblock without an owner, in slot u, is a step of the event `grant` in the world
 pub steps_granted : (k k' : KernelContent) (t n u m : ℕ) → t ≡ n → t < k.tenants → PartsAgree k' → position is_none k.space.owners ≡ Some m
     → Does k t (calls.slot_grant_step k.order) (slice_set k.space.owners m (Some (owned_by t u))) k' u
     → Steps k (On.Admin (Do.Grant n)) k' (granted_reply t u m)
@@ -113,7 +115,7 @@ grant_without_tenant k t unknown =
     steps_answered k (On.Admin (Do.Grant t)) To.Admin (Refused NoTenant)
     (λ w shown. ap (λ o. grant_step k.order t w o (position is_none w.owners)) (slice_get_past w.machines t (omega (arith, shown.tenants))))
 
--- if every superblock has an owner, a grant is refused
+-- if every superblock has an owner, a grant to an existing tenant is refused
 pub grant_without_superblock : (k : KernelContent) (t n : ℕ) → t ≡ n → t < k.tenants → position is_none k.space.owners ≡ None
     → Steps k (On.Admin (Do.Grant n)) k (record { addressee = To.Admin; body = Refused PoolEmpty })
 unfolding grant_step world_step

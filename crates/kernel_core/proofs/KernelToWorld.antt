@@ -29,7 +29,7 @@ use Rattle.kernel_core.proofs.CallEffects.{keeps_all, marks_kept}
 use Rattle.kernel_core.specs.Steps.{is_named, Steps, StepsMachine}
 use Rattle.machine_changes.proofs.OneMachineShown.{one_machine}
 
--- if the parts keep all that a tenant has, they show the same machine for it
+-- if a step keeps everything that tenant t has in the parts, the parts show the same machine for t after the step
 pub keeps_shows : (k k' : KernelContent) (t : ℕ) (m : Machine) → Keeps k k' t → ShowsMachine k t m → ShowsMachine k' t m
 keeps_shows k k' t m keeps shown = kept_shows_same k.space k'.space k.buddy k'.buddy k.slabs k'.slabs t keeps m shown
 
@@ -50,7 +50,8 @@ shows_changed k k' w t m m' owners shown agree same_tenants same_owners here sho
       (cases_eq u t);
 }
 
--- if an event changes no world that the kernel shows, a call that changes nothing and returns the same reply is its step
+-- if an event in each world that the kernel shows only returns a reply, a call that does nothing but return this reply is its
+-- step
 pub steps_answered : (k : KernelContent) (event : Event) (to : Addressee) (body : Body)
     → ((w : World) → Shows k w → world_step cache_limit k.order event w ≡ answer to body w)
     → Steps k event k (record { addressee = to; body = body })
@@ -65,7 +66,8 @@ steps_answered k event to body same = record {
   spare = λ _ _. refl;
 }
 
--- A call for one tenant does the event's step of the world: it changes that tenant's machine and the owners.
+-- Let an event name tenant t, and change only the owners and the machine of t in the world. If a call does this step in the
+-- kernel and its reply is not a refusal, the call is a step of the event.
 pub steps_done : {A : Type 0} (k k' : KernelContent) (event : Event) (reply : Reply) (t : ℕ) (step : Machine → Step A) (owned : List (Option Owner)) (told : A)
     → t < k.tenants → PartsAgree k' → Does k t step owned k' told
     → ((w : World) (m : Machine) → Shows k w → ShowsMachine k t m → slice_get w.machines t ≡ Some m
@@ -88,7 +90,7 @@ steps_done k k' event reply t step owned told known agree does same only done = 
   spare = does.spare;
 }
 
--- a tenant that is not named is another tenant
+-- if the test `t == u` fails, t and u are different tenants
 pub unnamed : (t u : ℕ) → (t == u) ≡ false → u ≢ t
 unnamed t u named same = both_ways (t == u) named (eq-eqb t u (sym same))
 
@@ -100,7 +102,7 @@ unknown_tenant k t command past =
     steps_answered k (On.Tenant t command) To.Nobody (Refused NoTenant)
     (λ w shown. ap (λ o. tenant_step cache_limit k.order t command w o) (slice_get_past w.machines t (omega (arith, shown.tenants))))
 
--- a step of a tenant's machine for a command is a step of the world
+-- if a call does a command's step on the machine of tenant t, it is a step of the event with this command in the world
 pub steps_asked : (k k' : KernelContent) (t u : ℕ) (command : Command) (body : Body) → t ≡ u → t < k.tenants → ((w : World) → Shows k w → PartsAgree k')
     → StepsMachine k t command k' body → Steps k (On.Tenant u command) k' (record { addressee = To.Tenant t; body = body })
 unfolding world_step tenant_step

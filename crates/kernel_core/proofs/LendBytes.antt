@@ -1,4 +1,4 @@
--- Bytes lent in place: they are the private machine's, and the parts agree after any bytes are left there.
+-- Bytes lent in place: the private machine has the same bytes, and the parts still agree after any bytes are left there.
 use Rattle.std.proofs.Common.{◌≡◌, false, ℕ, ◌+◌, ◌%◌, ◌++◌, take, drop, slice_range, Option, Some, None, List, [], length, unwrap_or, refl, sym, ap, ◌∙◌, subst, arith}
 use Rattle.std.proofs.Math.ListN.{set}
 use Rattle.std.proofs.Math.Seq.{take-length}
@@ -41,7 +41,7 @@ pub length-fit : (xs ws : List ℕ) → length (fit xs ws) ≡ length xs
 length-fit xs ws =
     length-take (length xs) (ws ++ drop (length ws) xs) ∙ omega (arith, length-append ws (drop (length ws) xs), length-drop (length ws) xs)
 
--- writing a list of the window's length to a window is a store
+-- if xs has the window's length, writing `fit xs ws` to the window equals storing these bytes from the place on
 pub window_fitted : (r : spaces.Content) (t place len : ℕ) (xs ws : List ℕ) → length xs ≡ len → with_window r t place len (fit xs ws) ≡ stored t place (fit xs ws) r
 window_fitted r t place len xs ws long = ap (λ n. with_window r t place n (fit xs ws)) (sym (length-fit xs ws ∙ long))
 

@@ -40,7 +40,7 @@ page_from : (v : Bool) (o : Option ℕ) (k : ℕ) → (if v then None else o) �
 page_from true o k is = absurd (some_none (sym is))
 page_from false o k is = record { page = refl; taken = is }
 
--- the size of a page block in bytes does not overflow
+-- if an order is at most 8, the size of its page block in bytes fits in 32 bits
 size_is : (order : ℕ) → order ≤ 8 → 4096 * 2 ^ order % 4294967296 ≡ 4096 * 2 ^ order
 size_is order few =
     let two : 0 < 2 = omega arith in
@@ -160,9 +160,9 @@ module _ (r : spaces.Content) (b : buddies.Content) (s : tables.Content) (t firs
   pub page_span : (m : ℕ) → IsBlockSpan (record { tenant = t; place = 4096 * first; bytes = 4096 * 2 ^ order % 4294967296; superblock = m }) t first order
   page_span m = record { tenant = refl; place = refl; bytes = size_is order page_few }
 
--- What is returned to a tenant that is named by its number
+-- Replies to a tenant that an event names by its number
 
--- if tenant t exists and `Why` holds for it, the tenant with the same number exists and `Why` holds for it
+-- if tenant t exists and `Why` holds for it, both are true of the equal number `tenant`
 pub refused_for : (k : KernelContent) (t tenant : ℕ) (Why : ℕ → Type 0) → t ≡ tenant → t < k.tenants → Why t → (tenant < k.tenants) × Why tenant
 refused_for k t tenant Why same less why = subst (λ u. (u < k.tenants) × Why u) same (less, why)
 
@@ -180,7 +180,7 @@ reply_known k k' t tenant command body same less agree steps =
     (subst (λ u. Steps k (On.Tenant tenant command) k' (record { addressee = To.Tenant u; body = body })) same
     (steps_asked k k' t tenant command body same less (λ w shown. agree) steps))
 
--- a refused command of a tenant that exists is a step of the world, with the refusal as its reply
+-- if a command of an existing tenant is refused, this refusal is the reply of the event in the world
 pub reply_refused : (k k' : KernelContent) (t tenant : ℕ) (command : Command) (refusal : Refusal) → t ≡ tenant → t < k.tenants → PartsAgree k
     → StepsMachine k t command k' (Refused refusal) → Steps k (On.Tenant tenant command) k' (reply_for k tenant (Refused refusal))
 reply_refused k k' t tenant command refusal same less agree steps =

@@ -1,4 +1,5 @@
--- Lending a slice of bytes again, with the same length when the borrow ends. Assumes `Logic`.
+-- A borrowed slice is lent again. When the new borrow ends, its list is cut or extended to the length of the slice. Assumes
+-- `Logic`.
 use mathlib.Core.Path.{◌≡◌, refl, sym, ap, ◌∙◌}
 use Prim.Native.Nat.{ℕ}
 use mathlib.Core.List.{List, [], ◌∷◌}
@@ -28,7 +29,7 @@ use Rattle.std.proofs.Math.ListN.{drop_of_length-le}
 use Rattle.std.proofs.lemmas.List.{append-nil, take_all}
 use Rattle.kernel_core.specs.Lending.{fit}
 
--- `fit` does not change a list that has the right length
+-- if ws has the length of xs, `fit xs ws` is ws
 pub fit-same : (xs ws : List ℕ) → length ws ≡ length xs → fit xs ws ≡ ws
 fit-same xs ws e =
     ap (λ (rest : List ℕ). take (length xs) (ws ++ rest)) (drop_of_length-le xs (omega (arith, e)))
@@ -46,7 +47,8 @@ module _ {M : Type 1} {𝓤 : Ura M} (𝓛 : Logic 𝓤) (ℓ : Lifetime) (κ : 
       rewrite ! 0 (λ (l : List ℕ). ‵ (cells (mem u8) l b o)) (sym (fit-same xs ws e)) refl $
       feq_i ! ℕ (length (fit xs ws)) (length xs) (ap length (fit-same xs ws e) ∙ e) $ fjoin ! $ keep ! (0 ∷ []) $ done !)
 
-  -- the slice under a new name, which the old name follows; its machine value has the length of xs
+  -- The slice with the length of xs, under a new ghost name δ. The old name γ follows δ: its value will be `fit xs` of δ's last
+  -- value.
   abbrev pub fitted_lent : List Val → GName → Item 𝓤
   fitted_lent vs δ = given (vs ≡ slice_val (b, o) (length xs) ∷ []) (given (Room u8 (length xs))
       (‵ ((MutSlice ℓ κ u8).own_val (lent δ) (slice_val (b, o) (length xs) ∷ [])) ⊛ ‵ (flft κ q) ⊛ ‵ (follows (Array u8 0) (Array u8 0) γ δ (fit xs))))

@@ -1,4 +1,4 @@
--- Kernels made step by step: what grants, allocations of page blocks and reads of a byte do to known parts.
+-- What a grant, an allocation of a page block and a read of one byte do to the parts of a kernel, and examples of these parts.
 use Rattle.std.proofs.Common.{◌≡◌, ℕ, zero, suc, ◌+◌, ◌*◌, ◌/◌, ◌%◌, ◌^◌, ◌<◌, ◌≤◌, true, false, Option, Some, None, List, [], ◌∷◌, length, slice_range, inl, refl, sym, ap, ◌∙◌, subst, arith}
 use Rattle.std.specs.Prelude.{is_some, replicate, slice_index, IsSome}
 use Rattle.std.proofs.lemmas.Bool.{false≢true}
@@ -90,14 +90,14 @@ alloc_acts r b s t k f j together tenant small chosen laws =
       is,
     )
 
--- A byte is read
+-- A read of one byte
 
 one_byte : (xs : List ℕ) (x : ℕ) → length xs ≡ 1 → slice_index xs 0 ≡ x → xs ≡ x ∷ []
 one_byte [] x one is = absurd (omega arith)
 one_byte (y ∷ []) x one is = ap (λ z. z ∷ []) is
 one_byte (y ∷ z ∷ zs) x one is = absurd (omega arith)
 
--- a read of a loaded byte returns that byte
+-- if a load by tenant t at a place gives this byte, the window of one byte there has this byte
 read_window : (k : KernelContent) (t place byte : ℕ) → IsKernel k → Loads k t place byte → window_of k.space t place 1 ≡ Some (byte ∷ [])
 read_window k t place byte is loads =
     go (home_of k.space t place 1) refl
@@ -132,7 +132,8 @@ in_frame r b s t place len taken page some inside = record {
   inside = inl (record { first = 0; order = 0; taken = taken; page = page; begins = omega arith; ends = inside });
 }
 
--- Two superblocks of 8 frames and two tenants. Each tenant may hold one slot, and may have taken the first frame of that slot.
+-- Examples of buddy systems: two superblocks of 8 frames and two tenants. Each tenant may hold its slot 0, and may have a block
+-- at frame 0.
 
 abbrev pub holder : Option ℕ → Option ℕ → buddies.Holding
 holder superblock taken = record { slots = superblock ∷ None ∷ []; taken = taken ∷ replicate 15 None }
@@ -149,7 +150,7 @@ holder_slot a x zero m is = (refl, is)
 holder_slot a x (suc zero) m is = absurd (cc)
 holder_slot a x (suc (suc u)) m is = absurd (cc)
 
--- a taken frame lies in a held slot
+-- if a block is taken at frame 0, its order is 0 and the slot is held
 abbrev IsPlaced : Option ℕ → Option ℕ → Type 0
 IsPlaced a x = (k : ℕ) → x ≡ Some k → (k ≡ 0) × (is_some a ≡ true)
 
@@ -195,7 +196,7 @@ module _ (a x b y : Option ℕ) (placed : IsPlaced a x) (placed' : IsPlaced b y)
     apart = apart;
   }
 
--- if nothing is taken, a request for one frame is served from the whole slot, which is the free block of order 3 at frame 0
+-- if only slot 0 is held and nothing is taken, a request for one frame is served from the free block of order 3 at frame 0
 pub chosen : (m : ℕ) → IsChoice 3 (buddies.is_held (holder (Some m) None)) (buddies.taken_of (holder (Some m) None)) 0 (block 0 3)
 chosen m = choice_is_found 3 (buddies.is_held (holder (Some m) None)) (buddies.taken_of (holder (Some m) None)) 2 0 below
   where

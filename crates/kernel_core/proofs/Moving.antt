@@ -31,7 +31,8 @@ use Rattle.kernel_core.specs.Steps.{Steps}
 use Rattle.kernel_core.proofs.KernelToWorld.{steps_done, steps_answered, unnamed}
 use Rattle.kernel_core.proofs.Owners.{is_under, given_up_one}
 
--- superblock `from` is in slot u of tenant t, and `to` is the first superblock without an owner
+-- superblock `from` is in slot u of tenant t, `to` is the first superblock without an owner, and s' has the slabs of `from` on
+-- `to`
 pub record IsMovable (r : spaces.Content) (b : buddies.Content) (s s' : tables.Content) (t u from to : ℕ) : Type 0 where
   pub together : HoldTogether r b s
   pub tenant : t < length b.tenants
@@ -67,7 +68,7 @@ moves r b s s' t u from to g =
       };
     }
   where
-    -- the memory after the old superblock has lost its owner
+    -- the memory after superblock `from` has lost its owner and is marked
     left : spaces.Content
     left = record r { owners = slice_set r.owners from None; marks = slice_set r.marks from true }
 
@@ -81,11 +82,11 @@ moves r b s s' t u from to g =
 abbrev pub moved_reply : ℕ → ℕ → ℕ → Reply
 moved_reply t u m = record { addressee = To.Admin; body = Moved t u m }
 
--- the world after a move
+-- the reply to a move, and the world after it
 abbrev moved_world : ℕ → ℕ → ℕ → List (Option Owner) → List Machine → WorldStep
 moved_world t u to owners machines = record { reply = moved_reply t u to; world = record { owners = slice_set owners to (Some (owned_by t u)); machines = machines } }
 
--- a move changes only the owners of the world
+-- a move of a held slot u changes only the owners of the world: `from` has no owner afterwards, and `to` is owned by slot u of t
 moved_is : (k : KernelContent) (w : World) (t u from to : ℕ) (x : Machine) → Shows k w → slice_get w.machines t ≡ Some x
     → superblock_at k t u ≡ Some from → position is_none k.space.owners ≡ Some to → holds x u ≡ true
     → world_step cache_limit k.order (On.Admin (Do.Move t u)) w
@@ -128,7 +129,7 @@ move_without_slot k t n u same known none = subst (λ v. Steps k (On.Admin (Do.M
     lacking : (w : World) (x : Machine) (free : Option ℕ) → holds x u ≡ false → move_step t u w (Some x) free ≡ answer To.Admin (Refused NoSlot) w
     lacking w x free lacks = rw lacks refl
 
--- if every superblock has an owner, a move is refused
+-- if every superblock has an owner, a move of a held slot is refused
 pub move_without_superblock : (k : KernelContent) (t n u : ℕ) → t ≡ n → t < k.tenants → IsSome (superblock_at k t u) → position is_none k.space.owners ≡ None
     → Steps k (On.Admin (Do.Move n u)) k (record { addressee = To.Admin; body = Refused PoolEmpty })
 unfolding world_step move_step

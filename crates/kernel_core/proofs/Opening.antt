@@ -1,4 +1,4 @@
--- The parts of a kernel before its first event.
+-- The parts that a kernel has after boot agree, and they show the world after boot.
 use Rattle.std.proofs.Common.{◌≡◌, ℕ, ◌<◌, ◌≤◌, ◌&&◌, nat_le, true, refl, sym, ◌∙◌, subst, arith}
 use Rattle.std.proofs.lemmas.List.{length-replicate}
 use Rattle.buddy_core.specs.Content as buddies
@@ -21,7 +21,7 @@ pub opening_agrees : (order superblocks tenants : ℕ)
 unfolding opening_content
 opening_agrees order superblocks tenants = (opening_shows order superblocks tenants).agree
 
--- the content that is made from the parts at boot is `opening_content`
+-- the content that is made from the parts of `opening_content` is `opening_content` again
 pub opening_is : (order superblocks tenants : ℕ)
     → content_of (opening_content order superblocks tenants).space (opening_content order superblocks tenants).buddy (opening_content order superblocks tenants).slabs
     ≡ opening_content order superblocks tenants
@@ -37,7 +37,7 @@ opening_is order superblocks tenants = λ i. record {
 
 -- The world after boot
 
--- if the configuration is bootable, its sizes are within the limits
+-- if a configuration is bootable, its order and its numbers of superblocks and tenants are at most the limits
 pub bootable : (c : Config) → is_bootable c ≡ true → (c.order ≤ MOST_ORDER) × (c.superblocks ≤ MOST_SUPERBLOCKS) × (c.tenants ≤ MOST_TENANTS)
 bootable c is =
     let first = and_parts (is_between LEAST_ORDER MOST_ORDER c.order) (is_between 1 MOST_SUPERBLOCKS c.superblocks && is_between 1 MOST_TENANTS c.tenants) is in

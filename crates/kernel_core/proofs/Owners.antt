@@ -1,4 +1,4 @@
--- The owners of superblocks.
+-- For each held slot, exactly one superblock has this slot as its owner.
 use Rattle.model_core.specs.declared.owner.Owner.{Owner}
 use Rattle.std.proofs.Common.{◌≡◌, ◌≢◌, ℕ, ◌<◌, ◌==◌, ◌&&◌, true, false, if◌then◌else◌, Option, Some, None, length, map, slice_index_or, slice_set, sym, ap, ◌∙◌, ⊎_elim, arith}
 use Rattle.std.specs.List.{position_or_len}
@@ -12,7 +12,7 @@ use Rattle.world_core.specs.World.{given_up}
 use Rattle.world_core.proofs.OwnListRuns.{is_same}
 use Rattle.machine_changes.proofs.Lookups.{some_none, some_same}
 
--- an owner is determined by its tenant and its slot
+-- if the test `is_owner t u` passes, the owner is slot u of tenant t
 pub owner_is : (t u : ℕ) (o : Option Owner) → is_owner t u o ≡ true → o ≡ Some (owned_by t u)
 owner_is t u None fails = absurd (false≢true fails)
 owner_is t u (Some o) owns =
@@ -24,7 +24,7 @@ owner_is t u (Some o) owns =
 pub owner_self : (t u : ℕ) → is_owner t u (Some (owned_by t u)) ≡ true
 owner_self t u = ap (λ b. b && (u == u)) (is_same t) ∙ is_same u
 
--- superblock m is the one in slot u of tenant t
+-- superblock m, and no other superblock, has slot u of tenant t as its owner
 pub record IsUnder (s : spaces.Content) (t u m : ℕ) : Type 0 where
   pub within : m < length s.owners
   pub owner : spaces.owner_at s.owners m ≡ Some (owned_by t u)
@@ -40,14 +40,14 @@ is_under s t u m space here = record {
       other (some_same (sym ((space.agree t u n).1 (owner_is t u (spaces.owner_at s.owners n) owns)) ∙ here)));
 }
 
--- a search for the owner of slot u of tenant t finds superblock m
+-- a search for the superblock whose owner is slot u of tenant t finds m
 pub found_under : (s : spaces.Content) (t u m : ℕ) → IsUnder s t u m → position_or_len (is_owner t u) s.owners ≡ m
 found_under s t u m under =
     position_or_len_is (is_owner t u) s.owners m None (omega (arith, under.within))
     (λ n below. under.only n (λ same. absurd (omega arith)))
     (λ _. ap (is_owner t u) under.owner ∙ owner_self t u)
 
--- if superblock m loses its owner, all superblocks in slot u of tenant t have lost their owners, and no others have
+-- removing the owner of superblock m gives the same owners as removing slot u of tenant t wherever it is the owner
 pub given_up_one : (s : spaces.Content) (t u m : ℕ) → IsUnder s t u m → slice_set s.owners m None ≡ map (given_up (is_owner t u)) s.owners
 given_up_one s t u m under =
     same_lists (slice_set s.owners m None) (map (given_up (is_owner t u)) s.owners)

@@ -1,4 +1,4 @@
--- The figures of a report follow from the tenant's figures in the buddy system.
+-- The page figures of a report follow from the tenant's figures in the buddy system.
 use Rattle.std.proofs.Common.{◌≡◌, ◌≢◌, ℕ, ◌+◌, ◌*◌, ◌%◌, ◌^◌, ◌<◌, ◌≤◌, cond, List, [], ◌∷◌, ◌++◌, Option, Some, None, sym, ap, ◌∙◌, add-one, arith, length, ap₂}
 use Rattle.std.specs.Prelude.{IfSome}
 use Rattle.std.proofs.lemmas.Bool.{eq-eqb, ne_eqb}
@@ -37,7 +37,8 @@ pub greatest_none : (count : ℕ → ℕ) (k : ℕ) (o : Option ℕ) → o ≡ g
 greatest_none count k o e none =
     e ∙ sym (ap (greatest count) (add-one k) ∙ ap (λ v. cond v (greatest count k) (Some k)) (eq-eqb (count k) 0 none))
 
--- adding the frames of order k gives the frames of the orders below k + 1, without overflow
+-- Let `live` be the number of frames in taken blocks of orders below k. Adding the frames in taken blocks of order k gives the
+-- number for orders below k + 1. It is at most 65536, so there is no overflow.
 pub live_more : (b : buddies.Content) (t k live taken : ℕ) → AreWithin b t → k < b.top + 1 → live ≡ frames_below (buddies.holding_of t b) k
     → taken ≡ buddies.taken_block_count k (buddies.holding_of t b)
     → (live + taken * 2 ^ k % 4294967296 ≡ frames_below (buddies.holding_of t b) (k + 1)) × (frames_below (buddies.holding_of t b) (k + 1) ≤ 65536)
@@ -56,7 +57,7 @@ pub below_more : (o : Option ℕ) (k : ℕ) → IfSome o (λ j. j < k) → IfSom
 below_more None k is = is
 below_more (Some j) k is = omega arith
 
--- the figures of an existing tenant are within their limits
+-- the figures of an existing tenant in the buddy system are within their limits
 pub within : (k : KernelContent) (t : ℕ) → PartsAgree k → HoldTogether k.space k.buddy k.slabs → t < k.tenants → AreWithin k.buddy t
 within k t agree holds known = figures_fit k.buddy t holds.buddy (omega (arith, agree.holdings))
 
@@ -66,7 +67,7 @@ meet k t m agree holds known shown =
     let inside : t < length k.buddy.tenants = omega (arith, agree.holdings) in
     figures_meet k.space k.buddy k.slabs t m holds.agree (steady k.space k.buddy k.slabs t holds inside) holds.buddy inside shown
 
--- the number of frames in taken blocks is at most the number in held slots, which the code computes in 32 bits
+-- the number of frames in held slots, as the code computes it in 32 bits, is at least the number of frames in taken blocks
 pub live_below : (b : buddies.Content) (t slots order live : ℕ) → AreWithin b t → slots ≡ buddies.held_slots (buddies.holding_of t b) → order ≡ b.top
     → live ≡ frames_below (buddies.holding_of t b) (b.top + 1) → live ≤ slots * 2 ^ order % 4294967296
 live_below b t slots order live small e e' live_is =
@@ -83,19 +84,20 @@ frames_read b t m slots order has within e e' =
     let held = has.held in
     omega arith
 
--- if no frame is free, the greatest order of a free block is `None`
+-- if no frame is free, the machine's `greatest_free` is `None`
 pub top_none : (order : ℕ) (m : Machine) (free : ℕ) (top : Option ℕ) → free ≡ frames_free order m → free ≡ 0 → top ≡ None
     → top ≡ greatest_free order m
 top_none order m free top e none is =
     is ∙ sym (ap (λ v. cond v None (greatest (free_count order m) (order + 1))) (eq-eqb (frames_free order m) 0 (sym e ∙ none)))
 
--- if some frame is free, the greatest order that has free blocks is the greatest order of a free block
+-- if some frame is free, the machine's `greatest_free` is the greatest order, up to the order of a slot, that has free blocks
 pub top_some : (order : ℕ) (m : Machine) (free : ℕ) (top : Option ℕ) → free ≡ frames_free order m → free ≢ 0
     → top ≡ greatest (free_count order m) (order + 1) → top ≡ greatest_free order m
 top_some order m free top e some is =
     is ∙ sym (ap (λ v. cond v None (greatest (free_count order m) (order + 1))) (ne_eqb (frames_free order m) 0 (λ none. some (e ∙ none))))
 
--- if each figure is the machine's, the report is the machine's
+-- if the figures and rows of a report are the machine's, and its split follows from them, the report is the machine's
+-- `figures_of`
 pub figures_are : (order : ℕ) (m : Machine) (frames live free : ℕ) (top : Option ℕ) (split : ℕ) (orders : List OrderRow) (caches : List CacheRow)
     → frames ≡ frames_held order m → live ≡ frames_taken m → free ≡ frames_free order m → top ≡ greatest_free order m
     → split ≡ split_share free top → orders ≡ order_rows order m (order + 1) → caches ≡ rows_of_caches m

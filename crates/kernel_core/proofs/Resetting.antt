@@ -1,4 +1,4 @@
--- Resetting a tenant, and the table of owners.
+-- The event `reset` takes back all superblocks of a tenant. The event `pool` returns the table of owners.
 use Rattle.model_core.specs.declared.owner.Owner.{Owner}
 use Rattle.std.proofs.Common.{◌≡◌, ◌≢◌, ℕ, ◌+◌, ◌<◌, ◌≤◌, nat_lt, true, if◌then◌else◌, Option, Some, None, length, map, take, count_by, slice_index_or, slice_set, refl, sym, ap, ◌∙◌, ⊎_elim, arith, List, slice_get, subst}
 use Rattle.std.proofs.lemmas.Bool.{cases_eq, cases_lt, eq-eqb, lt-ltb, le-ltb}
@@ -59,7 +59,7 @@ next_less n m other = ⊎_elim
     (λ le. le-ltb n (m + 1) (omega (arith, other)) ∙ sym (le-ltb n m le))
     (cases_lt n m)
 
--- if superblock m is the tenant's and is taken back too, the tenant's superblocks below m + 1 are taken back
+-- if the tenant's superblocks below m are taken back, and then its superblock m, all its superblocks below m + 1 are taken back
 pub giving_takes : (old now : Content) (t slot m told : ℕ) → IsGivingUp old now t m told → IsSpace now → OthersStay now → m < length old.owners → owner_at now.owners m ≡ Some (owned_by t slot)
     → IsGivingUp old (with_take_back now t slot m) t (m + 1) (told + 1)
 giving_takes old now t slot m told g space stay below own =
@@ -179,7 +179,7 @@ does_reset r r' b s s' t told g =
 abbrev pub reset_reply : ℕ → ℕ → Reply
 reset_reply t told = record { addressee = To.Admin; body = WasReset t told }
 
--- the world after a reset
+-- the reply to a reset, and the world after it; `os` are the owners before it
 abbrev reset_world : World → ℕ → ℕ → List (Option Owner) → WorldStep
 reset_world w t told os = record { reply = reset_reply t told; world = record { owners = map (given_up (is_of t)) os; machines = slice_set w.machines t empty_machine } }
 
@@ -202,7 +202,7 @@ reset_without_tenant k t unknown =
     steps_answered k (On.Admin (Do.Reset t)) To.Admin (Refused NoTenant)
     (λ w shown. ap (λ o. reset_step t w o) (slice_get_past w.machines t (omega (arith, shown.tenants))))
 
--- returning the owner of each superblock is the step of the event `pool`
+-- a call that changes nothing and returns the owner of each superblock is a step of the event `pool`
 pub steps_told : (k : KernelContent) (owners : List (Option Owner)) → owners ≡ k.space.owners → Steps k (On.Admin Do.Pool) k (record { addressee = To.Admin; body = Owners (record { items = owners }) })
 unfolding world_step
 steps_told k owners same = steps_answered k (On.Admin Do.Pool) To.Admin (Owners (record { items = owners }))

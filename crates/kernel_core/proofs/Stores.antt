@@ -1,4 +1,4 @@
--- A store is the step of a write, and a load returns the byte of the private machine.
+-- A store in place is a step of the command `write`, and a load in place returns the byte of the private machine.
 use Rattle.std.proofs.Common.{◌≡◌, ℕ, ◌<◌, List, length, refl, sym, ◌∙◌, subst, arith}
 use Rattle.words_core.specs.declared.event.Event.{Event}
 use Rattle.words_core.specs.declared.event.Event.TheVariants.{Tenant}

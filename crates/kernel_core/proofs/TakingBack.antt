@@ -120,7 +120,7 @@ take_without_tenant k t u unknown =
     steps_answered k (On.Admin (Do.TakeBack t u)) To.Admin (Refused NoTenant)
     (λ w shown. ap (λ o. slot_step k.order t u w o) (slice_get_past w.machines t (omega (arith, shown.tenants))))
 
--- if the machine refuses a take-back, so does the kernel, with the same refusal
+-- if a take-back that changes nothing returns a refusal, the event gets the same refusal in the world
 pub take_refused : (k : KernelContent) (t n u : ℕ) (refusal : TakeBackRefusal) → t ≡ n → t < k.tenants → Does k t (take_back_step k.order u) k.space.owners k (Err refusal)
     → Steps k (On.Admin (Do.TakeBack n u)) k (record { addressee = To.Admin; body = Refused (take_back_refusal refusal) })
 take_refused k t n u refusal same known does =

@@ -1,4 +1,4 @@
--- A kernel before its first event shows its opening world.
+-- After boot with superblocks of 8 frames, a kernel shows the opening world.
 use Rattle.std.proofs.Common.{ℕ, ◌≤◌, refl, arith}
 use Rattle.std.proofs.lemmas.List.{length-replicate}
 use Rattle.model_core.specs.declared.limits.TheConstants.{MOST_SUPERBLOCKS, MOST_TENANTS}

@@ -1,6 +1,7 @@
--- Instances of the laws of worlds, of stores and of actions. In one world tenant 0 is alone. It allocates a frame, stores 100
--- bytes there, which is more than one write can have, and reads the last of them. In the other world tenant 1 comes first. It
--- allocates a frame and stores bytes of its own.
+-- Instances of the laws of worlds, of stores and of actions, for two lists of actions. In the list `alone`, only tenant 0 acts.
+-- It gets a superblock, allocates a frame, stores 100 bytes there, which is more than one write can have, and loads and reads the
+-- last of them. In the list `beside`, tenant 0 does the same. Before that, tenant 1 gets a superblock, allocates a frame and
+-- stores its own bytes. It stores once more before tenant 0 loads.
 use Rattle.std.proofs.Common.{◌≡◌, ℕ, List, [], ◌∷◌, Some, None, refl, ◌∙◌, arith, length, ◌<◌, position, is_none}
 use Rattle.std.specs.Prelude.{replicate}
 use Rattle.model_core.specs.Machine.{empty_machine}
@@ -30,7 +31,7 @@ use Rattle.kernel_core.proofs.Stores.{stores_are_writes}
 abbrev pub bytes : List ℕ
 bytes = replicate 100 7
 
--- superblock m, the first without an owner, can be granted to a tenant in slot 0, which the tenant does not hold
+-- if a tenant does not hold slot 0, the first superblock without an owner can be granted to the tenant in slot 0
 pub first_slot : (r : spaces.Content) (b : buddies.Content) (t m : ℕ) → HoldTogether r b no_slabs → t < length b.tenants → position is_none r.owners ≡ Some m
     → spaces.superblock_at r.slots t 0 ≡ None → m < length r.owners → IsGrantable r b no_slabs t 0 m
 first_slot r b t m together tenant free vacant below = record {
@@ -114,7 +115,7 @@ beside_5 = content_of space_of_both (holders (Some 1) (Some 0) (Some 0) (Some 0)
 abbrev pub beside_6 : KernelContent
 beside_6 = record beside_5 { space = stored 0 5 bytes space_of_both }
 
--- tenant 1 stores at the place where tenant 0 loads later
+-- tenant 1 has stored a byte at its own place 104; tenant 0 loads from its own place 104 later
 abbrev pub beside_7 : KernelContent
 beside_7 = record beside_6 { space = stored 1 104 (9 ∷ []) beside_6.space }
 
@@ -209,7 +210,7 @@ beside_acts = (
 
 -- The laws
 
--- before and after the first grant, the kernel shows no other world than the one named here
+-- before and after the first grant, the kernel shows only the world that is given here
 OneWorld-met : OneWorld → ((w : World) → Shows opened w → w ≡ opening_world 2 2)
     × ((w : World) → Shows alone_1 w → w ≡ (world_step cache_limit 3 (On.Admin (Do.Grant 0)) (opening_world 2 2)).world)
 OneWorld-met law = (
@@ -232,7 +233,7 @@ LoadsAreOwn-met law =
     (alone_1, alone_granted, (alone_2, alone_taken, (alone_3, alone_stored, refl)))).has in
     law alone_3 has.world _ 0 104 7 has.kernel has.shows has.machine alone_loaded
 
--- tenant 0 sees the same in both worlds, and has the same own list
+-- with each of the two lists of actions, tenant 0 sees the sights `seen`, and its own list is `own_list`
 abbrev seen : List Sight
 seen = Told (Frame 0) ∷ Loaded (Some 7) ∷ Told (Bytes (record { items = 7 ∷ [] })) ∷ []
 

@@ -1,4 +1,5 @@
--- `lend_within` lends the window of `window_in` under a new name. The proof follows its MIR by hand.
+-- `lend_within` lends the bytes that `window_in` returns, under a new ghost name. The proof goes through the function's MIR by
+-- hand.
 use Rattle.std.proofs.Common.{◌≡◌, ℕ, List, [], ◌∷◌, Option, Some, unwrap_or, length, refl, sym, ap, w8, w16, w32, MutBor}
 use mir.Syntax.{named}
 use mir.Val.{vptr, vint}

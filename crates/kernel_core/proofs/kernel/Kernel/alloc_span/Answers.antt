@@ -11,7 +11,7 @@ use Rattle.kernel_core.proofs.LendSpans.{page_few, page_live, page_span, reply_u
 use Rattle.kernel_core.proofs.kernel.Kernel.alloc_span.Goals as goal
 use Rattle.kernel_core.proofs.kernel.Kernel.alloc_span.Goals.{After-laws-2}
 
--- the tenant is there afterwards
+-- the tenant still exists after the block is allocated
 there : (c : After-laws-2) → c.in-Some.t < c.alloc_block.new.self.tenants
 there c = let same = c.in_ok-block.ensures.steps.does.sizes.tenants in let before = c.in-Some.ensures.1 in omega arith
 

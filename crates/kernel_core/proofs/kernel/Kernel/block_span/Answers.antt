@@ -18,7 +18,7 @@ use Rattle.kernel_core.proofs.kernel.Kernel.block_span.Goals.{After-machine_of, 
 asked : (c : After-machine_of) → IsRequested c.self.inside.space c.self.inside.buddy c.self.inside.slabs c.in-Some.t
 asked c = record { together = opened _ _ _ _ c.self.view_is c.laws.ensures.together; tenant = known _ _ _ _ c.in-Some.t c.self.view_is c.in-Some.ensures.1 }
 
--- if the tenant exists and has no page block around the place, nothing is lent
+-- if the tenant exists and has no page block around the place, `OutOfReach` is the right refusal
 not_lent : (k : KernelContent) (t tenant place : ℕ) → (t ≡ tenant) × (t < k.tenants)
     → ((m : Machine) → ShowsMachine k t m → IsTaken (order_in m.blocks) (place / 4096) → ⊥)
     → IsNotLent k tenant (λ refusal. (refusal ≡ OutOfReach) × ((m : Machine) → ShowsMachine k tenant m → IsTaken (order_in m.blocks) (place / 4096) → ⊥)) OutOfReach
@@ -26,7 +26,7 @@ not_lent k t tenant place same none =
     inr (refused_for k t tenant
     (λ u. (◌≡◌ {A = Refusal} OutOfReach OutOfReach) × ((m : Machine) → ShowsMachine k u m → IsTaken (order_in m.blocks) (place / 4096) → ⊥)) same.0 same.1 (refl, none))
 
--- the superblock that was read is the one in the slot
+-- `machine_of` returned the superblock in the slot of the place
 read : (c : After-machine_of) → superblock_at c.self.inside.space.slots c.in-Some.t (c.args.place / 4096 / 2 ^ c.self.inside.slabs.top) ≡ c.machine_of.result
 read c =
     let top = sym c.self.invariant.order ∙ (ap (λ (x : KernelContent). x.order) c.self.view_is ∙ sym c.order.ensures) in
@@ -54,7 +54,7 @@ machine_frame_in-machine_frame-requires c =
     (ap (λ n. superblock_at k.space.slots c.in-Some.t (c.in-Some-block_in.first / 2 ^ n)) c.self.invariant.order
     ∙ (ap (superblock_at k.space.slots c.in-Some.t) same ∙ (read a ∙ c.in-Some-machine_of.is)))
 
--- the call returned whether a slab begins at the block
+-- `is_slab_in` returned whether a slab begins at the first frame of the block
 told : (c : After-is_slab_in) → has_slab c.self.inside.slabs (machine_frame_of c.self.inside.slabs.top c.self.inside.space.slots c.in-Some.t c.in-Some-block_in.first) ≡ c.is_slab_in.result
 told c =
     ap (has_slab c.self.inside.slabs) (ap (λ (k : KernelContent). machine_frame_of k.slabs.top k.space.slots c.in-Some.t c.in-Some-block_in.first) c.self.view_is ∙ c.machine_frame_in-machine_frame.ensures.value)

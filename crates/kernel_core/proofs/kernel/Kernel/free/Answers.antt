@@ -18,7 +18,7 @@ returns-in_default c =
     ∙ sym c.in_default.ensures.value in
     rw (← c.self.view_is) (free_unheld k.space k.buddy k.slabs c.args.t c.args.frame (steady _ _ _ c.args.t together (known _ _ _ _ c.args.t c.self.view_is c.requires)) none)
 
--- the call returned whether a slab begins at the frame
+-- `is_slab_in` returned whether a slab begins at the frame
 told : (c : After-is_slab_in) → has_slab c.self.inside.slabs (machine_frame_of c.self.inside.slabs.top c.self.inside.space.slots c.args.t c.args.frame) ≡ c.is_slab_in.result
 told c =
     ap (has_slab c.self.inside.slabs) (ap (λ (k : KernelContent). machine_frame_of k.slabs.top k.space.slots c.args.t c.args.frame) c.self.view_is ∙ c.machine_frame_in-machine_frame.ensures.value)

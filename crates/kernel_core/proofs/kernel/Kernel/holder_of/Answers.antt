@@ -13,7 +13,7 @@ use Rattle.kernel_core.proofs.kernel.Kernel.holder_of.Goals.{After-machine_of, A
 asked : (c : After-machine_of) → IsRequested c.self.inside.space c.self.inside.buddy c.self.inside.slabs c.args.t
 asked c = record { together = opened _ _ _ _ c.self.view_is c.laws.ensures.together; tenant = known _ _ _ _ c.args.t c.self.view_is c.requires }
 
--- the superblock that was read is the one in the slot
+-- `machine_of` returned the superblock in the slot of the place
 read : (c : After-machine_of) → superblock_at c.self.inside.space.slots c.args.t (c.args.place / 4096 / 2 ^ c.self.inside.slabs.top) ≡ c.machine_of.result
 read c =
     let top = sym c.self.invariant.order ∙ (ap (λ (x : KernelContent). x.order) c.self.view_is ∙ sym c.order.ensures) in
@@ -39,7 +39,7 @@ machine_frame_in-machine_frame-requires c =
     (ap (λ n. superblock_at k.space.slots c.args.t (c.in_ok-first.first / 2 ^ n)) c.self.invariant.order
     ∙ (ap (superblock_at k.space.slots c.args.t) same ∙ (read a ∙ c.in_ok-superblock.was)))
 
--- the call returned whether a slab begins at the block
+-- `is_slab_in` returned whether a slab begins at the first frame of the block
 told : (c : After-is_slab_in) → has_slab c.self.inside.slabs (machine_frame_of c.self.inside.slabs.top c.self.inside.space.slots c.args.t c.in_ok-first.first) ≡ c.is_slab_in.result
 told c =
     ap (has_slab c.self.inside.slabs) (ap (λ (k : KernelContent). machine_frame_of k.slabs.top k.space.slots c.args.t c.in_ok-first.first) c.self.view_is ∙ c.machine_frame_in-machine_frame.ensures.value)

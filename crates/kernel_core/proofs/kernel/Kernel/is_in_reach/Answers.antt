@@ -27,7 +27,8 @@ only_second (inr q) first = q
 lent : (c : After-block_in) → IsSteady c.self.inside.space c.self.inside.buddy c.self.inside.slabs c.args.t
 lent c = steady _ _ _ c.args.t (opened _ _ _ _ c.self.view_is c.laws.ensures.together) (known _ _ _ _ c.args.t c.self.view_is c.requires.tenant)
 
--- a taken block has at most 256 frames
+-- The taken block has an order of at most 8, so its number of frames is at most 256 and does not overflow. Its first frame is
+-- below 65536.
 small : (c : After-machine_frame_in-machine_frame) → (1 * 2 ^ c.in-Some.order % 18446744073709551616 ≡ 2 ^ c.in-Some.order) × (0 < 2 ^ c.in-Some.order) × (2 ^ c.in-Some.order ≤ 256)
     × (c.in-Some.order ≤ 8) × (c.in-Some.first < 65536)
 small c =
@@ -37,13 +38,13 @@ small c =
     let shift = small_shift c.in-Some.order few in
     (shift.0, shift.1, shift.2, few, st.few c.in-Some.first c.in-Some.order c.in-Some.ensures.0)
 
--- the call returned whether a slab begins at the block
+-- `is_slab_in` returned whether a slab begins at the first frame of the block
 told : (c : After-is_slab_in) → has_slab c.self.inside.slabs (machine_frame_of c.self.inside.slabs.top c.self.inside.space.slots c.args.t c.in-Some.first) ≡ c.is_slab_in.result
 told c =
     ap (has_slab c.self.inside.slabs) (ap (λ (k : KernelContent). machine_frame_of k.slabs.top k.space.slots c.args.t c.in-Some.first) c.self.view_is ∙ c.machine_frame_in-machine_frame.ensures.value)
     ∙ sym c.is_slab_in.ensures
 
--- the block lies in the slot of the range
+-- the block that contains the place lies in the same slot as the place
 pub machine_frame_in-machine_frame-requires : goal.machine_frame_in-machine_frame-requires
 machine_frame_in-machine_frame-requires c =
     let k = c.self.inside in

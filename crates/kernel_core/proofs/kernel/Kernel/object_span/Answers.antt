@@ -11,7 +11,7 @@ use Rattle.kernel_core.proofs.kernel.Kernel.object_span.Goals.{After-machine_of}
 asked : (c : After-machine_of) → IsRequested c.self.inside.space c.self.inside.buddy c.self.inside.slabs c.in-Some.t
 asked c = record { together = opened _ _ _ _ c.self.view_is c.laws.ensures.together; tenant = known _ _ _ _ c.in-Some.t c.self.view_is c.in-Some.ensures.1 }
 
--- the superblock that was read is the one in the slot
+-- `machine_of` returned the superblock in the slot of the place
 read : (c : After-machine_of) → superblock_at c.self.inside.space.slots c.in-Some.t (c.args.place / 4096 / 2 ^ c.self.inside.slabs.top) ≡ c.machine_of.result
 read c =
     let top = sym c.self.invariant.order ∙ (ap (λ (x : KernelContent). x.order) c.self.view_is ∙ sym c.order.ensures) in

@@ -7,7 +7,7 @@ use Rattle.kernel_core.proofs.kernel.Kernel.reached.Goals.{After-machine_of}
 asked : (c : After-machine_of) → IsRequested c.args.self.now.space c.args.self.now.buddy c.args.self.now.slabs c.args.t
 asked c = record { together = c.laws.ensures.together; tenant = omega (arith, c.requires, c.laws.ensures.agree.holdings) }
 
--- the superblock that was read is the one in the slot
+-- `machine_of` returned the superblock in the slot of the place
 read : (c : After-machine_of) → superblock_at c.args.self.now c.args.t (c.args.place / 4096 / 2 ^ c.args.self.now.slabs.top) ≡ c.machine_of.result
 read c =
     let top = sym c.laws.ensures.together.agree.order ∙ (c.laws.ensures.agree.top ∙ sym c.order.ensures) in

@@ -22,7 +22,7 @@ returns-in_default-drop_slot-clause-steps c = λ agree.
     (take_refused _ c.in-Some.t c.args.tenant c.args.slot TakeBackRefusal.SlotBusy c.in-Some.ensures.0 known
     (take_busy _ _ _ c.in-Some.t c.args.slot c.in-Some-machine_of.superblock held known (sym c.in-Some-machine_of.ensures.value) c.in_default-drop_slot.ensures.busy.0))
 
--- the memory takes back the superblock that was in the slot
+-- the superblock that the memory's `take_back` returned is the one that was in the slot
 same : (c : In-Ok-take_back) → c.in-Ok-take_back.field-0 ≡ c.in-Some-machine_of.superblock
 same c = some_same (sym c.in-Ok-take_back.ensures.superblock ∙ sym c.in-Some-machine_of.ensures.value)
 
