@@ -1,4 +1,5 @@
--- Lines that are processed one after another.
+-- If some lines were processed, and then the lines after them, all these lines were processed. The last line of a trace needs no
+-- LF.
 use Rattle.std.proofs.Common.{◌≡◌, ℕ, ◌<◌, Bool, true, false, inl, inr, List, [], ◌∷◌, ◌++◌, Result, Ok, Err, Option, length, refl, ap, sym, subst, ◌∙◌, append_assoc, arith}
 use Rattle.std.proofs.lemmas.List.{append-nil, nil_from_length}
 use Rattle.std.specs.Io.KnownBytes.{Appends, Keeps}
@@ -98,8 +99,8 @@ module _ {S : Type 0} (does : S → List ℕ → List ℕ → List ℕ → S →
   result_on (Ok x) now_of s mid s' bytes rest old now new gone h = gone_on s mid s' bytes rest (now_of x) old now new gone h
   result_on (Err e) now_of s mid s' bytes rest old now new gone h = stopped_on s mid s' bytes rest old now new gone h
 
-  -- if `rest` is `part`, an LF and `after`, and the line `held ++ part` was processed in full, all lines before `after` were
-  -- processed
+  -- Let the lines before `held ++ rest` be processed, and let `rest` be `part`, an LF and `after`. If the line `held ++ part` was
+  -- then processed in full, all lines before `after` were processed.
   pub gone_end : (s mid s' : S) (bytes held rest part after : List ℕ) (old now new : Option (List ℕ)) → HasGone does s bytes (held ++ rest) old now mid
       → IsOneLine held → IsOneLine part → rest ≡ (part ++ 10 ∷ []) ++ after → HasDone does mid (held ++ part) now new (Ok tt) s'
       → HasGone does s bytes after old new s'
@@ -113,7 +114,8 @@ module _ {S : Type 0} (does : S → List ℕ → List ℕ → List ℕ → S →
         appended = done.appended;
       })
 
-  -- if `rest` is `part`, an LF and `after`, and the drain failed in the line `held ++ part`, it failed in a line of the bytes
+  -- Let the lines before `held ++ rest` be processed, and let `rest` be `part`, an LF and `after`. If the drain then failed in
+  -- the line `held ++ part`, it failed in a line of `bytes`.
   pub stopped_end : (s mid s' : S) (bytes held rest part after : List ℕ) (old now new : Option (List ℕ)) (stopped : Stopped)
       → HasGone does s bytes (held ++ rest) old now mid → IsOneLine held → IsOneLine part → rest ≡ (part ++ 10 ∷ []) ++ after
       → HasDone does mid (held ++ part) now new (Err stopped) s' → HasStopped does s bytes old new s'
@@ -128,7 +130,8 @@ module _ {S : Type 0} (does : S → List ℕ → List ℕ → List ℕ → S →
     done = done;
   }
 
-  -- if more bytes are given, the same lines were processed, and these bytes are left too, even if the drain has sent what it took
+  -- After more bytes are given, the same lines are processed and these bytes are left too. In between, the drain may have sent
+  -- what it took.
   pub gone_given : (s s' : S) (bytes rest more : List ℕ) (old now new : Option (List ℕ)) → HasGone does s bytes rest old now s' → Keeps now new
       → HasGone does s (bytes ++ more) (rest ++ more) old new s'
   gone_given s s' bytes rest more old now new gone kept = record {
@@ -227,7 +230,7 @@ module _ {S : Type 0} (does : S → List ℕ → List ℕ → List ℕ → S →
         ),
       )
 
--- the effect of an unfinished line that has bytes is the one that `leaves` gives
+-- if an unfinished line has bytes and the effect `leaves`, `HasLeft` holds for it
 pub has_left : {S : Type 0} (leaves : S → List ℕ → S → Type 0) (s : S) (tail : List ℕ) (s' : S) → 0 < length tail → leaves s tail s' → HasLeft leaves s tail s'
 has_left leaves s [] s' some left = absurd (omega (arith, some))
 has_left leaves s (b ∷ tail) s' some left = left
@@ -257,7 +260,8 @@ pub is_err_of : (r : Result (Unit {0}) Stopped) → is_err r ≡ true → (e : S
 is_err_of (Ok x) failed = cc
 is_err_of (Err e) failed = (e, refl)
 
--- if a line had the effect `first`, and the rest of its effect leads on to `does`, the line had the effect `does`
+-- If a line had the effect `first` up to state `mid`, and `first` up to `mid` implies `does` up to s', the line had the effect
+-- `does` up to s'.
 pub done_then : {S : Type 0} (first does : S → List ℕ → List ℕ → List ℕ → S → Type 0) (s mid s' : S) (line : List ℕ) (old new : Option (List ℕ))
     (result : Result (Unit {0}) Stopped) → HasDone first s line old new result mid
     → ((taken rest : List ℕ) → first s line taken rest mid → does s line taken rest s') → HasDone does s line old new result s'

@@ -1,4 +1,4 @@
--- A quick line at the front of a piece.
+-- The line at the front of a piece: where it ends, and what `HasDoneFront` says of it.
 use Rattle.std.proofs.Common.{◌≡◌, ℕ, ◌-◌, true, List, [], ◌∷◌, ◌++◌, Option, Some, Result, Ok, Err, take, drop, ap, subst, ◌∙◌, arith}
 use Rattle.std.specs.Result.{is_err}
 use Rattle.words_core.specs.declared.event.Command.{Command}
@@ -9,7 +9,7 @@ use Rattle.streams.proofs.LineLemmas.{found_cut}
 use Rattle.replay_core.specs.Doing.{HasDone}
 use Rattle.replay_core.specs.QuickLine.{EndsFront, HasDoneFront}
 
--- the bytes are a line of `len - 1` bytes, its LF, and the bytes after it
+-- if the first line of the bytes has `len` bytes with its LF, the bytes are this line, its LF and the bytes after it
 pub front_ends : (rest : List ℕ) (len : ℕ) → EndsFront rest len
     → IsOneLine (take (len - 1) rest) × (rest ≡ (take (len - 1) rest ++ 10 ∷ []) ++ drop len rest)
 front_ends rest len ends =
@@ -24,7 +24,7 @@ pub front_at : {S : Type 0} (does : S → List ℕ → List ℕ → List ℕ →
 front_at does s bytes old new o len is s' h =
     subst (λ (o : Option ℕ). HasDoneFront does s bytes old new (Ok o) s') is h
 
--- if a request of `len` bytes was read, the first line of the bytes ends there
+-- if a request of `len` bytes was read, the first line of the bytes has `len` bytes with its LF
 pub read_ends : (bytes : List ℕ) (tenant : ℕ) (command : Command) (len : ℕ) → ReadsAs bytes tenant command len → EndsFront bytes len
 read_ends bytes tenant command len read = record { some = read.some; within = read.within; ended = read.ended }
 

@@ -1,4 +1,4 @@
--- Lines that end, and the bytes after the last of them.
+-- The lines of a trace are the lines that ended in LF, and then the lines of the bytes after them.
 use Rattle.std.proofs.Common.{◌≡◌, ℕ, ◌<◌, List, [], ◌∷◌, ◌++◌, length, refl, ap, ◌∙◌, arith, append_assoc}
 use Rattle.std.specs.List.{onto_first}
 use Rattle.words_core.specs.Cutting.{lines_of_trace}
@@ -30,7 +30,7 @@ last_line : (b : ℕ) (line : List ℕ) → IsOneLine (b ∷ line) → lines_of_
 last_line b [] h = rw h.0 refl
 last_line b (c ∷ line) h = rw h.0 (ap (onto_first b) (last_line c line h.1))
 
--- some bytes without an LF are one line of a trace
+-- if bytes are not empty and have no LF, they are one line of a trace
 pub one_line_cut : (line : List ℕ) → IsOneLine line → 0 < length line → lines_of_trace line ≡ line ∷ []
 one_line_cut [] h some = absurd (omega arith)
 one_line_cut (b ∷ line) h some = last_line b line h

@@ -29,8 +29,8 @@ take-more line bytes free is = elim (cases_lt 256 (length line)) [
       ap (λ n. take n (line ++ bytes)) e ∙ take-append-add line bytes free ∙ ap (λ xs. xs ++ take free bytes) (sym short)
 ]
 
--- if the next bytes fit behind the bytes held, they are added to them, and whether the line has more than 256 bytes does not
--- change
+-- If the next bytes fit behind the bytes held, both together are the first 256 bytes of the longer line. Whether the line has
+-- more than 256 bytes does not change.
 pub holds_fitting : (line bytes : List ℕ) → length bytes ≤ 256 - length (take 256 line)
     → (take 256 line ++ bytes ≡ take 256 (line ++ bytes)) × (nat_lt 256 (length line) ≡ nat_lt 256 (length (line ++ bytes)))
 holds_fitting line bytes fits =
@@ -44,7 +44,8 @@ holds_fitting line bytes fits =
       ],
     )
 
--- if the next bytes do not fit, those that fit are added, and the line then has more than 256 bytes
+-- If the next bytes do not fit, the bytes held and the next bytes that fit are the first 256 bytes of the longer line. This line
+-- has more than 256 bytes.
 pub holds_overflowing : (line bytes : List ℕ) → 256 - length (take 256 line) < length bytes
     → (take 256 line ++ take (256 - length (take 256 line)) bytes ≡ take 256 (line ++ bytes)) × (true ≡ nat_lt 256 (length (line ++ bytes)))
 holds_overflowing line bytes over =
@@ -66,7 +67,7 @@ stripped : (test : Bool) (line : List ℕ) → 256 < length line → 255 < lengt
 stripped true line h = omega (arith, length-take (length line - 1) line)
 stripped false line h = omega arith
 
--- a line of more than 256 bytes is too long, even if the last of them is a CR
+-- a line of more than 256 bytes is too long, even if its last byte is a CR
 pub overlong : (line : List ℕ) → 256 < length line → reading_of line ≡ Err Long
 overlong line h = reading_of-long line (stripped (nat_eq (slice_index line (length line - 1)) 13) line h)
 
@@ -80,7 +81,7 @@ event_short line event read = elim (cases_lt 256 (length line)) [
     no_fault : Err Long ≡ Ok (Some event) → ⊥
     no_fault h = cc
 
--- the bytes held are the line, or its front if it is too long
+-- the bytes held are the line, or its first 256 bytes if it is too long
 pub held_front : (line front : List ℕ) (pending : Pending) → HoldsLine line pending → front ≡ pending.held.items → IsFrontOf line front
 held_front line front pending holds is = record {
   same = ap (λ xs. take 256 xs) (is ∙ holds.front) ∙ take-take 256 256 line (omega arith);

@@ -1,4 +1,4 @@
--- The bytes that the drain takes keep the promises.
+-- The replies whose text the drain takes keep the promises.
 use Rattle.std.proofs.Common.{◌≡◌, ℕ, ◌*◌, ◌^◌, ◌≤◌, Bool, List, [], ◌∷◌, ◌++◌, length, Option, None, Err, ap, sym, subst, ◌∙◌}
 use Rattle.std.proofs.lemmas.List.{length-replicate}
 use Rattle.model_core.specs.declared.limits.TheConstants.{MOST_SUPERBLOCKS}

@@ -1,4 +1,4 @@
--- Bytes that are pushed one part after another.
+-- If a text is pushed part by part, the bytes that the drain took are together a prefix of the text.
 use Rattle.std.proofs.Common.{◌≡◌, ℕ, zero, suc, ◌+◌, ◌<◌, ◌≤◌, Bool, true, false, List, [], ◌∷◌, ◌++◌, Option, Some, Result, Ok, Err, length, take, drop, refl, sym, ap, subst, ◌∙◌, arith, add-one, append_assoc, length-append, take-append-drop}
 use Rattle.std.proofs.lemmas.List.{append-nil, length-take-le}
 use Rattle.std.specs.List.{concat, slice_get}
@@ -61,7 +61,7 @@ pushed_all old new failing text rest written written' had none fine = record {
   failed = fine;
 }
 
--- if the test for emptiness is false, there is a byte
+-- if the test for an empty list fails, the list has a byte
 pub some_left : (bytes : List ℕ) (test : Bool) → test ≡ nat_eq (length bytes) 0 → test ≡ false → 0 < length bytes
 some_left bytes test is full = grind (arith, nat_tests)
 
@@ -69,7 +69,7 @@ part_at_err : (result : Result (Unit {0}) Stopped) (rest : List ℕ) → is_err 
 part_at_err (Ok x) rest failed some = cc
 part_at_err (Err e) rest failed some = some
 
--- if the drain failed before it took any of the rest, the text was taken up to the rest
+-- if the drain failed before it took any byte of `rest`, it took exactly the text before `rest`
 pub pushed_to : (old now new : Option (List ℕ)) (failing : Bool) (text rest : List ℕ) (written written' : ℕ) (result : Result (Unit {0}) Stopped)
     → is_err result ≡ true → HasPushedBut old now text rest written written' → Keeps now new → 0 < length rest → failing ≡ true
     → HasPushed old new failing text written written' result

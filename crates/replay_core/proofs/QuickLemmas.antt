@@ -1,4 +1,4 @@
--- A line at the front of a piece.
+-- The line at the front of a piece was answered in full, or the drain failed within its answer.
 use Rattle.std.proofs.Common.{◌≡◌, ℕ, ◌+◌, ◌-◌, ◌<◌, ◌≤◌, List, [], ◌∷◌, ◌++◌, Option, Some, length, take, drop, position, ◌==◌, ap, sym, ◌∙◌, arith, length-drop}
 use Rattle.std.specs.Prelude.{true, Result, Ok, Err}
 use Rattle.std.specs.Result.{is_err}
@@ -70,6 +70,6 @@ module _ {N : Type 0} (noting : Noting N) where
       front_failed (answers noting) s bytes old new r len stopped s' failed (read_ends bytes tenant command len read)
       (done_of_event noting s s' (take (len - 1) bytes) _ old new (Err stopped) read.reading done)
 
--- the length of the rest is the length of its first line and of the bytes after that line
+-- if `rest` has at least `len` bytes, its length is `len` and the number of bytes after the first `len`
 pub left_over : (rest : List ℕ) (len : ℕ) → len ≤ length rest → length (drop len rest) + len ≡ length rest
 left_over rest len within = omega (arith, length-drop len rest)

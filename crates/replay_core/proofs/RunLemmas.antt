@@ -1,4 +1,4 @@
--- A replay runs one more line.
+-- If a replay has run some lines and then processes the next line, it has run these lines and this line.
 use Rattle.std.proofs.Common.{◌≡◌, ℕ, suc, ◌+◌, Bool, List, [], ◌∷◌, ◌++◌, Result, Ok, Err, Option, Some, None, length, take, refl, ap, sym, subst, ◌∙◌, arith, append_assoc, length-append}
 use Rattle.std.proofs.lemmas.List.{append-nil}
 use Rattle.words_core.specs.declared.event.Event.{Event}
@@ -81,7 +81,7 @@ stands_more before now next xs line stands same shows = record {
       (shows _ (stands.shows w before_shows)));
 }
 
--- if a line shows a text in every world that the kernel shows now, it shows this text in the world that the lines before it leave
+-- if a line shows a text in every world that the kernel shows now, it shows this text in the world after the lines before it
 shown_here : (only : Option ℕ) (before now : KernelContent) (xs : List (List ℕ)) (line text : List ℕ) → StandsAfter before now xs
     → ((w : World) → Shows now w → shown_line only cache_limit now.order line w ≡ text)
     → (w : World) → Shows before w → shown_line only cache_limit before.order line (world_after cache_limit before.order w (events_of xs)) ≡ text
@@ -110,13 +110,13 @@ module _ {N : Type 0} (noting : Noting N) where
       ∙ ap (λ v. noted_reading noting only limit order (number + suc (length xs)) (take 256 line) (reading_of line) v sofar)
       (sym (world_both limit order (event_in (reading_of x)) (events_of xs) w))
 
-  -- `AreNoted` holds if the notes before and after the lines are replaced by equal notes
+  -- if `AreNoted` holds for notes before and after the lines, it holds for equal notes too
   pub noted_from : (only : Option ℕ) (before : KernelContent) (lines : List (List ℕ)) (first first' last last' : N) → first ≡ first' → last' ≡ last
       → AreNoted noting only before lines first last → AreNoted noting only before lines first' last'
   noted_from only before lines first first' last last' begun ended noted = λ w shows.
       ended ∙ noted w shows ∙ ap (noted_lines noting only cache_limit before.order 1 lines w) begun
 
-  -- a run shows the text that is shown with its `only`
+  -- if a run has this `only`, the text that it shows for a reading is the text that is shown with this `only`
   shown_to : (only : Option ℕ) (now : KernelContent) (reading : Result (Option Event) LineFault) (w : World) (run : Run N) (text : List ℕ) → run.replies.only ≡ only
       → shown_reading run.replies.only cache_limit now.order reading w ≡ text → shown_reading only cache_limit now.order reading w ≡ text
   shown_to only now reading w run text same shown = ap (λ o. shown_reading o cache_limit now.order reading w) (sym same) ∙ shown
@@ -205,7 +205,7 @@ module _ {N : Type 0} (noting : Noting N) where
         noted_now only before run.notes done line cut.earlier cut.here cut.rest cut.mid s ran did,
       )
 
-  -- if a line was processed by its reading, it was processed by its bytes
+  -- if `HasDone` holds for the reading of a line, it holds for the bytes of the line
   done_of_reading : (s s' : Run N × KernelContent) (line : List ℕ) (reading : Result (Option Event) LineFault) (old new : Option (List ℕ)) (result : Result (Unit {0}) Stopped)
       → reading_of line ≡ reading → HasDone (AnswersRead noting (take 256 line)) s reading old new result s' → HasDone (answers noting) s line old new result s'
   done_of_reading s s' line reading old new result is done = record {
@@ -216,7 +216,7 @@ module _ {N : Type 0} (noting : Noting N) where
     whole = done.whole;
   }
 
-  -- a line with an event can be processed without its front, since only faulty lines are noted by their front
+  -- a line with an event can be processed without its front, since only faulty lines are noted with their front
   pub done_of_event : (s s' : Run N × KernelContent) (line : List ℕ) (event : Event) (old new : Option (List ℕ)) (result : Result (Unit {0}) Stopped)
       → reading_of line ≡ Ok (Some event) → HasDone (AnswersRead noting []) s (Ok (Some event)) old new result s' → HasDone (answers noting) s line old new result s'
   done_of_event s s' line event old new result is done =
@@ -305,8 +305,7 @@ module _ {N : Type 0} (noting : Noting N) where
   noted_nobody None fault n = refl
   noted_nobody (Some t) fault n = refl
 
-  -- if a faulty line was noted and counted, and the reply to its fault was shown, which is addressed to nobody, the line was
-  -- processed
+  -- if a faulty line was noted and counted, and the reply to nobody with its fault was shown, the line was processed
   pub fault_done : (k : KernelContent) (run run' : Run N) (notes : N) (fault : LineFault) (line front : List ℕ) (old new : Option (List ℕ)) (failing : Bool) (result : Result (Unit {0}) Stopped)
       → reading_of line ≡ Err fault → take 256 front ≡ take 256 line
       → HasShown old new failing (shown_text run.replies.only (record { addressee = To.Nobody; body = Say.Fault fault })) run.replies run'.replies result

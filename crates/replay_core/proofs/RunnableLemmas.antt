@@ -22,7 +22,7 @@ possible_pattern (On.Tenant t Command.Reap) possible = tt
 possible_pattern (On.Tenant t Command.Report) possible = tt
 possible_pattern (On.Admin command) possible = tt
 
--- the reading of a line has no event, or one that a kernel can run
+-- the reading of a line has no event, or an event that a kernel can run
 pub read_is_runnable : (line : List ℕ) (reading : Result (Option Event) LineFault) → reading ≡ reading_of line → IsRunnable reading
 read_is_runnable line (Ok (Some event)) is = possible_pattern event (reading_possible line event (sym is))
 read_is_runnable line (Ok None) is = tt

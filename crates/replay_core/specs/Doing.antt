@@ -1,5 +1,5 @@
--- Lines that are processed one after another. `does` is the effect of one line: it leads from a state to the next one. The drain
--- takes the whole output of the line, or only a prefix of it if the drain fails.
+-- Lines that are processed one after another. `does s line taken rest s'` says that a line leads from state s to state s'. Of the
+-- line's output the drain took `taken`. The rest was not taken; it is empty unless the drain failed.
 use Rattle.std.specs.Prelude.{◌≡◌, ℕ, ◌<◌, List, [], ◌∷◌, ◌++◌, length, Option, Result, Err}
 use Rattle.std.specs.Io.KnownBytes.{Appends}
 use Rattle.world_core.specs.Output.{with_line_feeds}
@@ -8,13 +8,13 @@ use Rattle.streams.specs.Lines.{IsOneLine}
 use Rattle.replay_core.specs.Standing.{AreLines}
 use Rattle.replay_core.specs.Pushes.{IsWholeAtOk}
 
--- each of the lines was processed in full
+-- the lines were processed in full, one after another, and the drain took `taken` in all
 abbrev pub HaveRun : {S : Type 0} → (S → List ℕ → List ℕ → List ℕ → S → Type 0) → S → List (List ℕ) → List ℕ → S → Type 0
 HaveRun does s [] taken s' = (taken ≡ []) × (s' ≡ s)
 HaveRun {S} does s (line ∷ lines) taken s' =
     (mid : S) × (here : List ℕ) × (later : List ℕ) × (taken ≡ here ++ later) × does s line here [] mid × HaveRun does mid lines later s'
 
--- the lines were processed in full, and one more in part
+-- the lines `done` were processed in full, and of the output of the next line the drain took only a part
 pub record IsCutOff {S : Type 0} (does : S → List ℕ → List ℕ → List ℕ → S → Type 0) (s : S) (done : List (List ℕ)) (line taken : List ℕ)
     (s' : S) : Type 0 where
   pub mid : S
@@ -26,7 +26,8 @@ pub record IsCutOff {S : Type 0} (does : S → List ℕ → List ℕ → List �
   pub ran : HaveRun does s done earlier mid
   pub did : does mid line here rest s'
 
--- one line, given by its bytes or its reading, was processed: in full if the result is Ok
+-- One line, given by its bytes or its reading, was processed. If the result is Ok, the drain took all its output, and otherwise
+-- not all.
 pub record HasDone {S L : Type 0} (does : S → L → List ℕ → List ℕ → S → Type 0) (s : S) (line : L) (old new : Option (List ℕ))
     (result : Result (Unit {0}) Stopped) (s' : S) : Type 0 where
   pub taken : List ℕ
@@ -35,7 +36,7 @@ pub record HasDone {S L : Type 0} (does : S → L → List ℕ → List ℕ → 
   pub appended : Appends old new taken
   pub whole : IsWholeAtOk result rest
 
--- the lines of these bytes that come before `rest` were processed
+-- the bytes before `rest` are whole lines, and these lines were processed in full
 pub record HasGone {S : Type 0} (does : S → List ℕ → List ℕ → List ℕ → S → Type 0) (s : S) (bytes rest : List ℕ) (old new : Option (List ℕ))
     (s' : S) : Type 0 where
   pub done : List (List ℕ)
@@ -45,7 +46,7 @@ pub record HasGone {S : Type 0} (does : S → List ℕ → List ℕ → List ℕ
   pub ran : HaveRun does s done taken s'
   pub appended : Appends old new taken
 
--- some lines of these bytes were processed, and the drain failed in the next one
+-- the first lines of these bytes were processed in full, and the drain failed in the output of the line after them
 pub record HasStopped {S : Type 0} (does : S → List ℕ → List ℕ → List ℕ → S → Type 0) (s : S) (bytes : List ℕ) (old new : Option (List ℕ))
     (s' : S) : Type 0 where
   pub mid : S

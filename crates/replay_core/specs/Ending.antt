@@ -1,4 +1,4 @@
--- How a run of lines ends.
+-- The result of a run of lines: which lines were processed, and whether the feed or the drain failed.
 use Rattle.std.specs.Prelude.{◌≡◌, ℕ, Bool, true, false, List, [], ◌∷◌, ◌++◌, Result, Ok, Err}
 use Rattle.words_core.specs.Cutting.{lines_of_trace}
 use Rattle.world_core.specs.Output.{ended_lines, with_line_feeds}
@@ -6,12 +6,12 @@ use Rattle.replay_core.specs.declared.engine.EndFailed.{EndFailed}
 use Rattle.replay_core.specs.Runs.{HasCome}
 use Rattle.replay_core.specs.Doing.{HaveRun, IsCutOff}
 
--- the effect of the unfinished line, if there is one
+-- an unfinished line has the effect `leaves`; if there is none, nothing changes
 abbrev pub HasLeft : {S : Type 0} → (S → List ℕ → S → Type 0) → S → List ℕ → S → Type 0
 HasLeft leaves s [] s' = s' ≡ s
 HasLeft leaves s (b ∷ tail) s' = leaves s (b ∷ tail) s'
 
--- the lines that ended were processed, and the unfinished one was not
+-- the lines that ended in LF were processed in full, and an unfinished line after them had only the effect `leaves`
 pub record HasRunEnded {S K : Type 0} (does : S × K → List ℕ → List ℕ → List ℕ → S × K → Type 0) (leaves : S → List ℕ → S → Type 0)
     (s : S × K) (given taken : List ℕ) (s' : S × K) : Type 0 where
   pub mid : S
@@ -38,7 +38,7 @@ abbrev pub IsRunToEnd : Result (Unit {0}) EndFailed → Bool → Type 0
 IsRunToEnd (Ok done) ended = ended ≡ true
 IsRunToEnd (Err error) ended = Unit {0}
 
--- the result names the end that failed, or is Ok if neither did
+-- the result is Ok if neither the feed nor the drain failed, and otherwise it names the one that failed
 abbrev pub NamesEndFailed : Result (Unit {0}) EndFailed → Bool → Bool → Type 0
 NamesEndFailed (Ok done) feed drain = (feed ≡ false) × (drain ≡ false)
 NamesEndFailed (Err EndFailed.Feed) feed drain = (feed ≡ true) × (drain ≡ false)

@@ -37,12 +37,12 @@ noted_body noting (Body.Fault fault) n = n
 abbrev pub noted_reply : {N : Type 0} → Noting N → Option ℕ → Reply → N → N
 noted_reply noting only reply n = if is_shown only reply.addressee then noted_body noting reply.body n else n
 
--- the notes after a line with this number and front, which is noted if it is faulty
+-- the notes after a line with this number, front and reading: a faulty line is noted
 abbrev pub noted_fault : {N : Type 0} → Noting N → ℕ → List ℕ → Result (Option Event) LineFault → N → N
 noted_fault noting number front (Ok event) n = n
 noted_fault noting number front (Err fault) n = noting.faulty n number fault front
 
--- the notes after a line with this reading: its fault is noted, or the reply to its event if that is a shown refusal
+-- the notes after a line with this reading, run in world w: a fault is noted, and so is a shown reply that is a refusal
 abbrev pub noted_reading : {N : Type 0} → Noting N → Option ℕ → ℕ → ℕ → ℕ → List ℕ → Result (Option Event) LineFault → World → N → N
 noted_reading noting only limit order number front (Ok (Some event)) w n = noted_reply noting only (world_step limit order event w).reply n
 noted_reading noting only limit order number front (Ok None) w n = noted_fault noting number front (Ok None) n

@@ -2,7 +2,7 @@
 use Rattle.std.specs.Prelude.{◌≡◌, ℕ, ◌≤◌, nat_lt, List, length, take}
 use Rattle.replay_core.specs.declared.pending.Pending.{Pending}
 
--- the first 256 bytes of the line are held, with a flag that is true if the line has more; a line with more is too long
+-- `held` has the first 256 bytes of the line, and `longer` is true if the line has more bytes
 pub record HoldsLine (line : List ℕ) (pending : Pending) : Type 0 where
   pub front : pending.held.items ≡ take 256 line
   pub longer : pending.longer ≡ nat_lt 256 (length line)

@@ -12,12 +12,13 @@ use Rattle.streams.specs.declared.tally.Tally.{Tally}
 use Rattle.streams.specs.declared.tally.ReplayError.{ReplayError}
 use Rattle.replay_core.specs.Runs.{Counts, HasCome}
 
--- from an opening world with slots of at least 8 frames, the text is that of allowed replies to these lines
+-- if the kernel showed an opening world and a slot has at least 8 frames, `text` is the shown text of allowed replies to these
+-- lines
 abbrev pub IsAllowedOutput : Option ℕ → KernelContent → List (List ℕ) → List ℕ → Type 0
 IsAllowedOutput only before lines text = (superblocks tenants : ℕ) → Shows before (opening_world superblocks tenants) → 3 ≤ before.order
     → IsAllowedText only cache_limit before.order superblocks tenants lines text
 
--- from such a world, `part` is a prefix of the text of allowed replies to these lines
+-- under these conditions, `part` is a prefix of the shown text of allowed replies to these lines
 abbrev pub BeginsAllowed : Option ℕ → KernelContent → List (List ℕ) → List ℕ → Type 0
 BeginsAllowed only before lines part = (superblocks tenants : ℕ) → Shows before (opening_world superblocks tenants) → 3 ≤ before.order
     → (rest : List ℕ) × IsAllowedText only cache_limit before.order superblocks tenants lines (part ++ rest)

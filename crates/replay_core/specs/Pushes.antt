@@ -1,4 +1,4 @@
--- What happens to bytes that are offered to a drain.
+-- A drain takes all bytes of a text, or only a prefix of them if it fails. The bytes taken are counted.
 use Rattle.std.specs.Prelude.{◌≡◌, ℕ, ◌+◌, ◌*◌, ◌^◌, ◌<◌, Bool, false, List, [], ◌++◌, length, Option, Result, MatchResult, is_err}
 use Rattle.std.specs.Io.KnownBytes.{Appends}
 use Rattle.words_core.specs.declared.text.TheConstants.{MOST_ROWS, MOST_REPLY_BYTES}
@@ -9,7 +9,7 @@ use Rattle.streams.specs.declared.feed.Stopped.{Stopped}
 abbrev pub most_reply_bytes : ℕ
 most_reply_bytes = MOST_ROWS * MOST_REPLY_BYTES
 
--- nothing is left if the result is Ok, and something is left if the drain failed
+-- `rest` is empty if the result is Ok, and not empty if the drain failed
 abbrev pub IsWholeAtOk : Result (Unit {0}) Stopped → List ℕ → Type 0
 IsWholeAtOk result rest = MatchResult result (λ _. rest ≡ []) (λ _. 0 < length rest)
 

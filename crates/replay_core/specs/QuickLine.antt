@@ -1,4 +1,4 @@
--- A quick line at the front of some bytes, which was processed or left.
+-- The quick line at the front of some bytes was processed, or nothing was done.
 use Rattle.std.specs.Prelude.{◌≡◌, ◌-◌, ◌<◌, ◌≤◌, ◌==◌, ℕ, List, length, take, Option, Some, None, Result, Ok, Err}
 use Rattle.std.specs.List.{position}
 use Rattle.streams.specs.declared.feed.Stopped.{Stopped}

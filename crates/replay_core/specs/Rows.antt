@@ -1,4 +1,4 @@
--- Replies of several lines.
+-- The events whose reply has several lines.
 use Rattle.words_core.specs.declared.event.AdminCommand.{AdminCommand}
 use Rattle.words_core.specs.declared.event.Command.{Command}
 use Rattle.words_core.specs.declared.event.Event.{Event}

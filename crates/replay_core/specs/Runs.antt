@@ -1,4 +1,4 @@
--- The lines that were run, and what was shown and counted, while bytes were given and taken.
+-- The result of a replay: which lines it ran, what it showed and counted, and what it noted.
 use Rattle.std.specs.Prelude.{◌≡◌, ◌⊎◌, ℕ, suc, ◌+◌, ◌<◌, Bool, List, [], ◌∷◌, ◌++◌, length, take, Option, Some, None, Result, Ok, Err}
 use Rattle.words_core.specs.declared.event.Event.{Event}
 use Rattle.words_core.specs.declared.event.LineFault.{LineFault}
@@ -23,19 +23,19 @@ abbrev pub faults_of : List (List ℕ) → ℕ
 faults_of [] = 0
 faults_of (line ∷ lines) = fault_in (reading_of line) + faults_of lines
 
--- the counts of these lines, if the drain took these bytes
+-- `tally` has the numbers of these lines, of their events and of their faults, and the number of bytes that the drain took
 pub record Counts (tally : Tally) (done : List (List ℕ)) (taken : List ℕ) : Type 0 where
   pub lines : tally.lines ≡ length done
   pub events : tally.events ≡ length (events_of done)
   pub faults : tally.faults ≡ faults_of done
   pub written : tally.written ≡ length taken
 
--- the kernel is in the state after these lines
+-- `after` has the sizes of `before`, and shows the world after these lines
 pub record StandsAfter (before after : KernelContent) (lines : List (List ℕ)) : Type 0 where
   pub sizes : SameSizes before after
   pub shows : (w : World) → Shows before w → Shows after (world_after cache_limit before.order w (events_of lines))
 
--- these lines were run and answered in full
+-- these lines were run and counted, and the drain took all that they show
 pub record HasRun (only : Option ℕ) (before after : KernelContent) (lines : List (List ℕ)) (taken : List ℕ) (tally : Tally) : Type 0 where
   pub stands : StandsAfter before after lines
   pub shown : (w : World) → Shows before w → taken ≡ shown_lines only cache_limit before.order lines w
@@ -55,7 +55,8 @@ pub record IsCutShort (only : Option ℕ) (before after : KernelContent) (lines 
 abbrev pub HasCome : Bool → List ℕ → List (List ℕ) → Type 0
 HasCome ended given lines = ((rest : List (List ℕ)) × (ended_lines given ≡ lines ++ rest)) ⊎ ((ended ≡ Bool.true) × (lines_of_trace given ≡ lines))
 
--- the relation between the bytes given, the bytes taken, the kernel before and after, and the result
+-- If the result is Ok, all lines were run. If the feed failed, the lines that ended in LF were run. If the drain failed, the text
+-- of the last line that was run was cut short.
 abbrev pub Replays : Bool → Option ℕ → KernelContent → KernelContent → List ℕ → List ℕ → Result Tally ReplayError → Type 0
 Replays ended only before after given taken (Ok tally) = HasRun only before after (lines_of_trace given) taken tally
 Replays ended only before after given taken (Err (ReplayError.Feed tally)) = HasRun only before after (ended_lines given) taken tally
@@ -67,21 +68,21 @@ abbrev pub IsDone : Result Tally ReplayError → Bool → Type 0
 IsDone (Ok tally) ended = ended ≡ Bool.true
 IsDone (Err error) ended = Unit {0}
 
--- the result names the end that failed, or is Ok if neither did
+-- the result is Ok if neither the feed nor the drain failed, and otherwise it names the one that failed
 abbrev pub NamesFailed : Result Tally ReplayError → Bool → Bool → Type 0
 NamesFailed (Ok tally) feed drain = (feed ≡ Bool.false) × (drain ≡ Bool.false)
 NamesFailed (Err (ReplayError.Feed tally)) feed drain = (feed ≡ Bool.true) × (drain ≡ Bool.false)
 NamesFailed (Err (ReplayError.Drain tally)) feed drain = (feed ≡ Bool.false) × (drain ≡ Bool.true)
 
--- From an opening world, whatever the other tenants do, a tenant's reply lines are those of its private machine for its own list
--- of the trace. With `only`, nothing else is taken.
+-- If the kernel showed an opening world, a tenant's reply lines are the lines that its private machine gives for the tenant's own
+-- list of the trace. With `only`, the drain took nothing else.
 abbrev pub HasOwnLines : Option ℕ → KernelContent → List ℕ → List ℕ → Type 0
 HasOwnLines None before given taken = (superblocks tenants t : ℕ) → Shows before (opening_world superblocks tenants) → t < tenants →
     lines_for t taken ≡ private_lines cache_limit before.order superblocks tenants t given
 HasOwnLines (Some t) before given taken = (superblocks tenants : ℕ) → Shows before (opening_world superblocks tenants) → t < tenants →
     taken ≡ with_line_feeds (private_lines cache_limit before.order superblocks tenants t given)
 
--- the notes after these lines, for any world that the kernel showed
+-- `notes'` are the notes after these lines, for any world that the kernel showed
 abbrev pub AreNoted : {N : Type 0} → Noting N → Option ℕ → KernelContent → List (List ℕ) → N → N → Type 0
 AreNoted noting only before lines notes notes' =
     (w : World) → Shows before w → notes' ≡ noted_lines noting only cache_limit before.order 1 lines w notes

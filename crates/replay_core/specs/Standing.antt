@@ -15,7 +15,7 @@ use Rattle.replay_core.specs.declared.run.Run.{Run}
 use Rattle.replay_core.specs.Runs.{fault_in}
 use Rattle.replay_core.specs.Noting.{Noting, noted_fault, noted_reading}
 
--- a line with this reading has no event, or one that a kernel can run
+-- a line with this reading has no event, or an event that a kernel can run
 abbrev pub IsRunnable : Result (Option Event) LineFault → Type 0
 IsRunnable (Ok (Some event)) = HasPattern event
 IsRunnable (Ok None) = Unit {0}
@@ -35,7 +35,7 @@ pub record IsReady {N : Type 0} (failed : Bool) (run : Run N) (lines : ℕ) : Ty
   pub more : run.lines + lines < 2 ^ 64
 
 -- A line with this reading was run and counted. The text that it shows is `taken`, and then `rest`, which the drain did not take.
--- If the line is faulty, its front is noted.
+-- A faulty line is noted with its front, and a shown refusal is noted too.
 pub record AnswersRead {N : Type 0} (noting : Noting N) (front : List ℕ) (s : Run N × KernelContent) (reading : Result (Option Event) LineFault)
     (taken rest : List ℕ) (s' : Run N × KernelContent) : Type 0 where
   pub sizes : SameSizes s.1 s'.1

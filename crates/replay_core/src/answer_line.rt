@@ -150,9 +150,9 @@ impl<N: Notes> Run<N> {
         }
     }
 
-    /// The same as [`Run::answer_request`], for the command with the number `COMMAND`. Each pair of a command and a line end has
-    /// its own instance, with one caller. A function with one caller is always inlined, so the code that writes the answer knows
-    /// which answers are possible.
+    /// Does what [`Run::answer_request`] does, for the command with the number `COMMAND`. Each pair of a command and a line end
+    /// has its own instance, with one caller. A function with one caller is always inlined, so the code that writes the answer
+    /// knows which answers are possible.
     #[inline]
     fn answer_as<const COMMAND: usize, const RETURNS: bool, D: Drain>(
         &mut self,
@@ -177,7 +177,7 @@ impl<N: Notes> Run<N> {
         self.replies.show_in_place(tenant, answer, drain);
     }
 
-    /// The same as [`Run::answer_as`], for a rare command.
+    /// Does what [`Run::answer_as`] does, for a rare command.
     #[cold]
     #[inline(never)]
     fn answer_rare<D: Drain>(

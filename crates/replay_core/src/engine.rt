@@ -17,7 +17,7 @@ use streams::{Drain, Feed, Stopped};
 /// The largest number of bytes in one pull.
 const PIECE_BYTES: usize = 65_536;
 
-/// The end that failed.
+/// The end that failed: the feed or the drain.
 #[derive(Clone, Copy, Debug, PartialEq, Eq)]
 pub enum EndFailed {
     /// The feed. All lines that ended in LF were processed; the unfinished line was not.

@@ -1,4 +1,5 @@
-//! Replays a trace on the kernel: bytes in, replies out, both in pieces of any length. Either end may fail at any point.
+//! Replays a trace on the kernel: bytes in, replies out, both in pieces of any length. The feed and the drain may fail at any
+//! point.
 //!
 //! # Example
 //!

@@ -33,7 +33,7 @@ pub fn replay<F: Feed, D: Drain>(
         × Replays (F.has_ended feed.new) only kernel.old kernel.new given taken result
         × OnOk result (HasOwnLines only kernel.old given taken)
         × (F.room_left feed.new + length given ≡ F.room_left feed.old) }
-    // From an opening world, each of these replies keeps the promises, including replies that are not shown.
+    // From an opening world, each reply to a line that was run keeps the promises, even if it is not shown.
     ensures promises { (given : List ℕ) × (taken : List ℕ)
         × Consumes (F.remaining feed.old) (F.remaining feed.new) given
         × Appends (D.contents drain.old) (D.contents drain.new) taken
@@ -46,7 +46,7 @@ pub fn replay<F: Feed, D: Drain>(
     replay_noted(kernel, feed, drain, only, &mut NoNotes)
 }
 
-/// The same as [`replay`], but also notes the refusals that are shown and the faulty lines.
+/// Does what [`replay`] does, and notes the refusals that are shown and the faulty lines.
 pub fn replay_noted<F: Feed, D: Drain, N: Notes>(
     kernel: &mut Kernel,
     feed: &mut F,
@@ -65,7 +65,7 @@ pub fn replay_noted<F: Feed, D: Drain, N: Notes>(
         × OnOk result (HasOwnLines only kernel.old given taken)
         × (F.room_left feed.new + length given ≡ F.room_left feed.old)
         × Noted N.noting (F.has_ended feed.new) only kernel.old given result notes.old notes.new }
-    // From an opening world, each of these replies keeps the promises, including replies that are not shown.
+    // From an opening world, each reply to a line that was run keeps the promises, even if it is not shown.
     ensures promises { (given : List ℕ) × (taken : List ℕ)
         × Consumes (F.remaining feed.old) (F.remaining feed.new) given
         × Appends (D.contents drain.old) (D.contents drain.new) taken

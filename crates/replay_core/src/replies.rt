@@ -24,7 +24,7 @@ pub struct Replies {
 }
 
 impl Replies {
-    /// Makes the replies of a new replay: no byte has been pushed.
+    /// Makes the replies of a new replay, with no bytes counted.
     pub fn new(only: Option<u8>) -> Self
         ensures only { result.only ≡ only }
         ensures none { result.written ≡ 0 }

@@ -19,7 +19,7 @@ pub trait Sink {
     // the line, the bytes of its output that the drain took, and the bytes that it did not take.
     ghost does: { Self × KernelContent → List ℕ → List ℕ → List ℕ → Self × KernelContent → Type 0 };
 
-    // The effect of a line without the effect of `ran`.
+    // The effect of a line before `ran` is called.
     ghost does_first: { Self × KernelContent → List ℕ → List ℕ → List ℕ → Self × KernelContent → Type 0 };
     // The effect of the beginning of a line whose end could not be read.
     ghost leaves: { Self → List ℕ → Self → Type 0 };
