@@ -23,17 +23,17 @@ pub record HasGathered (lines : ℕ) (came : List ℕ) (text : Gathered MOST_TEX
   pub are : lines_at lines came ≡ Some (came, [])
   pub gathers : Gathers MOST_TEXT_BYTES came text
 
--- The verdict on the reply to a line with this reading, if `part` is what was read of the replies. It does not depend on what
--- follows. If the reply is allowed, its lines are `part`, the verdict is their number, and the machine shows what is known after
--- the reply. Otherwise the verdict is the first promise that the reply breaks.
+-- The verdict on the reply to a line with this reading, if `part` is what was read of the replies. It does not depend on the
+-- bytes after `part`. If the reply is allowed, its lines are `part`, the verdict is their number, and the machine shows what is
+-- known after the reply. Otherwise the verdict is the first promise that the reply breaks.
 abbrev pub IsLineVerdict : Result ℕ Promise → Result (Option Event) LineFault → List ℕ → Known → SeenMachine → Source → Type 0
 IsLineVerdict (Ok lines) reading part w new replies = (lines ≡ lines_to reading w) × (lines_at lines part ≡ Some (part, []))
     × ((after : Known) × ShowsKnown new after × ((more : List ℕ) → verdict_at reading (part ++ more) w ≡ Ok after))
 IsLineVerdict (Err promise) reading part w new replies =
     (more : List ℕ) → MayFollow replies more → verdict_at reading (part ++ more) w ≡ Err promise
 
--- The verdict on what was gathered as the reply. It is None if that is not a reply, and then the machine still shows what was
--- known before.
+-- The verdict on the text that was gathered as the reply to an event. It is None if this text is not a reply, and then the
+-- machine still shows what was known before.
 abbrev pub IsTextVerdict : Option (Result (Unit {0}) Promise) → Event → Option Reply → Known → SeenMachine → Type 0
 IsTextVerdict (Some verdict) event found w new = (reply : Reply) × (found ≡ Some reply) × IsVerdict verdict (allowed event reply w) new
 IsTextVerdict None event found w new = (found ≡ None) × ShowsKnown new w
@@ -51,8 +51,9 @@ IsLineOrNone (Err fault ∷ []) = Unit {0}
 IsLineOrNone (Ok None ∷ []) = ⊥
 IsLineOrNone (reading ∷ next ∷ readings) = ⊥
 
--- The line and the reply of a breach are the last of what was read. The replies before it are exactly the allowed replies to the
--- lines before it. If the reply of the breach is left over, the line is empty.
+-- What was read of the trace ends with the line of the breach, and what was read of the replies ends with its reply. The replies
+-- before this reply are exactly the allowed replies to the lines before this line. If the reply is left over after the last line,
+-- `line` is empty.
 pub record IsBreachAt (w : Known) (breach : Breach) (asked told line reply : List ℕ) : Type 0 where
   pub earlier : List ℕ
   pub answers : List ℕ

@@ -71,7 +71,7 @@ more_lines (Event.Tenant t (Command.Take number)) w = 0
 more_lines (Event.Tenant t (Command.Give number place)) w = 0
 more_lines (Event.Tenant t Command.Reap) w = 0
 
--- the refusal, with its addressee, if the reply is one
+-- the refusal, with its addressee, if the body is a refusal
 abbrev pub refusal_told : Addressee → Body → Option (Addressee × Refusal)
 refusal_told who (Body.Refused refusal) = Some (who, refusal)
 refusal_told who (Body.Granted tenant slot superblock) = None
@@ -123,7 +123,7 @@ lines_to (Ok None) w = 0
 lines_to (Err fault) w = 1
 lines_to (Ok (Some event)) w = suc (more_lines event w)
 
--- a broken promise is found at these lines of the two texts; otherwise the check continues
+-- if a promise is broken, the finding has these line numbers of the two texts; otherwise the check continues
 abbrev pub or_broken : Result Known Promise → ℕ → ℕ → (Known → Finding) → Finding
 or_broken (Ok after) line reply more = more after
 or_broken (Err promise) line reply more = Finding.Broken (record { line = line; reply = reply; promise = promise })

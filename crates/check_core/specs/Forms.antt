@@ -3,7 +3,8 @@ use Rattle.std.specs.Prelude.{◌≡◌, ℕ, ◌==◌, ◌&&◌, List, [], ◌�
 use Rattle.std.specs.Char.{is_ascii_digit}
 use Rattle.words_core.specs.Numbers.{number_of}
 
--- The `?` operator of the logic: if the first step found something, the second is applied to it; otherwise the result is `None`.
+-- The `?` operator of the logic: if the first step found something, the second step is applied to it; otherwise the result is
+-- `None`.
 infixl 10 ◌>>=◌
 abbrev pub ◌>>=◌ : {A B : Type 0} → Option A → (A → Option B) → Option B
 Some x >>= f = f x
@@ -24,7 +25,7 @@ number_at text =
     let size = length (take_while is_ascii_digit text) in
     plain_number (take size text) >>= (λ number. Some (number, drop size text))
 
--- if the text begins with this byte: no number, and the text that follows it
+-- if the text begins with this byte, the result is no number, and the text after the byte
 abbrev pub letter_at : ℕ → List ℕ → Option (Option ℕ × List ℕ)
 letter_at letter [] = None
 letter_at letter (b ∷ text) = if b == letter then Some (None, text) else None

@@ -1,8 +1,8 @@
--- Bytes that come in pieces.
+-- Bytes that come in pieces and are gathered in a buffer.
 use Rattle.std.specs.Prelude.{◌≡◌, ℕ, nat_lt, if◌then◌else◌, List, ◌++◌, length, take, Option, Some, None}
 use Rattle.check_core.specs.declared.gathered.Gathered.{Gathered}
 
--- these bytes have come, and the first `most` of them are held
+-- `held` has the first `most` of the bytes that came, and `longer` is true if more than `most` bytes came
 pub record Gathers (most : ℕ) (came : List ℕ) (g : Gathered most) : Type 0 where
   pub front : g.held.items ≡ take most came
   pub longer : g.longer ≡ nat_lt most (length came)

@@ -1,4 +1,4 @@
--- The meaning of a finding for two texts.
+-- The meaning of a finding for the texts of a trace and of its replies.
 use Rattle.std.specs.Prelude.{◌≡◌, ℕ, ◌+◌, ◌==◌, List, [], ◌∷◌, ◌++◌, length, take, count_by, Option, Some, None, Result, Ok, Err}
 use Rattle.words_core.specs.Cutting.{lines_of_trace}
 use Rattle.words_core.specs.Grammar.{reading_of}
@@ -14,26 +14,26 @@ use Rattle.check_core.specs.declared.finding.Finding.TheVariants.{Kept, Broken}
 use Rattle.check_core.specs.Finding.{fault_reply, finding_of}
 use Rattle.check_core.specs.Ranges.{Fits}
 
--- if a finding is kept, the replies are the text of replies to the trace's events; from the opening state on, each of these
--- replies is allowed
+-- if the finding is `Kept`, the replies are a text of allowed replies to the lines of the trace, from the opening state on
 abbrev pub KeptIsAllowed : Type 0
 KeptIsAllowed = (limit order superblocks tenants lines : ℕ) (trace replies : List ℕ)
     → finding_of (opening limit order superblocks tenants) trace replies ≡ Kept lines
     → IsAllowedText None limit order superblocks tenants (lines_of_trace trace) replies
 
--- the bytes begin with no allowed reply to a line with this reading; every value of the type `Reply` fits
+-- The bytes do not begin with the text of an allowed reply to a line with this reading. `Fits` holds for every value of the type
+-- `Reply` in the code.
 abbrev pub HasNoReply : Result (Option Event) LineFault → List ℕ → Known → Type 0
 HasNoReply (Ok None) bytes w = ⊥
 HasNoReply (Err fault) bytes w = (rest : List ℕ) → bytes ≡ text_of (fault_reply fault) ++ rest → ⊥
 HasNoReply (Ok (Some event)) bytes w = (reply : Reply) (rest : List ℕ) (after : Known)
     → Fits reply → bytes ≡ text_of reply ++ rest → allowed event reply w ≡ Ok after → ⊥
 
--- the bytes begin with no allowed reply to the first of these lines; if no line is left, some bytes are left
+-- the bytes do not begin with an allowed reply to the first of these lines; if there is no line, there are still bytes
 abbrev pub IsWrong : List (List ℕ) → List ℕ → Known → Type 0
 IsWrong [] bytes w = bytes ≡ [] → ⊥
 IsWrong (line ∷ lines) bytes w = HasNoReply (reading_of line) bytes w
 
--- the replies begin with a text that is allowed for the lines before the breach, and what follows it is wrong
+-- the replies begin with a text that is allowed for the lines before the breach, and what follows this text is wrong
 pub record IsBreach (limit order superblocks tenants : ℕ) (lines : List (List ℕ)) (replies : List ℕ) (breach : Breach) : Type 0 where
   pub before : List (List ℕ)
   pub left : List (List ℕ)
@@ -46,7 +46,7 @@ pub record IsBreach (limit order superblocks tenants : ℕ) (lines : List (List 
   pub line : breach.line ≡ length before + length (take 1 left)
   pub reply : breach.reply ≡ count_by (λ b. b == 10) front + 1
 
--- if a finding is broken, the replies before the breach are allowed, and no reply that begins at the breach is
+-- if the finding is a breach, the replies before it are allowed, and the text at the breach does not begin with an allowed reply
 abbrev pub BrokenIsNotAllowed : Type 0
 BrokenIsNotAllowed = (limit order superblocks tenants : ℕ) (trace replies : List ℕ) (breach : Breach)
     → finding_of (opening limit order superblocks tenants) trace replies ≡ Broken breach

@@ -1,4 +1,4 @@
--- The ranges of the types in a reply.
+-- The ranges of the numbers in a reply, and the limits on the lengths of its lists.
 use Rattle.std.specs.Prelude.{◌^◌, ◌<◌, ◌≤◌, length, Option, IfSome}
 use Rattle.std.specs.List.{AllByRecursion}
 use Rattle.model_core.specs.declared.owner.Owner.{Owner}

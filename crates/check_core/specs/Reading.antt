@@ -7,8 +7,8 @@ use Rattle.words_core.specs.Cutting.{lines_of_trace}
 use Rattle.words_core.specs.Grammar.{reading_of}
 use Rattle.streams.specs.Lines.{IsOneLine}
 
--- the bytes that are left, if they are known; an upper bound on their number; whether a pull has reached the end, and whether a
--- pull has failed
+-- What a reader of lines has left: the bytes, if they are known, and an upper bound on their number. `ended` says whether a pull
+-- has reached the end, and `failed` whether a pull has failed.
 pub record Source : Type 0 where
   pub left : Option (List ℕ)
   pub room : ℕ
@@ -34,7 +34,8 @@ abbrev pub WhateverFollows : (trace replies : Source) → (asked told : List ℕ
 WhateverFollows trace replies asked told IsSo =
     (more later : List ℕ) → MayFollow trace more → MayFollow replies later → IsSo (asked ++ more) (told ++ later)
 
--- the part of a line that was given, unless the source failed: the whole line with its LF, or the text after the last LF
+-- If the result is true, the part that was given is a whole line with its LF. If it is false, the part is the text after the last
+-- LF, and the source has ended. If the source failed, the part can be any bytes.
 abbrev pub IsPartAtOk : {E : Type 0} → Result Bool E → List ℕ → Source → Type 0
 IsPartAtOk (Ok true) part new = (line : List ℕ) × IsOneLine line × (part ≡ line ++ 10 ∷ [])
 IsPartAtOk (Ok false) part new = IsOneLine part × HasEnded new
@@ -47,8 +48,8 @@ without_line_feed line = if slice_index line (length line - 1) == 10 then take (
 abbrev pub readings_of : List ℕ → List (Result (Option Event) LineFault)
 readings_of trace = map reading_of (lines_of_trace trace)
 
--- The part that was given is the next line, with this reading, whatever follows. The reading is None if nothing was given, at the
--- end.
+-- The part that was given is the next line and has this reading, whatever bytes follow. The reading is None if nothing was given
+-- and the source has ended.
 abbrev pub IsNextReading : Option (Result (Option Event) LineFault) → List ℕ → Source → Type 0
 IsNextReading None part new = (part ≡ []) × HasEnded new
 IsNextReading (Some reading) part new =

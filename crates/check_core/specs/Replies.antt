@@ -87,7 +87,8 @@ abbrev pub fit_place : List ℕ → Bool
 fit_place ns =
     nat_lt (slice_index ns 0) (2 ^ 8) && (nat_lt (slice_index ns 1) (2 ^ 16) && nat_lt (slice_index ns 2) (2 ^ 16))
 
--- the first number is in the range of a tenant, and the second in that of a slot or of a number of superblocks
+-- the first number is in the range of a tenant (8 bits), and the second in the range of a slot or a number of superblocks (16
+-- bits)
 abbrev pub fit_tenant : List ℕ → Bool
 fit_tenant ns = nat_lt (slice_index ns 0) (2 ^ 8) && nat_lt (slice_index ns 1) (2 ^ 16)
 
@@ -123,7 +124,7 @@ some_fault_at text =
 unfoldable pub notice_at : List ℕ → Option (Body × List ℕ)
 notice_at text = granted_at text or_else taken_at text or_else reset_at text or_else moved_at text or_else some_fault_at text
 
--- the body at the front of the text, and the text that follows it
+-- the body of a less frequent reply at the front of the text, and the text that follows it
 unfoldable pub rare_at : List ℕ → Option (Body × List ℕ)
 rare_at text = refused_at text or_else cache_at text or_else destroyed_at text or_else reaped_at text or_else notice_at text
 

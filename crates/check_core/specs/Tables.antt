@@ -13,11 +13,11 @@ use Rattle.words_core.specs.declared.reply.TheConstants.{OWNERS}
 use Rattle.check_core.specs.Forms.{◌>>=◌, form_at}
 use Rattle.check_core.specs.Replies.{made_at, ◌or_else◌, fit_tenant, addressee_at, whole, answer_of}
 
--- the text that follows this front of a line
+-- the text that follows the front of a line, if the text begins with this front
 unfoldable pub after_front : List ℕ → List ℕ → Option (List ℕ)
 after_front front text = if bytes_eq (take (length front) text) front then Some (drop (length front) text) else None
 
--- the row that follows the front
+-- the row behind the front of a line, and the text that follows the row
 abbrev pub row_behind : {A : Type 0} → (List ℕ → Option (A × List ℕ)) → List ℕ → List ℕ → Option (A × List ℕ)
 row_behind row_at front text = after_front front text >>= row_at
 
@@ -26,7 +26,7 @@ abbrev pub then_rows : {A : Type 0} → Option (A × List ℕ) → List ℕ → 
 then_rows None text more = ([], text)
 then_rows (Some found) text more = (found.0 ∷ (more found.1).0, (more found.1).1)
 
--- the rows from this index on, each after the front, at most this many; and the text that follows them
+-- at most `most` rows from this index on, each behind the front of its line, and the text that follows them
 unfoldable pub rows_from : {A : Type 0} → (ℕ → List ℕ → Option (A × List ℕ)) → List ℕ → ℕ → ℕ → List ℕ → List A × List ℕ
 rows_from row_at front zero index text = ([], text)
 rows_from row_at front (suc most) index text =
@@ -48,7 +48,7 @@ cache_row_at index text = made_at (codes "cache # full # partial # empty # live 
       live = slice_index ns 4;
     }) text
 
--- the greatest order of a free block, and the share of free frames outside one such block
+-- the greatest order of a free block, and the share of the free frames outside one block of this order
 unfoldable pub top_at : List ℕ → Option ((Option ℕ × ℕ) × List ℕ)
 top_at text =
     made_at (codes "# split #\n") (λ ns. nat_lt (slice_index ns 0) (2 ^ 8)) (λ ns. (Some (slice_index ns 0), slice_index ns 1)) text
@@ -94,7 +94,7 @@ owner_of superblock found =
 unfoldable pub owner_at : ℕ → List ℕ → Option (Option Owner × List ℕ)
 owner_at superblock text = form_at (codes "superblock # ") text >>= owner_of superblock
 
--- a table of owners; the counts in its first line are those of its rows
+-- a table of owners; its first line has the number of rows without an owner and the number of all rows
 unfoldable pub pool_at : List ℕ → List ℕ → Option (Body × List ℕ)
 pool_at front text =
     form_at (codes "pool free # of #\n") text >>= (λ head.

@@ -1,4 +1,4 @@
--- The note on a reply whose page block is taken already.
+-- The note on a reply that allocates a page block with frames of a live page block.
 use Rattle.std.specs.Prelude.{◌≡◌, ℕ, ◌≤◌, List, Option, Some, None, Result, Ok, Err, MatchOption, IfSome, option_map}
 use Rattle.words_core.specs.declared.reply.Body.{Body}
 use Rattle.words_core.specs.declared.event.Command.{Command}
@@ -22,7 +22,8 @@ pub record IsFirstShared (a b : Block) (frame : ℕ) : Type 0 where
   pub other : HasFrame b frame
   pub first : (x : ℕ) → HasFrame a x → HasFrame b x → frame ≤ x
 
--- the live page block in the way of the reply's block, if there is one, and the first frame that both share
+-- `taken` has the live page block that shares a frame with the reply's block, if there is one, and the first frame that both
+-- share
 pub record IsInWay (x : SeenMachine) (event : Event) (body : Body) (taken : Option TakenFrame) : Type 0 where
   pub page : option_map (λ found. found.page) taken ≡ page_in_way x event body
   pub frame : (t k f : ℕ) → event ≡ Event.Tenant t (Command.Alloc k) → body ≡ Body.Frame f
@@ -39,8 +40,8 @@ answer_read asked told =
     event_read (reading_of (without_line_feed asked)) >>= (λ event.
     (whole_of MOST_TEXT_BYTES told >>= answer_of) >>= (λ reply. Some (event, reply)))
 
--- if the line and the reply were read as an event and a reply of one line, the block in the way is noted; otherwise the note is
--- unchanged
+-- if the line and the reply were read as an event and a reply of one line, the live page block in the way is noted; otherwise the
+-- note is unchanged
 abbrev pub IsNoted : (asked told : List ℕ) → SeenMachine → (old new : Option TakenFrame) → Type 0
 IsNoted asked told x old new =
     MatchOption (answer_read asked told) (new ≡ old) (λ read. IsInWay x read.0 read.1.body new)

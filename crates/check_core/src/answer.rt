@@ -24,7 +24,7 @@ pub fn read_answer<'a>(
     // If a reply has this text and is not a table, it is returned.
     ensures only { (due : Reply) → Fits due → text_of due ≡ text.now
         → MatchOption result (is_table due.body ≡ true) (λ found. reply_to found.0 found.1 ≡ due) }
-    // The result as a function of the text.
+    // The result is `answer_of` of the text.
     ensures exact { Gives (λ found. reply_to found.0 found.1) result (answer_of text.now) }
 {
     answer_of(text, buffer)

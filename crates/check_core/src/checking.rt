@@ -21,8 +21,8 @@ use streams::{Feed, Stopped};
 /// Checks the replies to a trace, each against what earlier replies reported, up to the first that is not allowed. Returns `Err`
 /// if the trace or the replies cannot be read, or if memory runs out.
 ///
-/// If a reply is not allowed, `shown` holds its line and what was read as this reply. If replies are left over after the reply to
-/// the last line, `shown` holds the first line of them, and no line of the trace.
+/// If a reply is not allowed, `shown` holds the line of the trace and what was read as the reply to it. If replies are left over
+/// after the reply to the last line, `shown` holds the first line of these replies, and no line of the trace.
 pub fn check<T: Feed, R: Feed>(
     machine: &mut KnownMachine,
     trace: &mut LineReader<T>,
@@ -31,8 +31,8 @@ pub fn check<T: Feed, R: Feed>(
 ) -> Result<Finding, Unchecked>
     requires trace_fine { trace.old.failed ≡ false }
     requires replies_fine { replies.old.failed ≡ false }
-    // `asked` and `told` are what was read of the trace and of the replies. All texts that begin so have this finding, and its
-    // breach is shown.
+    // `asked` and `told` are what was read of the trace and of the replies. All pairs of texts that begin with `asked` and `told`
+    // have this finding. If it is a breach, its line and its reply are shown.
     ensures found { (asked : List ℕ) × (told : List ℕ) × HasGiven trace.old trace.new asked × HasGiven replies.old replies.new told
         × ((w : Known) → ShowsKnown machine.old w → IfOk result (λ finding. WhateverFollows trace.new replies.new asked told
         (λ trace replies. finding ≡ finding_of w trace replies)))
