@@ -56,7 +56,7 @@ called r r' b b' s s' t spares command body step told same answer shows refused 
     commanded (content_of r b s) (content_of r' b' s') t command body step told same (does_called r r' b b' s s' t spares step told answer shows)
     (λ is. same_of r r' b b' s s' (refused is))
 
--- if P holds when x is an error, and a result without an error gives no refusal, P holds when the body for x is a refusal
+-- if P holds after an error, and only an error gives a refusal, P holds after a refusal
 pub by_err : {A E P : Type 0} (body : Result A E → Body) (x : Result A E) → ((a : A) → is_refused (body (Ok a)) ≡ false) → OnErr x P → is_refused (body x) ≡ true → P
 by_err body (Ok a) done same is = absurd (both_ways (is_refused (body (Ok a))) (done a) is)
 by_err body (Err e) done same is = same

@@ -8,7 +8,7 @@ use Rattle.machine_changes.proofs.ControlRecords as pages
 use Rattle.kernel_core.specs.Content.{KernelContent, PartsAgree, superblock_at, superblock_bytes}
 use Rattle.kernel_core.specs.Records.{RecordsStand}
 
--- the tables of slabs and the kernel have the same superblock order
+-- the tables of caches and the kernel have the same superblock order
 same_order : (k : KernelContent) → PartsAgree k → k.slabs.top ≡ k.order
 same_order k agree = sym agree.agree.order ∙ agree.top
 

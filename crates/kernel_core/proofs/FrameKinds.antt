@@ -80,8 +80,9 @@ slot_first slot order small few = shl_whole slot 16 order 32 small (omega (arith
 pub frame_of_slot : (slot order at : ℕ) → at < 2 ^ order → ((slot * 2 ^ order + at) / 2 ^ order ≡ slot) × ((slot * 2 ^ order + at) % 2 ^ order ≡ at)
 frame_of_slot slot order at less = (div-mul-add slot (2 ^ order) at less, mod-mul-add slot (2 ^ order) at less)
 
--- Let P hold for the first `at` cells of `old`, and for `kind` at the next `frames` indices. If `new` keeps the first `at` cells
--- and has `kind` in the next `frames` cells below `most`, P holds for all these cells of `new`.
+-- Let P hold for the first `at` cells of `old`, and for `kind` at the next `frames` indices. Let `new` keep the first `at` cells,
+-- and have `kind` in the next `frames` cells that are below `most`. Then P holds for all cells of `new` below `at + frames` and
+-- `most`.
 pub runs_more : (P : ℕ → FrameKind → Type 0) (old new : List FrameKind) (at frames most : ℕ) (kind : FrameKind)
     → ((k : ℕ) (cell : FrameKind) → k < at → slice_get old k ≡ Some cell → P k cell)
     → ((k : ℕ) → k < at → slice_get new k ≡ slice_get old k)
@@ -138,7 +139,7 @@ module _ (r : spaces.Content) (b : buddies.Content) (s : Content) (t : ℕ) (st 
 abbrev pub IsListed : KernelContent → ℕ → ℕ → ℕ → Type 0
 IsListed k t first list = (machine_frame key : ℕ) × (showing.machine_frame_of k.slabs.top k.space.slots t first ≡ Some machine_frame) × (place_at k.slabs.lists.places machine_frame ≡ Some (list, key))
 
--- The facts `none_taken` and `in_slab` for a kernel k that is made from the parts r, b and s.
+-- The facts `none_taken` and `in_slab` hold for a kernel k that is made from the parts r, b and s.
 module _ (r : spaces.Content) (b : buddies.Content) (s : Content) (t : ℕ) (k : KernelContent) (is : content_of r b s ≡ k) (holds : HoldTogether k.space k.buddy k.slabs)
     (less : t < k.tenants) (m : Machine) (h : ShowsMachine k t m) (f : ℕ) where
   together : HoldTogether r b s

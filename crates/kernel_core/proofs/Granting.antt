@@ -1,4 +1,4 @@
--- Granting a superblock without an owner to a tenant.
+-- A grant gives a tenant the first superblock without an owner.
 use Rattle.std.proofs.Common.{◌≡◌, ℕ, ◌<◌, false, Some, None, is_none, position, length, slice_set, refl, sym, ap, subst, arith, ◌≤◌, slice_get, ◌∙◌}
 use Rattle.std.proofs.lemmas.Option.{slice_get_past}
 use Rattle.model_core.specs.Operations.{after_grant, next_slot}
@@ -83,7 +83,7 @@ granted_world k w t m x u = record {
   world = record { owners = slice_set k.space.owners m (Some (owned_by t u)); machines = slice_set w.machines t (after_grant k.order x) };
 }
 
--- if a kernel shows a world where tenant t has machine x, and m is the first superblock without an owner, a grant gives
+-- if a kernel shows a world in which tenant t has machine x, and m is the first superblock without an owner, a grant gives
 -- `granted_world`
 grant_is : (k : KernelContent) (w : World) (t m : ℕ) (x : Machine) → Shows k w → slice_get w.machines t ≡ Some x → position is_none k.space.owners ≡ Some m
     → world_step cache_limit k.order (On.Admin (Do.Grant t)) w ≡ granted_world k w t m x (next_slot x)

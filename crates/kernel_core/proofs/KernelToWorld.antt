@@ -50,8 +50,8 @@ shows_changed k k' w t m m' owners shown agree same_tenants same_owners here sho
       (cases_eq u t);
 }
 
--- if an event in each world that the kernel shows only returns a reply, a call that does nothing but return this reply is its
--- step
+-- Let an event change nothing and return the same reply in each world that the kernel shows. Then a call that only returns this
+-- reply is a step of the event.
 pub steps_answered : (k : KernelContent) (event : Event) (to : Addressee) (body : Body)
     → ((w : World) → Shows k w → world_step cache_limit k.order event w ≡ answer to body w)
     → Steps k event k (record { addressee = to; body = body })
@@ -102,7 +102,7 @@ unknown_tenant k t command past =
     steps_answered k (On.Tenant t command) To.Nobody (Refused NoTenant)
     (λ w shown. ap (λ o. tenant_step cache_limit k.order t command w o) (slice_get_past w.machines t (omega (arith, shown.tenants))))
 
--- if a call does a command's step on the machine of tenant t, it is a step of the event with this command in the world
+-- if a call does a command's step on the machine of tenant t, the call is a step of the event that has this command
 pub steps_asked : (k k' : KernelContent) (t u : ℕ) (command : Command) (body : Body) → t ≡ u → t < k.tenants → ((w : World) → Shows k w → PartsAgree k')
     → StepsMachine k t command k' body → Steps k (On.Tenant u command) k' (record { addressee = To.Tenant t; body = body })
 unfolding world_step tenant_step

@@ -162,7 +162,7 @@ module _ (r : spaces.Content) (b : buddies.Content) (s : tables.Content) (t firs
 
 -- Replies to a tenant that an event names by its number
 
--- if tenant t exists and `Why` holds for it, both are true of the equal number `tenant`
+-- if tenant t exists and `Why` holds for it, the same two facts hold for the number `tenant`, which equals t
 pub refused_for : (k : KernelContent) (t tenant : ℕ) (Why : ℕ → Type 0) → t ≡ tenant → t < k.tenants → Why t → (tenant < k.tenants) × Why tenant
 refused_for k t tenant Why same less why = subst (λ u. (u < k.tenants) × Why u) same (less, why)
 

@@ -1,4 +1,4 @@
--- Taking back a superblock from a tenant.
+-- A take-back takes the superblock of a slot away from a tenant. It is refused if a frame of the slot is taken.
 use Rattle.std.proofs.Common.{◌≡◌, ℕ, ◌<◌, true, false, Some, None, is_some, Result, Ok, Err, length, slice_set, refl, sym, ap, ◌∙◌, subst, arith, ◌≤◌, Option, List, map, slice_get}
 use Rattle.std.proofs.lemmas.Bool.{false_from_ne_true}
 use Rattle.std.proofs.lemmas.Option.{slice_get_past}

@@ -6,8 +6,8 @@ use Rattle.kernel_core.specs.Content.{KernelContent}
 use Rattle.kernel_core.specs.Steps.{StepsMachine}
 use Rattle.kernel_core.proofs.kernel.Kernel.run.Goals as goal
 
--- The call ran the command on the tenant's machine. The answer has at most `MOST_BYTES` bytes, and no bytes if the command does
--- not request bytes.
+-- The call did the step of the command on the tenant's machine. The answer has at most `MOST_BYTES` bytes, and no bytes if the
+-- command does not request bytes.
 abbrev IsRun : KernelContent → ℕ → Request → KernelContent → Answer → Type 0
 IsRun k t request k' answer =
     StepsMachine k t (command_of request) k' (body_of_answer answer) × (HasFewBytes answer × (asks_bytes request ≡ false → has_bytes answer ≡ false))
