@@ -130,8 +130,8 @@ module _ {S : Type 0} (does : S → List ℕ → List ℕ → List ℕ → S →
     done = done;
   }
 
-  -- After more bytes are given, the same lines are processed and these bytes are left too. In between, the drain may have sent
-  -- what it took.
+  -- If more bytes are given, the lines that were processed stay the same, and the new bytes are left too. In between, the drain
+  -- may have sent what it took.
   pub gone_given : (s s' : S) (bytes rest more : List ℕ) (old now new : Option (List ℕ)) → HasGone does s bytes rest old now s' → Keeps now new
       → HasGone does s (bytes ++ more) (rest ++ more) old new s'
   gone_given s s' bytes rest more old now new gone kept = record {

@@ -9,7 +9,7 @@ use Rattle.streams.proofs.LineLemmas.{found_cut}
 use Rattle.replay_core.specs.Doing.{HasDone}
 use Rattle.replay_core.specs.QuickLine.{EndsFront, HasDoneFront}
 
--- if the first line of the bytes has `len` bytes with its LF, the bytes are this line, its LF and the bytes after it
+-- if the first line of the bytes has `len` bytes with its LF, the bytes are this line, its LF and the bytes after the LF
 pub front_ends : (rest : List ℕ) (len : ℕ) → EndsFront rest len
     → IsOneLine (take (len - 1) rest) × (rest ≡ (take (len - 1) rest ++ 10 ∷ []) ++ drop len rest)
 front_ends rest len ends =

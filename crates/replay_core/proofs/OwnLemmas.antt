@@ -1,4 +1,4 @@
--- After all lines of a trace were run, a tenant's reply lines are the lines of its private machine for the tenant's own list.
+-- If all lines of a trace were run, a tenant's reply lines are the lines of its private machine for the tenant's own list.
 use Rattle.std.proofs.Common.{ℕ, ◌<◌, List, Option, Some, None, ap, ◌∙◌, arith}
 use Rattle.words_core.specs.Cutting.{lines_of_trace}
 use Rattle.world_core.specs.Limits.{cache_limit}

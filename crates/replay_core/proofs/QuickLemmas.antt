@@ -26,7 +26,7 @@ reads_alone rest end tenant command within found reading =
     let same : end + 1 - 1 ≡ end = omega arith in
     record { some = omega arith; within = omega arith; ended = found ∙ ap Some (sym same); reading = ap (λ n. reading_of (take n rest)) same ∙ reading }
 
--- if a request of `len` bytes was read, the bytes are its line of `len - 1` bytes, an LF, and the bytes after it
+-- if a request of `len` bytes was read, `rest` is its line of `len - 1` bytes, an LF, and the bytes after this LF
 pub front_cut : (rest : List ℕ) (tenant : ℕ) (command : Command) (len : ℕ) → ReadsAs rest tenant command len
     → IsOneLine (take (len - 1) rest) × (rest ≡ (take (len - 1) rest ++ 10 ∷ []) ++ drop len rest)
 front_cut rest tenant command len read =
@@ -35,7 +35,8 @@ front_cut rest tenant command len read =
     (found.0, found.1 ∙ ap (λ n. (take (len - 1) rest ++ 10 ∷ []) ++ drop n rest) (omega arith))
 
 module _ {N : Type 0} (noting : Noting N) where
-  -- if the line at the front of `rest` was run and answered in full, all lines up to it were processed
+  -- if the lines before `rest` were processed, and the line at its front was answered in full, all lines up to this line were
+  -- processed
   pub line_done : (s mid s' : Run N × KernelContent) (bytes rest : List ℕ) (old now new : Option (List ℕ)) (tenant : ℕ) (command : Command) (len : ℕ)
       → ReadsAs rest tenant command len → HasGone (answers noting) s bytes rest old now mid
       → HasDone (AnswersRead noting []) mid (Ok (Some (Tenant tenant command))) now new (Ok tt) s'
@@ -45,7 +46,8 @@ module _ {N : Type 0} (noting : Noting N) where
       gone_end (answers noting) s mid s' bytes [] rest (take (len - 1) rest) (drop len rest) old now new gone tt cut.0 cut.1
       (done_of_event noting mid s' (take (len - 1) rest) _ now new (Ok tt) read.reading done)
 
-  -- if the drain failed within the answer to the line at the front of `rest`, it failed in a line of all the bytes
+  -- if the lines before `rest` were processed, and the drain failed within the answer to the line at its front, it failed in a
+  -- line of `bytes`
   pub line_stopped : (s mid s' : Run N × KernelContent) (bytes rest : List ℕ) (old now new : Option (List ℕ)) (stopped : Stopped) (tenant : ℕ) (command : Command) (len : ℕ)
       → ReadsAs rest tenant command len → HasGone (answers noting) s bytes rest old now mid
       → HasDone (AnswersRead noting []) mid (Ok (Some (Tenant tenant command))) now new (Err stopped) s'
@@ -70,6 +72,6 @@ module _ {N : Type 0} (noting : Noting N) where
       front_failed (answers noting) s bytes old new r len stopped s' failed (read_ends bytes tenant command len read)
       (done_of_event noting s s' (take (len - 1) bytes) _ old new (Err stopped) read.reading done)
 
--- if `rest` has at least `len` bytes, its length is `len` and the number of bytes after the first `len`
+-- if `rest` has at least `len` bytes, its length is the sum of `len` and the number of bytes after the first `len` bytes
 pub left_over : (rest : List ℕ) (len : ℕ) → len ≤ length rest → length (drop len rest) + len ≡ length rest
 left_over rest len within = omega (arith, length-drop len rest)

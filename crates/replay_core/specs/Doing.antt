@@ -1,5 +1,5 @@
 -- Lines that are processed one after another. `does s line taken rest s'` says that a line leads from state s to state s'. Of the
--- line's output the drain took `taken`. The rest was not taken; it is empty unless the drain failed.
+-- line's output, the drain took `taken` and did not take `rest`, which is empty unless the drain failed.
 use Rattle.std.specs.Prelude.{◌≡◌, ℕ, ◌<◌, List, [], ◌∷◌, ◌++◌, length, Option, Result, Err}
 use Rattle.std.specs.Io.KnownBytes.{Appends}
 use Rattle.world_core.specs.Output.{with_line_feeds}

@@ -18,7 +18,7 @@ abbrev pub IsAllowedOutput : Option ℕ → KernelContent → List (List ℕ) �
 IsAllowedOutput only before lines text = (superblocks tenants : ℕ) → Shows before (opening_world superblocks tenants) → 3 ≤ before.order
     → IsAllowedText only cache_limit before.order superblocks tenants lines text
 
--- under these conditions, `part` is a prefix of the shown text of allowed replies to these lines
+-- under the conditions of `IsAllowedOutput`, `part` is a prefix of the shown text of allowed replies to these lines
 abbrev pub BeginsAllowed : Option ℕ → KernelContent → List (List ℕ) → List ℕ → Type 0
 BeginsAllowed only before lines part = (superblocks tenants : ℕ) → Shows before (opening_world superblocks tenants) → 3 ≤ before.order
     → (rest : List ℕ) × IsAllowedText only cache_limit before.order superblocks tenants lines (part ++ rest)

@@ -17,7 +17,7 @@ pub trait Notes: Default + Drop {
 
     /// Notes a faulty line: its number, counted from 1, its fault, and the line or at least its first 256 bytes.
     ///
-    /// If the end of a line could not be read and the bytes before it are a faulty line, they are noted too.
+    /// If a line could not be read to its end, and the bytes that were read are a faulty line, they are noted too.
     fn faulty(&mut self, number: u64, fault: LineFault, begin: &[u8])
         ensures { self.new ≡ noting.faulty self.old number fault (take 256 begin.now) };
 }

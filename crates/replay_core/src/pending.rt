@@ -49,7 +49,7 @@ impl Pending {
         }
     }
 
-    /// Reads the bytes so far as a line. The line is too long if it has more bytes than are held.
+    /// Reads the pending bytes as a line. The line is too long if it has more bytes than are held.
     pub fn reading(&self) -> Result<Option<Event>, LineFault>
         ensures reading { (line : List ℕ) → HoldsLine line self.now → result ≡ reading_of line }
         ensures runnable { IsRunnable result }

@@ -1,4 +1,4 @@
-//! Runs quick lines one after another, both those that are answered in the drain's buffer and those that are not.
+//! Runs quick lines one after another, whether or not they are answered in the drain's buffer.
 
 ghost use Rattle.std.specs.Prelude.{◌≡◌, ◌+◌, ◌^◌, ◌<◌, ◌≤◌, [], Some, Ok, length, is_err, IfOk, IfSome, MatchResult};
 ghost use Rattle.words_core.specs.Grammar.{reading_of};
@@ -42,7 +42,7 @@ impl<N: Notes> Run<N> {
         Ok(rest)
     }
 
-    /// Runs the quick lines at the front of the last bytes of a piece and returns what is left. No beginning of a line may be
+    /// Runs the quick lines at the front of the last bytes of a piece and returns the rest. No beginning of a line may be
     /// pending.
     #[cold]
     #[inline(never)]

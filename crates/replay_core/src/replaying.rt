@@ -1,4 +1,4 @@
-//! The replay of a trace.
+//! Runs the trace from a feed on a kernel, and pushes the replies into a drain.
 
 ghost use Rattle.std.specs.Prelude.{◌≡◌, ℕ, ◌+◌, true, false, List, length, OnOk};
 ghost use Rattle.std.specs.Io.KnownBytes.{Consumes, Appends, IsAtEnd};
