@@ -13,7 +13,8 @@ use Rattle.words_core.specs.Texts.{number_of_refusal, name_of_refusal, name_of_f
 use Rattle.words_core.specs.declared.reply.TheConstants.{REFUSALS}
 use Rattle.check_core.specs.Forms.{◌>>=◌, form_at}
 
--- the value made from the numbers in a form at the front of the text, if they fit, and the text that follows it
+-- the value that is made from the numbers in a form at the front of the text, if the numbers fit, and the text that follows the
+-- form
 abbrev pub made_at : {A : Type 0} → List ℕ → (List ℕ → Bool) → (List ℕ → A) → List ℕ → Option (A × List ℕ)
 made_at form fits make text =
     form_at form text >>= (λ found. if fits found.0 then Some (make found.0, found.1) else None)
@@ -87,8 +88,7 @@ abbrev pub fit_place : List ℕ → Bool
 fit_place ns =
     nat_lt (slice_index ns 0) (2 ^ 8) && (nat_lt (slice_index ns 1) (2 ^ 16) && nat_lt (slice_index ns 2) (2 ^ 16))
 
--- the first number is in the range of a tenant (8 bits), and the second in the range of a slot or a number of superblocks (16
--- bits)
+-- the first number fits a tenant (8 bits), and the second fits a slot or a number of superblocks (16 bits)
 abbrev pub fit_tenant : List ℕ → Bool
 fit_tenant ns = nat_lt (slice_index ns 0) (2 ^ 8) && nat_lt (slice_index ns 1) (2 ^ 16)
 
