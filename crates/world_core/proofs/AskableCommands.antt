@@ -41,7 +41,7 @@ wrapped a = Ok a
 ok_same : {A : Type 0} (a b : A) → wrapped a ≡ Ok b → a ≡ b
 ok_same a b e = cc
 
--- the first step gives a value, and the second step gives b for this value
+-- `r` is `Ok` of a value, and `f` returns `Ok b` for this value
 pub record Both {A B : Type 0} (r : Result A LineFault) (f : A → Result B LineFault) (b : B) : Type 0 where
   pub value : A
   pub is : r ≡ Ok value
@@ -60,7 +60,7 @@ decoded word bytes e = go (length word % 2 == 1) e
     go true e = absurd (cc)
     go false e = (decode_pairs-ok 0 word bytes e).1
 
--- if a word reads as at most 16 bytes in hex, the bytes are a pattern
+-- if a word is read as an argument of 1 to 16 bytes in hex, these bytes are an allowed pattern
 read_pattern : (word : List ℕ) (pattern : ArrayVec ℕ) → bytes_argument 16 word ≡ Ok pattern → is_pattern pattern.items ≡ true
 read_pattern word pattern e = go (nat_le 2 (length word) && nat_le (length word) 32) refl e
   where
@@ -83,11 +83,11 @@ read_pattern word pattern e = go (nat_le 2 (length word) && nat_le (length word)
 
 -- Commands
 
--- some word of this form reads as this value
+-- there is a word that is read in this form as this value
 abbrev IsRead : (form : Form) → Given form → Type 0
 IsRead form value = (word : List ℕ) × (read_as form word ≡ Ok value)
 
--- every command made of values read in these forms has P
+-- every command that is made from values read in these forms has property P
 abbrev MakesAll : {C : Type 0} → (C → Type 0) → (forms : List Form) → Maker forms C → Type 0
 MakesAll P [] made = P made
 MakesAll P (form ∷ forms) makes = (value : Given form) → IsRead form value → MakesAll P forms (makes value)

@@ -1,4 +1,4 @@
--- Sets of definitions that worked traces unfold. Unfolding a name of this file unfolds all definitions in its list.
+-- Names for sets of definitions that worked traces unfold. Unfolding one of these names unfolds all definitions of its set.
 use Rattle.std.specs.Fmt.{digits}
 use Rattle.hex.proofs.OnLiterals.{hex_on_literals}
 use Rattle.hex.specs.Hex.{encode_with, decode_pairs}
@@ -25,7 +25,7 @@ unfoldable pub computed_caches : Unit {0}
 unfolding layout_of slab_to_use fresh_byte grown_cache grown destroyed next_number create_step cache_step destroy_step take_step
 computed_caches = tt
 
--- the definitions for gives, reaps and take-backs
+-- the definitions for giving back objects, reaping slabs and taking back slots
 unfoldable pub computed_returns : Unit {0}
 unfolding give_step reap_step after_take_back take_back_step is_busy
 computed_returns = tt
@@ -45,7 +45,7 @@ unfoldable pub computed_lines : Unit {0}
 unfolding computed_world reading_of reading_of_words event_of words_of hex_on_literals
 computed_lines = tt
 
--- these definitions, and those for the text of the replies
+-- the definitions of `computed_lines`, and those for the text of the replies
 unfoldable pub computed_texts : Unit {0}
 unfolding computed_lines decode_pairs encode_with digits output_of
 computed_texts = tt

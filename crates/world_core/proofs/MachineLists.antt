@@ -23,7 +23,7 @@ slice_get-replicate zero i x h = absurd (omega arith)
 slice_get-replicate (suc n) zero x h = refl
 slice_get-replicate (suc n) (suc i) x h = slice_get-replicate n i x (omega arith)
 
--- if an index is below the length of a list, the list has an element there
+-- if an index is below the length of a list, the list has an element at this index
 pub get_within : {A : Type 0} (xs : List A) (i : ℕ) → i < length xs → (x : A) × (slice_get xs i ≡ Some x)
 get_within [] i within = absurd (omega arith)
 get_within (x ∷ xs) zero within = (x, refl)

@@ -1,4 +1,4 @@
--- A greater limit on caches changes no run in which no cache was refused because of the limit.
+-- A greater limit on caches changes no private run in which no cache was refused because of the limit.
 use Rattle.std.proofs.Common.{◌≡◌, ℕ, ◌<◌, ◌≤◌, Bool, true, false, not, List, [], ◌∷◌, ◌++◌, Some, None, Result, Err, nat_le, refl, ap, ◌∙◌, arith}
 use Rattle.std.specs.Prelude.{if◌then◌else◌, Contains}
 use Rattle.std.proofs.lemmas.Bool.{leb-false, lt-leb}
@@ -16,7 +16,7 @@ use Rattle.world_core.specs.PrivateStep.{Entry, Ask, Grant, TakeBack, Reset, Tol
 use Rattle.world_core.specs.PrivateRun.{private_run}
 use Rattle.world_core.specs.Laws.{MoreCaches}
 
--- the step for a new cache; `full` says whether all numbers below the limit are used
+-- the step of making a cache with allowed size and alignment; `full` says whether all numbers below the limit are used
 abbrev numbered_step : ℕ → ℕ → List ℕ → Machine → Bool → Step (Result ℕ CacheRefusal)
 numbered_step size align pattern m full =
     cache_answer (if full then record { answer = None; machine = m } else record { answer = Some (next_number m); machine = created (next_number m) size align pattern m })
@@ -49,12 +49,12 @@ module _ (limit more size align : ℕ) (pattern : List ℕ) (m : Machine) (le : 
   same_sized true given = refl
   same_sized false given = same_aligned (not (is_alignment align)) given
 
-  -- if a new cache is not refused for lack of a number, the step is the same under a greater limit
+  -- if making a cache is not refused for lack of a number, it is the same step under a greater limit
   same_cache : IsGiven (cache_step limit size align pattern m) → cache_step more size align pattern m ≡ cache_step limit size align pattern m
   unfolding cache_step create_step
   same_cache given = same_sized (not (is_size size)) given
 
--- the step of one command of a tenant as a run
+-- the result of a command's step in the form of a private run's: the one reply, and the machine after the step
 abbrev told_once : Step Body → Told
 told_once step = record { replies = step.answer ∷ []; machine = step.machine }
 
@@ -77,7 +77,7 @@ same_step limit more order Grant m le none = refl
 same_step limit more order (TakeBack slot) m le none = refl
 same_step limit more order Reset m le none = refl
 
--- the result of a run and then a later one: the replies of both, and the later machine
+-- the result of two private runs, one after the other: the replies of both, and the machine that the later run leaves
 abbrev then_told : Told → Told → Told
 then_told first later = record { replies = first.replies ++ later.replies; machine = later.machine }
 

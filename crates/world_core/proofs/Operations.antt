@@ -1,4 +1,4 @@
--- A private run and a run of the model's operations leave the same machine.
+-- A private run leaves the same machine as the run of the model's operations for its entries.
 use Rattle.std.proofs.Common.{◌≡◌, ℕ, ◌&&◌, Bool, true, false, not, nat_le, if◌then◌else◌, [], ◌∷◌, refl, ap, ◌∙◌}
 use Rattle.model_core.specs.Machine.{Machine}
 use Rattle.model_core.specs.Operations.{Step, read_step}
@@ -12,7 +12,7 @@ if_stays : {A : Type 0} (test : Bool) (x y : Step A) (m : Machine) → x.machine
 if_stays true x y m p q = p
 if_stays false x y m p q = q
 
--- a read changes nothing
+-- a read does not change the machine
 pub read_stays : (place len : ℕ) (m : Machine) → (read_step place len m).machine ≡ m
 unfolding read_step
 read_stays place len m = if_stays (not (nat_le 1 len && nat_le len 64)) _ _ m refl (if_stays (not (in_reach m place len)) _ _ m refl refl)

@@ -20,12 +20,12 @@ use Rattle.world_core.specs.Laws.{IsPrivateRun, OwnRun, SameReplies, SameTexts, 
 use Rattle.world_core.specs.Output.{texts_for}
 use Rattle.world_core.proofs.MachineLists.{slice_get-set_same, slice_get-set_other, slice_get-replicate}
 
--- for tenant t, this step of the world is the private run of these entries
+-- step s of the world gives tenant t the replies and the machine of the private run of these entries from machine m
 abbrev pub Leaves : ℕ → ℕ → ℕ → List Entry → Machine → WorldStep → Type 0
 Leaves limit order t entries m s =
     IsPrivateRun limit order entries m (if_for t s.reply.addressee s.reply.body) (slice_get s.world.machines t)
 
--- for tenant t, this step of the world is the private run of the entries of its event
+-- `Leaves` is true for the entries that the event, with the reply of step s, adds to the own list of tenant t
 abbrev pub StepLeaves : ℕ → ℕ → ℕ → Event → Machine → WorldStep → Type 0
 StepLeaves limit order t event m s = Leaves limit order t (own_entries t event s.reply.body) m s
 
@@ -97,7 +97,7 @@ reset_other limit order t named w m None here other = rw (is_other named t other
 reset_other limit order t named w m (Some n) here other =
     rw (is_other named t other) record { replies = refl; machine = slice_get-set_other w.machines named t _ other ∙ here }
 
--- for tenant t, a move is the private run of no entries
+-- a move gives no reply to tenant t and does not change its machine
 moved_keeps : (limit order t named slot : ℕ) (w : World) (m : Machine) (free : Option ℕ) → slice_get w.machines t ≡ Some m
     → StepLeaves limit order t (On.Admin (Do.Move named slot)) m (moved_to named slot w free)
 unfolding answer
@@ -115,7 +115,7 @@ move_keeps limit order t named slot w m (Some n) free here = go (holds n slot)
     go true = moved_keeps limit order t named slot w m free here
     go false = record { replies = refl; machine = here }
 
--- for a tenant with machine m, each step of the world is the private run of the event's entries
+-- if tenant t has machine m, `StepLeaves` is true of the world's step for any event
 pub step_leaves : (limit order t : ℕ) (event : Event) (w : World) (m : Machine) → slice_get w.machines t ≡ Some m
     → StepLeaves limit order t event m (world_step limit order event w)
 unfolding world_step slot_step answer
@@ -151,7 +151,7 @@ step_leaves limit order t (On.Admin (Do.Move named slot)) w m here =
     move_keeps limit order t named slot w m (slice_get w.machines named) (position is_none w.owners) here
 step_leaves limit order t (On.Admin Do.Pool) w m here = record { replies = refl; machine = here }
 
--- a private run of two lists of entries one after the other leaves the machine of the second run after the first
+-- the private run of `xs ++ ys` leaves the machine that the run of ys leaves after the run of xs
 machine-append : (limit order : ℕ) (xs ys : List Entry) (m : Machine)
     → (private_run limit order (xs ++ ys) m).machine ≡ (private_run limit order ys (private_run limit order xs m).machine).machine
 machine-append limit order [] ys m = refl
@@ -167,7 +167,7 @@ replies-append limit order (x ∷ xs) ys m =
 join : {A : Type 0} {xs ys xs' ys' : List A} → xs ≡ xs' → ys ≡ ys' → xs ++ ys ≡ xs' ++ ys'
 join p q = cc
 
--- in a run from any world in which the tenant has machine m, its replies and machine are those of the private run from m
+-- if tenant t has machine m, its replies and machine in any run are those of the private run of its own list from m
 pub run_leaves : (limit order t : ℕ) (events : List Event) (w : World) (m : Machine) → slice_get w.machines t ≡ Some m
     → IsPrivateRun limit order (own_list t (history limit order w events)) m (replies_to t (history limit order w events))
     (slice_get (world_after limit order w events).machines t)

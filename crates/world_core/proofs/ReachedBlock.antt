@@ -1,4 +1,4 @@
--- Free space in the machines that private runs leave, and in every world.
+-- After a private run, an ample machine refuses neither a block nor an object. After any trace, the world refuses no such block.
 use Rattle.std.proofs.Common.{◌≡◌, ℕ, List, Some, slice_get, sym, ap, subst, ◌∙◌}
 use Rattle.std.proofs.lemmas.Option.{same_Some}
 use Rattle.model_core.specs.Machine.{Machine}
@@ -31,7 +31,7 @@ reached_object limit order number entries c asked cache room =
     let is = take_is_promised limit order number (reached_machine limit order entries) c (reached_well_formed limit order entries asked) cache room in
     (is.0, ap take_body is.1)
 
--- the reply to an `alloc` of a tenant with machine m is the answer of m
+-- if tenant t has machine m, the reply to its `alloc` is the answer of m
 told : (limit order t k : ℕ) (w : World) (m : Machine) → slice_get w.machines t ≡ Some m
     → (world_step limit order (On.Tenant t (Command.Alloc k)) w).reply ≡ record { addressee = To.Tenant t; body = (command_step limit order (Command.Alloc k) m).answer }
 unfolding world_step tenant_step

@@ -1,4 +1,4 @@
--- The machines that private runs leave.
+-- The machines that private runs leave are well formed, and the laws of taken and free blocks hold for them.
 use Rattle.std.proofs.Common.{◌≡◌, ◌↔◌, ℕ, Bool, true, false, List, [], ◌∷◌, ◌++◌, Option, Some, None, Ok, refl, sym, subst}
 use Rattle.std.specs.Prelude.{if◌then◌else◌, option_map, MatchOption, ◌==◌, flat_map}
 use Rattle.model_core.specs.Blocks.{Block, block, Taken, IsFree, IsChoice, IsWithout, with_taken, without_taken}
@@ -30,7 +30,7 @@ pub reached_free_once : ReachedFreeOnce
 reached_free_once limit order x entries =
     each_frame_in_one order (holds (reached_machine limit order entries)) (taken_in (reached_machine limit order entries)) x
 
--- if `choice` returns a frame, a block of some order that begins there is the choice among the free blocks
+-- if `choice` returns a frame, the block that is chosen among the free blocks begins at this frame and has some order j
 chosen_from : (order k first : ℕ) (m : Machine) → choice order m k ≡ Some first → (j : ℕ) × IsChoice order (holds m) (taken_in m) k (block first j)
 unfolding choice
 chosen_from order k first m e = go (choose order (holds m) (taken_in m) (beyond m.slots) k) e
@@ -80,7 +80,7 @@ free_taken first k m e = order_in_front m.blocks (flat_map slab_blocks m.caches)
     go None e = e
     go (Some j) e = e
 
--- if P says exactly that a block is free, it also does so for equal slots and equal taken blocks
+-- if `IsFree` of block b is equivalent to P, it still is after the slots and the taken blocks are replaced by equal ones
 by_account : {P : Type 0} (order : ℕ) (held held' : ℕ → Bool) (taken taken' : Taken) (b : Block) → held' ≡ held → taken' ≡ taken
     → (IsFree order held taken b ↔ P) → IsFree order held' taken' b ↔ P
 by_account {P} order held held' taken taken' b slots blocks is =

@@ -1,4 +1,4 @@
--- The objects of the machines that private runs leave.
+-- The laws of objects hold for the machines that private runs leave.
 use Rattle.std.proofs.Common.{◌≡◌, ℕ, ◌+◌, Result, Ok, Err, ap, sym, ◌∙◌, subst}
 use Rattle.std.specs.Prelude.{flat_map}
 use Rattle.model_core.specs.declared.refusals.TakeRefusal.{TakeRefusal}
@@ -26,7 +26,7 @@ reached_constructed limit order entries object j asked is less none =
     ap (λ m. m.bytes (place_of object + j)) here
     ∙ constructed_first limit order (flat_map operations_in entries) object j asked (subst (λ m. IsObject m object) here is) less none
 
--- if the reply to a take has an object's place, the take returned that place
+-- if the reply to a `take` reports an object at some place, the machine's answer to the `take` was this place
 taken_is : (place : ℕ) (answer : Result ℕ TakeRefusal) → take_body answer ≡ Say.Object place → answer ≡ Ok place
 taken_is place (Ok p) e = let same : p ≡ place = cc in ap Ok same
 taken_is place (Err refusal) e = absurd (cc)

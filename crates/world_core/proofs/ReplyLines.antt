@@ -1,4 +1,5 @@
--- The lines of a reply. None has an LF inside, so cutting the text at its LFs returns them. Each begins with its addressee.
+-- No line of a reply has an LF inside, so cutting the reply's text at its LFs returns the lines. No line begins with the numbers
+-- of two tenants.
 use Rattle.model_core.specs.declared.owner.Owner.{Owner}
 use Rattle.std.proofs.Common.{◌≡◌, ℕ, zero, suc, ◌+◌, Option, Some, None, is_none, count_by, length, slice_index, ◌<◌, ◌≤◌, ◌≢◌, ◌==◌, ◌/◌, ◌%◌, ◌&&◌, not, nat_eq, nat_le, Bool, true, false, if◌then◌else◌, List, [], ◌∷◌, ◌++◌, map, codes, decimal, refl, ap, sym, subst, ◌∙◌, arith, append_assoc}
 use Rattle.std.specs.List.{list_all, concat, starts_with, onto_first}
@@ -22,14 +23,14 @@ use Rattle.words_core.specs.declared.report.Report as figures
 use Rattle.words_core.specs.ReportTexts.{top_text, frames_text, order_text, order_texts, cache_text, report_texts}
 use Rattle.words_core.specs.Texts.{addressee_text, body_texts, owner_text, owner_texts, number_of_refusal, name_of_refusal, name_of_fault}
 
--- a byte that is not an LF
+-- the byte is not an LF
 abbrev pub is_text : ℕ → Bool
 is_text b = not (b == 10)
 
 abbrev pub is_digit : ℕ → Bool
 is_digit b = nat_le 48 b && nat_le b 57
 
--- a row without an LF
+-- the row has no LF
 pub record IsText (row : List ℕ) : Type 0 where
   pub all : list_all is_text row ≡ true
 
@@ -85,7 +86,7 @@ unfolding encode_with
 hex_text [] = refl
 hex_text (b ∷ bytes) = and_from _ _ (nibble_text (b / 16)) (and_from _ _ (nibble_text (b % 16)) (hex_text bytes))
 
--- if a text without LF, an LF and a rest are cut into lines, the text is the first line
+-- if a text without LF is followed by an LF and a rest, cutting into lines returns the text and then the lines of the rest
 cut_one : (text rest : List ℕ) → list_all is_text text ≡ true → lines_of_trace ((text ++ 10 ∷ []) ++ rest) ≡ text ∷ lines_of_trace rest
 cut_one [] rest h = refl
 cut_one (b ∷ text) rest h =
@@ -124,7 +125,7 @@ fault_text Words = refl
 fault_text Number = refl
 fault_text Hex = refl
 
--- if neither a text nor one more piece has an LF, both together have none
+-- if neither a text nor a piece after it has an LF, the two together have none
 with_piece : {front : List ℕ} → IsText front → (more : List ℕ) → list_all is_text more ≡ true → IsText (front ++ more)
 with_piece {front} text more h = record { all = list_all-append is_text front more ∙ and_from _ _ text.all h }
 

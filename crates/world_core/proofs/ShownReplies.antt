@@ -1,4 +1,5 @@
--- The output that is shown with `only` one tenant, and the output of a prefix of a trace.
+-- With `only` t, exactly the lines of tenant t are shown. The lines that end in LF in a prefix of a trace show a prefix of what
+-- the whole trace shows.
 use Rattle.std.proofs.Common.{◌≡◌, ℕ, zero, suc, ◌<◌, ◌≤◌, ◌^◌, ◌==◌, Bool, true, false, List, [], ◌∷◌, ◌++◌, length, Option, Some, None, Result, Ok, Err, refl, ap, sym, ◌∙◌, arith, append_assoc}
 use Rattle.std.specs.Prelude.{if◌then◌else◌, Contains}
 use Rattle.std.specs.List.{onto_first}
@@ -55,7 +56,7 @@ own_reading t limit order (Ok (Some event)) events w =
     (replies_to t (history limit order (world_step limit order event w).world events))
 own_reading t limit order (Err fault) events w = refl
 
--- with `only` t, the text of the replies to tenant t is shown
+-- with `only` t, the shown output is the text of the replies to tenant t
 pub own_replies : (t limit order : ℕ) (lines : List (List ℕ)) (w : World)
     → shown_lines (Some t) limit order lines w ≡ own_text t (replies_to t (history limit order w (events_of lines)))
 own_replies t limit order [] w = refl
@@ -63,7 +64,7 @@ own_replies t limit order (line ∷ lines) w =
     ap (λ more. shown_line (Some t) limit order line w ++ more) (own_replies t limit order lines (world_after limit order w (event_in (reading_of line))))
     ∙ own_reading t limit order (reading_of line) (events_of lines) w
 
--- the lines of tenant t in the output are the texts of the replies to it
+-- if there are at most 2 ^ 64 tenants, the lines of tenant t in the output are the texts of the replies to it
 own_lines : (limit order t : ℕ) (trace : List ℕ) (w : World) → length w.machines ≤ 2 ^ 64 → t < length w.machines
     → lines_for t (output_of limit order trace w) ≡ texts_for t (replies_to t (history limit order w (events_of (lines_of_trace trace))))
 unfolding output_of
@@ -91,7 +92,7 @@ no_more : (b : ℕ) (tail : List ℕ) → b == 10 ≡ false → (Contains tail 1
 no_more b tail other none (zero, below, here) = eqb-false b 10 other here
 no_more b tail other none (suc i, below, here) = none (i, omega arith, here)
 
--- if bytes consist of lines with LFs and a tail without LF, they still do so with one more byte in front
+-- if bytes consist of lines that end in LF and a tail without LF, they still do after one more byte is put in front
 ended_tail : (b : ℕ) (test : Bool) → b == 10 ≡ test → (ended : List (List ℕ)) (given tail : List ℕ) → given ≡ with_line_feeds ended ++ tail → (Contains tail 10 → ⊥)
     → (tail' : List ℕ) × (b ∷ given ≡ with_line_feeds (if test then [] ∷ ended else onto_ended b ended) ++ tail') × (Contains tail' 10 → ⊥)
 ended_tail b true is ended given tail split none = (tail, ap (λ c. c ∷ given) (eqb-true b 10 is) ∙ ap (λ bytes. 10 ∷ bytes) split, none)

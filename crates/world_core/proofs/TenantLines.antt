@@ -101,7 +101,7 @@ report_fronted front report =
 alone : List ℕ → List (List ℕ)
 alone row = row ∷ []
 
--- the lines of a body after a front are the lines after the empty front, each with the front put before it
+-- the lines of a body with a front are its lines with the empty front, each with the front put before it
 fronted : (front : List ℕ) (body : Body) → body_texts front body ≡ map (λ row. front ++ row) (body_texts [] body)
 unfolding alone
 fronted front (Granted tenant slot superblock) =
@@ -167,7 +167,7 @@ rows_same t body =
     ∙ sym (fronted (addressee_text (Tenant t)) body)
     ∙ sym (append-nil (body_texts (addressee_text (Tenant t)) body)))
 
--- of the rows of a reply, exactly those of a reply to tenant t are kept
+-- filtering the rows of a reply by `tells t` keeps all rows if the reply is addressed to tenant t, and none otherwise
 rows_for : (t : ℕ) (addressee : Addressee) (body : Body) → t < 2 ^ 64 → IsSmall addressee
     → filter (tells t) (body_texts (addressee_text addressee) body) ≡ texts_for t (if_for t addressee body)
 rows_for t Admin body small small' =
@@ -190,7 +190,7 @@ rows_for t (Tenant named) body small small' =
 texts_of_reply : (reply : Reply) → AreTexts (body_texts (addressee_text reply.addressee) reply.body)
 texts_of_reply reply = body_text _ reply.body (addressee_is_text reply.addressee)
 
--- the lines of tenant t in the text of a reply and a rest are those of the reply, and then those of the rest
+-- tenant t's lines in a reply's text and a rest are those of the reply, if it is addressed to t, and then those of the rest
 reply_lines : (t : ℕ) (reply : Reply) (rest : List ℕ) → t < 2 ^ 64 → IsSmall reply.addressee
     → lines_for t (text_of reply ++ rest) ≡ texts_for t (if_for t reply.addressee reply.body) ++ lines_for t rest
 reply_lines t reply rest small small' =
@@ -198,7 +198,7 @@ reply_lines t reply rest small small' =
     ∙ filter-append (tells t) (body_texts (addressee_text reply.addressee) reply.body) (lines_of_trace rest)
     ∙ ap (λ rows. rows ++ lines_for t rest) (rows_for t reply.addressee reply.body small small')
 
--- A step of the world keeps the number of tenants. With at most 2 ^ 64 tenants, it replies only to tenants with small numbers.
+-- A step of the world keeps the number of tenants. If there are at most 2 ^ 64 tenants, `IsSmall` is true of the addressee.
 
 pub record StaysNumbered (w : World) (s : WorldStep) : Type 0 where
   pub tenants : length s.world.machines ≡ length w.machines
@@ -257,12 +257,12 @@ step_stays limit order (On.Admin (Do.Reset named)) w = reset_stays named w (slic
 step_stays limit order (On.Admin (Do.Move named slot)) w = move_stays named slot w (slice_get w.machines named) (position is_none w.owners)
 step_stays limit order (On.Admin Do.Pool) w = record { tenants = refl; addressee = λ many. tt }
 
--- from each world of at most 2 ^ 64 tenants, the lines of tenant t in the output are the texts of the replies addressed to it
+-- if these lines of a trace run in any world of at most 2 ^ 64 tenants, tenant t's lines of output are the texts of its replies
 abbrev pub Tell : ℕ → ℕ → ℕ → List (List ℕ) → Type 0
 Tell limit order t lines = (w : World) → length w.machines ≤ 2 ^ 64
     → lines_for t (shown_lines None limit order lines w) ≡ texts_for t (replies_to t (history limit order w (events_of lines)))
 
--- if `Tell` holds for some lines, the lines of tenant t are also the texts of its replies with one more line in front
+-- if `Tell` is true of some lines, tenant t's lines of output are the texts of its replies also with one more line in front
 reading_tells : (limit order t : ℕ) (reading : Result (Option Event) LineFault) (lines : List (List ℕ)) (w : World) → t < 2 ^ 64
     → length w.machines ≤ 2 ^ 64 → Tell limit order t lines
     → lines_for t (shown_reading None limit order reading w ++ shown_lines None limit order lines (world_after limit order w (event_in reading)))

@@ -18,7 +18,7 @@ use Rattle.world_core.specs.Output.{shown_lines, output_of, events_of, lines_for
 use Rattle.world_core.specs.Laws.{OwnRun, HaveSameOwnList, SameReplies, SameTexts, MoreCaches, OwnLines, SameLines, AllShown, OwnShown, OwnLinesShown, EndedAllButTail, EndedLinesStay, ShownStays, opening_history, private_lines}
 use Rattle.world_core.proofs.ComputedTraces.{computed_lines, computed_machine, computed_texts}
 
--- a trace of tenant 0 alone, and one with tenant 0 among others
+-- a trace that concerns only tenant 0, and one that concerns tenant 1 too
 abbrev alone : List ℕ
 alone = codes "admin grant 0\n0 alloc 0\n"
 
@@ -79,7 +79,7 @@ OwnLinesShown-met : OwnLinesShown →
 unfolding opening_world
 OwnLinesShown-met law = law 32 3 0 among_others (opening_world 3 4) (omega arith) (omega arith)
 
--- a trace with one line that ends in LF, and one that does not
+-- a trace whose first line ends in LF and whose second line does not
 EndedAllButTail-met : EndedAllButTail →
     (tail : List ℕ) × (codes "0 alloc 0\n0 fr" ≡ with_line_feeds (codes "0 alloc 0" ∷ []) ++ tail) × (Contains tail line_feed → ⊥)
 EndedAllButTail-met law = law (codes "0 alloc 0\n0 fr")

@@ -6,7 +6,7 @@ use Rattle.world_core.specs.PrivateStep.{Entry, Ask, Grant, command_step}
 use Rattle.world_core.specs.Reached.{reached_machine, ReachedConstructed, ReachedConstructedWhenTaken}
 use Rattle.world_core.proofs.ComputedTraces.{computed_machine}
 
--- A slot is granted, and a cache is made.
+-- These entries grant a slot and make a cache.
 
 abbrev entries : List Entry
 entries = Grant ∷ Ask (Command.Cache 100 8 (record { items = 90 ∷ 91 ∷ [] })) ∷ []

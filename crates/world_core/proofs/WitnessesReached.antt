@@ -51,7 +51,7 @@ ReachedWellFormed-met law = law 32 3 entries are_requests
 ReachedSound-met : ReachedSound → IsSound 3 (holds machine) (taken_in machine)
 ReachedSound-met law = law 32 3 entries are_requests
 
--- Frame 0 is taken. Frame 1 lies in one free block.
+-- After these entries, frame 0 is taken, and frame 1 lies in one free block.
 
 abbrev one_block : List Entry
 one_block = Grant ∷ Ask (Command.Alloc 0) ∷ []
@@ -77,7 +77,7 @@ ReachedJoins-met : ReachedJoins → (j : ℕ) × JoinsTo 3 (holds (reached_machi
 unfolding command_step alloc_step free_step by_need reaped choice taken_blocks empty_machine next_slot after_grant private_step
 ReachedJoins-met law = let joins = law 32 3 0 0 one_block (tt, (tt, tt)) refl in (joins.0, joins.1)
 
--- The first two objects of the slab have numbers 0 and 1.
+-- The first two objects of the slab have indices 0 and 1.
 
 abbrev the_slab : Slab
 the_slab = record { first = 0; colour = 0; live = replicate 63 false }
@@ -103,7 +103,7 @@ first_is_there : IsObject machine first_object
 unfolding computed_machine
 first_is_there = record { cache_in = (0, omega arith, refl); slab_in = (0, omega arith, refl); index_in = omega arith }
 
--- only the second object has byte 100, so the first object does not have it
+-- only the second object has the byte at place 100, so the first object does not have it
 ReachedApart-met : ReachedApart → ((a : Object) → IsObject machine a → HasByte a 100 → a ≡ object) × (HasByte first_object 100 → ⊥)
 ReachedApart-met law =
     let only : (a : Object) → IsObject machine a → HasByte a 100 → a ≡ object = λ a there has.

@@ -1,4 +1,4 @@
--- The world after two lists of events one after the other, and the number of tenants of an opening world.
+-- Running `xs ++ ys` leaves the same world as running xs and then ys. An opening world has a machine for each tenant.
 use Rattle.std.proofs.Common.{◌≡◌, ℕ, List, [], ◌∷◌, ◌++◌, length, refl}
 use Rattle.std.proofs.lemmas.List.{length-replicate}
 use Rattle.model_core.specs.Machine.{empty_machine}

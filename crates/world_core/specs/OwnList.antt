@@ -26,16 +26,16 @@ is_refused (Body.Reaped frames) = false
 is_refused (Body.Report report) = false
 is_refused (Body.Fault fault) = false
 
--- the entry, if the event names tenant t
+-- the list of this one entry if the event names tenant t, otherwise the empty list
 abbrev pub if_named : ℕ → ℕ → Entry → List Entry
 if_named t named entry = if named == t then entry ∷ [] else []
 
--- the entry, if the event names tenant t and the administrator was not refused
+-- the list of this one entry if the event names tenant t and its reply is no refusal, otherwise the empty list
 abbrev pub if_granted : ℕ → ℕ → Body → Entry → List Entry
 if_granted t named body entry = if is_refused body then [] else if_named t named entry
 
--- The entries that an event and its reply are for the machine of tenant t. A move changes only which superblock a slot has, and
--- machines do not know superblocks, so it is no entry.
+-- The entries that an event with this reply adds to the own list of tenant t. A move adds none: it changes only which superblock
+-- a slot has, and machines do not know superblocks.
 abbrev pub own_entries : ℕ → Event → Body → List Entry
 own_entries t (Event.Tenant named command) body = if_named t named (Ask command)
 own_entries t (Event.Admin (AdminCommand.Grant named)) body = if_granted t named body Grant
@@ -44,7 +44,7 @@ own_entries t (Event.Admin (AdminCommand.Reset named)) body = if_named t named R
 own_entries t (Event.Admin (AdminCommand.Move named slot)) body = []
 own_entries t (Event.Admin AdminCommand.Pool) body = []
 
--- the tenant's own list: its commands, the grants and take-backs for it that were not refused, and its resets
+-- the own list of tenant t: its commands, the grants and take-backs for it that were not refused, and its resets, in order
 abbrev pub own_list : ℕ → List Exchange → List Entry
 own_list t [] = []
 own_list t (e ∷ es) = own_entries t e.event e.reply.body ++ own_list t es

@@ -3,7 +3,7 @@ use Rattle.std.specs.Prelude.{ℕ, List, [], ◌∷◌, ◌++◌}
 use Rattle.model_core.specs.Machine.{Machine}
 use Rattle.world_core.specs.PrivateStep.{Entry, Told, private_step}
 
--- the replies to the tenant's commands, in order, and the machine at the end
+-- the replies to the commands among the entries, in order, and the machine after the last entry; the run begins with machine m
 abbrev pub private_run : ℕ → ℕ → List Entry → Machine → Told
 private_run limit order [] m = record { replies = []; machine = m }
 private_run limit order (entry ∷ entries) m = record {

@@ -1,4 +1,4 @@
--- The private machine of one tenant, one step at a time.
+-- The effect of one entry on a tenant's private machine, and the reply to it.
 use Rattle.std.specs.Prelude.{ℕ, ◌+◌, List, [], ◌∷◌, Option, Some, None, Result, Ok, Err}
 use Rattle.model_core.specs.declared.refusals.AllocRefusal.{AllocRefusal}
 use Rattle.model_core.specs.declared.refusals.ReadRefusal.{ReadRefusal}
@@ -17,7 +17,7 @@ use Rattle.model_core.specs.Reports.{frames_held, frames_taken, frames_free, gre
 use Rattle.words_core.specs.declared.report.Report as figures
 use Rattle.words_core.specs.Refusals.{alloc_refusal, read_refusal, cache_refusal, destroy_refusal, take_refusal, give_refusal}
 
--- The body of the reply for the answer to each operation on the tenant's machine.
+-- For each operation on a tenant's machine, the body of the reply that reports the operation's answer.
 
 abbrev pub alloc_body : Result ℕ AllocRefusal → Body
 alloc_body (Ok frame) = Body.Frame frame
@@ -35,7 +35,7 @@ abbrev pub write_body : Option ℕ → Body
 write_body (Some count) = Body.Written count
 write_body None = Body.Refused Refusal.OutOfReach
 
--- the body with the number of a new cache and its layout
+-- the body that reports the number and the layout of a new cache
 abbrev pub layout_body : ℕ → Layout → Body
 layout_body number l = Body.Cache number l.chunk l.order l.count l.colours
 
@@ -55,7 +55,7 @@ abbrev pub give_body : Result (Unit {0}) GiveRefusal → Body
 give_body (Ok done) = Body.Given
 give_body (Err refusal) = Body.Refused (give_refusal refusal)
 
--- the figures of the machine; slots have 2 ^ order frames
+-- the figures in a report on the machine; slots have 2 ^ order frames
 unfoldable pub figures_of : ℕ → Machine → figures.Report
 figures_of order m = record {
   frames = frames_held order m;
@@ -67,7 +67,7 @@ figures_of order m = record {
   caches = record { items = rows_of_caches m };
 }
 
--- the step of a report, which changes nothing
+-- the step of a report, which does not change the machine
 unfoldable pub report_step : ℕ → Machine → Step Body
 report_step order m = record { answer = Body.Report (figures_of order m); machine = m }
 
@@ -75,8 +75,8 @@ report_step order m = record { answer = Body.Report (figures_of order m); machin
 abbrev pub with_body : {A : Type 0} → (A → Body) → Step A → Step Body
 with_body body step = record { answer = body step.answer; machine = step.machine }
 
--- The reply to a tenant's command, and the machine after it. The tenant may have `limit` caches, and slots have
--- 2 ^ order frames.
+-- The body of the reply to a tenant's command, and the machine after the command. A tenant may have at most `limit` caches, and
+-- slots have 2 ^ order frames.
 unfoldable pub command_step : ℕ → ℕ → Command → Machine → Step Body
 command_step limit order (Command.Alloc k) m = with_body alloc_body (alloc_step order k m)
 command_step limit order (Command.Free frame) m = with_body free_body (free_step frame m)
@@ -90,14 +90,15 @@ command_step limit order (Command.Give number place) m = with_body give_body (gi
 command_step limit order Command.Reap m = with_body Body.Reaped (reap_step m)
 command_step limit order Command.Report m = report_step order m
 
--- an entry is what affects the machine of a tenant: one of its own commands, a grant, a take-back or a reset
+-- something that a tenant's machine runs: a command of the tenant, or a grant, a take-back or a reset by the administrator
 pub data Entry : Type 0 where
   Ask : Command → Entry
   Grant : Entry
   TakeBack : ℕ → Entry
   Reset : Entry
 
--- the replies to the tenant, and its machine after them; the replies to grants, take-backs and resets go to the administrator
+-- The replies that the tenant gets, and its machine afterwards. Replies to grants, take-backs and resets are not among them: they
+-- go to the administrator.
 pub record Told : Type 0 where
   pub replies : List Body
   pub machine : Machine

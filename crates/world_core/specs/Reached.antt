@@ -24,7 +24,7 @@ use Rattle.world_core.specs.Output.{events_of}
 use Rattle.world_core.specs.Laws.{opening_history}
 use Rattle.world_core.specs.PrivateRun.{private_run}
 
--- a list of the model's operation for an entry, or the empty list if the entry is a read or a report
+-- the model's operation for an entry, in a list; the list is empty if the entry is a read or a report
 abbrev pub operations_in : Entry → List Operation
 operations_in (Entry.Ask (Command.Alloc k)) = Operation.Alloc k ∷ []
 operations_in (Entry.Ask (Command.Free first)) = Operation.Free first ∷ []
@@ -45,11 +45,11 @@ abbrev pub EntriesAreOperations : Type 0
 EntriesAreOperations = (limit order : ℕ) (entries : List Entry) (m : Machine) →
     (private_run limit order entries m).machine ≡ run limit order (flat_map operations_in entries) m
 
--- the machine that a private run leaves
+-- the machine that the private run of these entries leaves, from the empty machine
 abbrev pub reached_machine : ℕ → ℕ → List Entry → Machine
 reached_machine limit order entries = (private_run limit order entries empty_machine).machine
 
--- Each entry is a possible request: a cache is made with a pattern of 1 to 16 bytes.
+-- Each entry is a possible request: if it makes a cache, the pattern has 1 to 16 bytes.
 abbrev pub AreRequests : List Entry → Type 0
 AreRequests entries = ArePossible (flat_map operations_in entries)
 
@@ -58,7 +58,7 @@ abbrev pub OwnListsAreRequests : Type 0
 OwnListsAreRequests = (limit order superblocks tenants t : ℕ) (trace : List ℕ) →
     AreRequests (own_list t (opening_history limit order superblocks tenants (events_of (lines_of_trace trace))))
 
--- The machine after a private run is well formed ..
+-- The machine that a private run of possible requests leaves is well formed ..
 abbrev pub ReachedWellFormed : Type 0
 ReachedWellFormed = (limit order : ℕ) (entries : List Entry) → AreRequests entries
     → IsWellFormed limit order (reached_machine limit order entries)
@@ -78,8 +78,8 @@ ReachedFreeOnce = (limit order x : ℕ) (entries : List Entry) → let m = reach
     holds m (x / 2 ^ order) ≡ true → (IsTaken (taken_in m) x → ⊥) →
     (b : Block) × IsFreeIn order m b × HasFrame b x × ((c : Block) → IsFreeIn order m c → HasFrame c x → c ≡ b)
 
--- If an `alloc` returns a frame, it splits the chosen free block, which has some order j. The block is chosen among those that
--- are free after empty slabs are freed on demand.
+-- If an `alloc` of order k returns a frame, it splits the chosen free block, which begins at this frame and has some order j.
+-- Empty slabs are freed first if no block can be chosen without that.
 abbrev pub ReachedSplits : Type 0
 ReachedSplits = (limit order k first : ℕ) (entries : List Entry) → AreRequests entries →
     let m = reached_machine limit order entries in
@@ -96,12 +96,12 @@ ReachedJoins = (limit order first k : ℕ) (entries : List Entry) → AreRequest
     (j : ℕ) × JoinsTo order (holds m) (taken_in m) first k j × ((b : Block) →
     (IsFreeIn order (free_step first m).machine b ↔ IsFreeOnceJoined (IsFreeIn order m) first k j b))
 
--- Two objects of the machine's slabs that share a byte are the same ..
+-- If two objects of the machine share a byte, they are the same object ..
 abbrev pub ReachedApart : Type 0
 ReachedApart = (limit order : ℕ) (entries : List Entry) → AreRequests entries → let m = reached_machine limit order entries in
     (a b : Object) → IsObject m a → IsObject m b → (place : ℕ) → HasByte a place → HasByte b place → a ≡ b
 
--- .. and the objects of small slabs lie below the control record of their frame.
+-- .. and an object of a small slab lies in the slab's frame, below the control record.
 abbrev pub ReachedRecordsFree : Type 0
 ReachedRecordsFree = (limit order : ℕ) (entries : List Entry) → AreRequests entries → let m = reached_machine limit order entries in
     (object : Object) → IsObject m object → is_small (layout object.cache).chunk ≡ true
@@ -115,7 +115,7 @@ ReachedConstructed = (limit order : ℕ) (entries : List Entry) (object : Object
     → hand_outs limit order (place_of object) (flat_map operations_in entries) empty_machine 0 ≡ 0
     → m.bytes (place_of object + j) ≡ Some (pattern_byte object.cache.pattern j)
 
--- .. and so does an object that a `take` returns for the first time since then.
+-- .. and so does an object that a `take` has just returned for the first time since its slab was made.
 abbrev pub ReachedConstructedWhenTaken : Type 0
 ReachedConstructedWhenTaken = (limit order number : ℕ) (entries : List Entry) (object : Object) (j : ℕ) → AreRequests entries
     → let step = command_step limit order (Command.Take number) (reached_machine limit order entries) in
@@ -123,21 +123,21 @@ ReachedConstructedWhenTaken = (limit order number : ℕ) (entries : List Entry) 
     → hand_outs limit order (place_of object) (flat_map operations_in entries ++ Operation.Take number ∷ []) empty_machine 0 ≡ 1
     → step.machine.bytes (place_of object + j) ≡ Some (pattern_byte object.cache.pattern j)
 
--- If the machine holds more aligned blocks of an order than it has taken frames outside empty slabs, a block of that order
--- is never refused ..
+-- If the machine's slots have more aligned blocks of order k than it has taken frames outside empty slabs, it does not refuse an
+-- `alloc` of order k ..
 abbrev pub ReachedBlock : Type 0
 ReachedBlock = (limit order k : ℕ) (entries : List Entry) → AreRequests entries → let m = reached_machine limit order entries in
     IsAmple order k m → (first : ℕ) × ((command_step limit order (Command.Alloc k) m).answer ≡ Body.Frame first)
 
--- .. and neither is an object of a cache whose slabs have that order.
+-- .. nor a `take` from a cache whose slabs have order k.
 abbrev pub ReachedObject : Type 0
 ReachedObject = (limit order number : ℕ) (entries : List Entry) (c : Cache) → AreRequests entries →
     let m = reached_machine limit order entries in
     cache_of m number ≡ Some c → IsAmple order (layout c).order m
     → (place : ℕ) × ((command_step limit order (Command.Take number) m).answer ≡ Body.Object place)
 
--- So nobody is starved by others: after any trace, a tenant whose machine meets this condition gets a block of that order,
--- whatever all others did.
+-- So nobody is starved by others: after any trace, if a tenant's machine meets this condition, the tenant gets a block of order
+-- k, whatever the others did.
 abbrev pub NobodyStarves : Type 0
 NobodyStarves = (limit order superblocks tenants t k : ℕ) (trace : List ℕ) (m : Machine) → t < tenants →
     let w = world_after limit order (opening_world superblocks tenants) (events_of (lines_of_trace trace)) in

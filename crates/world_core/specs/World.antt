@@ -16,12 +16,12 @@ use Rattle.model_core.specs.Operations.{next_slot, after_grant, take_back_step}
 use Rattle.words_core.specs.Refusals.{take_back_refusal}
 use Rattle.world_core.specs.PrivateStep.{command_step}
 
--- the owner of each superblock (a tenant and its slot), and the machine of each tenant
+-- the owner of each superblock (a tenant and one of its slots, or None), and the machine of each tenant
 pub record World : Type 0 where
   pub owners : List (Option Owner)
   pub machines : List Machine
 
--- no superblock has an owner, and every machine is empty
+-- the world in which no superblock has an owner and every machine is empty
 unfoldable pub opening_world : ℕ → ℕ → World
 opening_world superblocks tenants = record {
   owners = replicate superblocks None;
@@ -32,11 +32,12 @@ pub record WorldStep : Type 0 where
   pub reply : Reply
   pub world : World
 
--- the step that gives this reply and changes nothing
+-- the step that replies with this body to this addressee and does not change the world
 unfoldable pub answer : Addressee → Body → World → WorldStep
 answer addressee body w = record { reply = record { addressee = addressee; body = body }; world = w }
 
--- the first superblock without an owner is granted, in the lowest slot that the tenant does not hold
+-- The step of a grant: tenant t gets the first superblock without an owner, in the lowest slot that it does not hold. The grant
+-- is refused if the tenant does not exist or every superblock has an owner.
 unfoldable pub grant_step : ℕ → ℕ → World → Option Machine → Option ℕ → WorldStep
 grant_step order t w None _ = answer Addressee.Admin (Body.Refused Refusal.NoTenant) w
 grant_step order t w (Some m) None = answer Addressee.Admin (Body.Refused Refusal.PoolEmpty) w
@@ -52,7 +53,8 @@ grant_step order t w (Some m) (Some superblock) = record {
 abbrev pub given_up : (Option Owner → Bool) → Option Owner → Option Owner
 given_up test owner = if test owner then None else owner
 
--- the superblock of the slot loses its owner, unless the tenant's machine refused; `after` is the machine after the take-back
+-- The step of a take-back, from the answer of the tenant's machine. Unless the machine refused, the slot's superblock loses its
+-- owner, and the tenant gets machine `after`.
 abbrev pub take_back_answered : ℕ → ℕ → World → Machine → Result (Unit {0}) TakeBackRefusal → WorldStep
 take_back_answered t slot w after (Ok done) = record {
   reply = record { addressee = Addressee.Admin; body = Body.TakenBack (position_or_len (is_owner t slot) w.owners) };
@@ -68,7 +70,7 @@ slot_step order t slot w None = answer Addressee.Admin (Body.Refused Refusal.NoT
 slot_step order t slot w (Some m) =
     take_back_answered t slot w (take_back_step order slot m).machine (take_back_step order slot m).answer
 
--- the tenant's machine becomes empty, and its superblocks lose their owner
+-- the step of a reset: the tenant's machine becomes empty, and all superblocks of the tenant lose their owner
 unfoldable pub reset_step : ℕ → World → Option Machine → WorldStep
 reset_step t w None = answer Addressee.Admin (Body.Refused Refusal.NoTenant) w
 reset_step t w (Some m) = record {
@@ -79,7 +81,7 @@ reset_step t w (Some m) = record {
   };
 }
 
--- the slot gets the first superblock without an owner, and its old superblock loses its owner
+-- the slot gets the first superblock without an owner, and the superblock that it had loses its owner
 abbrev pub moved_to : ℕ → ℕ → World → Option ℕ → WorldStep
 moved_to t slot w None = answer Addressee.Admin (Body.Refused Refusal.PoolEmpty) w
 moved_to t slot w (Some superblock) = record {
@@ -87,7 +89,7 @@ moved_to t slot w (Some superblock) = record {
   world = record w { owners = slice_set (map (given_up (is_owner t slot)) w.owners) superblock (Some (owned_by t slot)) };
 }
 
--- a slot is moved; every machine stays as it is
+-- the step of a move, which changes no machine; it is refused if tenant t does not exist or does not hold the slot
 unfoldable pub move_step : ℕ → ℕ → World → Option Machine → Option ℕ → WorldStep
 move_step t slot w None free = answer Addressee.Admin (Body.Refused Refusal.NoTenant) w
 move_step t slot w (Some m) free =
@@ -101,7 +103,7 @@ tenant_step limit order t command w (Some m) = record {
   world = record w { machines = slice_set w.machines t (command_step limit order command m).machine };
 }
 
--- the reply to one event, and the world after it; a tenant may have `limit` caches, and slots have 2 ^ order frames
+-- the reply to one event, and the world after it; a tenant may have at most `limit` caches, and slots have 2 ^ order frames
 unfoldable pub world_step : ℕ → ℕ → Event → World → WorldStep
 world_step limit order (Event.Tenant t command) w = tenant_step limit order t command w (slice_get w.machines t)
 world_step limit order (Event.Admin (AdminCommand.Grant t)) w = grant_step order t w (slice_get w.machines t) (position is_none w.owners)

@@ -1,64 +1,65 @@
-//! The laws of whole runs. Each is the contract of an empty function, which a function calls if its proof needs the law.
+//! The laws of whole runs. Each law is the contract of an empty function. Code calls this function if its proof needs the law.
 
 ghost use Rattle.world_core.specs.Laws.{OwnRun, MoreCaches, OwnLines, SameReplies, SameTexts, SameLines, AllShown, OwnShown, OwnLinesShown, EndedAllButTail, EndedLinesStay, ShownStays};
 ghost use Rattle.world_core.specs.Reached.{EntriesAreOperations, OwnListsAreRequests, ReachedWellFormed, ReachedSound, ReachedFreeOnce, ReachedSplits, ReachedJoins, ReachedApart, ReachedRecordsFree, ReachedConstructed, ReachedConstructedWhenTaken, ReachedBlock, ReachedObject, NobodyStarves};
 
-/// In every run from the opening world, the replies to a tenant are exactly those of its private machine
-/// to its own commands, grants, take-backs and resets. At the end of the run its machine is this private machine.
+/// In every run from the opening world, a tenant gets exactly the replies of a private machine that runs only the tenant's own
+/// commands, grants, take-backs and resets. At the end of the run, the tenant's machine is equal to this private machine.
 pub fn own_run()
     ensures { OwnRun }
 {}
 
 /// In the output of any trace, the lines of a tenant are the texts of its private machine's replies to the
-/// tenant's own list of that trace.
+/// tenant's own list of that trace. The world may have at most 2^64 tenants.
 pub fn own_lines()
     ensures { OwnLines }
 {}
 
-/// If a tenant's own lists are equal in two runs, in worlds with the same order of superblocks and the same limit on caches, it
-/// gets the same replies in both. So it gets the same texts, and for two traces the same lines of output. The numbers of
-/// superblocks and tenants may differ, and all others may do anything.
+/// If a tenant's own lists are equal in two runs, it gets the same replies, with the same texts, in both. If the runs are runs of
+/// traces in worlds of at most 2^64 tenants, it gets the same lines of output. Both worlds have the same order of superblocks and
+/// the same limit on caches. They may differ in the numbers of superblocks and tenants, and other tenants may do anything.
 pub fn non_interference()
     ensures replies { SameReplies }
     ensures texts { SameTexts }
     ensures lines { SameLines }
 {}
 
-/// If no tenant is named, the whole output of a trace is shown. If one is named, exactly its lines of the
-/// output are shown.
+/// If no tenant is named, the whole output of a trace is shown. If a tenant is named, exactly this tenant's lines of the output
+/// are shown.
 pub fn own_shown()
     ensures all { AllShown }
     ensures bytes { OwnShown }
     ensures lines { OwnLinesShown }
 {}
 
-/// In any prefix of a trace, the lines that end in LF are the first lines of the whole trace, and what they show is a prefix of
-/// what the whole trace shows.
+/// In any prefix of a trace, the lines that end in LF are the first lines of the whole trace. The output shown for them is a
+/// prefix of the output shown for the whole trace. What follows these lines in the prefix has no LF.
 pub fn shown_stays()
     ensures ended { EndedAllButTail }
     ensures lines { EndedLinesStay }
     ensures shown { ShownStays }
 {}
 
-/// Some run of the model's operations leads to the machine after a private run. So the laws of reached machines hold for every
-/// tenant's machine.
+/// For every private run, there is a run of the model's operations that leaves the same machine. So the laws of reached machines
+/// hold for every tenant's machine.
 pub fn entries_are_operations()
     ensures { EntriesAreOperations }
 {}
 
-/// If no cache is refused for lack of a number, a private run is the same under any greater limit on caches.
+/// If no cache is refused for lack of a number, a private run has the same replies and leaves the same machine under any greater
+/// limit on caches.
 pub fn more_caches()
     ensures { MoreCaches }
 {}
 
-/// Each cache in a tenant's own list of a trace is made with a pattern of 1 to 16 bytes. So the laws of reached machines hold for
-/// every tenant's machine after every trace.
+/// In a tenant's own list of any trace, each cache is made with a pattern of 1 to 16 bytes. So the laws of reached machines hold
+/// for every tenant's machine after every trace.
 pub fn own_lists_are_requests()
     ensures { OwnListsAreRequests }
 {}
 
 /// The machine after a private run is well formed, and its taken blocks, including those of slabs, are aligned, lie in held slots
-/// and share no frame. So the laws of blocks hold there: each frame that is held and not taken is in exactly one free block,
+/// and share no frame. So the laws of blocks hold for it: each frame that is held and not taken is in exactly one free block,
 /// `alloc` splits the chosen block, and `free` joins buddies.
 pub fn reached_machines()
     ensures well_formed { ReachedWellFormed }
@@ -68,9 +69,9 @@ pub fn reached_machines()
     ensures joins { ReachedJoins }
 {}
 
-/// The objects of the machine after a private run share no byte, and those of small slabs lie below the control record of their
-/// frame. An object that was not taken since its slab was made is in its constructed state, and so is an object that a `take`
-/// returns for the first time since then.
+/// The objects of the machine after a private run share no byte. An object of a small slab lies in the slab's frame, below the
+/// control record. An object that was not taken since its slab was made is in its constructed state. So is an object that a
+/// `take` has just returned for the first time since its slab was made.
 pub fn reached_objects()
     ensures apart { ReachedApart }
     ensures records { ReachedRecordsFree }
@@ -78,9 +79,9 @@ pub fn reached_objects()
     ensures taken { ReachedConstructedWhenTaken }
 {}
 
-/// If a tenant holds more aligned blocks of some order than it has taken frames outside empty slabs, then its private machine
-/// refuses it neither a block of that order nor an object of a cache whose slabs have that order. After any trace, the world does
-/// not refuse it such a block either.
+/// If a tenant's slots have more aligned blocks of some order than the tenant has taken frames outside empty slabs, then its
+/// private machine refuses neither a block of that order nor an object of a cache whose slabs have that order. After any trace,
+/// the world does not refuse the tenant a block of that order either.
 pub fn nobody_starves()
     ensures block { ReachedBlock }
     ensures object { ReachedObject }
