@@ -1,4 +1,5 @@
--- What follows if a reply is allowed: it keeps each promise, and what is known afterwards is `known_after`.
+-- If the named tenant exists, an allowed reply keeps each promise, and what is known afterwards is `known_after`. If it does not
+-- exist, an allowed reply is `NoTenant` and changes nothing that is known.
 use Rattle.std.proofs.Common.{◌≡◌, Bool, true, false, List, [], ◌∷◌, Option, Some, None, Result, Ok, unwrap_or, slice_get, refl, ap, ◌∙◌, ◌⊎◌, inl, inr}
 use Rattle.std.proofs.lemmas.Bool.{and_parts}
 use Rattle.std.specs.Option.{option_map_or}
@@ -10,7 +11,7 @@ use Rattle.promise_core.specs.State.{State, Known, opening_state, state_after}
 use Rattle.promise_core.specs.Promises.{form, refusals, room, busy, blocks, objects, new_layout, gives, owners, bytes, report, still, is_for, is_no_tenant, named, known_after, verdict, kept, judged, allowed}
 use Rattle.model_core.proofs.Lists.{some_of}
 
--- the state of the tenant that an event names, or None if it does not exist; the opening state if the event names no tenant
+-- the state of the tenant that an event names, or None if that tenant does not exist; the opening state if the event names none
 abbrev pub state_for : Event → Known → Option State
 state_for event w = option_map_or (slice_get w.states) (named event) (Some opening_state)
 

@@ -39,7 +39,7 @@ get_index (x ∷ xs) (suc i) h = get_index xs i (omega arith)
 
 -- Patterns and bytes carried over from the state before
 
--- each pattern, and the byte that is left at the place, was already there in the state before
+-- each pattern of a cache in s' is the pattern of a cache in s, and the byte left at the place in s' was left there in s too
 pub record IsCarried (place : ℕ) (s s' : State) : Type 0 where
   pub patterns : (c : KnownCache) → IsIn c s'.has.caches → (d : KnownCache) × IsIn d s.has.caches × (d.pattern ≡ c.pattern)
   pub cells : (cell : Cell) → s'.cells place ≡ Some cell → (old : Cell) × (s.cells place ≡ Some old) × (old.byte ≡ cell.byte)
@@ -71,7 +71,7 @@ grants_refused : (order t place : ℕ) (event : Event) (r : Refusal) → grants_
 grants_refused order t place (On.Admin (Do.Grant n)) r = refl
 grants_refused order t place event r = refl
 
--- an event that names another tenant does not grant this tenant the slot of the place
+-- an event that does not name tenant t does not grant t the slot of the place
 grants_other : (order t place : ℕ) (event : Event) (body : Body) → (named event ≡ Some t → ⊥) → grants_slot order t place event body ≡ false
 grants_other order t place (On.Admin (Do.Grant n)) (Say.Granted told u superblock) other = and_left _ _ (ne_eqb n t (λ e. other (ap Some e)))
 grants_other order t place event body other = refl
@@ -81,7 +81,7 @@ grants_none : (order t place : ℕ) (event : Event) (body : Body) → is_no_tena
 grants_none order t place event (Say.Refused r) e = grants_refused order t place event r
 grants_none order t place event body e = absurd (cc)
 
--- after an exchange, the byte is in a pattern that the tenant gave
+-- after the event, the byte is in a pattern that the tenant gave
 abbrev given_after : ℕ → (ℕ → Bool) → Event → ℕ → Bool
 given_after t given event b = given b || gives_pattern t b event
 
@@ -95,7 +95,7 @@ still_written : (order t place : ℕ) (written : ℕ → Bool) (event : Event) (
     → written b ≡ true → written_after order t place written event body b ≡ true
 still_written order t place written event body b none e = or_right (writes_byte t place b event body) _ (and_from _ _ e (ap not none))
 
--- One step, for the tenant that it names
+-- One step, for the tenant that its event names
 module _ (order t place : ℕ) (given written : ℕ → Bool) where
   abbrev After : Event → Body → State → Type 0
   After event body s = IsExplained (given_after t given event) (written_after order t place written event body) place s
@@ -213,7 +213,7 @@ module _ (order t place : ℕ) (given written : ℕ → Bool) where
   stays : (event : Event) (body : Body) (s : State) → grants_slot order t place event body ≡ false → IsExplained given written place s → After event body s
   stays event body s none x = carry event body s s s none refl (record { patterns = same_patterns s; cells = same_cells place s }) x
 
--- the byte that was left at this place of the tenant is explained
+-- in the state of tenant t, all patterns were given, and the byte left at the place is zero, given or written
 abbrev Holds : ℕ → ℕ → (ℕ → Bool) → (ℕ → Bool) → Known → Type 0
 Holds t place given written w = (s : State) → slice_get w.states t ≡ Some s → IsExplained given written place s
 

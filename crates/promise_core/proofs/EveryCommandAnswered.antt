@@ -26,7 +26,7 @@ each_all : (ps : List (Promise × Bool)) → Each (λ p. p.1 ≡ true) ps → li
 each_all [] e = refl
 each_all ((promise, b) ∷ ps) (e, rest) = and_from b (list_all (λ p. p.1) ps) e (each_all ps rest)
 
--- Bytes to be read
+-- Bytes that a read may return
 
 one_byte : (holder : Holder) (fresh : ℕ) (cell : Option Cell) → (b : ℕ) × (may_be holder fresh cell b ≡ true)
 one_byte holder fresh None = (fresh, eq-eqb fresh fresh refl)

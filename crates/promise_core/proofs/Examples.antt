@@ -53,7 +53,7 @@ reported = asked 0 Command.Report (Say.Report (record {
 abbrev emptied : List Exchange
 emptied = begun ++ (asked 0 (Command.Free 2) (Say.Freed 1) ∷ asked 0 (Command.Alloc 0) (Say.Frame 1) ∷ asked 0 (Command.Give 0 0) Say.Given ∷ [])
 
--- a run of every command with partmem's replies, which are all allowed
+-- a run with every command at least once and with partmem's replies, all of which are allowed
 every_command : verdict_on (begun
     ++ (asked 0 (Command.Read 8192 3) (Say.Bytes (record { items = 1 ∷ 2 ∷ 0 ∷ [] })) ∷ asked 0 (Command.Read 0 2) (Say.Bytes (record { items = 90 ∷ 90 ∷ [] }))
     ∷ asked 0 (Command.Free 2) (Say.Freed 1) ∷ asked 0 (Command.Alloc 0) (Say.Frame 1) ∷ asked 0 (Command.Give 0 0) Say.Given ∷ reported
@@ -66,8 +66,8 @@ every_command : verdict_on (begun
 unfolding opening opening_state known_blocks can_stand vacant_blocks can_be_taken holder_of state_after owners_after due allowed
 every_command = refl
 
--- The replies of another policy are allowed too. It grants the last superblock in a slot of its own choice, allocates from the
--- top, has no colours, and frees empty slabs at once.
+-- The replies of another policy are allowed too. This policy grants the last superblock in a slot of its own choice, allocates
+-- from the top, uses one colour, and frees empty slabs at once.
 another_policy : verdict_on (ordered (Do.Grant 0) (Say.Granted 0 5 2)
     ∷ asked 0 (Command.Cache 2000 8 (record { items = 90 ∷ [] })) (Say.Cache 7 2048 1 4 1) ∷ asked 0 (Command.Take 7) (Say.Object 192512)
     ∷ asked 0 (Command.Alloc 1) (Say.Frame 44) ∷ asked 0 (Command.Take 7) (Say.Object 188416) ∷ asked 0 (Command.Give 7 192512) Say.Given
@@ -101,7 +101,7 @@ no_block : verdict_on (begun ++ (asked 0 (Command.Alloc 0) (Say.Frame 3) ∷ [])
 unfolding opening opening_state known_blocks can_stand vacant_blocks can_be_taken holder_of state_after owners_after due allowed
 no_block = refl
 
--- this place is in the first object, so no other object may begin there
+-- place 1992 is in the first object, so no other object may begin there
 no_object : verdict_on (begun ++ (asked 0 (Command.Take 0) (Say.Object 1992) ∷ [])) ≡ Some Promise.Objects
 unfolding opening opening_state known_blocks can_stand vacant_blocks can_be_taken holder_of state_after owners_after due allowed
 no_object = refl
@@ -136,7 +136,7 @@ not_still : verdict_on (emptied ++ (reported ∷ asked 0 Command.Reap (Say.Reape
 unfolding opening opening_state known_blocks can_stand vacant_blocks can_be_taken holder_of state_after owners_after due allowed
 not_still = refl
 
--- without the report it is not known whether there is an empty slab, so a reap may free no frame
+-- without the report it is not known whether there is an empty slab, so a reap that frees no frame is allowed
 still_unknown : verdict_on (emptied ++ (asked 0 Command.Reap (Say.Reaped 0) ∷ [])) ≡ None
 unfolding opening opening_state known_blocks can_stand vacant_blocks can_be_taken holder_of state_after owners_after due allowed
 still_unknown = refl

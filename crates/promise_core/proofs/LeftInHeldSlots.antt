@@ -1,4 +1,4 @@
--- The bytes that were left are in held slots.
+-- Bytes were left only in held slots. Each step keeps this.
 use Rattle.std.proofs.Common.{◌≡◌, ℕ, ◌+◌, ◌-◌, ◌*◌, ◌/◌, ◌^◌, ◌<◌, ◌≤◌, Bool, true, false, not, ◌&&◌, length, List, [], ◌∷◌, Option, Some, None, refl, ap, sym, subst, ◌∙◌, inl, inr, arith}
 use Rattle.std.specs.Prelude.{◌==◌, if◌then◌else◌, filter, find, nat_lt}
 use Rattle.std.specs.List.{list_any}
@@ -33,7 +33,7 @@ in_slot order p h b aligned held low high =
     let frame : HasFrame b (p / 4096) = (omega (arith, low), omega (arith, high)) in
     subst (λ u. has_slot h u ≡ true) (sym (frame_slot order (p / 4096) b aligned frame)) held
 
--- the holder is a live object of one of these caches, and has the whole range
+-- the holder is a live object of one of these caches, and contains the whole range
 pub record HasRange (place len : ℕ) (holder : Holder) (cs : List KnownCache) : Type 0 where
   pub cache : KnownCache
   pub first : ℕ

@@ -28,7 +28,7 @@ use Rattle.promise_core.proofs.ObjectGrids.{new_gridded, given_gridded, taken_gr
 
 -- Used blocks lie apart
 
--- used blocks still lie apart if no others are used than before, and the slots of those that are used are still held
+-- used blocks still lie apart if every block that is used was used before, and its slot is still held
 fewer : (order : ℕ) (h h' : Holdings) → IsLaid order h → ((by : Option ℕ) (b : Block) → Used h' by b → Used h by b)
     → ((by : Option ℕ) (b : Block) → Used h' by b → has_slot h (b.first / 2 ^ order) ≡ true → has_slot h' (b.first / 2 ^ order) ≡ true) → HaveOwnNumbers h' → IsLaid order h'
 fewer order h h' l used held numbers = record {
@@ -37,7 +37,7 @@ fewer order h h' l used held numbers = record {
   numbers = numbers;
 }
 
--- used blocks still lie apart if one more block is used, which is aligned, in a held slot, and shares no frame with another
+-- used blocks still lie apart if one more block is used that is aligned, in a held slot, and shares no frame with a used block
 more : (order : ℕ) (h h' : Holdings) (new : Option ℕ) (n : Block) → IsLaid order h
     → ((by : Option ℕ) (b : Block) → Used h' by b → Used h by b ⊎ ((by ≡ new) × (b ≡ n)))
     → ((u : ℕ) → has_slot h u ≡ true → has_slot h' u ≡ true) → IsAligned order n → has_slot h (n.first / 2 ^ order) ≡ true
@@ -81,7 +81,7 @@ unfolding can_stand
 can_stand_is order h b e = let p = and_parts _ _ e in let q = and_parts _ _ p.0 in let r = and_parts _ _ p.1 in
     record { aligned = (leb-true b.order order q.0, eqb-true _ 0 q.1); held = r.0; vacant = r.1 }
 
--- a cache has no live object in a vacant block of the order of its slabs
+-- if a block of the order of a cache's slabs is vacant, the cache has no live object in it
 pub empty_slab : (order : ℕ) (h : Holdings) (c : KnownCache) → IsIn c h.caches → (f : ℕ) → is_vacant h (block f c.order) ≡ true → length (live_of_slab c f) ≡ 0
 empty_slab order h c i f vacant = go (live_of_slab c f) refl
   where
@@ -93,7 +93,7 @@ empty_slab order h c i f vacant = go (live_of_slab c f) refl
         absurd (vacant_apart h (block f c.order) vacant (Some c.number) (block f c.order) f (c, p, i, at.0, refl, sym same)
         (has_first (block f c.order)) (has_first (block f c.order)))
 
--- Live objects changed
+-- Changes of a cache's live objects
 
 live_number : (b : Bool) (c : KnownCache) (live : List ℕ) → (if b then record c { live = live } else c).number ≡ c.number
 live_number true c live = refl
@@ -107,7 +107,7 @@ live_numbers h number change own c d i j e =
     ∙ e ∙ ap (λ y. y.number) (sym z.2) ∙ live_number (z.0.number == number) z.0 (change z.0.live)) in
     sym x.2 ∙ ap (λ (y : KnownCache). if y.number == number then record y { live = change y.live } else y) same ∙ z.2
 
--- the block is the slab of an object that is live after the change, in the cache with this number
+-- the user is the cache with this number, and the block is the slab of an object that is live in it after the change
 abbrev Changed : Holdings → ℕ → (List ℕ → List ℕ) → Option ℕ → Block → Type 0
 Changed h number change by b = (c : KnownCache) × (p : ℕ) × IsIn c h.caches × (c.number ≡ number) × IsIn p (change c.live) × (by ≡ Some number) × (b ≡ slab_around c p)
 
@@ -311,7 +311,7 @@ three_none true b c r q p e = absurd (false≢true e)
 three_none false true c r q p e = absurd (false≢true e)
 three_none false false c r q p e = (refl, refl)
 
--- if the live objects of one cache change and it still has grids, all caches still have grids
+-- if the live objects of one cache change and this cache still has grids, all caches still have grids
 live_gridded : (order number : ℕ) (change : List ℕ → List ℕ) (h : Holdings) → AllGridded order h
     → ((c : KnownCache) → IsIn c h.caches → c.number ≡ number → IsGridded order (record c { live = change c.live })) → AllGridded order (with_live_places number change h)
 live_gridded order number change h g changed c i =
@@ -325,7 +325,7 @@ live_gridded order number change h g changed c i =
 second_fits : (a b n : ℕ) → a + b ≤ n → b ≤ n
 second_fits a b n e = omega (arith, e)
 
--- the layout in an allowed reply fits
+-- if a new cache was not to be refused and its reply keeps `new_layout`, the layout in the reply fits
 told_fits : (w : Known) (t size align : ℕ) (pattern : ArrayVec ℕ) (number chunk q n colours : ℕ) (s : State)
     → is_none (due (On.Tenant t (Command.Cache size align pattern)) w s) ≡ true
     → new_layout (On.Tenant t (Command.Cache size align pattern)) (Say.Cache number chunk q n colours) w s ≡ true

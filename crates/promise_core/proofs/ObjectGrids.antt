@@ -1,5 +1,5 @@
--- The live objects of each slab lie on a grid that has space for all its objects. Each step keeps this, and a slab that is not
--- full has a place for one more.
+-- The live objects of each slab lie on a grid that has space for all objects of the slab. Each step keeps this. A slab that is
+-- not full has a place for one more object.
 use Rattle.std.proofs.Common.{◌≡◌, ℕ, zero, suc, ◌+◌, ◌-◌, ◌*◌, ◌/◌, ◌%◌, ◌^◌, ◌<◌, ◌≤◌, Bool, true, false, not, ◌&&◌, ◌||◌, List, [], ◌∷◌, length, refl, sym, ap, ◌∙◌, subst, inl, inr, arith}
 use Rattle.std.specs.Prelude.{if◌then◌else◌, filter, nat_le, nat_lt, ◌==◌}
 use Rattle.std.specs.List.{list_any, list_all}
@@ -34,7 +34,7 @@ pub all_from : {X : Type 0} (p : X → Bool) (xs : List X) → ((x : X) → IsIn
 all_from p [] f = refl
 all_from p (x ∷ xs) f = and_from (p x) (list_all p xs) (f x (inl refl)) (all_from p xs (λ y i. f y (inr i)))
 
--- filtering a list by q first does not let more elements pass p
+-- if a list is filtered by q first, no more of its elements pass p
 fewer_left : {X : Type 0} (p q : X → Bool) (xs : List X) → length (filter p (filter q xs)) ≤ length (filter p xs)
 fewer_left p q [] = omega arith
 fewer_left {X} p q (x ∷ xs) = go (p x) refl (q x) (fewer_left p q xs)
@@ -46,7 +46,7 @@ fewer_left {X} p q (x ∷ xs) = go (p x) refl (q x) (fewer_left p q xs)
     go false is true e = let one : length (filter p (x ∷ filter q xs)) ≡ length (filter p (filter q xs)) = ap (λ b. length (if b then x ∷ filter p (filter q xs) else filter p (filter q xs))) is in omega (arith, one, e)
     go false is false e = e
 
--- as many elements pass if `x` is put in at its place as if it is put in front
+-- if `x` is inserted in rising order, as many elements pass as if `x` is put in front
 put_passes : (p : ℕ → Bool) (x : ℕ) (xs : List ℕ) → length (filter p (put_rising (λ y. y) x xs)) ≡ length (filter p (x ∷ xs))
 put_passes p x [] = refl
 put_passes p x (y ∷ ys) = go (nat_lt x y) (p x) (p y) refl refl (put_passes p x ys)
@@ -101,7 +101,7 @@ frame_aligned = for_alignment (λ a. (f : ℕ) → 4096 * f % a ≡ 0) (λ f. om
 from_rest : (p origin n r : ℕ) → origin ≤ p → r ≡ 0 → n + r ≡ p - origin → p ≡ origin + n
 from_rest p origin n r low none split = omega (arith, low, none, split)
 
--- a new cache has a grid: its slabs can begin with an object
+-- a cache without live objects whose layout fits has grids: the first object of a slab can be at the slab's first byte
 pub new_gridded : (order : ℕ) (c : KnownCache) → c.live ≡ [] → IsFitted order c → IsGridded order c
 new_gridded order c empty fit = record { fitted = fit; grids = grids }
   where
@@ -231,12 +231,12 @@ module _ (order : ℕ) (h : Holdings) (c : KnownCache) (place : ℕ) (g : IsGrid
 
 -- A place for one more object
 
--- the block around a frame of an aligned block is that block
+-- for any frame of an aligned block, the aligned block of the same order that has this frame is the block itself
 pub around_is : (b : Block) (x : ℕ) → b.first % 2 ^ b.order ≡ 0 → HasFrame b x → around x b.order ≡ b
 around_is b x aligned has = ap (λ f. block f b.order)
     (ap (λ n. n * 2 ^ b.order) (sym (number_is b.order x) ∙ number_of_frame b.first b.order x aligned has) ∙ first_is b.first b.order aligned)
 
--- the test of `can_be_taken` for this slab
+-- the test of `can_be_taken`, with slab b in place of the slab around the place
 abbrev is_takable : ℕ → Holdings → KnownCache → ℕ → Block → Bool
 is_takable order h c place b = (place % c.align == 0 && (nat_lt 0 (length (live_of_slab c b.first)) || can_stand order h b))
     && (nat_lt (length (live_of_slab c b.first)) c.count && (list_all (are_apart c place) (live_of_slab c b.first)

@@ -1,4 +1,5 @@
--- What every run of allowed replies keeps, by induction over the exchanges.
+-- After every run of allowed replies, each tenant's used blocks lie apart, its live objects lie on grids, and bytes were left
+-- only in slots that it holds. The proof is by induction over the exchanges.
 use Rattle.std.proofs.Common.{◌≡◌, ℕ, List, [], ◌∷◌, Option, Some, None, Result, Ok, Err, slice_get, refl, ap, sym, subst, ◌∙◌, inl, inr}
 use Rattle.std.specs.Option.{option_map_or}
 use Rattle.model_core.specs.Blocks.{Block}

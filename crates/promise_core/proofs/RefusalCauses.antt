@@ -1,4 +1,5 @@
--- `NoFrames` is an allowed reply to an `alloc` exactly if no frame is, and to a `take` exactly if no object is.
+-- `NoFrames` is an allowed reply to an `alloc` exactly if no frame is an allowed reply, and to a `take` exactly if no object is
+-- an allowed reply.
 use Rattle.std.proofs.Common.{◌≡◌, ℕ, ◌+◌, ◌-◌, ◌*◌, ◌/◌, ◌%◌, ◌^◌, ◌<◌, ◌≤◌, Bool, true, false, not, ◌&&◌, eqb, ltb, leb, List, [], ◌∷◌, length, Some, Err, slice_get, refl, sym, ap, ◌∙◌, subst, inl, inr, arith}
 use Rattle.std.specs.Prelude.{if◌then◌else◌, flat_map, is_ok, is_none}
 use Rattle.std.specs.List.{list_all, range_with_len}
@@ -44,7 +45,7 @@ module _ (order k : ℕ) (of_slot : k ≤ order) (h : Holdings) where
   abbrev share : ℕ
   share = 2 ^ (order - k)
 
-  -- the aligned block with number q lies in slot q / share
+  -- the aligned block of order k that begins at frame q * 2 ^ k lies in slot q / share
   slot_of_number : (q : ℕ) → q * 2 ^ k / 2 ^ order ≡ q / share
   slot_of_number q =
       let size : 2 ^ order ≡ 2 ^ k * share = ap (λ n. 2 ^ n) (omega (arith, of_slot)) ∙ pow-add 2 k (order - k) in
@@ -181,7 +182,7 @@ nothing_left order h c place used can =
           both_ways_off (has_vacant_block order h c.order) u.1 (stands_vacant order c.order of_slot h (slab_around c place).first stands)
     ]
 
--- if it is not used up, an object can be taken: in a slab that has a live object, or in a vacant block
+-- if the cache is not used up, an object can be taken: in a slab that has a live object, or in a vacant block
 something_left : (order : ℕ) (h : Holdings) (c : KnownCache) → IsIn c h.caches → IsGridded order c → is_used_up order h c ≡ false
     → (place : ℕ) × (can_be_taken order h c place ≡ true)
 something_left order h c i g unused = go (has_vacant_block order h c.order) refl (list_all (is_slab_full c) c.live) refl unused

@@ -1,4 +1,5 @@
--- What a step keeps of the states before it, and of the bytes that were left at a place.
+-- A step changes only the state of the tenant that its event names. A byte that is left at a place after a step was left there
+-- before, or the step put it there.
 use Rattle.std.proofs.Common.{◌≡◌, ℕ, zero, suc, ◌+◌, ◌-◌, ◌<◌, ◌≤◌, Bool, true, false, not, ◌&&◌, ◌||◌, List, [], ◌∷◌, length, replicate, Option, Some, None, slice_get, slice_set, refl, ap, sym, subst, ◌∙◌, ◌⊎◌, inl, inr}
 use Rattle.std.specs.Prelude.{nat_le, nat_lt, slice_index, if◌then◌else◌, ◌==◌}
 use Rattle.std.specs.Option.{option_map_or}
@@ -44,7 +45,7 @@ states_at t (Some i) states after x e = elim (cases_eq i t) [
 
 -- The cells that stay
 
--- a cell with the same byte was at the place before, and its holder does not pass the test
+-- the old cell at the place has the same byte, and the place and the old holder do not pass the test
 pub record IsLeft (test : ℕ → Holder → Bool) (cells : Cells) (place : ℕ) (cell : Cell) : Type 0 where
   pub old : Cell
   pub was : cells place ≡ Some old
@@ -83,7 +84,7 @@ object_cells first place s None cell e = (cell, e, refl)
 object_cells first place s (Some c) cell e =
     without_cells (λ p holder. in_block p (slab_around c first) && not (is_object (λ n q. n == c.number && (q == first || are_apart c first q)) holder)) place s cell e
 
--- after bytes were put from `begin` on, the byte at the place is one of them, or the cell there is the old one
+-- after bytes are put at the places from `begin` on, the byte at the place is one of them, or the cell there is the old one
 pub range_cells : (begin place : ℕ) (new : List ℕ) (s : State) (holder : Option Holder) (cell : Cell)
     → option_map_or (λ x. with_bytes x begin new s.cells) holder s.cells place ≡ Some cell
     → ((x : Holder) × (holder ≡ Some x) × (begin ≤ place) × (place < begin + length new) × (cell.byte ≡ slice_index new (place - begin))) ⊎ (s.cells place ≡ Some cell)

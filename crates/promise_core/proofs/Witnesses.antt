@@ -44,22 +44,22 @@ LeftInHeld-met : LeftInHeld → has_slot the_state.has (slot_of 3 8192) ≡ true
 unfolding opening opening_state known_blocks can_stand vacant_blocks can_be_taken holder_of state_after owners_after due allowed
 LeftInHeld-met law = law 32 3 3 2 0 begun known the_state refl refl 8192 (record { holder = Holder.Page; byte = 1; sure = true }) refl
 
--- the second of the bytes that were written, in a page block, is the tenant's own
+-- the second of the two bytes that were written in the page block is the tenant's own
 Confined-met : Confined → is_own 3 0 8193 2 begun ≡ true
 unfolding opening opening_state known_blocks can_stand vacant_blocks can_be_taken holder_of state_after owners_after due allowed
 Confined-met law = law 32 3 3 2 0 8192 3 1 2 begun (To.Tenant 0) (record { items = 1 ∷ 2 ∷ 0 ∷ [] }) known
     (known_of (allowed (On.Tenant 0 (Command.Read 8192 3)) (record { addressee = To.Tenant 0; body = Say.Bytes (record { items = 1 ∷ 2 ∷ 0 ∷ [] }) }) known)) refl refl refl
 
--- byte 3 is not the tenant's own there, because it was not written
+-- byte 3 is not the tenant's own at this place, because the tenant did not write it there
 not_own : is_own 3 0 8193 3 begun ≡ false
 not_own = refl
 
--- after the run some frame may be returned, because `NoFrames` may not
+-- after the run, some frame is an allowed reply to an `alloc`, because `NoFrames` is not
 RefusedForCause-met : RefusedForCause → (f : ℕ) × (may_tell known 0 (Command.Alloc 0) (Say.Frame f) ≡ true)
 unfolding opening opening_state known_blocks can_stand vacant_blocks can_be_taken holder_of state_after owners_after due allowed
 RefusedForCause-met law = (law known the_state 0 0 refl (omega arith)).answered refl
 
--- after the run some object may be returned
+-- after the run, some object is an allowed reply to a `take`
 TakeRefusedForCause-met : TakeRefusedForCause → (place : ℕ) × (may_tell known 0 (Command.Take 0) (Say.Object place) ≡ true)
 unfolding opening opening_state known_blocks can_stand vacant_blocks can_be_taken holder_of state_after owners_after due allowed
 TakeRefusedForCause-met law = (law 32 3 3 2 0 0 begun known the_state the_cache refl refl refl).answered refl

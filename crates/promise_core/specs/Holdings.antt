@@ -1,4 +1,5 @@
--- What a tenant has, according to the replies. The allocator decides which block a request gets, and when empty slabs are freed.
+-- What a tenant has, according to the replies. No policy is assumed: the allocator decides which block a request gets, and when
+-- it frees empty slabs.
 use Rattle.std.specs.Prelude.{ℕ, ◌+◌, ◌-◌, ◌*◌, ◌/◌, ◌%◌, ◌^◌, Bool, not, List, ◌++◌, map, filter, find, flat_map, length, Option, nat_le, nat_lt, if◌then◌else◌, ◌&&◌, ◌||◌, ◌==◌}
 use Rattle.std.specs.List.{list_any, list_all, range_with_len}
 use Rattle.model_core.specs.declared.limits.TheConstants.{FRAME_BYTES}
@@ -6,8 +7,8 @@ use Rattle.model_core.specs.Blocks.{Block, block, around, slot_block}
 use Rattle.model_core.specs.Choice.{is_any_below}
 use Rattle.model_core.specs.Operations.{overlaps}
 
--- a cache, as its command and the reply describe it: a slab has 2 ^ order frames and `count` objects, whose first bytes are
--- `chunk` bytes apart; `live` has the first places of its live objects, in ascending order
+-- a cache, as the command that made it and the reply describe it: a slab has 2 ^ order frames and `count` objects,
+-- which begin `chunk` bytes apart; `live` has the first places of the cache's live objects, in ascending order
 pub record KnownCache : Type 0 where
   pub number : ℕ
   pub size : ℕ
@@ -36,7 +37,7 @@ with_live_places number change h = record h {
   caches = map {B = KnownCache} (λ (c : KnownCache). if c.number == number then record c { live = change c.live } else c) h.caches;
 }
 
--- the slab of an object at this place
+-- the slab that has the object of the cache at this place
 abbrev pub slab_around : KnownCache → ℕ → Block
 slab_around c place = around (place / FRAME_BYTES) c.order
 
@@ -79,8 +80,8 @@ is_slab_full c place = length (live_beside c place) == c.count
 abbrev pub are_apart : KnownCache → ℕ → ℕ → Bool
 are_apart c p q = nat_le (p + c.size) q || nat_le (q + c.size) p
 
--- if the first object of slab b were at `origin`, all its objects would fit into it, and an object would begin at each of these
--- places
+-- if slab b had its first object at `origin`, all objects of the slab would fit into it, and one of them would begin at each of
+-- these places
 abbrev pub is_grid : KnownCache → Block → ℕ → List ℕ → Bool
 is_grid c b origin places =
     (nat_le (FRAME_BYTES * b.first) origin && nat_le (origin + (c.count - 1) * c.chunk + c.size) (FRAME_BYTES * (b.first + 2 ^ b.order)))

@@ -17,7 +17,7 @@ use Rattle.promise_core.specs.Lying.{AreOfHeld}
 use Rattle.promise_core.specs.State.{State, Known, opening}
 use Rattle.promise_core.specs.Promises.{allowed, all_allowed}
 
--- the tenant's command makes a cache whose pattern has the byte
+-- the event is a command of tenant t that makes a cache, and the cache's pattern has the byte
 abbrev pub gives_pattern : ℕ → ℕ → Event → Bool
 gives_pattern t byte (Event.Tenant named (Command.Cache size align pattern)) = named == t && list_any (λ b. b == byte) pattern.items
 gives_pattern t byte (Event.Tenant named (Command.Alloc k)) = false
@@ -48,7 +48,7 @@ writes_byte t place byte (Event.Tenant named Command.Report) body = false
 writes_byte t place byte (Event.Tenant named (Command.Write begin new)) body = false
 writes_byte t place byte (Event.Admin command) body = false
 
--- the slot of the place is granted to the tenant; slots have 2 ^ order frames
+-- the event grants tenant t the slot that contains the place; slots have 2 ^ order frames
 abbrev pub grants_slot : ℕ → ℕ → ℕ → Event → Body → Bool
 grants_slot order t place (Event.Admin (AdminCommand.Grant named)) (Body.Granted told u superblock) = named == t && slot_of order place == u
 grants_slot order t place (Event.Tenant named command) body = false
@@ -63,7 +63,7 @@ abbrev pub was_given : ℕ → ℕ → Bool → List Exchange → Bool
 was_given t byte before [] = before
 was_given t byte before (e ∷ es) = was_given t byte (before || gives_pattern t byte e.event) es
 
--- the tenant wrote the byte at the place, in these exchanges or before, and the slot was not granted since
+-- the tenant wrote the byte at the place, in these exchanges or before, and the slot of the place was not granted to it since
 abbrev pub was_written : ℕ → ℕ → ℕ → ℕ → Bool → List Exchange → Bool
 was_written order t place byte before [] = before
 was_written order t place byte before (e ∷ es) = was_written order t place byte
@@ -85,8 +85,8 @@ abbrev pub Uses : Holdings → Option ℕ → Block → Type 0
 Uses h None b = Contains h.pages b
 Uses h (Some number) b = (c : KnownCache) × (place : ℕ) × Contains h.caches c × Contains c.live place × (c.number ≡ number) × (b ≡ slab_around c place)
 
--- used blocks are aligned and in held slots, and two that share a frame are the same block of the same user; slots have
--- 2 ^ order frames
+-- used blocks are aligned and in held slots, and two used blocks that share a frame are the same block of the same user; slots
+-- have 2 ^ order frames
 pub record LiesApart (order : ℕ) (h : Holdings) : Type 0 where
   pub placed : (by : Option ℕ) (b : Block) → Uses h by b → IsAligned order b × (has_slot h (b.first / 2 ^ order) ≡ true)
   pub apart : (by other : Option ℕ) (a b : Block) (x : ℕ) → Uses h by a → Uses h other b → HasFrame a x → HasFrame b x
@@ -97,13 +97,13 @@ abbrev pub LiveApart : Type 0
 LiveApart = (limit order superblocks tenants t : ℕ) (es : List Exchange) (w : Known) (s : State)
     → all_allowed es (Ok (opening limit order superblocks tenants)) ≡ Ok w → slice_get w.states t ≡ Some s → LiesApart order s.has
 
--- After allowed replies, the bytes that were left are in held slots, for every tenant.
+-- After allowed replies, each place of a tenant at which a byte was left is in a slot that the tenant holds.
 abbrev pub LeftInHeld : Type 0
 LeftInHeld = (limit order superblocks tenants t : ℕ) (es : List Exchange) (w : Known) (s : State)
     → all_allowed es (Ok (opening limit order superblocks tenants)) ≡ Ok w → slice_get w.states t ≡ Some s
     → AreOfHeld order s.has s.cells
 
--- a reply to the tenant with this body is allowed
+-- a reply with this body to this command of tenant t is allowed
 abbrev pub may_tell : Known → ℕ → Command → Body → Bool
 may_tell w t command body = is_ok (allowed (Event.Tenant t command) (record { addressee = Addressee.Tenant t; body = body }) w)
 
@@ -136,7 +136,7 @@ uses_memory (Command.Destroy number) = false
 uses_memory Command.Reap = false
 uses_memory Command.Report = false
 
--- each command by which a tenant uses its memory has an allowed reply, after any allowed replies
+-- after any allowed replies, each command by which a tenant uses its memory has an allowed reply
 abbrev pub UseAnswerable : Type 0
 UseAnswerable = (limit order superblocks tenants t : ℕ) (command : Command) (es : List Exchange) (w : Known)
     → all_allowed es (Ok (opening limit order superblocks tenants)) ≡ Ok w → uses_memory command ≡ true

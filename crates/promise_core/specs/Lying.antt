@@ -1,5 +1,5 @@
--- Where a tenant's blocks, objects and bytes lie: page blocks and slabs share no frame, live objects lie on a grid of their slab,
--- and the bytes that were left are in held slots. Every run of allowed replies keeps this.
+-- Where a tenant's blocks, objects and bytes lie. Page blocks and slabs share no frame, the live objects of a slab lie on a grid,
+-- and bytes were left only in held slots. This is true after every run of allowed replies.
 use Rattle.std.specs.Prelude.{◌≡◌, ℕ, ◌+◌, ◌-◌, ◌*◌, ◌/◌, ◌%◌, ◌^◌, ◌<◌, ◌≤◌, true, List, length, filter, Option, Some, None, ◌==◌}
 use Rattle.model_core.specs.Blocks.{Block, HasFrame, IsAligned}
 use Rattle.model_core.specs.Layouts.{is_alignment}
@@ -16,14 +16,14 @@ Used h (Some n) b = (c : KnownCache) × (p : ℕ) × IsIn c h.caches × IsIn p c
 abbrev pub HaveOwnNumbers : Holdings → Type 0
 HaveOwnNumbers h = (c d : KnownCache) → IsIn c h.caches → IsIn d h.caches → c.number ≡ d.number → c ≡ d
 
--- used blocks are aligned and in held slots, two that share a frame are the same block of the same user, and no two caches have
--- the same number
+-- used blocks are aligned and in held slots, two used blocks that share a frame are the same block of the same user, and no two
+-- caches have the same number
 pub record IsLaid (order : ℕ) (h : Holdings) : Type 0 where
   pub placed : (by : Option ℕ) (b : Block) → Used h by b → IsAligned order b × (has_slot h (b.first / 2 ^ order) ≡ true)
   pub apart : (by other : Option ℕ) (a b : Block) (x : ℕ) → Used h by a → Used h other b → HasFrame a x → HasFrame b x → (by ≡ other) × (a ≡ b)
   pub numbers : HaveOwnNumbers h
 
--- a slab of the cache fits into a slot, and its objects fit into the slab
+-- a slab of the cache fits into a slot, the objects of a slab fit into the slab, and the chunk is a multiple of the alignment
 pub record IsFitted (order : ℕ) (c : KnownCache) : Type 0 where
   pub of_slot : c.order ≤ order
   pub sized : 1 ≤ c.size
@@ -40,7 +40,8 @@ live_of_slab c f = filter (λ p. (slab_around c p).first == f) c.live
 abbrev pub OnGrid : KnownCache → ℕ → ℕ → Type 0
 OnGrid c origin p = (j : ℕ) × (j < c.count) × (p ≡ origin + j * c.chunk)
 
--- the live objects of the slab at frame f lie inside the slab, at multiples of a chunk from an aligned origin
+-- from an aligned origin on, the slab at frame f has space for all its objects, and its live objects lie multiples of a chunk
+-- after the origin
 pub record HasGrid (c : KnownCache) (f : ℕ) : Type 0 where
   pub origin : ℕ
   pub aligned : origin % c.align ≡ 0
@@ -56,6 +57,6 @@ pub record IsGridded (order : ℕ) (c : KnownCache) : Type 0 where
 abbrev pub AllGridded : ℕ → Holdings → Type 0
 AllGridded order h = (c : KnownCache) → IsIn c h.caches → IsGridded order c
 
--- the bytes that were left are in held slots; slots have 2 ^ order frames
+-- each place at which a byte was left is in a held slot; slots have 2 ^ order frames
 abbrev pub AreOfHeld : ℕ → Holdings → Cells → Type 0
 AreOfHeld order h cells = (place : ℕ) (cell : Cell) → cells place ≡ Some cell → has_slot h (slot_of order place) ≡ true

@@ -1,4 +1,4 @@
--- The names of the promises, as they are written.
+-- The name of each promise, as `Promise::name` returns it.
 use Rattle.std.specs.Prelude.{ℕ, List, codes}
 use Rattle.promise_core.specs.declared.promise.Promise.{Promise}
 

@@ -1,4 +1,4 @@
--- The promises. Each is a test of an event, its reply, what is known before, and the state of the tenant that the event names.
+-- The promises. Each is a test of an event, its reply, what is known before the event, and the state of the tenant that it names.
 use Rattle.std.specs.Prelude.{ℕ, ◌+◌, ◌-◌, ◌*◌, ◌%◌, ◌^◌, Bool, true, false, not, List, [], ◌∷◌, map, filter, drop, length, Option, Some, None, Result, Ok, Err, is_some, is_none, slice_get, slice_index, slice_set, unwrap_or, count_by, sum_by, nat_le, nat_lt, if◌then◌else◌, ◌&&◌, ◌||◌, ◌==◌}
 use Rattle.std.specs.List.{list_any, list_all, zip, range_with_len}
 use Rattle.std.specs.Option.{option_map_or, option_eq}
@@ -95,15 +95,15 @@ refusals event (Body.Reaped frames) w s = is_none (due event w s)
 refusals event (Body.Report r) w s = is_none (due event w s)
 refusals event (Body.Fault fault) w s = is_none (due event w s)
 
--- all slabs with live objects are full, and no block is vacant for another slab
+-- all slabs of the cache with live objects are full, and no block is vacant for one more slab
 abbrev pub is_used_up : ℕ → Holdings → KnownCache → Bool
 is_used_up order h c = list_all (is_slab_full c) c.live && not (has_vacant_block order h c.order)
 
--- Each promise below is about some commands. The others are listed too, so that a new command has to be added to each promise.
--- Only `state_after` says which body is an answer to which command; `form` tests it.
+-- Each promise below is about some commands. The other commands are listed too, so that a new command has to be added to each
+-- promise. Which body is an answer to which command is said only by `state_after`, and tested only by `form`.
 
--- `NoFrames` may be the reply to an alloc only if no block of that order is vacant, to a take only if the cache is used up, and to
--- no other command
+-- `NoFrames` may be the reply to an `alloc` only if no block of its order is vacant, to a `take` only if its cache is used up,
+-- and to no other command
 abbrev pub room : Event → Body → Known → State → Bool
 room (Event.Tenant t (Command.Alloc k)) (Body.Refused Refusal.NoFrames) w s = not (has_vacant_block w.order s.has k)
 room (Event.Tenant t (Command.Take number)) (Body.Refused Refusal.NoFrames) w s =
@@ -239,7 +239,7 @@ objects (Event.Admin (AdminCommand.Reset t)) body w s = true
 objects (Event.Admin (AdminCommand.Move t u)) body w s = true
 objects (Event.Admin AdminCommand.Pool) body w s = true
 
--- a new cache has a number below the limit that no other cache has, and its objects fit into a slab at each of its colours
+-- a new cache has a number below the limit that no other cache has, and at each of its colours the objects of a slab fit into it
 abbrev pub new_layout : Event → Body → Known → State → Bool
 new_layout (Event.Tenant t (Command.Cache size align pattern)) (Body.Cache number chunk q n colours) w s =
     (nat_lt number w.limit && is_none (known_cache s.has number)) && ((nat_le size chunk && (chunk % align == 0 && nat_le q w.order))
@@ -260,8 +260,8 @@ new_layout (Event.Admin (AdminCommand.Reset t)) body w s = true
 new_layout (Event.Admin (AdminCommand.Move t u)) body w s = true
 new_layout (Event.Admin AdminCommand.Pool) body w s = true
 
--- The empty slabs of these caches may have this number of frames: 0, or a multiple of the slab size of one of these caches that
--- may have an empty slab. The number is at most the number of frames that are not taken.
+-- The empty slabs of these caches may have this number of frames: it is 0, or a multiple of the slab size of one of these caches
+-- that may have an empty slab. It is at most the number of frames that are not taken.
 abbrev pub can_come_back : ℕ → List KnownCache → ℕ → State → Bool
 can_come_back order caches frames s = frames == 0 || (nat_le frames (length (vacant_blocks order s.has 0))
     && list_any (λ c. s.may_have_empty c.number && frames % 2 ^ c.order == 0) caches)
@@ -290,8 +290,8 @@ gives (Event.Admin AdminCommand.Pool) body w s = true
 abbrev pub has_owner : (Option Owner → Bool) → ℕ → Known → Bool
 has_owner test superblock w = option_map_or test (slice_get w.owners superblock) false
 
--- a superblock that the tenant gets had no owner, one that it loses was its own, a reset reports how many it had, and the table
--- of owners is right
+-- A superblock that the tenant gets had no owner, and one that it loses was its own. A granted slot was not held and ends at most
+-- at byte 2 ^ 32. A reset reports the number of the tenant's superblocks, and the reported table of owners is the known one.
 abbrev pub owners : Event → Body → Known → State → Bool
 owners (Event.Admin (AdminCommand.Grant t)) (Body.Granted named u superblock) w s = (named == t && has_owner is_none superblock w)
     && (not (has_slot s.has u) && nat_le ((u + 1) * 2 ^ w.order * FRAME_BYTES) (2 ^ 32))
@@ -317,7 +317,8 @@ owners (Event.Admin (AdminCommand.Reset t)) body w s = true
 owners (Event.Admin (AdminCommand.Move t u)) body w s = true
 owners (Event.Admin AdminCommand.Pool) body w s = true
 
--- each byte that is read may be the byte at its place, and as many bytes are read, or reported as written, as the command says
+-- Each byte that a read returns may be the byte at its place. A read returns as many bytes as it requests, and a write reports as
+-- many bytes as it has.
 abbrev pub bytes : Event → Body → Known → State → Bool
 bytes (Event.Tenant t (Command.Read place len)) (Body.Bytes told) w s = length told.items == len
     && option_map_or (λ holder. may_all_be s.has s.cells holder place told.items) (holder_of s.has place len) false
@@ -343,7 +344,7 @@ abbrev pub frames_of_counts : List ℕ → ℕ
 frames_of_counts [] = 0
 frames_of_counts (n ∷ ns) = n + 2 * frames_of_counts ns
 
--- the number of slabs with live objects whose first live object passes the test
+-- the number of the cache's slabs that have live objects and whose first live object passes the test
 abbrev pub count_slabs : (ℕ → Bool) → KnownCache → ℕ
 count_slabs test c = length (filter (λ p. slice_index (live_beside c p) 0 == p && test p) c.live)
 
@@ -356,8 +357,8 @@ abbrev pub known_count : Holdings → List CacheRow → ℕ → ℕ
 known_count h rows k = length (filter (λ b. b.order == k) h.pages)
     + sum_by (λ p. if p.0.order == k then p.1.full + p.1.partial + p.1.empty else 0) (zip h.caches rows)
 
--- there is a row for each order and each cache; the figures are those of the state; and for each order, the free blocks of that
--- order and above fit into the vacant blocks of that order
+-- A report has a row for each order and for each cache, and its figures agree with the state. For each order, the free blocks of
+-- that order and above fit into the vacant blocks of that order.
 abbrev pub report : Event → Body → Known → State → Bool
 report (Event.Tenant t Command.Report) (Body.Report r) w s =
     let orders = range_with_len 0 (w.order + 1) in
@@ -391,8 +392,8 @@ abbrev pub empty_frames : (ℕ → Bool) → Holdings → Report → ℕ
 empty_frames test h r = sum_by (λ p. if test p.0.number then p.1.empty * 2 ^ p.0.order else 0) (zip h.caches r.caches.items)
 
 -- While the last report is valid, a reap frees as many frames as the report counts in empty slabs, and a destroy as many as it
--- counts in empty slabs of the cache. A new report has the same free blocks and empty slabs. (Its other figures follow from the
--- state.)
+-- counts in empty slabs of the cache. A new report counts the same free blocks and empty slabs as the last report. (Its other
+-- figures follow from the state.)
 abbrev pub still : Event → Body → Known → State → Bool
 still (Event.Tenant t (Command.Destroy number)) (Body.Destroyed frames) w s =
     option_map_or (λ r. frames == empty_frames (λ n. n == number) s.has r) s.told true
@@ -467,7 +468,8 @@ is_no_tenant (Body.Reaped frames) = false
 is_no_tenant (Body.Report r) = false
 is_no_tenant (Body.Fault fault) = false
 
--- the verdict on a reply; if the named tenant does not exist, the reply has to be `NoTenant`
+-- The verdict on a reply. The `Option State` is the state of the named tenant. If it is None, that tenant does not exist, and the
+-- reply has to be `NoTenant`.
 abbrev pub judged : Event → Reply → Known → Option State → Result Known Promise
 judged event reply w None =
     verdict ((Promise.Form, is_for event false reply.addressee) ∷ (Promise.Refusals, is_no_tenant reply.body) ∷ []) w

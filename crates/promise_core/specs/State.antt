@@ -15,8 +15,8 @@ use Rattle.model_core.specs.Owners.{owned_by, is_of, is_owner}
 use Rattle.promise_core.specs.Holdings.{KnownCache, Holdings, known_cache, with_live_places, slab_around, are_apart}
 use Rattle.promise_core.specs.Bytes.{Holder, is_object, is_same, Cells, with_bytes, doubted, without, holder_of}
 
--- What is known of a tenant. A cache whose number passes `may_have_empty` may have a slab without live objects; `told` is the
--- last report, while it is valid.
+-- What is known of a tenant. A cache whose number passes `may_have_empty` may have a slab without live objects. `told` is the
+-- last report, or None if it is no longer valid.
 pub record State : Type 0 where
   pub has : Holdings
   pub cells : Cells
@@ -27,8 +27,8 @@ unfoldable pub opening_state : State
 opening_state =
     record { has = record { slots = []; pages = []; caches = [] }; cells = λ place. None; may_have_empty = λ n. false; told = None }
 
--- the owner of each superblock (a tenant and its slot), and the state of each tenant; a tenant may have `limit` caches, and slots
--- have 2 ^ order frames
+-- the owner of each superblock (a tenant and one of its slots, or None), and the state of each tenant; a tenant may have at most
+-- `limit` caches, and slots have 2 ^ order frames
 pub record Known : Type 0 where
   pub limit : ℕ
   pub order : ℕ
@@ -46,8 +46,8 @@ is_in_use cache = option_map_or (λ c. nat_lt 0 (length c.live)) cache false
 abbrev pub with_range : ℕ → List ℕ → State → Option Holder → State
 with_range place bytes s holder = record s { cells = option_map_or (λ x. with_bytes x place bytes s.cells) holder s.cells }
 
--- the cells after an object of this cache is taken at `first`: in its slab, only the bytes of that object, and of objects of its
--- cache that share no byte with it, are still known
+-- The cells after an object of this cache is taken at place `first`. In the object's slab, a byte is still known only if its
+-- holder is this object, or an object of this cache that shares no byte with it.
 abbrev pub with_object : ℕ → Option KnownCache → Cells → Cells
 with_object first cache cells = option_map_or (λ c. without (λ place holder. in_block place (slab_around c first)
     && not (is_object (λ n p. n == c.number && (p == first || are_apart c first p)) holder)) cells) cache cells

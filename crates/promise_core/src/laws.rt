@@ -1,5 +1,5 @@
-//! Laws that follow from the promises alone, for every program whose replies keep them. Each is the contract of an empty
-//! function, which a function calls if its proof needs the law.
+//! Laws that follow from the promises alone, for every program whose replies keep them. Each law is the contract of an empty
+//! function. Code calls this function if its proof needs the law.
 
 ghost use Rattle.promise_core.specs.Laws.{LiveApart, LeftInHeld, Confined, RefusedForCause, TakeRefusedForCause, UseAnswerable};
 
@@ -9,8 +9,8 @@ pub fn live_apart()
     ensures { LiveApart }
 {}
 
-/// After allowed replies, bytes are known only at places in slots that the tenant holds. So a checker can forget a slot when it
-/// is taken back.
+/// After allowed replies, bytes are known only at places in slots that the tenant holds. So a checker can forget the bytes of a
+/// slot when the slot is taken back.
 pub fn left_in_held()
     ensures { LeftInHeld }
 {}
@@ -33,8 +33,7 @@ pub fn take_refused_for_cause()
     ensures { TakeRefusedForCause }
 {}
 
-/// Every request for a block or an object, every free and give, every read and every write has an allowed reply, after any
-/// allowed replies.
+/// After any allowed replies, every `alloc`, `free`, `take`, `give`, `read` and `write` of a tenant has an allowed reply.
 pub fn use_answerable()
     ensures { UseAnswerable }
 {}

@@ -1,14 +1,14 @@
-//! The promises, by name.
+//! The names of the promises.
 
 ghost use Rattle.std.specs.Prelude.{◌≡◌, Some};
 ghost use Rattle.promise_core.specs.Names.{name_of_promise};
 
 use std::fmt;
 
-/// A promise that every reply has to keep. If a reply breaks several, the first of them in this order is reported.
+/// A promise that every reply has to keep. If a reply breaks several promises, the first of them in the order below is reported.
 #[derive(Clone, Copy, Debug, PartialEq, Eq)]
 pub enum Promise {
-    /// The reply has the right addressee and is a refusal or an answer to that event.
+    /// The reply has the right addressee and is a refusal or an answer to its event.
     Form,
     /// If the condition of a refusal holds, the reply is the first refusal whose condition holds. Otherwise `NoFrames` and
     /// `SlotBusy` are the only refusals that the reply may be.
@@ -25,9 +25,10 @@ pub enum Promise {
     Layout,
     /// A free reports the order of its block. A reap or a destroy frees no more frames than empty slabs could have.
     Gives,
-    /// A superblock has one owner, and each change of owners is reported.
+    /// A superblock has at most one owner, and replies report the owners correctly.
     Owners,
-    /// A byte that is read is the one that was left there, or a fresh one if none was left or if the one left is in doubt.
+    /// A read returns the bytes that were left there. Where none was left, it returns a fresh byte. Where the byte left is in
+    /// doubt, it returns that byte or a fresh one.
     Bytes,
     /// A report has the figures of the tenant's slots, page blocks and objects.
     Report,
@@ -36,7 +37,7 @@ pub enum Promise {
 }
 
 impl Promise {
-    /// Returns the name of the promise, as it is written.
+    /// Returns the name of the promise, for example `Form`.
     pub fn name(&self) -> &'static str
         ensures { result.now ≡ name_of_promise self.now }
     {
