@@ -1,4 +1,4 @@
--- The code's holders and left bytes as values of the definitions.
+-- The holder that a `RangeHolder` of the code stands for in the definitions, and the cell that a `LeftByte` stands for.
 use Rattle.promise_core.specs.Bytes.{Holder, Cell}
 use Rattle.judge_core.specs.declared.holder.RangeHolder.{RangeHolder}
 use Rattle.judge_core.specs.declared.holder.LeftByte.{LeftByte}

@@ -1,4 +1,4 @@
--- Facts about the fields of stored values.
+-- Conditions on the fields of a stored cache, and on the stored lists of page blocks and caches.
 use Rattle.std.specs.Prelude.{◌≡◌, ℕ, ◌+◌, ◌-◌, ◌*◌, ◌%◌, ◌^◌, ◌≤◌, true, List, map}
 use Rattle.std.specs.List.{All}
 use Rattle.std.specs.List.Sorted.{IsNonDecreasingBy}
@@ -8,7 +8,7 @@ use Rattle.model_core.specs.Layouts.{is_alignment}
 use Rattle.model_core.specs.WellFormed.{RisesFrom}
 use Rattle.promise_core.specs.Holdings.{KnownCache, slab_around}
 
--- the size and alignment of a cache's objects, its chunk, and a slab's order and number of objects
+-- a cache can have objects of this size, alignment and chunk, in slabs of this order and with this number of objects
 pub record IsKnownLayout (size align chunk order count : ℕ) : Type 0 where
   pub some : 1 ≤ size
   pub most : size ≤ MOST_SIZE
@@ -19,7 +19,7 @@ pub record IsKnownLayout (size align chunk order count : ℕ) : Type 0 where
   pub counted : 1 ≤ count
   pub fits : count * chunk ≤ FRAME_BYTES * 2 ^ order
 
--- an object at the place can be object `i` of its slab: all `count` objects then lie within the slab that contains the place
+-- an object at the place can be object `i` of the slab that contains the place: all `count` objects then lie within this slab
 abbrev pub IsObjectAt : KnownCache → ℕ → ℕ → Type 0
 IsObjectAt c place i = let slab = slab_around c place in let origin = place - i * c.chunk in
     (i * c.chunk ≤ place) × (FRAME_BYTES * slab.first ≤ origin)

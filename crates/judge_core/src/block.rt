@@ -31,7 +31,7 @@ impl Model for FrameBlock {
 }
 
 impl FrameBlock {
-    /// Returns the `2^order` frames from `first` on.
+    /// Returns the block of the `2^order` frames from `first` on.
     pub fn new(first: u32, order: u8) -> FrameBlock
         requires { order ≤ MOST_ORDER }
         ensures { result ≡ block first order }
@@ -51,7 +51,7 @@ impl FrameBlock {
         }
     }
 
-    /// Returns the aligned block with this order and number. Block 0 begins at frame 0.
+    /// Returns the aligned block with this order and number. It begins at frame `number * 2^order`.
     pub fn numbered(number: u32, order: u8) -> FrameBlock
         requires number { number < 2 ^ 24 }
         requires order { order ≤ MOST_ORDER }

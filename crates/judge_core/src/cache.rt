@@ -1,4 +1,4 @@
-//! A cache of a tenant, as its command and the reply describe it.
+//! A cache of a tenant, as the command that made it and the reply describe it.
 
 ghost use Rattle.std.specs.Prelude.{◌≡◌, ℕ, ◌+◌, ◌-◌, ◌*◌, ◌/◌, ◌%◌, ◌^◌, ◌<◌, ◌≤◌, nat_le, nat_lt, ◌==◌, ◌&&◌, not, find, filter, length, [], IfOk, OnErr};
 ghost use Rattle.std.specs.List.{list_any, list_all};
@@ -249,7 +249,7 @@ impl HeldCache {
         (self.count - 1) * self.chunk + self.size
     }
 
-    /// Returns whether each of these places begins an object of a slab with its first object at `origin`.
+    /// Returns whether an object begins at each of these places, in a slab with its first object at `origin`.
     fn are_steps(&self, origin: u32, beside: &[u32]) -> bool
         ensures { result ≡ list_all (λ p. nat_le origin p && ((p - origin) % self.now.chunk == 0
             && nat_lt ((p - origin) / self.now.chunk) self.now.count)) beside.now }
@@ -296,7 +296,8 @@ impl HeldCache {
         false
     }
 
-    /// Returns whether the slab that contains the place, with these live objects, can have one more object there.
+    /// Returns whether one more object of the slab that contains the place can begin at the place. `beside` has the first places
+    /// of the slab's live objects.
     pub(crate) fn has_gap_among(&self, place: u32, beside: &[u32]) -> bool
         ensures { result ≡ (nat_lt (length beside.now) self.now.count
             && (list_all (are_apart self.now place) beside.now && is_any_below (λ i. nat_le (i * self.now.chunk) place

@@ -150,7 +150,8 @@ impl Held {
             .any(|page| block.overlaps(page))
     }
 
-    /// Returns all live page blocks whose first frame is before `end` and whose last frame is `begin` or later, and maybe others.
+    /// Returns all live page blocks whose first frame is before `end` and whose last frame is `begin` or later, and maybe more
+    /// live page blocks.
     pub(crate) fn pages_near(&self, begin: u64, end: u64) -> &[FrameBlock]
         requires order { begin ≤ end }
         requires small { end < 2 ^ 33 }

@@ -1,5 +1,5 @@
-//! What a tenant of any page and object allocator has, according to the replies, and the tests of it that [`promise_core`]
-//! defines for the promises.
+//! Stores what a tenant of any page and object allocator has according to the replies, and computes the tests on it that
+//! [`promise_core`] defines for the promises.
 #![tactic(auto)]
 
 mod block;

@@ -14,7 +14,7 @@ use std::alloc::AllocError;
 pub(crate) trait Keyed {
     ghost key: { Self → ℕ };
 
-    /// Returns the key.
+    /// Returns the key of the item.
     fn key(&self) -> u32
         ensures { result ≡ key self.now };
 }
@@ -124,7 +124,8 @@ pub(crate) fn put<T: Keyed + Drop>(items: &mut Vec<T>, item: T) -> Result<(), Al
     Ok(())
 }
 
-/// Returns the index of the first item with this key, and the index after the last one. Both are equal if there is no such item.
+/// Returns the index of the first item with this key, and the index after the last such item. If there is no such item, the two
+/// indices are equal.
 fn range_of<T: Keyed>(items: &[T], key: u32) -> (usize, usize)
     requires { IsNonDecreasingBy T.key items.now }
     ensures order { result.0 ≤ result.1 }

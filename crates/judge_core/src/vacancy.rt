@@ -31,7 +31,7 @@ impl Held {
         taken
     }
 
-    /// Returns what [`Held::count_vacant`] returns for each order from 0 to the order of a slot, but passes over the slots once.
+    /// Returns the result of [`Held::count_vacant`] for each order from 0 to a slot's order, but passes over the slots only once.
     pub fn vacant_by_order(&self, order: u8) -> [u128; ORDERS]
         requires { order ≤ MOST_ORDER }
         ensures long { length result ≡ 9 }
@@ -56,7 +56,7 @@ impl Held {
         for k in 0..order + 1 {
             let blocks = 1usize << (order - k);
             counts[k as usize] += count_clear(&taken, blocks) as u128;
-            // After this, each mark belongs to a block of the next order.
+            // After this, mark `i` says whether block `i` of the next order has a taken frame.
             join_pairs(&mut taken, blocks / 2);
         }
     }
@@ -129,7 +129,7 @@ impl HeldCache {
         requires { IsNonDecreasing places.now }
         ensures { result.now ≡ drop (prefix_len (λ p. nat_lt p (FRAME_BYTES * (slab.now.first + 2 ^ slab.now.order))) places.now) places.now }
     {
-        // A slab of a sound machine has at most `count` objects, so the first place after the slab is near in the list.
+        // A slab of a sound machine has at most `count` live objects, so the first place after it is near the front of `places`.
         &places[count_below_near(places, self.count() as usize, slab.end_byte())..]
     }
 }
