@@ -1,4 +1,4 @@
--- Names for sets of definitions that worked traces unfold. Unfolding one of these names unfolds all definitions of its set.
+-- Names for sets of definitions that the proofs of worked traces unfold. Unfolding a name unfolds all definitions of its set.
 use Rattle.std.specs.Fmt.{digits}
 use Rattle.hex.proofs.OnLiterals.{hex_on_literals}
 use Rattle.hex.specs.Hex.{encode_with, decode_pairs}

@@ -1,4 +1,4 @@
--- The element at an index of a list: after one element was replaced, and in a list of copies of one element.
+-- The element at an index of a list in which one element was replaced, or whose elements are all equal.
 use Rattle.std.proofs.Common.{◌≡◌, ℕ, zero, suc, ◌<◌, ◌≢◌, List, [], ◌∷◌, Some, length, slice_get, slice_set, replicate, refl, ap, sym, arith}
 
 pub slice_get-set_same : {A : Type 0} (xs : List A) (i : ℕ) (x y : A) → slice_get xs i ≡ Some x → slice_get (slice_set xs i y) i ≡ Some y

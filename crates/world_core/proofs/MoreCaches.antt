@@ -54,7 +54,7 @@ module _ (limit more size align : ℕ) (pattern : List ℕ) (m : Machine) (le : 
   unfolding cache_step create_step
   same_cache given = same_sized (not (is_size size)) given
 
--- the result of a command's step in the form of a private run's: the one reply, and the machine after the step
+-- the step of a command as a `Told`: the one reply, and the machine after the step
 abbrev told_once : Step Body → Told
 told_once step = record { replies = step.answer ∷ []; machine = step.machine }
 

@@ -167,7 +167,7 @@ replies-append limit order (x ∷ xs) ys m =
 join : {A : Type 0} {xs ys xs' ys' : List A} → xs ≡ xs' → ys ≡ ys' → xs ++ ys ≡ xs' ++ ys'
 join p q = cc
 
--- if tenant t has machine m, its replies and machine in any run are those of the private run of its own list from m
+-- if tenant t has machine m, its replies in any run and its machine afterwards are those of its own list's private run from m
 pub run_leaves : (limit order t : ℕ) (events : List Event) (w : World) (m : Machine) → slice_get w.machines t ≡ Some m
     → IsPrivateRun limit order (own_list t (history limit order w events)) m (replies_to t (history limit order w events))
     (slice_get (world_after limit order w events).machines t)

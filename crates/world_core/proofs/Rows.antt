@@ -103,7 +103,7 @@ rows_are_written : map written rows ≡ map expected rows
 unfolding computed_texts
 rows_are_written = refl
 
--- Two traces in which tenant 0 has the same own list. In `alone` tenant 1 does nothing; in `among_others` it does much.
+-- Two traces in which tenant 0 has the same own list. In `alone` tenant 1 does nothing; in `among_others` it is active.
 
 abbrev pub alone : List ℕ
 alone = codes "admin grant 0\n0 alloc 1\n0 read 8191 1\n0 alloc 3\n0 cache 24 8 c3\n0 take 0\n"

@@ -130,7 +130,7 @@ fronted front (Refused refusal) =
     ap alone (behind_4 front (codes "refused ") (decimal (number_of_refusal refusal)) (codes " ") (name_of_refusal refusal))
 fronted front (Fault fault) = ap alone (behind_2 front (codes "fault ") (name_of_fault fault))
 
--- If a test gives the same result for every row with this front, a filter keeps all rows with this front or none.
+-- If a test gives the same result for every row with this front, a filter keeps either all rows with this front or none.
 
 kept_all : (p : List ℕ → Bool) (front : List ℕ) (rows : List (List ℕ)) → ((row : List ℕ) → p (front ++ row) ≡ true)
     → filter p (map (λ row. front ++ row) rows) ≡ map (λ row. front ++ row) rows
@@ -198,7 +198,7 @@ reply_lines t reply rest small small' =
     ∙ filter-append (tells t) (body_texts (addressee_text reply.addressee) reply.body) (lines_of_trace rest)
     ∙ ap (λ rows. rows ++ lines_for t rest) (rows_for t reply.addressee reply.body small small')
 
--- A step of the world keeps the number of tenants. If there are at most 2 ^ 64 tenants, `IsSmall` is true of the addressee.
+-- A step of the world keeps the number of tenants. If there are at most 2 ^ 64 tenants, `IsSmall` is true of its addressee.
 
 pub record StaysNumbered (w : World) (s : WorldStep) : Type 0 where
   pub tenants : length s.world.machines ≡ length w.machines

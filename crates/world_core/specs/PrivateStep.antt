@@ -1,4 +1,4 @@
--- The effect of one entry on a tenant's private machine, and the reply to it.
+-- The effect of one entry on a tenant's private machine, and the reply to the entry.
 use Rattle.std.specs.Prelude.{ℕ, ◌+◌, List, [], ◌∷◌, Option, Some, None, Result, Ok, Err}
 use Rattle.model_core.specs.declared.refusals.AllocRefusal.{AllocRefusal}
 use Rattle.model_core.specs.declared.refusals.ReadRefusal.{ReadRefusal}

@@ -24,8 +24,8 @@ pub fn non_interference()
     ensures lines { SameLines }
 {}
 
-/// If no tenant is named, the whole output of a trace is shown. If a tenant is named, exactly this tenant's lines of the output
-/// are shown.
+/// If no tenant is named, the whole output of a trace is shown. If one of at most 2^64 tenants is named, exactly this tenant's
+/// lines of the output are shown.
 pub fn own_shown()
     ensures all { AllShown }
     ensures bytes { OwnShown }
