@@ -325,7 +325,7 @@ live_gridded order number change h g changed c i =
 second_fits : (a b n : ℕ) → a + b ≤ n → b ≤ n
 second_fits a b n e = omega (arith, e)
 
--- if a new cache was not to be refused and its reply keeps `new_layout`, the layout in the reply fits
+-- if no refusal of a new cache is due and the reply keeps `new_layout`, the layout in the reply fits
 told_fits : (w : Known) (t size align : ℕ) (pattern : ArrayVec ℕ) (number chunk q n colours : ℕ) (s : State)
     → is_none (due (On.Tenant t (Command.Cache size align pattern)) w s) ≡ true
     → new_layout (On.Tenant t (Command.Cache size align pattern)) (Say.Cache number chunk q n colours) w s ≡ true

@@ -46,7 +46,7 @@ fewer_left {X} p q (x ∷ xs) = go (p x) refl (q x) (fewer_left p q xs)
     go false is true e = let one : length (filter p (x ∷ filter q xs)) ≡ length (filter p (filter q xs)) = ap (λ b. length (if b then x ∷ filter p (filter q xs) else filter p (filter q xs))) is in omega (arith, one, e)
     go false is false e = e
 
--- if `x` is inserted in rising order, as many elements pass as if `x` is put in front
+-- if `x` is inserted in rising order, as many elements pass as when `x` is put in front
 put_passes : (p : ℕ → Bool) (x : ℕ) (xs : List ℕ) → length (filter p (put_rising (λ y. y) x xs)) ≡ length (filter p (x ∷ xs))
 put_passes p x [] = refl
 put_passes p x (y ∷ ys) = go (nat_lt x y) (p x) (p y) refl refl (put_passes p x ys)
@@ -101,7 +101,7 @@ frame_aligned = for_alignment (λ a. (f : ℕ) → 4096 * f % a ≡ 0) (λ f. om
 from_rest : (p origin n r : ℕ) → origin ≤ p → r ≡ 0 → n + r ≡ p - origin → p ≡ origin + n
 from_rest p origin n r low none split = omega (arith, low, none, split)
 
--- a cache without live objects whose layout fits has grids: the first object of a slab can be at the slab's first byte
+-- if the layout of a cache fits and no object is live, the cache has grids: a slab's first object can be at the slab's first byte
 pub new_gridded : (order : ℕ) (c : KnownCache) → c.live ≡ [] → IsFitted order c → IsGridded order c
 new_gridded order c empty fit = record { fitted = fit; grids = grids }
   where

@@ -19,7 +19,7 @@ use Rattle.promise_core.proofs.Steps.{replicated, states_at}
 use Rattle.promise_core.proofs.LiveApart.{nothing_laid, step, nothing_gridded, grid_step}
 use Rattle.promise_core.proofs.LeftInHeldSlots.{held_step}
 
--- a tenant's used blocks lie apart, its live objects lie on grids, and the bytes that were left are in held slots
+-- a tenant's used blocks lie apart, its live objects lie on grids, and bytes were left only in held slots
 pub record LiesSound (order : ℕ) (s : State) : Type 0 where
   pub laid : IsLaid order s.has
   pub gridded : AllGridded order s.has

@@ -37,7 +37,7 @@ with_live_places number change h = record h {
   caches = map {B = KnownCache} (λ (c : KnownCache). if c.number == number then record c { live = change c.live } else c) h.caches;
 }
 
--- the slab that has the object of the cache at this place
+-- the slab that contains the object of the cache at this place
 abbrev pub slab_around : KnownCache → ℕ → Block
 slab_around c place = around (place / FRAME_BYTES) c.order
 

@@ -95,12 +95,12 @@ refusals event (Body.Reaped frames) w s = is_none (due event w s)
 refusals event (Body.Report r) w s = is_none (due event w s)
 refusals event (Body.Fault fault) w s = is_none (due event w s)
 
--- all slabs of the cache with live objects are full, and no block is vacant for one more slab
+-- every slab of the cache that has live objects is full, and no block is vacant for one more slab
 abbrev pub is_used_up : ℕ → Holdings → KnownCache → Bool
 is_used_up order h c = list_all (is_slab_full c) c.live && not (has_vacant_block order h c.order)
 
 -- Each promise below is about some commands. The other commands are listed too, so that a new command has to be added to each
--- promise. Which body is an answer to which command is said only by `state_after`, and tested only by `form`.
+-- promise. Only `state_after` says which body is an answer to which command, and only `form` tests this.
 
 -- `NoFrames` may be the reply to an `alloc` only if no block of its order is vacant, to a `take` only if its cache is used up,
 -- and to no other command
@@ -239,7 +239,7 @@ objects (Event.Admin (AdminCommand.Reset t)) body w s = true
 objects (Event.Admin (AdminCommand.Move t u)) body w s = true
 objects (Event.Admin AdminCommand.Pool) body w s = true
 
--- a new cache has a number below the limit that no other cache has, and at each of its colours the objects of a slab fit into it
+-- a new cache has a number below the limit that no other cache has, and at each colour a slab's objects fit into the slab
 abbrev pub new_layout : Event → Body → Known → State → Bool
 new_layout (Event.Tenant t (Command.Cache size align pattern)) (Body.Cache number chunk q n colours) w s =
     (nat_lt number w.limit && is_none (known_cache s.has number)) && ((nat_le size chunk && (chunk % align == 0 && nat_le q w.order))

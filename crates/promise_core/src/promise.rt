@@ -17,7 +17,7 @@ pub enum Promise {
     Room,
     /// A take-back is refused with `SlotBusy` only if a frame of the slot is taken, or if an empty slab may be in the slot.
     Busy,
-    /// A page block is aligned, lies in a held slot and overlaps nothing that is taken.
+    /// A page block is aligned, lies in a held slot and shares no frame with a taken block.
     Blocks,
     /// An object is aligned, lies in a slab of its cache and overlaps no live object.
     Objects,
@@ -27,8 +27,8 @@ pub enum Promise {
     Gives,
     /// A superblock has at most one owner, and replies report the owners correctly.
     Owners,
-    /// A read returns the bytes that were left there. Where none was left, it returns a fresh byte. Where the byte left is in
-    /// doubt, it returns that byte or a fresh one.
+    /// A byte that is read is the byte that was left at its place, or a fresh byte if none was left. If the byte that was left is
+    /// in doubt, a read may return a fresh byte instead.
     Bytes,
     /// A report has the figures of the tenant's slots, page blocks and objects.
     Report,
