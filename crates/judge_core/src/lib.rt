@@ -1,4 +1,4 @@
-//! Stores what a tenant of any page and object allocator has according to the replies, and computes the tests on it that
+//! Stores what a tenant of any page and object allocator has according to the replies, and computes the tests that
 //! [`promise_core`] defines for the promises.
 #![tactic(auto)]
 
