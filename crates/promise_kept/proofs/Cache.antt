@@ -41,12 +41,13 @@ missing_most n (x ∷ xs) = go (eqb x n) (missing_most (n + 1) xs)
     go true le = omega arith
     go false le = omega arith
 
--- a list of ascending numbers from n on, all below a limit, has at most limit - n elements
+-- an ascending list of numbers that are at least n and below `limit` has at most limit - n elements
 few_below : (n limit : ℕ) (xs : List ℕ) → n ≤ limit → RisesFrom n xs → Each (λ x. x < limit) xs → n + length xs ≤ limit
 few_below n limit [] le r each = omega arith
 few_below n limit (x ∷ xs) le (l, r) (b, each) = let rest = few_below (x + 1) limit xs (omega arith) r each in omega (arith, rest, l)
 
--- if a new cache is put among the caches, it is put at the same position among the caches as they are seen
+-- If cache c is put among the caches by its number, the list of known caches changes in the same way: c, as it is known, is put
+-- among the known caches by its number.
 new_told : (c : Cache) (cs : List Cache) → map cache_as_known (put_rising (λ x. x.number) c cs) ≡ put_rising (λ (x : KnownCache). x.number) (cache_as_known c) (map cache_as_known cs)
 new_told c [] = refl
 new_told c (d ∷ cs) = go (ltb c.number d.number) (new_told c cs)
@@ -65,7 +66,7 @@ missing_all n limit (x ∷ xs) (l, r) (b, each) le =
     ap (λ t. if t then least_missing (n + 1) xs else n) (eq-eqb x n same)
     ∙ (missing_all (n + 1) limit xs (subst (λ k. RisesFrom (k + 1) xs) same r) each (omega (arith, le)) ∙ omega arith)
 
--- there are as many caches as the limit allows exactly if no number below the limit is unused
+-- at least `limit` caches are known exactly if the smallest number that no cache has is at least `limit`
 full_seen : (limit order : ℕ) (m : Machine) (s : State) → IsWellFormed limit order m → Meets order s m → leb limit (length s.has.caches) ≡ leb limit (next_number m)
 unfolding next_number holdings_of
 full_seen limit order m s w h = ap (λ (x : Holdings). leb limit (length x.caches)) h.has ∙ (ap (leb limit) (length-map m.caches cache_as_known) ∙ go (leb limit (least_missing 0 numbers)) refl)

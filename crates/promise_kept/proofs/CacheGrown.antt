@@ -1,4 +1,5 @@
--- A new slab is not seen: what is known of a machine stays true after a cache has grown.
+-- The promises do not see a new slab. When a cache grows by a slab, what is known of the machine stays true, if the cache is then
+-- known as one that may have an empty slab and there is no valid report.
 use Rattle.std.proofs.Common.{◌≡◌, ℕ, zero, suc, ◌+◌, ◌<◌, Bool, true, false, ◌||◌, eqb, ltb, List, [], ◌∷◌, ◌++◌, map, replicate, Some, refl, sym, ap, ◌∙◌, subst, ◌⊎◌, inl, inr, arith}
 use Rattle.std.specs.Prelude.{if◌then◌else◌, flat_map, Contains}
 use Rattle.std.specs.List.{list_any, AllByRecursion as Each}
@@ -67,13 +68,13 @@ module _ {limit : ℕ} (order first : ℕ) (c : Cache) (m : Machine) (st : State
   abbrev n : Machine
   n = grown first c m
 
-  -- the promises see the same of the machine before and after the cache has grown
+  -- the holdings that the promises see are the same before and after the cache has grown
   pub grown_seen : holdings_of n ≡ holdings_of m
   unfolding holdings_of grown grown_cache
   grown_seen = ap (λ cs. record { slots = m.slots; pages = m.blocks; caches = cs })
       (told_replaced (grown_cache first c) m.caches (λ x i same. told_grown first c ∙ ap cache_as_known (one_key (λ y. y.number) 0 m.caches c x w.caches_rise in_c i (sym same))))
 
-  -- the new slab shares no place with another slab
+  -- a place in a slab of the machine is not in the new slab
   off_new : (l : Laid) → IsIn l (all_laid m.caches) → (p : ℕ) → in_laid p l ≡ true → in_block p (slab_block c new) ≡ false
   off_new l i p here = apart_place p (laid_block l) (slab_block c new) (apart_turned (slab_block c new) (laid_block l)
       (each_in (λ k. IsApart (slab_block c new) (laid_block k)) l (all_laid m.caches) (each_unmap (IsApart (slab_block c new)) laid_block (all_laid m.caches)
@@ -85,7 +86,7 @@ module _ {limit : ℕ} (order first : ℕ) (c : Cache) (m : Machine) (st : State
       in_slab_laid n p ∙ (ap (λ ls. list_any (in_laid p) ls) g.is ∙ (any_put (in_laid p) g.xs g.ys (laid c new)
       ∙ (ap (λ ls. in_block p (slab_block c new) || list_any (in_laid p) ls) (sym g.was) ∙ ap (λ b. in_block p (slab_block c new) || b) (sym (in_slab_laid m p)))))
 
-  -- after the growth, each byte of an object that existed before is one that the object may have
+  -- after the growth, each byte of an object in an old slab is one that the object may have there
   old_byte : (x : Cache) (t : Slab) (k j byte : ℕ) → IsIn x m.caches → IsIn t x.slabs → k < (layout x).count → j < x.size → n.bytes (object_place (layout x) t.first t.colour k + j) ≡ Some byte
       → may_be (Holder.Object x.number (object_place (layout x) t.first t.colour k)) (pattern_byte x.pattern j) (st.cells (object_place (layout x) t.first t.colour k + j)) byte ≡ true
   old_byte x t k j byte in_x in_t lt below is =
@@ -119,7 +120,7 @@ module _ {limit : ℕ} (order first : ℕ) (c : Cache) (m : Machine) (st : State
               subst (λ p. in_laid p (laid c o.slab) ≡ true) here
               (object_in_slab order m c o.slab o.index 0 w in_c o.slab_in (subst (λ n. o.index < n) (is_slab order c m w in_c o.slab o.slab_in).count o.index_in) sized)
 
-  -- after the growth, each byte of an object of the new slab is one that the object may have
+  -- after the growth, each byte of an object in the new slab is one that the object may have there
   new_byte : (k j byte : ℕ) → k < (layout c).count → j < c.size → n.bytes (object_place (layout c) first new.colour k + j) ≡ Some byte
       → may_be (Holder.Object c.number (object_place (layout c) first new.colour k)) (pattern_byte c.pattern j) (st.cells (object_place (layout c) first new.colour k + j)) byte ≡ true
   new_byte k j byte lt below is =

@@ -1,4 +1,5 @@
--- Counts of the numbers below a bound that pass a test: by halves of blocks, by blocks that share no frame, and by lists.
+-- How many of the numbers below a bound pass a test. The lemmas are about the halves of blocks, multiples, two tests, blocks that
+-- share no frame, and lists.
 use Rattle.std.proofs.Common.{◌≡◌, ℕ, zero, suc, ◌+◌, ◌-◌, ◌*◌, ◌/◌, ◌%◌, ◌^◌, ◌<◌, ◌≤◌, Bool, true, false, not, ◌&&◌, ◌||◌, eqb, ltb, leb, List, [], ◌∷◌, length, refl, sym, ap, ◌∙◌, ⊎_elim, arith}
 use Rattle.std.specs.Prelude.{filter}
 use Rattle.std.specs.List.{list_any, AllByRecursion as Each}
@@ -32,11 +33,12 @@ two_bits true false = refl
 two_bits false true = refl
 two_bits false false = refl
 
--- the block is clear, and the block of the next order around it is not
+-- block q of order k is clear, and the block of the next order that contains it is not clear
 abbrev pub is_clear_alone : (ℕ → Bool) → ℕ → ℕ → Bool
 is_clear_alone ok k q = is_clear ok k q && not (is_clear ok (suc k) (q / 2))
 
--- clear blocks are those that are clear alone, and the halves of the clear blocks of the next order
+-- among the first 2 * n blocks of order k, there are as many clear blocks as blocks that are clear alone, plus two for each clear
+-- block among the first n blocks of the next order
 pub clear_halves : (ok : ℕ → Bool) (k n : ℕ) → count_below (is_clear ok k) (n * 2) ≡ count_below (is_clear_alone ok k) (n * 2) + 2 * count_below (is_clear ok (suc k)) n
 clear_halves ok k zero = refl
 clear_halves ok k (suc n) =
@@ -63,7 +65,7 @@ first_only p a (suc j) none =
     let all : count_below p (a + 1 + suc j) ≡ count_below p (a + 1 + j) + bit (p (a + 1 + j)) = ap (count_below p) e in
     omega (arith, last, rest, all)
 
--- if only multiples of s pass, as many numbers below n * s pass as there are q below n for which q * s passes
+-- if only multiples of s pass p, as many numbers below n * s pass as there are numbers q below n for which q * s passes
 pub strided : (p : ℕ → Bool) (s n : ℕ) → 0 < s → ((f : ℕ) → p f ≡ true → f % s ≡ 0) → count_below p (n * s) ≡ count_below (λ q. p (q * s)) n
 strided p s zero pos only = let e : zero * s ≡ 0 = omega arith in ap (count_below p) e
 strided p s (suc n) pos only =
@@ -90,7 +92,7 @@ count_or p q (suc n) apart = let rest : count_below (λ x. p x || q x) n ≡ cou
     go true b off = let none : bit b ≡ 0 = ap bit (off refl) in omega (arith, none)
     go false b off = omega arith
 
--- as many numbers pass a test as pass a stricter test, plus those that pass only the first
+-- if every number that passes q passes p, as many numbers below n pass p as pass q, plus those that pass p but not q
 pub count_less : (p q : ℕ → Bool) (n : ℕ) → ((x : ℕ) → q x ≡ true → p x ≡ true) → count_below p n ≡ count_below q n + count_below (λ x. p x && not (q x)) n
 count_less p q zero fewer = refl
 count_less p q (suc n) fewer = let rest : count_below p n ≡ count_below q n + count_below (λ x. p x && not (q x)) n = count_less p q n fewer in
@@ -129,7 +131,7 @@ count_one b (suc n) = let rest : count_below (in_frames b) n ≡ (n - b.first) -
     (cases_lt n (b.first + 2 ^ b.order)))
     (cases_lt n b.first)
 
--- if blocks share no frame and end at or below the bound, as many numbers are in one of them as they have frames
+-- if blocks share no frame and end at n or below, the number of frames below n that are in one of them is the sum of their sizes
 pub count_blocks : (bs : List Block) (n : ℕ) → AreApart bs → Each (λ b. b.first + 2 ^ b.order ≤ n) bs → count_below (in_any bs) n ≡ frames_of bs
 count_blocks [] n apart below = none n
   where
@@ -147,7 +149,7 @@ count_blocks (b ∷ bs) n (first, apart) (here, below) =
 
 -- Lists
 
--- a list that contains all numbers that pass has at least as many elements as there are such numbers
+-- if a list contains every number below n that passes p, it has at least as many elements as numbers below n pass p
 pub count_listed : (p : ℕ → Bool) (n : ℕ) (ys : List ℕ) → ((x : ℕ) → x < n → p x ≡ true → IsIn x ys) → count_below p n ≤ length ys
 count_listed p zero ys all = omega arith
 count_listed p (suc n) ys all = go (p n) refl

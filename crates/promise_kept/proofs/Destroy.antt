@@ -1,4 +1,4 @@
--- A destroy keeps the promises.
+-- A `destroy` keeps the promises.
 use Rattle.std.proofs.Common.{◌≡◌, ℕ, ◌+◌, ◌%◌, ◌^◌, ◌<◌, ◌≤◌, Bool, true, false, not, ◌&&◌, ◌||◌, cond, eqb, ltb, leb, List, [], ◌∷◌, ◌++◌, map, length, Option, Some, None, refl, sym, ap, ◌∙◌, subst, inl, arith}
 use Rattle.std.specs.Prelude.{if◌then◌else◌, option_map, filter, flat_map, Contains, Result, Ok}
 use Rattle.std.specs.List.{list_any, AllByRecursion as Each}

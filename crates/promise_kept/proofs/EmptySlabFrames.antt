@@ -1,4 +1,4 @@
--- The frames of empty slabs: they are seen as vacant, and a report counts them.
+-- The frames of empty slabs are seen as vacant. So empty slabs have at most as many frames as are seen as vacant.
 use Rattle.std.proofs.Common.{◌≡◌, ℕ, zero, suc, ◌+◌, ◌-◌, ◌*◌, ◌/◌, ◌^◌, ◌<◌, ◌≤◌, Bool, true, false, not, ◌&&◌, eqb, ltb, leb, List, [], ◌∷◌, map, length, refl, sym, ap, ◌∙◌, subst, ◌⊎◌, inl, inr, arith}
 use Rattle.std.specs.Prelude.{filter, flat_map}
 use Rattle.std.specs.List.{list_any, range_with_len}
@@ -31,7 +31,7 @@ use Rattle.promise_kept.proofs.SeenBlocks.{taken_seen}
 
 -- Counting
 
--- a list with `n` consecutive numbers has at least `n` elements
+-- a list that contains n consecutive numbers has at least n elements
 row_fits_in : (n a : ℕ) (ys : List ℕ) → ((x : ℕ) → a ≤ x → x < a + n → IsIn x ys) → n ≤ length ys
 row_fits_in zero a ys all = omega arith
 row_fits_in (suc n) a ys all =
@@ -44,7 +44,7 @@ row_fits_in (suc n) a ys all =
 in_frames : Block → ℕ → Bool
 in_frames b x = leb b.first x && ltb x (b.first + 2 ^ b.order)
 
--- if blocks share no frame, a list with all their frames has at least as many elements as they have frames
+-- if blocks share no frame, a list that contains all their frames has at least as many elements as the blocks have frames
 blocks_fit : (bs : List Block) (ys : List ℕ) → AreApart bs → ((b : Block) → IsIn b bs → (x : ℕ) → HasFrame b x → IsIn x ys) → frames_of bs ≤ length ys
 unfolding in_frames
 blocks_fit [] ys apart all = omega arith
@@ -114,7 +114,7 @@ module _ (limit order : ℕ) (m : Machine) (w : IsWellFormed limit order m) wher
       (not_from_false (list_any (overlaps (block x 0)) (known_blocks (holdings_of m))) (any_none (overlaps (block x 0)) (known_blocks (holdings_of m)) (each_from (λ t. overlaps (block x 0) t ≡ false) (known_blocks (holdings_of m))
       (λ t in_t. false_from_ne_true (overlaps (block x 0) t) (λ e. not_taken b t x i in_t has (shares x t e))))))
 
-  -- the blocks of empty slabs have at most as many frames as are seen as vacant
+  -- if blocks share no frame and each of them is an empty slab, they have at most as many frames as are seen as vacant
   pub empty_vacant : (bs : List Block) → AreApart bs → ((b : Block) → IsIn b bs → IsIn b (flat_map empty_blocks m.caches)) → frames_of bs ≤ length (vacant_blocks order (holdings_of m) 0)
   empty_vacant bs apart all =
       let fits : frames_of bs ≤ length (map (λ b. b.first) (vacant_blocks order (holdings_of m) 0)) = blocks_fit bs (map (λ b. b.first) (vacant_blocks order (holdings_of m) 0)) apart

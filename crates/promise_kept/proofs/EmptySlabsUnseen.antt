@@ -1,4 +1,4 @@
--- What the promises see of a machine. They do not see empty slabs, and they see a holder of a range exactly if it is in reach.
+-- The promises do not see the empty slabs of a machine. They see a holder of a range exactly if the range is in reach.
 use Rattle.std.proofs.Common.{◌≡◌, ℕ, ◌+◌, Bool, true, false, not, ◌||◌, ◌&&◌, cond, ltb, List, [], ◌∷◌, ◌++◌, map, Option, Some, None, refl, sym, ap, ◌∙◌}
 use Rattle.std.specs.Prelude.{if◌then◌else◌, filter, find, flat_map, is_some}
 use Rattle.std.specs.List.{list_any}
@@ -33,7 +33,7 @@ told_reaped [] = refl
 told_reaped (c ∷ cs) = ap (λ ls. record (cache_as_known c) { live = map (λ o. o.place) ls } ∷ map cache_as_known (map without_empty cs)) (live_reaped c c.slabs)
     ∙ ap (λ ts. cache_as_known c ∷ ts) (told_reaped cs)
 
--- the promises see the same of a machine before and after a reap
+-- the holdings that the promises see are the same before and after a reap
 pub holdings_reaped : (m : Machine) → holdings_of (reaped m) ≡ holdings_of m
 unfolding holdings_of reaped
 holdings_reaped m = ap (λ cs. record { slots = m.slots; pages = m.blocks; caches = cs }) (told_reaped m.caches)

@@ -1,4 +1,5 @@
--- The number of frames in empty slabs. It is a multiple of the size of the smallest of these slabs, and a report counts it.
+-- The number of frames in empty slabs is a multiple of the size of the smallest of these slabs. It follows from the rows of a
+-- report.
 use Rattle.std.proofs.Common.{◌≡◌, ℕ, ◌+◌, ◌-◌, ◌*◌, ◌%◌, ◌^◌, ◌≤◌, Bool, true, false, List, [], ◌∷◌, ◌++◌, map, length, refl, sym, ap, ◌∙◌, subst, ◌⊎◌, inl, inr, ⊎_elim, arith}
 use Rattle.std.specs.Prelude.{if◌then◌else◌, filter, flat_map, sum_by}
 use Rattle.std.specs.List.{zip, AllByRecursion as Each}
@@ -19,7 +20,7 @@ use Rattle.promise_kept.specs.Meets.{cache_as_known}
 
 -- The lowest order
 
--- a cache with a slab; its order is at most the order of every empty slab of these caches
+-- a slab of one of these caches, and its cache; no empty slab of these caches has a lower order than this slab
 pub record IsLeast (cs : List Cache) : Type 0 where
   pub cache : Cache
   pub slab : Slab
@@ -72,7 +73,7 @@ least_order (c ∷ cs) = go (filter is_empty c.slabs) refl (least_order cs)
     })
     go (s ∷ ss) e (inr l) = inr (lower l s (filter_in is_empty s c.slabs (subst (IsIn s) (sym e) (inl refl))).0)
 
--- blocks of order `q` or above have a multiple of 2 ^ q frames
+-- the number of frames in blocks of order q or above is a multiple of 2 ^ q
 multiple : (q : ℕ) (bs : List Block) → Each (λ b. q ≤ b.order) bs → (n : ℕ) × (frames_of bs ≡ n * 2 ^ q)
 multiple q [] h = (0, omega arith)
 multiple q (b ∷ bs) (le, h) =
@@ -87,7 +88,7 @@ multiple q (b ∷ bs) (le, h) =
 pub frames_divide : (q : ℕ) (bs : List Block) → Each (λ b. q ≤ b.order) bs → frames_of bs % 2 ^ q ≡ 0
 frames_divide q bs h = let n : (n : ℕ) × (frames_of bs ≡ n * 2 ^ q) = multiple q bs h in ap (λ k. k % 2 ^ q) n.1 ∙ mul-mod_left n.0 (2 ^ q)
 
--- What a report said
+-- The empty slabs in the rows of a report
 
 pub frames_append : (xs ys : List Block) → frames_of (xs ++ ys) ≡ frames_of xs + frames_of ys
 frames_append [] ys = omega arith
@@ -98,7 +99,7 @@ frames_map c [] = omega arith
 frames_map c (s ∷ ss) = let rest : frames_of (map (slab_block c) ss) ≡ length ss * 2 ^ (layout c).order = frames_map c ss in
     let more : (length ss + 1) * 2 ^ (layout c).order ≡ length ss * 2 ^ (layout c).order + 2 ^ (layout c).order = omega arith in omega (arith, rest, more)
 
--- the blocks of the cache's empty slabs, if its number passes the test
+-- the blocks of the cache's empty slabs if the number of the cache passes the test, and no blocks otherwise
 abbrev pub empty_of : (ℕ → Bool) → Cache → List Block
 empty_of test c = if test c.number then empty_blocks c else []
 

@@ -26,7 +26,7 @@ use Rattle.promise_kept.proofs.SeenBlocks.{overlap_shares}
 use Rattle.promise_kept.proofs.LiveObjects.{IsLivePlace, live_place}
 use Rattle.promise_kept.proofs.ObjectsBeside.{places_in, less_count, some_count, IsBeside, beside_at, is_slab, slab_here, slab_of_live, beside_is}
 
--- if one flag is set, some flag is
+-- if flag i is set, some flag of the list is set
 flag_any : (flags : List Bool) (i : ℕ) → get_or flags i false ≡ true → list_any (λ live. live) flags ≡ true
 flag_any [] i e = absurd (false≢true e)
 flag_any (flag ∷ flags) zero e = or_left flag (list_any (λ live. live) flags) e
@@ -37,7 +37,7 @@ frame_aligned : (align : ℕ) → is_alignment align ≡ true → (f n : ℕ) �
 frame_aligned = for_alignment (λ a. (f n : ℕ) → n % a ≡ 0 → (4096 * f + n) % a ≡ 0)
     (λ f n e. omega (arith, e)) (λ f n e. omega (arith, e)) (λ f n e. omega (arith, e)) (λ f n e. omega (arith, e)) (λ f n e. omega (arith, e)) (λ f n e. omega (arith, e))
 
--- the test of `can_be_taken` for these live objects beside the place, and this slab
+-- the test of `can_be_taken`, given the live objects beside the place and the slab b around it
 abbrev is_takable : ℕ → Holdings → KnownCache → ℕ → List ℕ → Block → Bool
 is_takable order h c place beside b = (eqb (place % c.align) 0 && (ltb 0 (length beside) || can_stand order h b))
     && (ltb (length beside) c.count && (list_all (are_apart c place) beside
@@ -68,7 +68,7 @@ module _ {limit : ℕ} (order : ℕ) (c : Cache) (s : Slab) (m : Machine) (w : I
           let row : j * (layout c).chunk + (layout c).chunk ≤ i * (layout c).chunk = row_fits j (layout c).chunk i (layout c).chunk (omega (arith, le, differ)) (omega arith) in
           or_right (leb (p + c.size) q) (leb (q + c.size) p) (le-leb (q + c.size) p (omega (arith, row, is_layout.chunked)))
 
-  -- If none of the slab's objects is live, the slab can stand
+  -- `can_stand` is true of a slab without live objects
 
   other_apart : list_any (λ live. live) s.live ≡ false → (b : Block) → IsIn b (known_blocks (holdings_of m)) → IsApart (slab_block c s) b
   unfolding known_blocks holdings_of
@@ -108,7 +108,7 @@ module _ {limit : ℕ} (order : ℕ) (c : Cache) (s : Slab) (m : Machine) (w : I
       (and_from _ _ placed.1 (not_from_false _ (any_none (overlaps b) (known_blocks (holdings_of m)) (each_from (λ x. overlaps b x ≡ false) (known_blocks (holdings_of m)) (λ x i.
       false_from_ne_true (overlaps b x) (λ e. overlap_shares b x e (other_apart none x i)))))))
 
-  -- The slab's objects lie on its grid
+  -- `is_grid` is true of the places of the slab's live objects
 
   on_grid : (u : ℕ) → IsIn u (places_in c s) → let origin = 4096 * s.first + s.colour in
       (leb origin u && (eqb ((u - origin) % (layout c).chunk) 0 && ltb ((u - origin) / (layout c).chunk) (layout c).count)) ≡ true

@@ -1,4 +1,4 @@
--- A give keeps the promises.
+-- A `give` keeps the promises.
 use Rattle.std.proofs.Common.{◌≡◌, ℕ, ◌+◌, ◌<◌, true, false, not, ◌&&◌, eqb, List, map, Option, Some, None, refl, sym, ap, ◌∙◌, subst, ◌⊎◌, inl, inr}
 use Rattle.std.specs.Prelude.{option_map, find, filter, Contains}
 use Rattle.std.specs.List.{list_any}
@@ -37,7 +37,7 @@ gone place ps = filter (λ p. not (eqb p place)) ps
 gone_rises : (place n : ℕ) (ps : List ℕ) → RisesFrom n ps → RisesFrom n (gone place ps)
 gone_rises place n ps r = subst (RisesFrom n) (map-id (gone place ps)) (filter_rises (λ p. p) (λ p. not (eqb p place)) n ps (subst (RisesFrom n) (sym (map-id ps)) r))
 
--- the object of the cache that begins at the place is given back
+-- o, the live object of cache c that begins at `place`, is given back
 module _ (limit order place : ℕ) (c : Cache) (o : LiveObject) (m : Machine) (s : State) (w : IsWellFormed limit order m) (h : Meets order s m) (in_c : IsIn c m.caches) (l : IsLive c o) (at : o.place ≡ place) where
   lt : o.index < (layout c).count
   lt = let k : IsSlab c o.slab = each_in (IsSlab c) o.slab c.slabs (slabs_of c (each_in IsCache c m.caches w.caches in_c)) l.slab_in in subst (λ n. o.index < n) k.count l.index_in

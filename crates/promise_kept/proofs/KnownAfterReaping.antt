@@ -46,7 +46,7 @@ slab_no_page order s m place w h e = ap (λ x. list_any (in_block place) x.pages
     let page : IsPageByte m place = record { page = b.0; page_in = b.1; in_page = b.2 } in
     false≢true (sym (page_apart order m place (laid_out order m w) page) ∙ (sym (in_slab_laid m place) ∙ e)))
 
--- an object's bytes lie in its slab
+-- each byte of an object lies in the object's slab
 pub object_in_slab : {limit : ℕ} (order : ℕ) (m : Machine) (c : Cache) (s : Slab) (i j : ℕ) → IsWellFormed limit order m → IsIn c m.caches → IsIn s c.slabs → i < (layout c).count → j < c.size
     → in_laid (place_of (record { cache = c; slab = s; index = i }) + j) (laid c s) ≡ true
 object_in_slab order m c s i j w in_c in_s index_in byte_in =
@@ -60,7 +60,7 @@ module _ {limit : ℕ} (order : ℕ) (s : State) (m : Machine) (w : IsWellFormed
   gone : ℕ → Bool
   gone place = list_any (in_block place) (flat_map empty_blocks m.caches)
 
-  -- a place is in a slab exactly if it is in one that stays, or in one that is freed
+  -- a place is in a slab exactly if it is in a slab that the reap frees or in a slab that is left after the reap
   in_slab_split : (place : ℕ) → in_slab m place ≡ (gone place || in_slab (reaped m) place)
   unfolding gone reaped
   in_slab_split place = in_slab_laid m place ∙ (any_split (in_laid place) is_empty_laid (all_laid m.caches)

@@ -1,4 +1,4 @@
--- What is known of a machine's caches and their live objects.
+-- The known caches are the machine's caches, and the known live objects are the machine's live objects.
 use Rattle.std.proofs.Common.{◌≡◌, ℕ, Bool, true, false, ◌&&◌, cond, eqb, List, [], ◌∷◌, map, Some, refl, sym, ap, ◌∙◌, subst, ◌⊎◌, inl, inr}
 use Rattle.std.specs.Prelude.{option_map, find}
 use Rattle.std.specs.List.{list_any}
@@ -16,14 +16,14 @@ use Rattle.promise_kept.specs.Meets.{cache_as_known, holdings_of, is_object_live
 use Rattle.promise_kept.proofs.LiveObjects.{IsLivePlace, live_place, place_listed}
 use Rattle.promise_kept.proofs.ObjectFlag.{replaced_other, replaced_one}
 
--- the state whose holdings are replaced by those seen of the machine
+-- state s, with its holdings replaced by the holdings that are seen of machine m
 abbrev pub seen : Machine → State → State
 seen m s = record s { has = holdings_of m }
 
 pub seen_is : (m : Machine) (s : State) → s.has ≡ holdings_of m → seen m s ≡ s
 seen_is m s e = sym (ap (λ (h : Holdings). record s { has = h }) e)
 
--- a number finds the same cache among the caches as they are seen as among the machine's caches
+-- looking up a number among the known caches gives the machine's cache with this number, as it is known, or None if there is none
 pub cache_seen : (number : ℕ) (cs : List Cache) → find (λ c. eqb c.number number) (map cache_as_known cs) ≡ option_map cache_as_known (find (λ c. eqb c.number number) cs)
 cache_seen number [] = refl
 cache_seen number (c ∷ cs) = go (eqb c.number number) (cache_seen number cs)
@@ -37,7 +37,7 @@ pub cache_known : {limit : ℕ} (order : ℕ) (m : Machine) (c : Cache) → IsWe
 unfolding holdings_of
 cache_known order m c w i = cache_seen c.number m.caches ∙ ap (option_map cache_as_known) (in_found (λ x. x.number) 0 c m.caches w.caches_rise i)
 
--- A live object by its number and first place
+-- Live objects, by the number of their cache and their first place
 
 pub record IsLiveIn (number first : ℕ) (cs : List Cache) : Type 0 where
   pub cache : Cache
@@ -70,7 +70,8 @@ unfolding holdings_of
 told_live m number first place l = any_in (is_told number first) (cache_as_known l.cache) (map cache_as_known m.caches) (in_map cache_as_known l.cache m.caches l.cache_in)
     (and_from (eqb l.cache.number number) (list_any (λ p. eqb p first) (map (λ o. o.place) (live_objects l.cache))) (eq-eqb l.cache.number number l.number_is) (any_place first l.cache l.place))
 
--- a live object is still live after a cache is replaced by one with the same number, if the object is live in that one
+-- Cache c is replaced by cache d with the same number. An object that was live is live afterwards too, if it is an object of
+-- another cache or is live in d.
 pub live_replaced : (c d : Cache) (m : Machine) → RisesFrom 0 (map (λ x. x.number) m.caches) → IsIn c m.caches → c.number ≡ d.number → (number first : ℕ) → IsLiveIn number first m.caches
     → (number ≡ c.number → IsLivePlace c first → IsLivePlace d first) → IsLiveIn number first (with_cache d m).caches
 live_replaced c d m rises in_c same number first k still = go (cases_eq k.cache.number c.number)

@@ -1,4 +1,5 @@
--- The first places of live objects. They ascend, and each is the place of an object whose live flag is set.
+-- The first places of the live objects of a cache. They ascend, and they are the first places of the objects whose live flags are
+-- set.
 use Rattle.std.proofs.Common.{◌≡◌, ℕ, zero, suc, ◌+◌, ◌*◌, ◌^◌, ◌<◌, ◌≤◌, Bool, true, false, List, [], ◌∷◌, ◌++◌, map, length, get_or, sym, ap, ◌∙◌, subst, ◌⊎◌, inl, inr, arith}
 use Rattle.std.specs.Prelude.{flat_map}
 use Rattle.std.specs.List.{AllByRecursion as Each}
@@ -21,7 +22,7 @@ pub rises_append : (n k : ℕ) (xs ys : List ℕ) → RisesFrom n xs → Each (�
 rises_append n k [] ys r below le q = rises_more k n ys le q
 rises_append n k (x ∷ xs) ys (l, r) (b, below) le q = (l, rises_append (x + 1) k xs ys r below (omega arith) q)
 
--- The places of one slab
+-- The first places of the live objects of one slab
 
 next_place : (c : Cache) (s : Slab) (n : ℕ) → object_place (layout c) s.first s.colour (n + 1) ≡ object_place (layout c) s.first s.colour n + (layout c).chunk
 next_place c s n = let p : (n + 1) * (layout c).chunk ≡ n * (layout c).chunk + (layout c).chunk = omega arith in omega (arith, p)
@@ -39,7 +40,7 @@ slab_rises c s n (flag ∷ flags) low chunk le = go flag (λ k h. slab_rises c s
     go true rest = (le, rest (object_place (layout c) s.first s.colour n + 1) (omega (arith, next, chunk)))
     go false rest = rest low (omega (arith, next, le))
 
--- the chunk of an object lies inside its slab
+-- the chunk of an object lies inside the object's slab
 pub place_below : (c : Cache) (s : Slab) (i : ℕ) → IsFit (layout c) s.colour → i < (layout c).count
     → (4096 * s.first ≤ object_place (layout c) s.first s.colour i) × (object_place (layout c) s.first s.colour i + (layout c).chunk ≤ 4096 * (s.first + 2 ^ (layout c).order))
 place_below c s i fit lt =
@@ -69,7 +70,7 @@ pub apart_in : {limit : ℕ} (order : ℕ) (c : Cache) (m : Machine) → IsWellF
 unfolding taken_blocks
 apart_in order c m w i = slabs_apart c m.caches i (apart_parts m.blocks (flat_map slab_blocks m.caches) w.apart).1
 
--- if slab t begins after the first frame of slab s, and they share no frame, t begins where s ends, or later
+-- if slabs s and t share no frame, and t begins after the first frame of s, then t begins at the end of s or later
 apart_after : (c : Cache) (s t : Slab) → IsApart (slab_block c s) (slab_block c t) → s.first + 1 ≤ t.first → s.first + 2 ^ (layout c).order ≤ t.first
 apart_after c s t h le = go (cases_lt t.first (s.first + 2 ^ (layout c).order))
   where
@@ -106,7 +107,7 @@ live_rises order c m w i =
     let h : IsCache c = each_in IsCache c m.caches w.caches i in
     slabs_rise c c.slabs 0 0 (slabs_of c h) h.slabs_rise (apart_in order c m w i) (each_true (λ s. 0 ≤ 4096 * s.first) (λ s. omega arith) c.slabs)
 
--- A live object by its place
+-- Live objects, by their first place
 
 pub record IsLivePlace (c : Cache) (u : ℕ) : Type 0 where
   pub slab : Slab

@@ -1,4 +1,4 @@
--- What the promises see when one object becomes live or stops being live.
+-- If the live flag of one object is changed, the promises see no change of another object.
 use Rattle.std.proofs.Common.{◌≡◌, ℕ, ◌<◌, Bool, true, false, eqb, List, [], ◌∷◌, map, length, get_or, refl, sym, ap, ◌∙◌, subst, ◌⊎◌, inl, inr, arith}
 use Rattle.std.specs.Prelude.{if◌then◌else◌, slice_set, Contains}
 use Rattle.std.proofs.Math.ListN.{length-set}
@@ -63,7 +63,8 @@ one_place {limit} order c m w in_c s t i j in_s in_t lt lt' e =
     (place_of a) (omega arith, omega (arith, some)) (omega (arith, e), omega (arith, e, some)) in
     record { slab = ap (λ o. o.slab) same; index = ap (λ o. o.index) same }
 
--- machine m has an object with the place of o, whose cache has the same number, size and pattern as the cache of o
+-- Machine m has an object with the first place of object o. The cache of that object has the number, size and pattern of the
+-- cache of o.
 pub record WasObject (m : Machine) (o : Object) : Type 0 where
   pub was : Object
   pub object : IsObject m was
@@ -72,7 +73,7 @@ pub record WasObject (m : Machine) (o : Object) : Type 0 where
   pub pattern : was.cache.pattern ≡ o.cache.pattern
   pub place : place_of was ≡ place_of o
 
--- One flag set
+-- The live flag of object i of slab s is set to b
 
 module _ (limit order : ℕ) (c : Cache) (s : Slab) (i : ℕ) (b : Bool) (m : Machine) (w : IsWellFormed limit order m) (in_c : IsIn c m.caches) (in_s : IsIn s c.slabs) (lt : i < (layout c).count) where
   slabs : (t : Slab) → IsIn t c.slabs → IsSlab c t
@@ -81,7 +82,8 @@ module _ (limit order : ℕ) (c : Cache) (s : Slab) (i : ℕ) (b : Bool) (m : Ma
   within : (t : Slab) (j : ℕ) → IsIn t c.slabs → j < length t.live → j < (layout c).count
   within t j k l = let h : IsSlab c t = slabs t k in omega (arith, h.count, l)
 
-  -- a place that is live after the change is that of this object, which was made live, or another that was live before
+  -- if a live object begins at u after the change, then u is the place of object i and b is true, or u is another place and a live
+  -- object began there before
   pub live_after : (u : ℕ) → IsLivePlace (with_slab (with_live i b s) c) u
       → ((b ≡ true) × (u ≡ object_place (layout c) s.first s.colour i)) ⊎ (IsLivePlace c u × (u ≡ object_place (layout c) s.first s.colour i → ⊥))
   live_after u l = go (replaced_is (λ x. x.first) (with_live i b s) l.slab c.slabs l.slab_in)

@@ -21,7 +21,7 @@ use Rattle.promise_kept.specs.Meets.{cache_as_known}
 use Rattle.promise_core.proofs.ObjectGrids.{around_is}
 use Rattle.promise_kept.proofs.LiveObjects.{IsSlab, slabs_of, slabs_rise, live_rises, IsLivePlace, live_place, place_listed}
 
--- the cache with this slab alone
+-- the cache with this slab as its only slab
 abbrev pub alone : Cache → Slab → Cache
 alone c s = record c { slabs = s ∷ [] }
 
@@ -83,7 +83,7 @@ beside_at c s u i = let l : IsLivePlace (alone c s) u = live_place (alone c s) u
       at = l.at ∙ ap (λ t. object_place (layout c) t.first t.colour l.index) (sym e);
     }
 
--- the slabs seen around two places are the same
+-- the slabs of cache c that are seen around the places p and `place` have the same first frame
 abbrev is_here : Cache → ℕ → ℕ → Bool
 is_here c place p = eqb (slab_around (cache_as_known c) p).first (slab_around (cache_as_known c) place).first
 
@@ -91,7 +91,7 @@ module _ {limit : ℕ} (order : ℕ) (c : Cache) (m : Machine) (w : IsWellFormed
   pub is_slab : (s : Slab) → IsIn s c.slabs → IsSlab c s
   is_slab s in_s = each_in (IsSlab c) s c.slabs (slabs_of c (each_in IsCache c m.caches w.caches in_c)) in_s
 
-  -- the slab seen around the place of an object, live or not, is its slab
+  -- the slab that is seen around the first place of an object, live or not, is the object's slab
   pub slab_here : (s : Slab) (i : ℕ) → IsIn s c.slabs → i < (layout c).count → slab_around (cache_as_known c) (object_place (layout c) s.first s.colour i) ≡ slab_block c s
   slab_here s i in_s lt =
       let p : ℕ = object_place (layout c) s.first s.colour i in
@@ -106,7 +106,7 @@ module _ {limit : ℕ} (order : ℕ) (c : Cache) (m : Machine) (w : IsWellFormed
   slab_of_live u l = ap (λ p. slab_around (cache_as_known c) p) l.at
       ∙ slab_here l.slab l.index l.slab_in (subst (λ n. l.index < n) (is_slab l.slab l.slab_in).count l.index_in)
 
-  -- the live objects beside an object, which may be live or not, are the live objects of its slab
+  -- the live objects beside an object, which may be live or not, are the live objects of the object's slab
   pub beside_is : (s : Slab) (i : ℕ) → IsIn s c.slabs → i < (layout c).count → live_beside (cache_as_known c) (object_place (layout c) s.first s.colour i) ≡ places_in c s
   beside_is s i in_s lt = same_members 0 (live_beside (cache_as_known c) place) (places_in c s)
       (subst (RisesFrom 0) (map-id (filter (is_here c place) live)) (filter_rises (λ p. p) (is_here c place) 0 live (subst (RisesFrom 0) (sym (map-id live)) (live_rises order c m w in_c))))

@@ -1,4 +1,4 @@
--- The bytes that may be at a place: cells in doubt, cells dropped, and holders that are not live.
+-- The bytes that a holder may have at a place, after cells are put in doubt or dropped, or if the holder is not live.
 use Rattle.std.proofs.Common.{◌≡◌, ℕ, Bool, true, false, not, ◌||◌, ◌&&◌, eqb, Option, Some, None, refl, sym, ap, ◌∙◌, List}
 use Rattle.std.specs.Prelude.{if◌then◌else◌, is_some, drop}
 use Rattle.std.specs.List.{list_all}
@@ -29,7 +29,8 @@ all_kept event reply w s a b c d e f g h i j k l =
 pub formed : (t : ℕ) (o : Option State) → is_some o ≡ true → (eqb t t && is_some o) ≡ true
 formed t o e = and_from (eqb t t) (is_some o) (eq-eqb t t refl) e
 
--- a refusal keeps all promises if it keeps `Refusals` and the promises after the first two; what is known stays true
+-- A refusal that leaves the machine as it was keeps all promises, if it keeps `Refusals` and all promises after `Refusals` in the
+-- list `kept`. What is known stays true.
 pub refused : (limit order : ℕ) (command : Command) (refusal : Refusal) (s : State) (m : Machine) → Meets order s m
     → ((t : ℕ) (owners : List (Option Owner)) (states : List State) → let w : Known = record { limit = limit; order = order; owners = owners; states = states } in
     (refusals (On.Tenant t command) (Say.Refused refusal) w s ≡ true)
@@ -63,7 +64,7 @@ is_same_refl (Holder.Object n p) = and_from (eqb n n) (eqb p p) (eq-eqb n n refl
 abbrev pub IsLiving : Holdings → Cells → Type 0
 IsLiving h cells = (place : ℕ) (cell : Cell) → cells place ≡ Some cell → cell.sure ≡ true → is_object_live h cell.holder place ≡ true
 
--- a holder that is not live may have the fresh byte
+-- if the holder of every sure cell is live, a holder that is not live may have the fresh byte
 pub fresh_may : (h : Holdings) (cells : Cells) → IsLiving h cells → (holder : Holder) (place fresh : ℕ) → is_object_live h holder place ≡ false
     → may_be holder fresh (cells place) fresh ≡ true
 fresh_may h cells lives holder place fresh dead = go (cells place) refl
@@ -81,7 +82,7 @@ fresh_may h cells lives holder place fresh dead = go (cells place) refl
     go None e = eq-eqb fresh fresh refl
     go (Some cell) e = cell_may cell e (is_same cell.holder holder) refl
 
--- if a byte may be at a place, it may still be there after cells are put in doubt
+-- if a holder may have a byte at a place, it may still have that byte after cells are put in doubt
 pub doubt_may : (test : ℕ → Holder → Bool) (cells : Cells) (holder : Holder) (place fresh byte : ℕ) → may_be holder fresh (cells place) byte ≡ true
     → may_be holder fresh (doubted test cells place) byte ≡ true
 doubt_may test cells holder place fresh byte = go (cells place)
@@ -111,7 +112,7 @@ doubt_lives test cells place cell e sure = go (cells place) refl e
         let both = and_parts was.sure (not (test place was.holder)) (ap (λ x. x.sure) same ∙ sure) in
         (was, is, both.0, ap (λ x. x.holder) same, ap (λ x. test place x) (sym (ap (λ x. x.holder) same)) ∙ not-true _ both.1)
 
--- a cell that is not dropped was there before, and its holder does not pass the test
+-- a cell that is left after cells are dropped was there before, and its holder does not pass the test
 pub without_some : (test : ℕ → Holder → Bool) (cells : Cells) (place : ℕ) (cell : Cell) → without test cells place ≡ Some cell
     → (cells place ≡ Some cell) × (test place cell.holder ≡ false)
 without_some test cells place cell e = go (cells place) refl e
@@ -126,7 +127,8 @@ without_some test cells place cell e = go (cells place) refl e
     go None is none = absurd (cc)
     go (Some was) is some = one was (test place was.holder) refl is some
 
--- if a byte may be at a place, it may still be there after the cells of other holders are dropped
+-- if a holder that does not pass the test may have a byte at a place, it may still have that byte after the cells that pass the
+-- test are dropped
 pub without_may : (test : ℕ → Holder → Bool) (cells : Cells) (holder : Holder) (place fresh byte : ℕ) → test place holder ≡ false
     → may_be holder fresh (cells place) byte ≡ true → may_be holder fresh (without test cells place) byte ≡ true
 without_may test cells holder place fresh byte spared = go (cells place)

@@ -1,4 +1,5 @@
--- The holder of a range in reach, and what is known after its bytes are read or written.
+-- The holder of a range is live and contains the range. What is known stays true after the bytes of the range are read or
+-- written.
 use Rattle.std.proofs.Common.{◌≡◌, ℕ, zero, suc, ◌+◌, ◌-◌, ◌*◌, ◌^◌, ◌<◌, ◌≤◌, Bool, true, false, not, ◌||◌, ◌&&◌, eqb, ltb, leb, List, [], ◌∷◌, ◌++◌, map, length, Option, Some, None, refl, sym, ap, ◌∙◌, subst, arith}
 use Rattle.std.specs.Prelude.{if◌then◌else◌, slice_index}
 use Rattle.std.specs.List.{list_any}
@@ -27,7 +28,7 @@ use Rattle.promise_kept.specs.Meets.{cache_as_known, holdings_of, is_object_live
 use Rattle.promise_kept.proofs.PlaceCells.{is_same_refl}
 use Rattle.promise_kept.proofs.KnownAfterReaping.{slab_no_page, object_in_slab}
 
--- the holder of a range is a live page block or a live object, and has all of it
+-- the holder of a range is a live page block or a live object that contains the whole range
 pub data IsHolder (m : Machine) (place len : ℕ) (holder : Holder) : Type 0 where
   page : holder ≡ Holder.Page → (b : Block) → IsIn b m.blocks → within_block place len b ≡ true → IsHolder m place len holder
   object : (o : Object) → IsObject m o → holder ≡ Holder.Object o.cache.number (place_of o) → is_within place len (place_of o) o.cache.size ≡ true
@@ -61,7 +62,7 @@ holder_is order m place len holder w e = go (ltb 0 len) (list_any (within_block 
     go true true is e = let b = some_any (within_block place len) m.blocks is in let same : Holder.Page ≡ holder = cc in page (sym same) b.0 b.1 b.2
     go true false is e = of_object e
 
--- the holder of a range is live at each of its places
+-- the holder of a range is live at each place of the range
 pub holder_lives : (m : Machine) (place len : ℕ) (holder : Holder) → IsHolder m place len holder → (p : ℕ) → place ≤ p → p < place + len → is_object_live (holdings_of m) holder p ≡ true
 unfolding holdings_of
 holder_lives m place len holder (page is b i e) p low high =
@@ -95,7 +96,7 @@ module _ {limit : ℕ} (order : ℕ) (s : State) (m : Machine) (w : IsWellFormed
   byte_is : (p byte : ℕ) → in_range p ≡ true → bytes p ≡ Some byte → slice_index new (p - place) ≡ byte
   byte_is p byte e there = let r = bounds p e in let both : Some (slice_index new (p - place)) ≡ Some byte = sym (inside p r.0 r.1) ∙ there in cc
 
-  -- after the range is read or written, the holder may have the new byte at each place of the range
+  -- after the range is read or written, its holder may have the byte that was read or written at each place of the range
   own : (p fresh byte : ℕ) (other : Holder) → holder ≡ other → slice_index new (p - place) ≡ byte → may_be other fresh (Some (told_cell p)) byte ≡ true
   own p fresh byte other same is = ap (λ b. if b then (eqb byte (slice_index new (p - place)) || (not true && eqb byte fresh)) else eqb byte fresh)
       (ap (λ x. is_same x other) same ∙ is_same_refl other) ∙ or_left (eqb byte (slice_index new (p - place))) _ (eq-eqb byte (slice_index new (p - place)) (sym is))

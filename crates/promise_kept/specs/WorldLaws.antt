@@ -1,5 +1,5 @@
--- The world of the definitions keeps the promises, event by event, and over all events. Each law is the contract of a function
--- of the module `world_laws`.
+-- The world of the definitions keeps the promises at each event, and so in every run from the opening world. Each law is the
+-- contract of a function of the module `world_laws`.
 use Rattle.std.specs.Prelude.{◌≡◌, ℕ, ◌*◌, ◌^◌, ◌≤◌, List, length, Some, Ok, ⊤}
 use Rattle.std.specs.List.{AllByRecursion}
 use Rattle.model_core.specs.Runs.{ArePossible}
@@ -35,7 +35,7 @@ MoveIsKept = (limit order t slot : ℕ) → IsEventKept limit order (Event.Admin
 abbrev pub PoolIsKept : Type 0
 PoolIsKept = (limit order : ℕ) → IsEventKept limit order (Event.Admin AdminCommand.Pool)
 
--- the event is possible: a cache is made with a pattern of 1 to 16 bytes
+-- the event is possible: if it requests a new cache, the pattern has 1 to 16 bytes
 abbrev pub CanBeRequested : Event → Type 0
 CanBeRequested (Event.Tenant t command) = ArePossible (operations_in (Entry.Ask command))
 CanBeRequested (Event.Admin command) = ⊤
@@ -44,26 +44,27 @@ CanBeRequested (Event.Admin command) = ⊤
 abbrev pub EventIsKept : Type 0
 EventIsKept = (limit order : ℕ) (event : Event) → 3 ≤ order → CanBeRequested event → IsEventKept limit order event
 
--- The reply to an event that names a tenant that does not exist is allowed, and changes neither the world nor what is known.
+-- If an event names a tenant that does not exist, its reply is allowed, and neither the world nor what is known changes.
 abbrev pub StrangerChangesNothing : Type 0
 StrangerChangesNothing = (limit order t : ℕ) (event : Event) (k : Known) (w : World) → MeetsWorld limit order k w
     → named event ≡ Some t → length w.machines ≤ t
     → (allowed event (world_step limit order event w).reply k ≡ Ok k) × ((world_step limit order event w).world ≡ w)
 
--- every reply of the run from the opening world is allowed, and what is known at its end is true
+-- every reply in the run of these events from the opening world is allowed, and what is known after the run is true of the world
 pub record IsKeptRun (limit order superblocks tenants : ℕ) (events : List Event) : Type 0 where
   pub after : Known
   pub are_allowed : all_allowed (opening_history limit order superblocks tenants events)
       (Ok (opening limit order superblocks tenants)) ≡ Ok after
   pub meets : MeetsWorld limit order after (world_after limit order (opening_world superblocks tenants) events)
 
--- From the opening world on every reply to a possible event is allowed, if RAM has at most 2 ^ 32 places ..
+-- In a run of possible events from the opening world, every reply is allowed. Slots have at least 8 frames, and RAM has at most
+-- 2 ^ 32 places.
 abbrev pub KeepsPromises : Type 0
 KeepsPromises = (limit order superblocks tenants : ℕ) (events : List Event)
     → 3 ≤ order → superblocks * 2 ^ order * 4096 ≤ 2 ^ 32 → AllByRecursion CanBeRequested events
     → IsKeptRun limit order superblocks tenants events
 
--- .. and so is every reply to the events of any trace.
+-- In the run of the events of any trace, every reply is allowed. Slots and RAM are as in `KeepsPromises`.
 abbrev pub TraceKeepsPromises : Type 0
 TraceKeepsPromises = (limit order superblocks tenants : ℕ) (trace : List ℕ)
     → 3 ≤ order → superblocks * 2 ^ order * 4096 ≤ 2 ^ 32

@@ -10,9 +10,9 @@ use Rattle.words_core.specs.Grammar.{reading_of}
 use Rattle.promise_core.specs.State.{Known, opening}
 use Rattle.promise_core.specs.Promises.{all_allowed}
 
--- The text for lines with these readings, if the exchanges have the lines' events and their replies. A line with an event shows
--- its reply. A faulty line shows its fault, which is addressed to nobody. A blank line or a comment shows nothing. With `only`,
--- only that tenant's replies are shown.
+-- The text for lines with these readings. The exchanges are the events of the lines with their replies. A line with an event
+-- shows the reply to the event. A faulty line shows its fault, which is addressed to nobody. A blank line or a comment shows
+-- nothing. If `only` is a tenant, only that tenant's replies are shown.
 abbrev pub text_of_replies : Option ℕ → List (Result (Option Event) LineFault) → List Exchange → List ℕ
 text_of_replies only [] exchanges = []
 text_of_replies only (Ok None ∷ readings) exchanges = text_of_replies only readings exchanges
@@ -21,8 +21,8 @@ text_of_replies only (Err fault ∷ readings) exchanges =
 text_of_replies only (Ok (Some event) ∷ readings) [] = []
 text_of_replies only (Ok (Some event) ∷ readings) (e ∷ es) = shown_text only e.reply ++ text_of_replies only readings es
 
--- The text shows replies to the lines' events. Each of these replies is allowed from the opening on, even if it is not shown. A
--- tenant may have `limit` caches, and slots have 2 ^ order frames.
+-- The text is `text_of_replies` of the lines, with some replies to their events. In a run from the opening state, each of these
+-- replies is allowed, even if it is not shown. A tenant may have `limit` caches, and slots have 2 ^ order frames.
 pub record IsAllowedText (only : Option ℕ) (limit order superblocks tenants : ℕ) (lines : List (List ℕ)) (text : List ℕ) : Type 0 where
   pub exchanges : List Exchange
   pub asked : map (λ e. e.event) exchanges ≡ events_of lines

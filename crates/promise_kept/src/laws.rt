@@ -1,9 +1,10 @@
-//! The private machine's reply to each command keeps every promise, and what is known afterwards is true of the machine
-//! afterwards. Each law is the contract of an empty function, which a function calls if its proof needs the law.
+//! The private machine's reply to `alloc`, `free`, `write`, `read`, `cache` and `report` keeps every promise. What is known after
+//! the reply is true of the machine after the command. Each law is the contract of an empty function. A proof that needs the law
+//! calls the function.
 
 ghost use Rattle.promise_kept.specs.Laws.{AllocIsKept, FreeIsKept, WriteIsKept, ReadIsKept, CacheIsKept, ReportIsKept};
 
-/// The reply to `alloc` keeps the promises. Empty slabs are freed on demand.
+/// The reply to `alloc` keeps the promises. If a block is found only after all empty slabs are freed, the `alloc` frees them.
 pub fn alloc_is_kept()
     ensures { AllocIsKept }
 {}

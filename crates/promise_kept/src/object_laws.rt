@@ -1,10 +1,11 @@
-//! The private machine's reply to each command on objects keeps every promise, and what is known afterwards is true of the
-//! machine afterwards. Each law is the contract of an empty function, which a function calls if its proof needs the law.
+//! The private machine's reply to `take`, `give`, `destroy` and `reap` keeps every promise. What is known after the reply is true
+//! of the machine after the command. Each law is the contract of an empty function. A proof that needs the law calls the
+//! function.
 
 ghost use Rattle.promise_kept.specs.Laws.{TakeIsKept, GiveIsKept, DestroyIsKept, ReapIsKept};
 
-/// The reply to `take` keeps the promises, if slots have at least 8 frames, the size of the largest slab. Empty slabs are freed
-/// on demand.
+/// The reply to `take` keeps the promises, if slots have at least 8 frames, the size of the largest slab. If a block for a new
+/// slab is found only after all empty slabs are freed, the `take` frees them.
 pub fn take_is_kept()
     ensures { TakeIsKept }
 {}

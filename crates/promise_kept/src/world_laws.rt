@@ -1,5 +1,5 @@
-//! The world of the definitions keeps the promises at each event, and over all events from the opening world on. Each law is the
-//! contract of an empty function, which a function calls if its proof needs the law.
+//! The world of the definitions keeps the promises at each event, and so in every run from the opening world. Each law is the
+//! contract of an empty function. A proof that needs the law calls the function.
 
 ghost use Rattle.promise_kept.specs.WorldLaws.{
   GrantIsKept,
@@ -38,18 +38,19 @@ pub fn pool_is_kept()
     ensures { PoolIsKept }
 {}
 
-/// The reply to any event keeps the promises, if slots have at least 8 frames and a new cache has a pattern of 1 to 16 bytes.
+/// The reply to any event keeps the promises. Slots must have at least 8 frames, and a new cache must have a pattern of 1 to 16
+/// bytes.
 pub fn event_is_kept()
     ensures { EventIsKept }
 {}
 
-/// The reply to an event that names a tenant that does not exist is allowed, and changes neither the world nor what is known.
+/// If an event names a tenant that does not exist, its reply is allowed, and neither the world nor what is known changes.
 pub fn stranger_changes_nothing()
     ensures { StrangerChangesNothing }
 {}
 
-/// From the opening world on, every reply is allowed, for all traces, and for all events whose new caches have patterns of 1 to 16
-/// bytes. Slots have at least 8 frames and RAM at most 2^32 places, as in every machine that boots.
+/// In every run from the opening world, each reply is allowed. The events are those of any trace, or any events whose new caches
+/// have patterns of 1 to 16 bytes. Slots have at least 8 frames, and RAM has at most 2^32 places, as in every machine that boots.
 pub fn keeps_promises()
     ensures kept { KeepsPromises }
     ensures by_traces { TraceKeepsPromises }
