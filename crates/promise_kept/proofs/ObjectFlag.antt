@@ -82,8 +82,8 @@ module _ (limit order : ℕ) (c : Cache) (s : Slab) (i : ℕ) (b : Bool) (m : Ma
   within : (t : Slab) (j : ℕ) → IsIn t c.slabs → j < length t.live → j < (layout c).count
   within t j k l = let h : IsSlab c t = slabs t k in omega (arith, h.count, l)
 
-  -- if a live object begins at u after the change, then u is the place of object i and b is true, or u is another place and a live
-  -- object began there before
+  -- If a live object begins at u after the change, there are two cases. Either u is the place of object i and b is true, or u is
+  -- another place and a live object began at u before the change.
   pub live_after : (u : ℕ) → IsLivePlace (with_slab (with_live i b s) c) u
       → ((b ≡ true) × (u ≡ object_place (layout c) s.first s.colour i)) ⊎ (IsLivePlace c u × (u ≡ object_place (layout c) s.first s.colour i → ⊥))
   live_after u l = go (replaced_is (λ x. x.first) (with_live i b s) l.slab c.slabs l.slab_in)

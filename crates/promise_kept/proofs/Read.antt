@@ -33,7 +33,8 @@ use Rattle.promise_kept.proofs.RangeHolders.{IsHolder, holder_is, range_meets}
 use Rattle.promise_kept.proofs.Write.{reach_seen}
 use Rattle.promise_kept.proofs.KnownCaches.{cache_known}
 
--- if each place of a range has a byte, the list of its bytes has the length of the range, and each byte is the one at its place
+-- if each place of a range has a byte, the list of these bytes has the length of the range, and element p - place is the byte at
+-- place p
 read_all : (bytes : ℕ → Option ℕ) (place len : ℕ) → ((p : ℕ) → place ≤ p → p < place + len → is_some (bytes p) ≡ true)
     → (length (filter_map bytes (range_with_len place len)) ≡ len) × ((p : ℕ) → place ≤ p → p < place + len → bytes p ≡ Some (get_or (filter_map bytes (range_with_len place len)) (p - place) 0))
 read_all bytes place zero all = (refl, λ p low high. absurd (omega arith))
@@ -62,7 +63,7 @@ all_may h cells holder place (byte ∷ bytes) all =
     (all_may h cells holder (place + 1) bytes (λ p low high. let next : p - place ≡ suc (p - (place + 1)) = omega (arith, low) in
     ap (λ k. may_be holder (known_fresh_byte h holder p) (cells p) (get_or (byte ∷ bytes) k 0)) (sym next) ∙ all p (omega (arith, low)) (omega (arith, high))))
 
--- the machine's byte at a place of a range is one that the holder may have there
+-- at each place of a range, the machine's byte is one that the holder of the range may have there
 byte_may : {limit : ℕ} (order : ℕ) (s : State) (m : Machine) (place len : ℕ) (holder : Holder) → IsWellFormed limit order m → Meets order s m → IsHolder m place len holder
     → (p byte : ℕ) → place ≤ p → p < place + len → m.bytes p ≡ Some byte → may_be holder (known_fresh_byte s.has holder p) (s.cells p) byte ≡ true
 byte_may {limit} order s m place len holder w h (IsHolder.page is b i t) p byte low high there =

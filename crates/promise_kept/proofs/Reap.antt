@@ -1,4 +1,4 @@
--- A reap keeps the promises.
+-- A `reap` keeps the promises.
 use Rattle.std.proofs.Common.{◌≡◌, ℕ, ◌+◌, ◌%◌, ◌^◌, ◌<◌, true, false, not, ◌&&◌, eqb, leb, [], map, length, Option, Some, None, refl, sym, ap, ◌∙◌, subst, ◌⊎◌, inl, inr, arith}
 use Rattle.std.specs.Prelude.{flat_map, Contains}
 use Rattle.std.specs.List.{list_any}
@@ -57,7 +57,7 @@ module _ (limit order : ℕ) (m : Machine) (s : State) (w : IsWellFormed limit o
       go None e = refl
       go (Some r) e = eq-eqb (frames_of (flat_map empty_blocks m.caches)) _ (sym (told_frames (λ n. true) m.caches r.caches.items (h.empty_told r e)))
 
-  -- each slab that is not freed has a live object
+  -- each slab that a reap does not free has a live object
   beside : (d : Cache) (t : Slab) → IsIn d m.caches → IsIn t (without_empty d).slabs → (o : LiveObject) × IsIn o (live_objects d) × (o.slab ≡ t)
   beside d t in_d in_t =
       let f : IsIn t d.slabs × (not (is_empty t) ≡ true) = filter_in (λ x. not (is_empty x)) t d.slabs in_t in

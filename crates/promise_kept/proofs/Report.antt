@@ -1,5 +1,5 @@
--- A report keeps the promises. Its figures are true, and it has the free blocks and empty slabs of the last report, if that is
--- still valid.
+-- A `report` keeps the promises. Its figures agree with what is known. If the last report is still valid, the new report has the
+-- same numbers of free blocks and of empty slabs.
 use Rattle.std.proofs.Common.{◌≡◌, ℕ, zero, suc, ◌+◌, ◌-◌, ◌*◌, ◌^◌, ◌<◌, ◌≤◌, Bool, true, false, ◌&&◌, eqb, List, [], ◌∷◌, ◌++◌, map, length, Option, Some, None, refl, sym, ap, ◌∙◌, subst, inl, inr, ⊎_elim, arith}
 use Rattle.std.specs.Prelude.{if◌then◌else◌, filter, drop, slice_index}
 use Rattle.std.specs.List.{list_all, zip, range_with_len}
@@ -35,7 +35,7 @@ use Rattle.promise_kept.proofs.KnownCaches.{seen, seen_is}
 use Rattle.promise_kept.proofs.ReportFigures.{available_count, free_frames, free_fits}
 use Rattle.promise_kept.proofs.ReportRows.{is_order, filter_length, taken_seen_by_order, rows_seen}
 
--- Numbers by their order
+-- Lists with one number for each order
 
 range_last : (f : ℕ → ℕ) (a n : ℕ) → map f (range_with_len a (suc n)) ≡ map f (range_with_len a n) ++ (f (a + n) ∷ [])
 range_last f a zero = let e : a ≡ a + zero = omega arith in ap (λ i. f i ∷ []) e
@@ -61,7 +61,7 @@ all_range : (p : ℕ → Bool) (a n : ℕ) → ((k : ℕ) → a ≤ k → k < a 
 all_range p a zero all = refl
 all_range p a (suc n) all = and_from (p a) (list_all p (range_with_len (a + 1) n)) (all a (omega arith) (omega arith)) (all_range p (a + 1) n (λ k low high. all k (omega (arith, low)) (omega (arith, high))))
 
--- Frames of blocks by their orders
+-- The number of frames in blocks, added up order by order
 
 no_frames : (a n : ℕ) → frames_of_counts (map (λ k. 0) (range_with_len a n)) ≡ 0
 no_frames a zero = refl
@@ -112,7 +112,7 @@ by_order (b ∷ bs) n low =
     frames_sum (λ k. bit (is_order k b)) (λ k. length (filter (is_order k) bs)) 0 n in
     omega (arith, rest, here, power, parts, sum)
 
--- The greatest order
+-- The greatest order of a free block
 
 greatest_same : (f g : ℕ → ℕ) (n : ℕ) → ((k : ℕ) → k < n → f k ≡ g k) → greatest f n ≡ greatest g n
 greatest_same f g zero same = refl
@@ -198,7 +198,7 @@ module _ (limit order : ℕ) (m : Machine) (s : State) (w : IsWellFormed limit o
       (subst (λ xs. frames_of_counts xs ≤ length (vacant_blocks order (holdings_of m) k)) (sym (free_drop k (omega (arith, high)))) (free_fits order m w k (omega (arith, high))))))
       refl))))))))))
 
-  -- while the last report is valid, a new one has the same free blocks and empty slabs
+  -- if the last report is valid, a new report has the same number of free blocks of each order and of empty slabs of each cache
   stays : (t : ℕ) (owners : List (Option Owner)) (states : List State)
       → still (On.Tenant t Command.Report) (Say.Report (figures_of order m)) (record { limit = limit; order = order; owners = owners; states = states }) (seen m s) ≡ true
   unfolding figures_of

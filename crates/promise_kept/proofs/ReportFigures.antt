@@ -1,5 +1,5 @@
--- The figures of a report: each frame that is held and not taken is in one free block, and free blocks lie where nothing is seen
--- as taken.
+-- The free blocks that a report counts have as many frames as are held and not taken. The free blocks of order k and above,
+-- divided into blocks of order k, are at most as many as the blocks of order k that are seen as vacant.
 use Rattle.std.proofs.Common.{◌≡◌, ℕ, zero, suc, ◌+◌, ◌-◌, ◌*◌, ◌/◌, ◌%◌, ◌^◌, ◌<◌, ◌≤◌, Bool, true, false, not, ◌&&◌, ◌||◌, eqb, leb, List, [], ◌∷◌, map, length, refl, sym, ap, ◌∙◌, subst, inl, inr, arith}
 use Rattle.std.specs.Prelude.{flat_map}
 use Rattle.std.specs.List.{list_any, range_with_len}
@@ -33,7 +33,7 @@ use Rattle.promise_kept.specs.Meets.{holdings_of}
 use Rattle.promise_kept.proofs.SeenBlocks.{overlap_shares, taken_seen}
 use Rattle.promise_kept.proofs.CountBelow.{is_clear_alone, clear_halves, strided, count_less, in_frames, frame_in, in_frame, in_any, count_blocks, count_listed}
 
--- Free blocks, by their orders
+-- The number of free blocks of each order
 
 module _ (top : ℕ) (held : ℕ → Bool) (taken : Taken) (slots : ℕ) where
   abbrev ok : ℕ → Bool
@@ -45,7 +45,7 @@ module _ (top : ℕ) (held : ℕ → Bool) (taken : Taken) (slots : ℕ) where
   abbrev free : ℕ → ℕ
   free k = count_below (free_at k) (slots * 2 ^ top)
 
-  -- the free blocks of order k are counted by the numbers of the aligned blocks
+  -- the number of free blocks of order k is the number of q below slots * 2 ^ d for which block q of order k is free
   numbered : (k d : ℕ) → k + d ≡ top → free k ≡ count_below (λ q. free_at k (q * 2 ^ k)) (slots * 2 ^ d)
   numbered k d e =
       let size : 2 ^ top ≡ 2 ^ k * 2 ^ d = ap (λ n. 2 ^ n) (sym e) ∙ pow-add 2 k d in
@@ -53,7 +53,8 @@ module _ (top : ℕ) (held : ℕ → Bool) (taken : Taken) (slots : ℕ) where
       ap (count_below (free_at k)) all ∙ strided (free_at k) (2 ^ k) (slots * 2 ^ d) (pow_pos k)
       (λ f on. eqb-true (f % 2 ^ k) 0 (and_parts (leb k top) (eqb (f % 2 ^ k) 0) (and_parts (leb k top && eqb (f % 2 ^ k) 0) _ on).0).1)
 
-  -- block q of order k is free exactly if it is clear, and order k is the highest or the block around it is not clear
+  -- block q of order k is free exactly if it is clear, and k is the order of a slot or the block of order k + 1 around it is not
+  -- clear
   free_is : (k q : ℕ) → k ≤ top → free_at k (q * 2 ^ k) ≡ (is_clear ok k q && (eqb k top || not (is_clear ok (suc k) (q / 2))))
   free_is k q le =
       let double : 2 ^ suc k ≡ 2 ^ k * 2 = omega arith in
@@ -64,7 +65,8 @@ module _ (top : ℕ) (held : ℕ → Bool) (taken : Taken) (slots : ℕ) where
       ∙ (ap (λ n. is_clear ok k n && (eqb k top || not (is_clear ok (suc k) (q * 2 ^ k / 2 ^ suc k)))) here
       ∙ ap (λ n. is_clear ok k q && (eqb k top || not (is_clear ok (suc k) n))) around)
 
-  -- the free blocks of order k and above, counted in blocks of order k, are as many as the clear blocks of order k
+  -- if the free blocks of order k and above are divided into blocks of order k, there are as many of these as clear blocks of
+  -- order k
   pub free_clear : (d k : ℕ) → k + d ≡ top → frames_of_counts (map free (range_with_len k (suc d))) ≡ count_below (is_clear ok k) (slots * 2 ^ d)
   free_clear zero k e =
       let is : k ≡ top = omega (arith, e) in
@@ -86,9 +88,9 @@ module _ (top : ℕ) (held : ℕ → Bool) (taken : Taken) (slots : ℕ) where
       let half : count_below (is_clear ok k) (slots * 2 ^ d * 2) ≡ count_below (is_clear_alone ok k) (slots * 2 ^ d * 2) + 2 * count_below (is_clear ok (suc k)) (slots * 2 ^ d) = clear_halves ok k (slots * 2 ^ d) in
       omega (arith, rest, above, n, alone, a, c, half)
 
--- Frames held, taken and available
+-- Held frames, taken frames and available frames
 
--- the blocks of ascending slots share no frame
+-- the blocks of an ascending list of slots share no frame
 slots_apart : (order n : ℕ) (us : List ℕ) → RisesFrom n us → AreApart (map (slot_block order) us)
 slots_apart order n [] r = tt
 slots_apart order n (u ∷ us) (l, r) = (
@@ -158,7 +160,7 @@ module _ {limit : ℕ} (order : ℕ) (m : Machine) (w : IsWellFormed limit order
       let p : IsPlaced order m b.0 = placed_in b.0 b.1 in
       sym (held_is x) ∙ (ap (holds m) (frame_slot order x b.0 p.0 (frame_in b.0 x b.2)) ∙ p.1)
 
-  -- a taken block ends at or below the bound
+  -- a taken block ends at `bound` or below
   used_below : (b : Block) → IsIn b (model.taken_blocks m) → b.first + 2 ^ b.order ≤ bound
   used_below b i = let p : IsPlaced order m b = placed_in b i in
       let last : ℕ = b.first + (2 ^ b.order - 1) in
@@ -172,7 +174,7 @@ module _ {limit : ℕ} (order : ℕ) (m : Machine) (w : IsWellFormed limit order
       let next : u + 1 ≤ beyond m.slots = omega (arith, lt) in
       let le : (u + 1) * 2 ^ order ≤ bound = mul-le-mul_right (2 ^ order) next in omega (arith, le)
 
-  -- the available frames and the taken frames are together as many as the held frames
+  -- the number of available frames plus the number of taken frames is the number of held frames
   pub available_count : count_below available bound + frames_taken m ≡ frames_held order m
   available_count =
       let h : count_below is_held bound ≡ frames_of (map (slot_block order) m.slots) = count_blocks (map (slot_block order) m.slots) bound (slots_apart order 0 m.slots w.slots_rise)
@@ -183,7 +185,7 @@ module _ {limit : ℕ} (order : ℕ) (m : Machine) (w : IsWellFormed limit order
       let less : count_below is_held bound ≡ count_below is_used bound + count_below (λ x. is_held x && not (is_used x)) bound = count_less is_held is_used bound used_held in
       omega (arith, h, t, a, less, slots_frames order m.slots)
 
-  -- a clear block of order k is seen as vacant
+  -- if all frames of block q of order k are available, the block is seen as vacant
   clear_vacant : (k q : ℕ) → k ≤ order → is_clear available k q ≡ true → IsIn (block (q * 2 ^ k) k) (vacant_blocks order (holdings_of m) k)
   unfolding vacant_blocks holdings_of
   clear_vacant k q le e =
@@ -216,7 +218,7 @@ module _ {limit : ℕ} (order : ℕ) (m : Machine) (w : IsWellFormed limit order
       (in_map (λ b. b.first / 2 ^ k) (block (q * 2 ^ k) k) (vacant_blocks order (holdings_of m) k) (clear_vacant k q le e))) in
       omega (arith, fits, length-map (vacant_blocks order (holdings_of m) k) (λ b. b.first / 2 ^ k))
 
-  -- the figures
+  -- The figures of a report
 
   pub free_frames : frames_of_counts (map (free_count order m) (range_with_len 0 (order + 1))) ≡ frames_free order m
   free_frames =

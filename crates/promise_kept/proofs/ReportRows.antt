@@ -1,4 +1,5 @@
--- The rows of a report, for each cache and for each order.
+-- The row of each cache in a report agrees with what is seen of the cache. The number of taken blocks of each order follows from
+-- these rows and the page blocks.
 use Rattle.std.proofs.Common.{◌≡◌, ℕ, ◌+◌, ◌<◌, ◌≤◌, Bool, true, false, not, ◌&&◌, ◌||◌, cond, eqb, List, [], ◌∷◌, ◌++◌, map, length, refl, sym, ap, ◌∙◌, subst, inl, inr, arith}
 use Rattle.std.specs.Prelude.{if◌then◌else◌, filter, flat_map, slice_index}
 use Rattle.std.specs.List.{list_any, list_all, zip, sum_by}
@@ -27,7 +28,8 @@ use Rattle.promise_kept.proofs.EmptySlabsUnseen.{none_live}
 
 -- Lists
 
--- if p passes only the first element of an ascending list, and that only if b is true, then 1 element passes if b, else 0
+-- Only the first element of an ascending list can pass p, and it passes exactly if b is true. Then 1 element passes if b is true,
+-- and 0 elements pass otherwise.
 one_first : (n : ℕ) (xs : List ℕ) (b : Bool) (p : ℕ → Bool) → RisesFrom n xs → ((x : ℕ) → IsIn x xs → p x ≡ (eqb (slice_index xs 0) x && b)) → 0 < length xs → length (filter p xs) ≡ bit b
 one_first n [] b p r all some = absurd (omega (arith, some))
 one_first n (x ∷ xs) b p (l, r) all some =
@@ -54,7 +56,7 @@ filter_length p x xs = go (p x)
 -- Slabs
 
 module _ {limit : ℕ} (order : ℕ) (c : Cache) (m : Machine) (w : IsWellFormed limit order m) (in_c : IsIn c m.caches) where
-  -- a slab whose objects are all live has a live object
+  -- a full slab has a live object
   full_some : (s : Slab) → IsIn s c.slabs → is_full s ≡ true → list_any (λ live. live) s.live ≡ true
   full_some s i e = go s.live (subst (λ n. 0 < n) (sym (is_slab order c m w in_c s i).count) (is_slab order c m w in_c s i).fit.some) e
     where
@@ -77,7 +79,7 @@ module _ {limit : ℕ} (order : ℕ) (c : Cache) (m : Machine) (w : IsWellFormed
   beside_there s p i j = let b : IsBeside c s p = beside_at c s p j in
       ap (λ x. live_beside (cache_as_known c) x) b.at ∙ beside_is order c m w in_c s b.index i (subst (λ n. b.index < n) (is_slab order c m w in_c s i).count b.index_in)
 
-  -- a slab is full exactly if it is seen as full at the place of a live object
+  -- a slab is full exactly if it is seen as full at the first place p of one of its live objects
   full_told : (s : Slab) (p : ℕ) → IsIn s c.slabs → IsIn p (places_in c s) → holdings.is_slab_full (cache_as_known c) p ≡ is_full s
   full_told s p i j = ap (λ ps. eqb (length ps) (layout c).count) (beside_there s p i j) ∙ go (is_full s) refl (is_slab order c m w in_c s i).count
     where
@@ -98,7 +100,8 @@ module _ {limit : ℕ} (order : ℕ) (c : Cache) (m : Machine) (w : IsWellFormed
   places_rise : (s : Slab) → IsIn s c.slabs → RisesFrom 0 (places_in c s)
   places_rise s i = slabs_rise (alone c s) (s ∷ []) 0 0 (record { fit = (is_slab order c m w in_c s i).fit; count = (is_slab order c m w in_c s i).count }, tt) (omega arith, tt) (tt, tt) (omega arith, tt)
 
-  -- The lemmas below are about a test of a slab at the place of a live object, and the same test of the slab itself.
+  -- In the lemmas below, `test` is a test of a slab at the first place of a live object, and `kind` is the same test of the slab
+  -- itself. No slab without live objects passes `kind`.
   module _ (test : ℕ → Bool) (kind : Slab → Bool)
       (same : (s : Slab) (p : ℕ) → IsIn s c.slabs → IsIn p (places_in c s) → test p ≡ kind s)
       (off : (s : Slab) → IsIn s c.slabs → list_any (λ live. live) s.live ≡ false → kind s ≡ false) where
@@ -160,7 +163,7 @@ module _ {limit : ℕ} (order : ℕ) (c : Cache) (m : Machine) (w : IsWellFormed
       let empty : length (filter is_empty (s ∷ ss)) ≡ bit (is_empty s) + length (filter is_empty ss) = filter_length is_empty s ss in
       omega (arith, rest, one, full, partial, empty)
 
-  -- the row of the cache agrees with what is seen of it
+  -- the cache's row agrees with what is seen of the cache, if a cache with a slab is known as one that may have an empty slab
   pub row_seen : (may_have_empty : ℕ → Bool) → ((s : Slab) → IsIn s c.slabs → may_have_empty c.number ≡ true) → is_row may_have_empty (cache_as_known c, row_of_cache c) ≡ true
   row_seen may_have_empty may = and_from _ _
       (and_from _ _ (and_from _ _ (eq-eqb c.number c.number refl) (eq-eqb (length (live_objects c)) (length (map (λ o. o.place) (live_objects c))) (sym (length-map (live_objects c) (λ o. o.place))))) (hidden c.slabs may))
@@ -202,14 +205,14 @@ module _ {limit : ℕ} (order : ℕ) (m : Machine) (w : IsWellFormed limit order
       ap length (filter-append (is_order k) (slab_blocks c) (flat_map slab_blocks cs)) ∙ length-append (filter (is_order k) (slab_blocks c)) (filter (is_order k) (flat_map slab_blocks cs)) in
       omega (arith, sum_by-cons (slabs_told k) (cache_as_known c, row_of_cache c) (zip (map cache_as_known cs) (map row_of_cache cs)), rest, here, parts)
 
-  -- the number of taken blocks of an order is the one that `known_count` computes from what is seen and the rows
+  -- the number of taken blocks of order k is the number that `known_count` computes from the known holdings and the rows
   pub taken_seen_by_order : (k : ℕ) → reports.taken_count m k ≡ known_count (holdings_of m) (rows_of_caches m) k
   unfolding model.taken_blocks holdings_of
   taken_seen_by_order k = ap length (filter-append (is_order k) m.blocks (flat_map slab_blocks m.caches))
       ∙ (length-append (filter (is_order k) m.blocks) (filter (is_order k) (flat_map slab_blocks m.caches))
       ∙ ap (λ n. length (filter (is_order k) m.blocks) + n) (sym (slabs_seen k m.caches (λ c i. i))))
 
-  -- each row agrees with what is seen of its cache
+  -- each row agrees with what is seen of the row's cache
   pub rows_seen : (may_have_empty : ℕ → Bool) → ((c : Cache) (s : Slab) → IsIn c m.caches → IsIn s c.slabs → may_have_empty c.number ≡ true) → list_all (is_row may_have_empty) (zip (map cache_as_known m.caches) (rows_of_caches m)) ≡ true
   rows_seen may_have_empty may = go m.caches (λ c i. i)
     where

@@ -1,4 +1,5 @@
--- The taken blocks that are seen of a machine, and the blocks that can stand beside them.
+-- A block that is seen as taken is taken. The block that a machine chooses passes `can_stand`. If the machine chooses no block of
+-- an order, no block of that order is seen as vacant.
 use Rattle.std.proofs.Common.{◌≡◌, ℕ, ◌+◌, ◌-◌, ◌*◌, ◌/◌, ◌%◌, ◌^◌, ◌<◌, ◌≤◌, Bool, true, false, not, eqb, ltb, List, [], ◌∷◌, ◌++◌, map, length, Option, Some, None, refl, sym, ap, ◌∙◌, subst, inl, inr, ⊎_elim, arith}
 use Rattle.std.specs.Prelude.{filter, flat_map, is_some, option_map}
 use Rattle.std.specs.List.{list_any, range_with_len, AllByRecursion as Each}
@@ -43,7 +44,7 @@ overlap_shares a b e apart =
 
 -- Slabs of live objects
 
--- the slab seen around the place of a live object is its slab
+-- the slab that is seen around the first place of a live object is the object's slab
 pub slab_seen : {limit : ℕ} (order : ℕ) (m : Machine) (c : Cache) (o : LiveObject) → IsWellFormed limit order m → IsIn c m.caches → IsIn o (live_objects c)
     → slab_around (cache_as_known c) o.place ≡ slab_block c o.slab
 slab_seen order m c o w in_c in_o =
@@ -76,7 +77,7 @@ in_use_listed order m b c w in_c i =
     let is : slab_block c o.0.slab ≡ b = sym (slab_seen order m c o.0 w in_c o.1) ∙ (ap (λ x. slab_around (cache_as_known c) x) o.2 ∙ p.2) in
     subst (λ x. IsIn x (slab_blocks c)) is (in_map (slab_block c) o.0.slab c.slabs (live_is c o.0 o.1).slab_in)
 
--- a block that is seen as taken is taken ..
+-- a block that is seen as taken is taken
 pub taken_seen : {limit : ℕ} (order : ℕ) (m : Machine) (b : Block) → IsWellFormed limit order m → IsIn b (known_blocks (holdings_of m)) → IsIn b (model.taken_blocks m)
 unfolding model.taken_blocks
 taken_seen order m b w i = elim (in_append b m.blocks (flat_map slabs_in_use m.caches) (subst (λ bs. IsIn b bs) (seen_parts m) i)) [
@@ -85,7 +86,7 @@ taken_seen order m b w i = elim (in_append b m.blocks (flat_map slabs_in_use m.c
       in_right b m.blocks (flat_map slab_blocks m.caches) (in_flat_map slab_blocks b c.0 m.caches c.1 (in_use_listed order m b c.0 w c.1 c.2))
 ]
 
--- a slab that is not empty has a live object
+-- if a flag of slab s is set, `live_from` lists a live object of s
 pub one_live : (c : Cache) (s : Slab) (n : ℕ) (flags : List Bool) → list_any (λ live. live) flags ≡ true → (o : LiveObject) × IsIn o (live_from c s n flags) × (o.slab ≡ s)
 one_live c s n [] e = absurd (false≢true e)
 one_live c s n (true ∷ flags) e = (record { slab = s; index = n; place = object_place (layout c) s.first s.colour n }, inl refl, refl)
@@ -102,7 +103,7 @@ in_use order m b c w in_c i =
     subst (λ x. IsIn x (map (slab_around (cache_as_known c)) (map (λ o. o.place) (live_objects c)))) is
     (in_map (slab_around (cache_as_known c)) o.0.place (map (λ o. o.place) (live_objects c)) (in_map (λ o. o.place) o.0 (live_objects c) in_o))
 
--- .. and a block that is taken after all empty slabs are freed is seen as taken
+-- a block that is still taken after all empty slabs are freed is seen as taken
 pub taken_is_seen : {limit : ℕ} (order : ℕ) (m : Machine) (b : Block) → IsWellFormed limit order m → IsIn b (model.taken_blocks (reaped m)) → IsIn b (known_blocks (holdings_of m))
 unfolding model.taken_blocks reaped
 taken_is_seen order m b w i = subst (λ bs. IsIn b bs) (sym (seen_parts m)) (elim (in_append b m.blocks (flat_map slab_blocks (map without_empty m.caches)) i) [
@@ -115,7 +116,7 @@ taken_is_seen order m b w i = subst (λ bs. IsIn b bs) (sym (seen_parts m)) (eli
 
 -- The chosen block
 
--- the block that a machine chooses can stand ..
+-- the block that a machine chooses passes `can_stand`
 pub chosen_stands : {limit : ℕ} (order k first : ℕ) (m : Machine) → IsWellFormed limit order m → choice order m k ≡ Some first → can_stand order (holdings_of m) (block first k) ≡ true
 unfolding can_stand holdings_of
 chosen_stands order k first m w is =
@@ -125,7 +126,7 @@ chosen_stands order k first m w is =
     (and_from _ _ placed.1 (not_from_false _ (any_none (overlaps (block first k)) (known_blocks (holdings_of m)) (each_from (λ b. overlaps (block first k) b ≡ false) (known_blocks (holdings_of m)) (λ b i.
     false_from_ne_true (overlaps (block first k) b) (λ e. overlap_shares (block first k) b e (each_in (IsApart (block first k)) b (model.taken_blocks m) apart (taken_seen order m b w i))))))))
 
--- .. also if empty slabs are freed on demand
+-- the block that is chosen when empty slabs are freed on demand passes `can_stand`
 pub by_need_stands : {limit : ℕ} (order k first : ℕ) (m : Machine) → IsWellFormed limit order m → choice_by_need order k m ≡ Some first → can_stand order (holdings_of m) (block first k) ≡ true
 by_need_stands order k first m w is = subst (λ h. can_stand order h (block first k) ≡ true)
     (by_need_keeps (λ n. holdings_of n ≡ holdings_of m) order k m refl (holdings_reaped m))
@@ -144,7 +145,7 @@ module _ (order k : ℕ) (of_slot : k ≤ order) where
       ∙ (sym (div-div-eq-div-mul (i * 2 ^ k) (2 ^ k) share)
       ∙ (ap (λ n. n / share) (mul-div_cancel i (pow_pos k)) ∙ div-eq_of_lt-le share low (omega arith)))
 
-  -- a block that is seen as vacant is vacant after all empty slabs are freed
+  -- if block i of order k in a held slot u is seen as vacant, it is vacant after all empty slabs are freed
   vacant_is : {limit : ℕ} (m : Machine) (u i : ℕ) → IsWellFormed limit order m → IsIn u m.slots → u * share ≤ i → i < u * share + share
       → is_vacant (holdings_of m) (block (i * 2 ^ k) k) ≡ true → IsVacant order (holds m) (taken_in (reaped m)) (i * 2 ^ k) k
   vacant_is m u i w in_u low high e = record {
@@ -172,7 +173,7 @@ unserved order k m w of_slot none = ap (λ bs. ltb 0 (length bs)) (none_in _ (λ
     some_first (choose order (holds m) (taken_in (reaped m)) (beyond m.slots) k)
     (some_choice order (holds m) (taken_in (reaped m)) (beyond m.slots) (held_below m.slots) (q.0 * 2 ^ k) k v) none))
 
--- if no block of an order is chosen, even after empty slabs are freed, no block of that order is seen as vacant
+-- if no block of order k is chosen even when empty slabs are freed on demand, no block of order k is seen as vacant
 pub room_served : {limit : ℕ} (order k : ℕ) (m : Machine) → IsWellFormed limit order m → k ≤ order → choice_by_need order k m ≡ None → has_vacant_block order (holdings_of m) k ≡ false
 room_served order k m w of_slot none = unserved order k m w of_slot (go (choice order (reaped m) k) refl)
   where

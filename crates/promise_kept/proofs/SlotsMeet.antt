@@ -1,4 +1,4 @@
--- What is known of a machine stays true after a slot is granted, and after one is taken back.
+-- What is known of a machine stays true when a slot is granted and when a slot is taken back.
 use Rattle.std.proofs.Common.{◌≡◌, ◌≢◌, ℕ, ◌+◌, ◌<◌, Bool, true, false, not, ◌||◌, cond, eqb, List, [], ◌∷◌, map, Option, Some, None, refl, sym, ap, ◌∙◌, subst, ⊎_elim, arith}
 use Rattle.std.specs.Prelude.{if◌then◌else◌, filter, flat_map}
 use Rattle.std.specs.List.{list_any}
@@ -26,7 +26,7 @@ use Rattle.promise_kept.proofs.SeenBlocks.{taken_seen}
 use Rattle.promise_kept.proofs.PlaceCells.{fresh_may, without_some, without_may}
 use Rattle.promise_kept.proofs.KnownAfterReaping.{object_in_slab}
 
--- whether a holder is live does not depend on the slots
+-- a live holder is still live after the list of held slots is replaced
 lives_still : (us : List ℕ) (h : Holdings) (holder : Holder) (place : ℕ) → is_object_live h holder place ≡ true → is_object_live (record h { slots = us }) holder place ≡ true
 lives_still us h Holder.Page place e = e
 lives_still us h (Holder.Object n first) place e = e
@@ -35,7 +35,7 @@ lives_still us h (Holder.Object n first) place e = e
 abbrev pub of_slot : ℕ → ℕ → ℕ → Holder → Bool
 of_slot order u place holder = eqb (slot_of order place) u
 
--- What is known after a slot is granted, and what is known after one is taken back
+-- What is known after a slot is granted or taken back
 
 abbrev pub granted : ℕ → State → State
 granted u s = record s { has = record s.has { slots = put_rising (λ v. v) u s.has.slots }; told = None }
@@ -48,7 +48,7 @@ taken_back order u s = record s {
 }
 
 module _ {limit : ℕ} (order : ℕ) (m : Machine) (s : State) (w : IsWellFormed limit order m) (h : Meets order s m) where
-  -- an object's byte lies in a held slot
+  -- each byte of an object lies in a held slot
   object_held : (o : Object) (j : ℕ) → IsObject m o → j < o.cache.size → holds m (slot_of order (place_of o + j)) ≡ true
   object_held o j i below =
       let in_c : IsIn o.cache m.caches = contains_in m.caches o.cache i.cache_in in
@@ -60,7 +60,7 @@ module _ {limit : ℕ} (order : ℕ) (m : Machine) (s : State) (w : IsWellFormed
   outside : (o : Object) (j : ℕ) → IsObject m o → j < o.cache.size → eqb (slot_of order (place_of o + j)) (operations.next_slot m) ≡ false
   outside o j i below = ne_eqb (slot_of order (place_of o + j)) (operations.next_slot m) (λ same. false≢true (sym (next_unheld order m w) ∙ (ap (holds m) (sym same) ∙ object_held o j i below)))
 
-  -- no page block lies in the slot that is granted next
+  -- no place in the slot that is granted next lies in a live page block
   none_lives : (place : ℕ) → eqb (slot_of order place) (operations.next_slot m) ≡ true → is_object_live s.has Holder.Page place ≡ false
   unfolding holdings_of
   none_lives place at = ap (λ (x : Holdings). list_any (in_block place) x.pages) h.has ∙ any_none (in_block place) m.blocks
@@ -109,13 +109,13 @@ module _ {limit : ℕ} (order : ℕ) (m : Machine) (s : State) (w : IsWellFormed
       there o byte true e = absurd (cc)
       there o byte false e = (refl, e)
 
-  -- a slot that is seen as busy is busy
+  -- a slot that is not busy is not seen as busy
   pub busy_seen : (u : ℕ) → operations.is_busy order m u ≡ false → is_slot_busy order (holdings_of m) u ≡ false
   unfolding operations.is_busy
   busy_seen u e = ap (λ b. not (not b)) (any_none (operations.overlaps (slot_block order u)) (known_blocks (holdings_of m)) (each_from (λ t. operations.overlaps (slot_block order u) t ≡ false) (known_blocks (holdings_of m))
       (λ t i. each_in (λ t. operations.overlaps (slot_block order u) t ≡ false) t (model.taken_blocks m) (none_any (operations.overlaps (slot_block order u)) (model.taken_blocks m) e) (taken_seen order m t w i))))
 
-  -- a busy slot is seen as busy, or some cache may have an empty slab
+  -- if a slot is busy, it is seen as busy or some cache may have an empty slab
   pub busy_may : (u : ℕ) → operations.is_busy order m u ≡ true → (is_slot_busy order (holdings_of m) u || list_any (λ c. s.may_have_empty c.number) (holdings_of m).caches) ≡ true
   unfolding operations.is_busy model.taken_blocks holdings_of known_blocks
   busy_may u e =

@@ -1,4 +1,5 @@
--- The owners of superblocks: the pool, superblocks given up and granted, and the number of superblocks of a tenant.
+-- The owners of superblocks. The lemmas are about the pool, about giving up and granting superblocks, and about the number of
+-- superblocks.
 use Rattle.std.proofs.Common.{◌≡◌, ◌≢◌, ℕ, zero, suc, ◌+◌, ◌<◌, ◌≤◌, Bool, true, false, ◌&&◌, ◌||◌, cond, eqb, List, [], ◌∷◌, map, length, Option, Some, None, is_none, position, slice_get, refl, sym, ap, ◌∙◌, subst, ⊎_elim, arith}
 use Rattle.std.specs.Prelude.{if◌then◌else◌, is_some, find, slice_set}
 use Rattle.std.specs.List.{list_any, list_all, position_or_len, position_from, zip}
@@ -33,7 +34,7 @@ one_free i j [] e = absurd (cc)
 one_free i j (None ∷ xs) e = let same : i ≡ j = cc in (0, omega (arith, same), refl)
 one_free i j (Some x ∷ xs) e = let r : (n : ℕ) × (j ≡ i + 1 + n) × (slice_get xs n ≡ Some None) = one_free (i + 1) j xs e in (suc r.0, omega (arith, r.1), r.2)
 
--- if `position` finds a superblock without an owner, the superblock at that index has none
+-- if `position` returns index j as that of a superblock without an owner, superblock j has no owner
 pub pool_first : (xs : Owners) (j : ℕ) → position is_none xs ≡ Some j → slice_get xs j ≡ Some None
 pool_first xs j e = let r : (n : ℕ) × (j ≡ 0 + n) × (slice_get xs n ≡ Some None) = one_free 0 j xs (sym (position_from-zero is_none xs) ∙ e) in
     let same : r.0 ≡ j = omega (arith, r.1) in subst (λ n. slice_get xs n ≡ Some None) same r.2
@@ -45,9 +46,10 @@ not_all_owned (Some x ∷ xs) zero e = absurd (cc)
 not_all_owned (None ∷ xs) (suc j) e = refl
 not_all_owned (Some x ∷ xs) (suc j) e = not_all_owned xs j e
 
--- Superblocks given up and granted
+-- Giving up and granting superblocks
 
--- if only superblocks of others are given up, one's own stay
+-- The superblocks whose owners pass `test` are given up. If no owner passes both `test` and `mine`, this does not change whether
+-- some superblock passes `mine`.
 pub given_others : (test mine : Option Owner → Bool) (xs : Owners) → ((o : Option Owner) → mine o ≡ true → test o ≡ false) → mine None ≡ false
     → list_any mine (map (given_up test) xs) ≡ list_any mine xs
 given_others test mine [] apart none = refl
@@ -58,7 +60,8 @@ given_others test mine (x ∷ xs) apart none = ap (λ b. b || list_any mine (map
     go true true is own = absurd (false≢true (sym (apart x own) ∙ is))
     go true false is own = none ∙ sym own
 
--- if all of one's own superblocks are given up, none is left
+-- The superblocks whose owners pass `test` are given up. If every owner that passes `mine` passes `test`, no superblock passes
+-- `mine` afterwards.
 pub given_own : (test mine : Option Owner → Bool) (xs : Owners) → ((o : Option Owner) → mine o ≡ true → test o ≡ true) → mine None ≡ false
     → list_any mine (map (given_up test) xs) ≡ false
 given_own test mine [] all none = refl
@@ -85,7 +88,7 @@ given_free test (x ∷ xs) zero e = let same : x ≡ None = cc in ap (λ y. Some
     go false same = same
 given_free test (x ∷ xs) (suc j) e = given_free test xs j e
 
--- if some superblock passes a test, the first that is found passes it
+-- if some superblock passes a test, the superblock at the index that `position_or_len` returns passes it
 pub first_passes : (test : Option Owner → Bool) (xs : Owners) → list_any test xs ≡ true → option_map_or test (slice_get xs (position_or_len test xs)) false ≡ true
 first_passes test xs e = ap (λ o. option_map_or test o false) (sym (find_at test xs)) ∙ found xs e
   where
@@ -138,7 +141,7 @@ count_either p q (suc n) = let rest : count_below (λ v. p v || q v) n ≤ count
     go false true = omega arith
     go false false = omega arith
 
--- at most one number is the slot of an owner
+-- at most one number below n equals s
 count_slot : (b : Bool) (s n : ℕ) → count_below (λ v. b && eqb s v) n ≤ 1
 count_slot b s zero = omega arith
 count_slot b s (suc n) = ⊎_elim
@@ -162,11 +165,11 @@ owned_most t n (Some x ∷ xs) =
     count_either (λ v. eqb x.tenant t && eqb x.slot v) (λ v. list_any (is_owner t v) xs) n in
     omega (arith, rest, both, count_slot (eqb x.tenant t) x.slot n)
 
--- if some superblock has no owner, and a tenant has all slots below `n`, there are more than `n` superblocks
+-- if some superblock has no owner, and tenant t owns a superblock for each slot below n, there are more than n superblocks
 pub slots_fewer : (t n : ℕ) (xs : Owners) (j : ℕ) → slice_get xs j ≡ Some None → ((v : ℕ) → v < n → list_any (is_owner t v) xs ≡ true) → n < length xs
 slots_fewer t n xs j e all = omega (arith, some_free xs j e, owned_most t n xs, count_all (λ v. list_any (is_owner t v) xs) n all)
 
--- an ascending list has all numbers below its smallest missing one
+-- a list contains every number v for which n ≤ v < least_missing n xs
 pub below_missing : (n v : ℕ) (xs : List ℕ) → n ≤ v → v < least_missing n xs → list_any (λ x. eqb x v) xs ≡ true
 below_missing n v [] low lt = absurd (omega (arith, low, lt))
 below_missing n v (x ∷ xs) low lt = go (eqb x n) refl lt (below_missing (n + 1) v xs)

@@ -1,4 +1,4 @@
--- A `take`, from an existing slab or from a new one, keeps the promises.
+-- A `take` keeps the promises. The object is in an existing slab or in a new slab.
 use Rattle.std.proofs.Common.{◌≡◌, ℕ, suc, ◌<◌, ◌≤◌, Bool, true, false, not, ◌&&◌, eqb, List, [], ◌∷◌, map, length, get_or, Option, Some, None, refl, sym, ap, ◌∙◌, subst, arith}
 use Rattle.std.specs.Prelude.{find, is_none, option_map}
 use Rattle.std.specs.List.{list_any, list_all, position_or_len}
@@ -45,7 +45,7 @@ record IsNext (flags : List Bool) : Type 0 where
   index_in : position_or_len not flags < length flags
   dead : get_or flags (position_or_len not flags) false ≡ false
 
--- if not all flags are set, there is a first flag that is not set
+-- if not all flags are set, `position_or_len` returns the index of a flag that is not set
 next_is : (flags : List Bool) → list_all (λ live. live) flags ≡ false → IsNext flags
 next_is [] e = absurd (false≢true (sym e))
 next_is (false ∷ flags) e = record { index_in = omega arith; dead = refl }
@@ -62,7 +62,7 @@ not_full c s k e = go (find is_partial c.slabs) refl e
     go None f e = none_all s.live (omega (arith, k.count, k.fit.some)) (not-true _ (find_in is_empty s c.slabs e).1)
     go (Some t) f e = not-true (is_full s) (and_parts (not (is_full s)) (not (is_empty s)) (find_in is_partial s c.slabs (f ∙ e)).1).0
 
--- if no slab can be used, all are full
+-- if `slab_to_use` finds no slab, all slabs of the cache are full
 all_full : (c : Cache) → slab_to_use (find is_partial c.slabs) (find is_empty c.slabs) ≡ None → (s : Slab) → IsIn s c.slabs → is_full s ≡ true
 unfolding slab_to_use
 all_full c e s i = go (find is_partial c.slabs) refl e
@@ -98,7 +98,7 @@ hand_out_kept {limit} order c s m st w h in_c in_s some =
     subst (λ x. IsKeptBy limit order (Command.Take c.number) x (take_body (hand_out c s m).answer) (hand_out c s m).machine) (seen_is m st h.has)
     (handed order c s (next_object s) m st w h in_c in_s lt n.dead some)
 
--- so does a take from a new slab
+-- a take of an object of a new slab keeps the promises
 grow_kept : {limit : ℕ} (order first : ℕ) (c : Cache) (m : Machine) (st : State) → IsWellFormed limit order m → Meets order (untold st) m → IsIn c m.caches → choice order m (layout c).order ≡ Some first
     → let step = hand_out (grown_cache first c) (new_slab c first) (grown first c m) in IsKeptBy limit order (Command.Take c.number) st (take_body step.answer) step.machine
 unfolding grown_cache
@@ -120,7 +120,8 @@ module _ (limit order number : ℕ) (m : Machine) (s : State) (w : IsWellFormed 
       refused limit order (Command.Take number) Refusal.NoCache s m h (λ t owners states.
       (ap (λ o. option_map_or (is_one Refusal.NoCache) (first_due ((is_none o, Refusal.NoCache) ∷ [])) (is_one Refusal.NoCache Refusal.NoFrames)) (told_of None e), refl))
 
-  -- the cache is used up: all objects of its slabs are live, and no block can stand for another slab
+  -- if no slab of cache c can be used, and no block for a new slab is chosen even when empty slabs are freed on demand, the cache
+  -- is seen as used up
   used_up : (c : Cache) → 3 ≤ order → IsIn c m.caches → slab_to_use (find is_partial c.slabs) (find is_empty c.slabs) ≡ None → choice_by_need order (layout c).order m ≡ None
       → is_used_up order s.has (cache_as_known c) ≡ true
   used_up c large in_c e none =

@@ -35,12 +35,12 @@ use Rattle.promise_kept.proofs.TakenObjectPlace.{place_put}
 use Rattle.promise_kept.proofs.ObjectsBeside.{is_slab, slab_here}
 use Rattle.promise_kept.proofs.FreeObject.{two_apart, can_take}
 
--- the state in which the cache with this number may have an empty slab, and the last report is forgotten
+-- the state s, except that the cache with this number may have an empty slab, and that there is no valid report
 abbrev pub hidden : ℕ → State → State
 hidden number s = record s { may_have_empty = λ n. eqb n number || s.may_have_empty n; told = None }
 
--- the place is in the slab around `first`, and the holder is neither the taken object nor an object of its cache that shares no
--- byte with it
+-- The place is in the slab around `first`. The holder is neither the object of cache c that begins at `first`, nor an object of
+-- cache c that shares no byte with that object.
 abbrev left_beside : KnownCache → ℕ → ℕ → Holder → Bool
 left_beside c first place holder = in_block place (slab_around c first) && not (is_object (λ n p. eqb n c.number && (eqb p first || are_apart c first p)) holder)
 
@@ -69,7 +69,8 @@ module _ {limit : ℕ} (order : ℕ) (c : Cache) (s : Slab) (i : ℕ) (m : Machi
   still_live p (Holder.Object number first) e = told_live n number first p (live_replaced c d m w.caches_rise in_c refl number first (live_told m number first p e)
       (λ _ was. live_other limit order c s i true m w in_c in_s lt first was (λ f. not_live (subst (IsLivePlace c) f was))))
 
-  -- neither the cell of a page block outside slabs nor the cell of an object of the machine is dropped
+  -- no cell of a page block outside slabs passes `left_beside`, and no cell of an object of the machine does; so these cells are
+  -- not dropped
   page_left : (p : ℕ) → in_slab m p ≡ false → left_beside (cache_as_known c) place p Holder.Page ≡ false
   page_left p out = ap (λ b. b && true) (ap (in_block p) (slab_here order c m w in_c s i in_s lt)
       ∙ each_in (λ k. in_laid p k ≡ false) (laid c s) (all_laid m.caches) (none_of (in_laid p) (all_laid m.caches) (sym (in_slab_laid m p) ∙ out)) (in_all_laid c s m.caches in_c in_s))

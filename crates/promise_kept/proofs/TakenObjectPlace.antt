@@ -12,7 +12,8 @@ use Rattle.model_core.proofs.RisingLists.{same_members}
 use Rattle.promise_kept.proofs.LiveObjects.{live_rises, IsLivePlace, live_place, place_listed}
 use Rattle.promise_kept.proofs.ObjectFlag.{replaced_one, live_after, live_other, live_this}
 
--- if an object that is not live is taken, the places of the live objects are the old ones, and its own put among them
+-- if object i of slab s is not live and is taken, the first places of the live objects are the old ones, with the first place of
+-- object i put among them
 pub place_put : {limit : ℕ} (order : ℕ) (c : Cache) (s : Slab) (i : ℕ) (m : Machine) → IsWellFormed limit order m → IsIn c m.caches → IsIn s c.slabs → i < (layout c).count
     → (IsLivePlace c (object_place (layout c) s.first s.colour i) → ⊥)
     → put_rising (λ p. p) (object_place (layout c) s.first s.colour i) (map (λ o. o.place) (live_objects c)) ≡ map (λ o. o.place) (live_objects (with_slab (with_live i true s) c))

@@ -1,4 +1,5 @@
--- For each law, an example that meets its premises: a short run of events, and the machine of a tenant after it.
+-- For each law, an example that meets the premises of the law. The examples are a short run of events, and the machine of a tenant
+-- after this run.
 use Rattle.std.proofs.Common.{◌≡◌, List, [], ◌∷◌, Some, Ok, slice_get, refl, arith, map, length}
 use Rattle.std.specs.Prelude.{codes}
 use Rattle.std.specs.List.{AllByRecursion}
@@ -31,8 +32,8 @@ use Rattle.promise_kept.specs.WorldLaws.{CanBeRequested, GrantIsKept, TakeBackIs
 use Rattle.promise_kept.proofs.World.{beside}
 use Rattle.promise_kept.proofs.WorldSteps.{keeps_promises, opening_meets}
 
--- There are four superblocks of 8 frames and two tenants. Both tenants get a slot. Tenant 0 allocates a block, writes to it,
--- makes a cache, takes two objects and gives one back.
+-- There are four superblocks of 8 frames and two tenants. Both tenants get a slot, and the slot of tenant 1 is moved. Tenant 0
+-- allocates a block, writes to it, makes a cache, takes two objects, gives one back and gets a report.
 
 abbrev events : List Event
 events = On.Admin (Do.Grant 0) ∷ On.Tenant 0 (Command.Alloc 1) ∷ On.Tenant 0 (Command.Write 4096 (record { items = 7 ∷ 8 ∷ [] }))
@@ -78,12 +79,12 @@ StrangerChangesNothing-met : StrangerChangesNothing →
 unfolding opening_world
 StrangerChangesNothing-met law = law 32 3 2 (On.Tenant 2 Command.Reap) (opening 32 3 4 2) (opening_world 4 2) (opening_meets 32 3 4 2 (omega arith)) refl (omega arith)
 
--- The machine of tenant 0 after the run, and what is known of it
+-- The machine of tenant 0 after the run, and what is known of this machine
 
 abbrev left : Machine
 left = (private_run 32 3 (own_list 0 (opening_history 32 3 4 2 events)) empty_machine).machine
 
--- the machine has a page block, and a cache with one slab
+-- the machine has one page block, which begins at frame 0, and one cache, which has one slab
 at_work : (map (λ b. b.first) left.blocks ≡ 0 ∷ []) × (map (λ c. length c.slabs) left.caches ≡ 1 ∷ [])
 unfolding opening_history opening_world world_step grant_step tenant_step move_step answer command_step alloc_step write_step cache_step create_step next_number take_step give_step report_step figures_of grown_cache grown slab_to_use fresh_byte by_need reaped choice taken_blocks empty_machine next_slot after_grant layout_of private_step in_reach
 at_work = (refl, refl)

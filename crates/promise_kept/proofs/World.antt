@@ -1,4 +1,4 @@
--- The world keeps the promises, event by event.
+-- Each grant, take-back, reset, move and command keeps the promises, in each case in which it is accepted or refused.
 use Rattle.std.proofs.Common.{◌≡◌, ◌≢◌, ℕ, zero, suc, ◌+◌, ◌*◌, ◌^◌, ◌<◌, ◌≤◌, Bool, true, false, not, ◌&&◌, ◌||◌, eqb, List, [], ◌∷◌, map, length, Option, Some, None, Ok, is_none, position, slice_get, refl, sym, ap, ◌∙◌, subst, ⊎_elim, arith}
 use Rattle.std.specs.Prelude.{slice_set, count_by, is_some, unwrap_or}
 use Rattle.std.specs.List.{list_any, list_all, position_or_len}
@@ -76,7 +76,7 @@ allowed_stranger event reply k t name is for says =
     ∙ (ap (judged event reply k) is ∙ verdict_kept ((Promise.Form, is_for event false reply.addressee) ∷ (Promise.Refusals, is_no_tenant reply.body) ∷ []) k
     (and_from (is_for event false reply.addressee) (is_no_tenant reply.body && true) for (and_from (is_no_tenant reply.body) true says refl)))
 
--- no command of a tenant changes its slots
+-- no command of a tenant changes the tenant's slots
 
 slots_after : (order t : ℕ) (command : Command) (body : Body) (s next : State) → state_after order (On.Tenant t command) body s ≡ Some next → s.has.slots ≡ next.has.slots
 unfolding state_after
@@ -107,7 +107,8 @@ module _ (limit order : ℕ) (w : World) (states : List State) where
     pub state_of : (t : ℕ) (m : Machine) → slice_get w.machines t ≡ Some m → (s : State) × (slice_get states t ≡ Some s)
     state_of t m is = beside states w.machines t m h.tenants is
 
-    -- if one tenant's machine and the owners of its slots change, what is known is still true
+    -- If only the machine of tenant t and the owners of its slots change, and state `next` is true of the new machine, then what is
+    -- known, with `next` as the state of tenant t, is true of the new world.
     step_meets : (t : ℕ) (next : State) (m after : Machine) (owners : List (Option Owner)) → slice_get w.machines t ≡ Some m → Meets order next after
         → IsWellFormed limit order after → length owners ≡ length w.owners → ((u : ℕ) → holds after u ≡ list_any (is_owner t u) owners)
         → ((v u : ℕ) → v ≢ t → list_any (is_owner v u) owners ≡ list_any (is_owner v u) w.owners)
@@ -144,7 +145,7 @@ module _ (limit order : ℕ) (w : World) (states : List State) where
     others_stay : (event : Event) (t : ℕ) (next : State) → named event ≡ Some t → (v : ℕ) → named event ≢ Some v → slice_get (slice_set states t next) v ≡ slice_get states v
     others_stay event t next name v other = slice_get-set_other states t v next (λ same. other (name ∙ ap (λ n. Some n) same))
 
-    -- a step is kept if its reply keeps each promise and changes nothing
+    -- a step that changes neither the world nor what is known is kept if its reply keeps each promise
     pub unchanged : (event : Event) (reply : Reply) (t : ℕ) (m : Machine) (s : State) → named event ≡ Some t → slice_get w.machines t ≡ Some m → slice_get states t ≡ Some s
         → list_all (λ p. p.1) (kept event reply now s) ≡ true → state_after order event reply.body s ≡ Some s → owners_after event reply.body w.owners ≡ w.owners
         → IsKeptIn limit order event now (record { reply = reply; world = w })
@@ -157,7 +158,7 @@ module _ (limit order : ℕ) (w : World) (states : List State) where
       others = λ v other. refl;
     }
 
-    -- if the event names a tenant that does not exist, the refusal `NoTenant` is kept
+    -- if the event names a tenant that does not exist, a step that replies `NoTenant` and changes nothing is kept
     pub stranger : (event : Event) (reply : Reply) (t : ℕ) → named event ≡ Some t → slice_get w.machines t ≡ None
         → is_for event false reply.addressee ≡ true → is_no_tenant reply.body ≡ true → IsKeptIn limit order event now (record { reply = reply; world = w })
     stranger event reply t name is for says = record {
@@ -250,7 +251,8 @@ module _ (limit order : ℕ) (w : World) (states : List State) where
           either true = refl
           either false = refl
 
-      -- the tenant then holds exactly the slots in which it still owns a superblock, and others own what they owned before
+      -- after slot u is taken back, tenant t holds exactly the slots in which it owns a superblock, and the other tenants own the
+      -- same superblocks as before
       fewer_mine : (u v : ℕ) → holds (after_take_back order u m) v ≡ list_any (is_owner t v) (map (given_up (is_owner t u)) w.owners)
       fewer_mine u v = ⊎_elim
           (λ (same : v ≡ u). taken_unheld order u m v same ∙ sym (given_own (is_owner t u) (is_owner t v) w.owners (λ o e. ap (λ x. is_owner t x o) (sym same) ∙ e) refl))

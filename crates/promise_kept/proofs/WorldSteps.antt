@@ -72,7 +72,7 @@ unfolding private_step
 command_formed limit order command m can w = subst (IsWellFormed limit order) (sym (entries_are_operations limit order (Entry.Ask command ∷ []) m))
     (formed.run_kept limit order (flat_map operations_in (Entry.Ask command ∷ [])) m (subst ArePossible (sym (append-nil (operations_in (Entry.Ask command)))) can) w)
 
--- the step of a take-back, given whether the slot is held and whether it is busy
+-- the step of a take-back, given whether the slot is held and whether the slot is busy
 abbrev back_step : ℕ → ℕ → Machine → Bool → Bool → Step (Result (Unit {0}) TakeBackRefusal)
 back_step order u m held busy = if not held then refuse TakeBackRefusal.NoSlot m
     else (if busy then refuse TakeBackRefusal.SlotBusy m else record { answer = Ok tt; machine = after_take_back order u m })
@@ -147,7 +147,8 @@ module _ (limit order : ℕ) (w : World) (states : List State) (h : MeetsWorld l
       go None is = stranger limit order w states h (On.Tenant t command) (record { addressee = To.Nobody; body = Say.Refused Refusal.NoTenant }) t refl is refl refl
       go (Some m) is = command_done limit order w states h t m is command (λ s met. command_kept limit order command m s le (h.formed t m is) met) (command_formed limit order command m can (h.formed t m is))
 
--- a step is kept for all that is known, if it is kept when the limit, the order and the owners that are known are the world's
+-- If a step is kept whenever the known limit, order and owners are those of the world, it is kept for everything known that is
+-- true of the world.
 known_now : (limit order : ℕ) (event : Event) (k : Known) (w : World) (step : WorldStep)
     → ((states : List State) → MeetsWorld limit order (now limit order w states) w → IsKeptIn limit order event (now limit order w states) step) → MeetsWorld limit order k w → IsKeptIn limit order event k step
 known_now limit order event k w step f h = subst (λ x. IsKeptIn limit order event x step) (sym h.known) (f k.states (subst (λ x. MeetsWorld limit order x w) h.known h))

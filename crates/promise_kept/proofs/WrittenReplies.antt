@@ -18,7 +18,7 @@ history_events : (limit order : ℕ) (events : List Event) (w : World) → map (
 history_events limit order [] w = refl
 history_events limit order (event ∷ events) w = ap (λ es. event ∷ es) (history_events limit order events (world_step limit order event w).world)
 
--- the text for one line, and then the text for the other lines, is the text for all of them
+-- the text for one line, followed by the text for the lines after it, is the text for all these lines
 one_told : (only : Option ℕ) (limit order : ℕ) (reading : Result (Option Event) LineFault) (readings : List (Result (Option Event) LineFault)) (events : List Event) (w : World)
     → shown_reading only limit order reading w ++ text_of_replies only readings (history limit order (world_after limit order w (event_in reading)) events)
     ≡ text_of_replies only (reading ∷ readings) (history limit order w (event_in reading ++ events))
@@ -33,7 +33,8 @@ lines_told only limit order (line ∷ lines) w =
     ap (λ more. shown_reading only limit order (reading_of line) w ++ more) (lines_told only limit order lines (world_after limit order w (event_in (reading_of line))))
     ∙ one_told only limit order (reading_of line) (map reading_of lines) (events_of lines) w
 
--- the output of any lines from the opening world on is an allowed text
+-- if slots have at least 8 frames and RAM has at most 2 ^ 32 places, the output of the opening world for any lines is an allowed
+-- text
 pub shown_is_allowed : (only : Option ℕ) (limit order superblocks tenants : ℕ) (lines : List (List ℕ)) → 3 ≤ order → superblocks * 2 ^ order * 4096 ≤ 2 ^ 32
     → IsAllowedText only limit order superblocks tenants lines (shown_lines only limit order lines (opening_world superblocks tenants))
 unfolding opening_history
@@ -46,7 +47,7 @@ shown_is_allowed only limit order superblocks tenants lines le ram =
       are_allowed = run.are_allowed;
     }
 
--- a machine within the limits has at most 2 ^ 32 places of RAM
+-- if the order and the number of superblocks are within their limits, RAM has at most 2 ^ 32 places
 pub ram_is_small : (order superblocks : ℕ) → order ≤ MOST_ORDER → superblocks ≤ MOST_SUPERBLOCKS → superblocks * 2 ^ order * 4096 ≤ 2 ^ 32
 ram_is_small order superblocks low few =
     let frames : superblocks * 2 ^ order ≤ 256 * 256 = mul-le-mul few (pow_mono low) in omega (arith, frames)
