@@ -1,4 +1,4 @@
--- What a tenant sees of actions is what its private machine gives for its own list.
+-- What a tenant sees in any actions is what its private machine gives for the tenant's own list.
 use Rattle.std.proofs.Common.{◌≡◌, ℕ, ◌<◌, ◌==◌, Bool, true, false, List, [], ◌∷◌, ◌++◌, Some, map, slice_get, if◌then◌else◌, append_assoc, refl, sym, ap, ◌∙◌, subst}
 use Rattle.std.proofs.lemmas.Bool.{eqb-true}
 use Rattle.std.proofs.lemmas.List.{map-append}
@@ -34,7 +34,7 @@ seen-append limit order (x ∷ xs) ys m =
     ap (then_seen first.sights) (seen-append limit order xs ys first.machine)
     ∙ ap (λ sights. record { sights = sights; machine = rest.machine }) (sym (append_assoc first.sights (own_seen limit order xs first.machine).sights rest.sights))
 
--- if the own list has only entries, the private machine runs these entries
+-- if an own list has only entries, its sights and its machine are those of a private run of these entries
 entered : (limit order : ℕ) (entries : List Entry) (m : Machine)
     → own_seen limit order (map Enters entries) m
     ≡ record { sights = map Told (private_run limit order entries m).replies; machine = (private_run limit order entries m).machine }
@@ -77,7 +77,7 @@ run_follows k k' event reply t m had steps is =
       };
     })
 
--- A store is a write for the private machine of its tenant, and nothing for any other.
+-- For the private machine of the tenant that stores, a store is a `write`. For every other private machine, it is nothing.
 abbrev if_own : {A : Type 0} → Bool → A → List A
 if_own own x = if own then x ∷ [] else []
 
@@ -129,7 +129,7 @@ follows k k' (Runs event reply) t m had did = run_follows k k' event reply t m h
 follows k k' (StoresAt named place bytes) t m had did = store_follows k k' named place bytes t m had did
 follows k k' (LoadsAt named place byte) t m had did = load_follows k k' named place byte t m had did
 
--- if the kernel follows `owns`, and then `owns'` from the machine afterwards, it follows both lists in one
+-- if `Follows` holds for `owns`, and for `owns'` from the machine after `owns`, it holds for the two lists joined
 both : (order t : ℕ) (owns owns' : List Own) (m : Machine) (sights sights' : List Sight) (k' l' : KernelContent) → Follows order t owns m sights k'
     → Follows order t owns' (own_seen cache_limit order owns m).machine sights' l' → Follows order t (owns ++ owns') m (sights ++ sights') l'
 both order t owns owns' m sights sights' k' l' one more =

@@ -1,4 +1,4 @@
--- The live object or page block that a byte lies in.
+-- The live object or page block of the parts that a byte lies in is the one that the private machine has there.
 use Rattle.std.proofs.Common.{◌≡◌, inr, ℕ, ◌/◌, ◌^◌, ◌<◌, false, true, Option, Some, None, ok_or, IfOk, IfErr, refl, sym, ◌∙◌, ⊎_elim, subst, arith}
 use Rattle.std.specs.Prelude.{MatchOption}
 use Rattle.std.proofs.lemmas.Bool.{false≢true}
@@ -32,12 +32,12 @@ module _ (r : spaces.Content) (b : buddies.Content) (s : tables.Content) (t plac
   st : IsSteady r b s t
   st = steady r b s t asked.together asked.tenant
 
-  -- there is no live byte in a slot that is not held
+  -- if the tenant does not hold the slot of the place, the place is not in reach
   pub unheld_beyond : spaces.superblock_at r.slots t (place / 4096 / 2 ^ s.top) ≡ None → (m : Machine) → ShowsMachine (content_of r b s) t m
       → in_reach m place 1 ≡ false
   unheld_beyond none m shown = out_of_reach r b s t place 1 asked m shown (not_held r b s t place 1 asked none)
 
-  -- there is no live byte at a frame that is not taken
+  -- if the frame of the place is not taken, the place is not in reach
   pub free_beyond : (IsTaken (buddies.taken_of (buddies.holding_of t b)) (place / 4096) → ⊥) → (m : Machine) → ShowsMachine (content_of r b s) t m
       → in_reach m place 1 ≡ false
   free_beyond none m shown = out_of_reach r b s t place 1 asked m shown (λ reach. ⊎_elim
@@ -46,7 +46,7 @@ module _ (r : spaces.Content) (b : buddies.Content) (s : tables.Content) (t plac
       reach.inside)
 
   module _ (first order : ℕ) (taken : buddies.taken_of (buddies.holding_of t b) first ≡ Some order) (here : HasFrame (block first order) (place / 4096)) where
-    -- there is no live byte in a slab outside its live objects
+    -- if the taken block around the place is a slab, and no live object contains the place, the place is not in reach
     pub dead_beyond : has_slab s (machine_frame_of s.top r.slots t first) ≡ true → HasNone r s t place 1
         → (m : Machine) → ShowsMachine (content_of r b s) t m → in_reach m place 1 ≡ false
     dead_beyond slab none m shown = out_of_reach r b s t place 1 asked m shown (λ reach. ⊎_elim
@@ -54,7 +54,7 @@ module _ (r : spaces.Content) (b : buddies.Content) (s : tables.Content) (t plac
         (λ o. none o.0 o.1)
         reach.inside)
 
-  -- if a live object of the parts contains the byte, the machine has the same live object there
+  -- if a live object of the parts contains the place, the machine has the same live object there
   pub object_around : (o : ObjectSpan) → IsAround r s t place 1 o → (m : Machine) → ShowsMachine (content_of r b s) t m
       → HasObjectAround m place o.cache o.place o.bytes
   object_around o is m shown = record {
@@ -64,7 +64,7 @@ module _ (r : spaces.Content) (b : buddies.Content) (s : tables.Content) (t plac
     below = omega (arith, is.to);
   }
 
--- What is returned to a tenant that is named by its number
+-- The result of `holder`, which takes the number of a tenant
 module _ (k : KernelContent) (t tenant place : ℕ) (same : t ≡ tenant) (less : t < k.tenants) where
   abbrev Told : ℕ → Option Holder → Type 0
   Told u o = (m : Machine) → ShowsMachine k u m → MatchOption o (in_reach m place 1 ≡ false) (IsHolder m place)

@@ -1,4 +1,4 @@
--- Commands on caches.
+-- A call that takes an object or makes a cache is the step of its command.
 use Rattle.std.proofs.Common.{◌≡◌, ◌≢◌, ℕ, Bool, true, false, List, Option, IfNone, Result, Ok, Err, if◌then◌else◌, refl, sym, ap, ◌∙◌, subst}
 use Rattle.std.specs.Prelude.{not, ok_or, OnErr}
 use Rattle.model_core.specs.Layouts.{is_size, is_alignment}
@@ -26,8 +26,8 @@ use Rattle.kernel_core.specs.Steps.{StepsMachine}
 use Rattle.kernel_core.proofs.CallsAsCommands.{answered, called, commanded, by_err, by_none}
 use Rattle.kernel_core.proofs.CallEffects.{marks_kept}
 
--- If a call takes `take_step` on the tenant's machine and changes nothing of others, it is the step of a `take` command. The step
--- uses the order that the tables have.
+-- A call is the step of a `take` command if it does `take_step` to the machine of tenant t, changes nothing of other tenants, and
+-- changes nothing at all when it is refused. `take_step` gets the order of a slot from the tables.
 pub taken : (r r' : spaces.Content) (b b' : buddies.Content) (s s' : tables.Content) (t : ℕ) → Agree r b s → Spares t r r' b b' s s'
     → (number : ℕ) (told : Result ℕ TakeRefusal)
     → ((m : Machine) → ShowsMachine (content_of r b s) t m → told ≡ (take_step s.top number m).answer)
@@ -42,12 +42,12 @@ taken r r' b b' s s' t agree spares number told answer shows refused =
     (λ m shown. subst (λ top. ShowsMachine (content_of r' b' s') t (take_step top number m).machine) order (shows m shown))
     (by_err take_body told (λ place. refl) refused)
 
--- if P holds when `take_object` is refused, P holds when the take is refused
+-- if P holds when `take_object` is refused, P holds when the same take returns only the place and is refused
 pub untaken : (P : Type 0) (told : Result Taken TakeRefusal) → OnErr told P → OnErr (place_taken told) P
 untaken P (Ok it) left = left
 untaken P (Err refusal) left = left
 
--- Making a cache: the layout of a size and an alignment, or the limit that they break
+-- New caches: the layout of a size and an alignment, or the refusal if there is no layout
 
 abbrev judged : ℕ → ℕ → Bool → Bool → Result Cut LayoutRefusal
 judged size align v w = if v then (if w then Ok (cut size align) else Err cutting.BadAlign) else Err cutting.BadSize
@@ -76,7 +76,7 @@ cut_is size align l = go (is_size size) (is_alignment align)
     go true false is = absurd (cc)
     go true true is = cc
 
--- a size or an alignment without a layout is refused
+-- if a size and an alignment have no layout, the refused call is the step of the command for a new cache
 pub cache_refused : (k : KernelContent) (t size align : ℕ) (pattern : List ℕ) (limit : LayoutRefusal) (refusal : CacheRefusal) → Err limit ≡ layout_or_refusal size align
     → ((m : Machine) → by_layout pattern m (Err limit) ≡ record { answer = Err refusal; machine = m })
     → StepsMachine k t (Command.Cache size align (record { items = pattern })) k (cache_body size align (Err refusal))
@@ -85,7 +85,8 @@ cache_refused k t size align pattern limit refusal is same =
     answered k t (Command.Cache size align (record { items = pattern })) (cache_body size align (Err refusal))
     (λ m shown. ap (with_body (cache_body size align)) (step_is size align pattern m ∙ ap (by_layout pattern m) (sym is) ∙ same m))
 
--- with a layout, the cache is made, or is refused because all numbers are used
+-- if a size and an alignment have a layout, a call that does `create_step` is the step of the command for a new cache; it is
+-- refused with `NoCacheSlot` if all numbers are used
 pub created : (r : spaces.Content) (b : buddies.Content) (s s' : tables.Content) (t : ℕ) → ((u : ℕ) → u ≢ t → Keeps r r b b s s' u)
     → (size align : ℕ) (pattern : List ℕ) (l : Cut) (result : Option ℕ) → Ok l ≡ layout_or_refusal size align
     → ((m : Machine) → ShowsMachine (content_of r b s) t m → result ≡ (create_step MOST_CACHES l.size l.align pattern m).answer)

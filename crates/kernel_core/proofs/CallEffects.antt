@@ -32,7 +32,8 @@ marks_kept old new owners marks m =
     ∙ sym (ap (λ os. mark_after (spaces.owner_at old.owners m) (spaces.owner_at os m) (spaces.mark_at old.marks m)) owners
     ∙ mark_kept (spaces.owner_at old.owners m) (spaces.mark_at old.marks m))
 
--- `MarksFollow` still holds if superblock m then gets owner o and the mark that follows from its owners
+-- If `MarksFollow` holds, and superblock m then gets owner o, `MarksFollow` still holds if m also gets the mark that follows from
+-- its owner before the call, owner o, and its mark before the call.
 pub marks_replaced : (old now : spaces.Content) (m : ℕ) (o : Option Owner) (is : Bool) → MarksFollow old now → m < length now.owners → m < length now.marks
     → mark_after (spaces.owner_at old.owners m) o (spaces.mark_at old.marks m) ≡ is
     → MarksFollow old (record now { owners = slice_set now.owners m o; marks = slice_set now.marks m is })
@@ -51,8 +52,8 @@ marks_replaced old now m o is follows owner mark told n = ⊎_elim
 
 -- Calls
 
--- a call for tenant t does the step if it changes nothing that others have, returns the step's answer and leaves the step's
--- machine
+-- a call for tenant t does the step if it changes nothing that other tenants have, returns the step's answer, and the parts show
+-- the machine after the step afterwards
 pub does_called : {A : Type 0} (r r' : spaces.Content) (b b' : buddies.Content) (s s' : tables.Content) (t : ℕ) → Spares t r r' b b' s s'
     → (step : Machine → Step A) (told : A)
     → ((m : Machine) → ShowsMachine (content_of r b s) t m → told ≡ (step m).answer)
@@ -100,13 +101,13 @@ does_nothing {A} k t step told same = record {
   spare = λ _ _. refl;
 }
 
--- What holds for the fields of a kernel
+-- Facts about the parts of a kernel
 
 -- each tenant has a row in the memory's table of slots
 pub has_row : (r : spaces.Content) (b : buddies.Content) (s : tables.Content) (t : ℕ) → Agree r b s → t < length b.tenants → t < length r.slots
 has_row r b s t agree known = omega (arith, agree.rows)
 
--- a tenant that does not exist holds nothing
+-- a tenant that does not exist holds no slot
 pub no_row : (r : spaces.Content) (b : buddies.Content) (s : tables.Content) (t u : ℕ) → Agree r b s → length b.tenants ≤ t → spaces.superblock_at r.slots t u ≡ None
 no_row r b s t u agree past = ap (λ row. slice_index_or row u None) (get_or_past r.slots t [] (omega (arith, agree.rows)))
 
@@ -129,19 +130,19 @@ steady r b s t holds known =
     (agree_steady r b s t holds.slabs holds.agree (has_row r b s t holds.agree known) holds.space.apart holds.buddy.sizes
     (λ u less. holds.buddy.sound u less)).0
 
--- if the parts of a kernel's content hold together, so do the fields that it was made from
+-- if content k is made of the parts r, b and s, and the parts of k hold together, then r, b and s hold together
 pub opened : (r : spaces.Content) (b : buddies.Content) (s : tables.Content) (k : KernelContent) → content_of r b s ≡ k → HoldTogether k.space k.buddy k.slabs → HoldTogether r b s
 opened r b s k is holds = subst (λ (x : KernelContent). HoldTogether x.space x.buddy x.slabs) (sym is) holds
 
 pub known : (r : spaces.Content) (b : buddies.Content) (s : tables.Content) (k : KernelContent) (t : ℕ) → content_of r b s ≡ k → t < k.tenants → t < length b.tenants
 known r b s k t is less = subst (λ (x : KernelContent). t < x.tenants) (sym is) less
 
--- the sizes stay the same if only one tenant's holding in the buddy systems is replaced
+-- the sizes stay the same if the holding of one tenant is replaced and nothing else in the buddy systems changes
 pub same_sizes : (r r' : spaces.Content) (b : buddies.Content) (s s' : tables.Content) (t : ℕ) (h : buddies.Holding)
     → SameSizes (content_of r b s) (content_of r' (buddies.with_holding t h b) s')
 same_sizes r r' b s s' t h = record { order = refl; superblocks = refl; tenants = length-set b.tenants t h }
 
--- the superblock in a slot has a number below the number of superblocks
+-- if superblock m is in a slot, m is less than the number of superblocks
 pub superblock_there : (r : spaces.Content) → spaces.IsSpace r → (t u m : ℕ) → spaces.superblock_at r.slots t u ≡ Some m → m < length r.owners
 superblock_there r facts t u m at = go (cases_lt m (length r.owners))
   where
@@ -149,7 +150,7 @@ superblock_there r facts t u m at = go (cases_lt m (length r.owners))
     go (inl less) = less
     go (inr past) = absurd (some_none (sym ((facts.agree t u m).0 at) ∙ get_or_past r.owners m None past))
 
--- if the parts of k agree, the content with another memory differs from k only in the memory
+-- if the parts of k agree, the content with memory r and the other parts of k differs from k only in the memory
 pub with_space : (k : KernelContent) (r : spaces.Content) → PartsAgree k → content_of r k.buddy k.slabs ≡ record k { space = r }
 with_space k r agree = λ i. record {
   order = agree.top i;

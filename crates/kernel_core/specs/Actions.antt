@@ -22,18 +22,18 @@ pub data Action : Type 0 where
   -- a tenant loads the byte at a place
   LoadsAt : ℕ → ℕ → ℕ → Action
 
--- an action leads from one kernel to another
+-- the action leads from kernel k to kernel k'
 abbrev pub Acts : KernelContent → Action → KernelContent → Type 0
 Acts k (Runs event reply) k' = Steps k event k' reply × IsKernel k'
 Acts k (StoresAt t place bytes) k' = Stores k t place bytes k'
 Acts k (LoadsAt t place byte) k' = Loads k t place byte × (k' ≡ k)
 
--- a list of actions leads from one kernel to another
+-- the actions of the list, one after the other, lead from kernel k to kernel k'
 abbrev pub AllAct : KernelContent → List Action → KernelContent → Type 0
 AllAct k [] k' = k' ≡ k
 AllAct k (action ∷ actions) k' = (next : KernelContent) × Acts k action next × AllAct next actions k'
 
--- what a tenant sees: the replies to it, and the bytes that it loads
+-- one thing that a tenant sees: a reply to the tenant, or a byte that the tenant loads
 pub data Sight : Type 0 where
   Told : Body → Sight
   Loaded : Option ℕ → Sight
@@ -48,7 +48,7 @@ abbrev pub sights_of : ℕ → List Action → List Sight
 sights_of t [] = []
 sights_of t (action ∷ actions) = sights_in t action ++ sights_of t actions
 
--- all that reaches the machine of a tenant: entries, stores of bytes, and loads of a byte
+-- one thing that reaches the machine of a tenant: an entry, a store of bytes, or a load of a byte
 pub data Own : Type 0 where
   Enters : Entry → Own
   Stored : ℕ → List ℕ → Own
@@ -59,12 +59,12 @@ own_in t (Runs event reply) = map Enters (own_entries t event reply.body)
 own_in t (StoresAt named place bytes) = if named == t then Stored place bytes ∷ [] else []
 own_in t (LoadsAt named place byte) = if named == t then LoadedAt place ∷ [] else []
 
--- the tenant's own list; it does not contain the bytes that are loaded
+-- tenant t's own list: all that reaches its machine, without the values of the loaded bytes
 abbrev pub own_actions : ℕ → List Action → List Own
 own_actions t [] = []
 own_actions t (action ∷ actions) = own_in t action ++ own_actions t actions
 
--- what the tenant sees, and the machine afterwards
+-- what a tenant sees, and its private machine afterwards
 pub record OwnSeen : Type 0 where
   pub sights : List Sight
   pub machine : Machine
@@ -77,7 +77,7 @@ own_step limit order (Enters entry) m = record {
 own_step limit order (Stored place bytes) m = record { sights = []; machine = (write_step place bytes m).machine }
 own_step limit order (LoadedAt place) m = record { sights = Loaded (m.bytes place) ∷ []; machine = m }
 
--- what the tenant sees over its own list, and the machine afterwards
+-- what a tenant with private machine m sees when its own list is run, and the machine afterwards
 abbrev pub own_seen : ℕ → ℕ → List Own → Machine → OwnSeen
 own_seen limit order [] m = record { sights = []; machine = m }
 own_seen limit order (own ∷ owns) m = record {
@@ -85,21 +85,21 @@ own_seen limit order (own ∷ owns) m = record {
   machine = (own_seen limit order owns (own_step limit order own m).machine).machine;
 }
 
--- the kernel after boot, with these numbers of superblocks and tenants
+-- k is a kernel just after boot, with this number of superblocks and this number of tenants
 pub record IsBooted (k : KernelContent) (superblocks tenants : ℕ) : Type 0 where
   pub kernel : IsKernel k
   pub shows : Shows k (opening_world superblocks tenants)
 
--- From boot on, a tenant sees what its private machine gives for its own list, and the kernel shows that machine for it. The
--- other tenants may do anything.
+-- From boot on, a tenant sees what its private machine gives for the tenant's own list. Afterwards the kernel shows, for the
+-- tenant, the private machine after that list. The other tenants may do anything.
 abbrev pub OwnSights : Type 0
 OwnSights = (k k' : KernelContent) (superblocks tenants t : ℕ) (actions : List Action) →
     IsBooted k superblocks tenants → t < tenants → AllAct k actions k' →
     (sights_of t actions ≡ (own_seen cache_limit k.order (own_actions t actions) empty_machine).sights)
     × ShowsMachine k' t (own_seen cache_limit k.order (own_actions t actions) empty_machine).machine
 
--- So a tenant sees the same on two machines of the same order if its own lists on them are equal. The numbers of superblocks and
--- tenants may differ.
+-- So a tenant sees the same on two kernels of the same order if its own lists on the two kernels are equal. The numbers of
+-- superblocks and tenants may differ.
 abbrev pub SameSights : Type 0
 SameSights = (k k' l l' : KernelContent) (superblocks tenants superblocks' tenants' t : ℕ) (actions actions' : List Action) →
     IsBooted k superblocks tenants → IsBooted l superblocks' tenants' → l.order ≡ k.order → t < tenants → t < tenants' →

@@ -13,7 +13,8 @@ use Rattle.kernel_core.specs.Content.{KernelContent, PartsAgree}
 use Rattle.kernel_core.specs.Steps.{Steps, StepsMachine}
 use Rattle.kernel_core.specs.contracts.kernel.Kernel.{the_row}
 
--- the request was a step of the tenant's machine, with this answer, and if the parts agreed before, they still agree
+-- The request was a step of the machine of tenant t, with this answer. If the parts of the kernel agreed before the request, they
+-- agree after it.
 pub record HasStepped (before : KernelContent) (t : ℕ) (request : Request) (answer : Answer) (after : KernelContent) : Type 0 where
   pub steps : StepsMachine before t (command_of request) after (body_of_answer answer)
   pub agree : PartsAgree before → PartsAgree after
@@ -26,8 +27,8 @@ abbrev pub RestsRequestedKnown : MutBor KernelContent → ℕ → Request → An
 RestsRequestedKnown kernel t request answer =
     Rests the_row kernel (λ after. Steps kernel.now (Event.Tenant t (command_of request)) after (reply_of_answer t answer))
 
--- If there is an answer, the tenant exists, its request was a step of the world, and the reply has this answer. If there is none,
--- the request was refused with `NoTenant`, and nobody gets a reply.
+-- If there is an answer, it is for this tenant, the tenant's request was a step of the world, and the reply has this answer. If
+-- there is no answer, the request was refused with `NoTenant`, and the reply is addressed to nobody.
 abbrev pub HasAsked : KernelContent → ℕ → Request → Option (ℕ × Answer) → KernelContent → Type 0
 HasAsked before tenant request result after = MatchOption result
     (Steps before (Event.Tenant tenant (command_of request)) after (record { addressee = Addressee.Nobody; body = Body.Refused Refusal.NoTenant }))

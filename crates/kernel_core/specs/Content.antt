@@ -11,7 +11,7 @@ use Rattle.machine_changes.specs.Keeps as keeping
 pub record KernelContent : Type 0 where
   -- a superblock has 2 ^ order frames of 4096 bytes
   pub order : ℕ
-  -- the numbers of superblocks and tenants, both numbered from 0
+  -- how many superblocks and how many tenants there are; both are numbered from 0
   pub superblocks : ℕ
   pub tenants : ℕ
   pub space : spaces.Content
@@ -29,7 +29,7 @@ content_of space buddy slabs = record {
   slabs = slabs;
 }
 
--- the superblock in a tenant's slot
+-- the superblock in the slot of tenant t, or None if the tenant does not hold the slot
 abbrev pub superblock_at : KernelContent → ℕ → ℕ → Option ℕ
 superblock_at k t slot = spaces.superblock_at k.space.slots t slot
 
@@ -38,7 +38,8 @@ abbrev pub superblock_bytes : KernelContent → ℕ → List ℕ
 superblock_bytes k m = spaces.bank k.space.banks m
 
 -- The parts agree on their sizes, on the superblock in each slot of each tenant, and on each slab. A slab is a taken block of its
--- tenant, and its record shows its live objects. By `space`, no two superblocks are in the same slot of the same tenant.
+-- tenant, and the slab's control record shows its live objects. By `space`, no two superblocks are in the same slot of the same
+-- tenant.
 pub record PartsAgree (k : KernelContent) : Type 0 where
   pub space : spaces.IsSpace k.space
   pub order : k.order ≤ MOST_ORDER
@@ -60,21 +61,21 @@ opening_content order superblocks tenants = record {
   slabs = tables.empty_tables order superblocks tenants;
 }
 
--- the sizes are unchanged
+-- the order, the number of superblocks and the number of tenants are unchanged
 pub record SameSizes (old new : KernelContent) : Type 0 where
   pub order : new.order ≡ old.order
   pub superblocks : new.superblocks ≡ old.superblocks
   pub tenants : new.tenants ≡ old.tenants
 
--- The mark of a superblock after a call, given its owners before and after and its mark before. The mark is set if the superblock
--- lost its owner, cleared if it got an owner, and otherwise unchanged.
+-- The mark of a superblock after a call. The arguments are the owner before the call, the owner after it, and the mark before it.
+-- The mark is set if the superblock lost its owner, cleared if it had no owner and got one, and otherwise unchanged.
 abbrev pub mark_after : Option Owner → Option Owner → Bool → Bool
 mark_after (Some owner) None was = true
 mark_after None (Some owner) was = false
 mark_after None None was = was
 mark_after (Some owner) (Some next) was = was
 
--- each superblock's mark follows from its owners before and after the call, and from its mark before
+-- each superblock's mark after a call is the one that `mark_after` gives
 abbrev pub MarksFollow : spaces.Content → spaces.Content → Type 0
 MarksFollow old new = (m : ℕ) → spaces.mark_at new.marks m
     ≡ mark_after (spaces.owner_at old.owners m) (spaces.owner_at new.owners m) (spaces.mark_at old.marks m)

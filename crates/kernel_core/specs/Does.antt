@@ -8,10 +8,10 @@ use Rattle.space_core.specs.Laws.{SpareStays}
 use Rattle.kernel_core.specs.Content.{KernelContent, SameSizes, MarksFollow, Keeps, superblock_at}
 use Rattle.kernel_core.specs.Shows.{ShowsMachine}
 
--- The call does this step of a private machine: if the parts showed a machine for tenant t, they now show the machine after the
--- step, and the call returns the step's answer. All other tenants keep everything. `owned` are the owners of the superblocks
--- afterwards. A superblock that lost its owner is marked, one that got an owner is unmarked, and one without an owner keeps its
--- bytes.
+-- The call does this step of a private machine. If the parts showed a machine for tenant t before the call, they show the machine
+-- after the step when the call has returned, and the call returns the step's answer. All other tenants keep everything. `owned`
+-- is the list of the superblocks' owners after the call. A superblock that lost its owner is marked, and a superblock that got an
+-- owner is unmarked. A superblock without an owner keeps its bytes.
 pub record Does {A : Type 0} (old : KernelContent) (t : ℕ) (step : Machine → Step A) (owned : List (Option Owner)) (new : KernelContent) (told : A) : Type 0 where
   pub sizes : SameSizes old new
   pub shows : (m : Machine) → ShowsMachine old t m → ShowsMachine new t (step m).machine
@@ -27,14 +27,14 @@ pub record Does {A : Type 0} (old : KernelContent) (t : ℕ) (step : Machine →
 abbrev pub slot_grant_step : ℕ → Machine → Step ℕ
 slot_grant_step order m = record { answer = next_slot m; machine = after_grant order m }
 
--- everything is taken back
+-- everything that the tenant has is taken back
 abbrev pub machine_reset_step : Machine → Step (Unit {0})
 machine_reset_step m = record { answer = tt; machine = empty_machine }
 
 abbrev pub no_step : Machine → Step (Unit {0})
 no_step m = record { answer = tt; machine = m }
 
--- slot u of tenant t is moved to superblock `to`; the superblock that was in it has no owner afterwards
+-- slot u of tenant t is moved to superblock `to`; the superblock that was in the slot before has no owner afterwards
 pub record Moves (old : KernelContent) (t u to : ℕ) (new : KernelContent) : Type 0 where
   pub from : ℕ
   pub under : superblock_at old t u ≡ Some from

@@ -15,7 +15,7 @@ pub record IsInSlab (m : Machine) (f : ℕ) (test : Slab → Bool) : Type 0 wher
   pub here : HasFrame (slab_block cache slab) f
   pub passes : test slab ≡ true
 
--- the kind of frame f of the machine; a slot has 2 ^ order frames
+-- frame f of machine m has this kind; a slot has 2 ^ order frames
 abbrev pub IsFrame : ℕ → Machine → ℕ → FrameKind → Type 0
 IsFrame order m f FrameKind.NotHeld = holds m (f / 2 ^ order) ≡ false
 IsFrame order m f FrameKind.Free = (holds m (f / 2 ^ order) ≡ true) × (IsTaken (taken_in m) f → ⊥)

@@ -13,7 +13,8 @@ pub record HasObjectAround (m : Machine) (place c begin bytes : ℕ) : Type 0 wh
   pub from : begin ≤ place
   pub below : place < begin + bytes
 
--- in the machine, the holder is a live object, or a live page block if it has no cache, and it contains the place
+-- the holder is a live page block of the machine if its cache is None, otherwise a live object of this cache, and it contains the
+-- place
 abbrev pub IsHolder : Machine → ℕ → Holder → Type 0
 IsHolder m place holder = MatchOption holder.cache
     (HasBlock m place holder.place holder.bytes)

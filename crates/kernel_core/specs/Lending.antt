@@ -18,7 +18,7 @@ use Rattle.kernel_core.specs.Shows.{ShowsMachine}
 use Rattle.kernel_core.specs.declared.lending.Span.{Span}
 use Rattle.kernel_core.specs.contracts.kernel.Kernel.{the_row}
 
--- ws with the length of xs: a longer ws is cut, and a shorter one is extended by the end of xs
+-- ws, brought to the length of xs: a longer ws is cut, and a shorter ws is extended by the last elements of xs
 abbrev pub fit : List ℕ → List ℕ → List ℕ
 fit xs ws = take (length xs) (ws ++ drop (length ws) xs)
 
@@ -29,11 +29,11 @@ bytes_in r t place len = unwrap_or (window_of r t place len) []
 abbrev pub LendsWithin : MutBor Content → ℕ → ℕ → ℕ → MutBor (List ℕ) → Fml
 LendsWithin s t place len r = Lends spaces.the_row (Array u8 0) s r (λ ws. with_window s.now t place len (fit (bytes_in s.now t place len) ws))
 
--- the parts with the bytes ws stored in the range; ws is first cut or extended to the range's length, as by `fit`
+-- the parts after the bytes ws are stored in the range of `len` bytes from the place on; `fit` first brings ws to this length
 abbrev pub with_left : KernelContent → ℕ → ℕ → ℕ → List ℕ → KernelContent
 with_left k t place len ws = record k { space = stored t place (fit (bytes_in k.space t place len) ws) k.space }
 
--- when the borrow ends, the span has the last value written through r, and everything else is as before
+-- when the borrow ends, the bytes of the span are the last bytes that were written through r, and everything else is as before
 abbrev pub LendsSpan : MutBor KernelContent → Span → MutBor (List ℕ) → Fml
 LendsSpan s span r = Lends the_row (Array u8 0) s r (with_left s.now span.tenant span.place span.bytes)
 
@@ -48,8 +48,8 @@ pub record HasBytes (m : Machine) (place : ℕ) (bytes : List ℕ) : Type 0 wher
   pub reach : in_reach m place (length bytes) ≡ true
   pub each : (i : ℕ) → i < length bytes → m.bytes (place + i) ≡ Some (slice_index bytes i)
 
--- These are the `len` bytes of tenant t from the place on, and its private machine has the same bytes there. If `len` bytes are
--- left there, they are stored. If these same bytes are left there, nothing changes.
+-- These are the `len` bytes of tenant t from the place on, and the tenant's private machine has the same bytes there. If a
+-- borrower leaves any `len` bytes there, those bytes are stored. If a borrower leaves the bytes as they were, nothing changes.
 pub record IsLent (k : KernelContent) (t place len : ℕ) (bytes : List ℕ) : Type 0 where
   pub count : length bytes ≡ len
   pub reach : IsInReach k.space k.buddy k.slabs t place len
@@ -66,16 +66,17 @@ pub record HasBlock (m : Machine) (place begin bytes : ℕ) : Type 0 where
   pub begins : begin ≡ FRAME_BYTES * first
   pub size : bytes ≡ FRAME_BYTES * 2 ^ order
 
--- the span has all bytes of the page block of 2 ^ order frames of tenant t at this frame
+-- tenant t's page block that begins at this frame and has 2 ^ order frames has exactly the bytes of the span
 pub record IsBlockSpan (span : Span) (t frame order : ℕ) : Type 0 where
   pub tenant : span.tenant ≡ t
   pub place : span.place ≡ FRAME_BYTES * frame
   pub bytes : span.bytes ≡ FRAME_BYTES * 2 ^ order
 
--- nothing is lent: either there is no such tenant, or there is one and `Why` holds for the refusal
+-- Nothing is lent. Either there is no such tenant and the refusal is `NoTenant`, or the tenant exists and `Why` holds for the
+-- refusal.
 abbrev pub IsNotLent : KernelContent → ℕ → (Refusal → Type 0) → Refusal → Type 0
 IsNotLent k tenant Why refusal = ((k.tenants ≤ tenant) × (refusal ≡ Refusal.NoTenant)) ⊎ ((tenant < k.tenants) × Why refusal)
 
--- the reply to the tenant, or to nobody if there is no such tenant
+-- the reply with this body, addressed to the tenant, or to nobody if there is no such tenant
 abbrev pub reply_for : KernelContent → ℕ → Body → Reply
 reply_for k tenant body = record { addressee = if nat_lt tenant k.tenants then Addressee.Tenant tenant else Addressee.Nobody; body = body }

@@ -1,4 +1,4 @@
--- Control records inside the frames.
+-- The control records of slabs, which are stored in the slabs' own frames.
 use Rattle.std.specs.Prelude.{◌≡◌, ℕ, ◌+◌, ◌*◌, ◌/◌, ◌%◌, ◌^◌, ◌<◌, true, false, Some, slice_index, slice_index_or}
 use Rattle.model_core.specs.declared.limits.TheConstants.{FRAME_BYTES, RECORD_OFFSET}
 use Rattle.model_core.specs.Layouts.{is_small}
@@ -8,8 +8,8 @@ use Rattle.machine_changes.specs.Records.{is_set}
 use Rattle.kernel_core.specs.Content.{KernelContent, superblock_at, superblock_bytes}
 use Rattle.kernel_core.specs.Shows.{ShowsMachine}
 
--- The last 32 bytes of frame f of tenant t, in the superblock of its slot, have the flags of slab y: flag 8i + j is bit j of byte
--- i. All bits past the flags are 0.
+-- The last 32 bytes of frame f of tenant t are the flags of the live objects of slab y: flag 8i + j is bit j of byte i. All bits
+-- past the flags are 0. The bytes are in the superblock of the frame's slot.
 pub record HasRecord (k : KernelContent) (t f : ℕ) (y : Slab) : Type 0 where
   pub superblock : ℕ
   pub under : superblock_at k t (f / 2 ^ k.order) ≡ Some superblock

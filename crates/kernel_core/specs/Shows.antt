@@ -1,4 +1,4 @@
--- Which private machine a kernel shows for a tenant, and which world it shows.
+-- The private machine that a kernel shows for a tenant, and the world that a kernel shows.
 use Rattle.std.specs.Prelude.{◌≡◌, ℕ, length, Some, slice_get}
 use Rattle.model_core.specs.Machine.{Machine}
 use Rattle.machine_changes.specs.Shows as showing

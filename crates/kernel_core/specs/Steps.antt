@@ -1,4 +1,4 @@
--- What an event does to a kernel, and what a tenant's command does to the tenant's part of it.
+-- What an event does to a kernel, and what a tenant's command does to the tenant's part of the kernel.
 use Rattle.std.specs.Prelude.{◌≡◌, ℕ, ◌==◌, Bool, true, false, Result, Ok, Err}
 use Rattle.words_core.specs.declared.reply.Addressee.{Addressee}
 use Rattle.words_core.specs.declared.event.AdminCommand.{AdminCommand}
@@ -27,12 +27,13 @@ is_named t (Event.Admin (AdminCommand.Reset tenant)) = tenant == t
 is_named t (Event.Admin (AdminCommand.Move tenant slot)) = tenant == t
 is_named t (Event.Admin AdminCommand.Pool) = false
 
--- the pattern of the cache that the event requests has 1 to 16 bytes
+-- if the event requests a new cache, the pattern has 1 to 16 bytes
 abbrev pub HasPattern : Event → Type 0
 HasPattern (Event.Tenant t command) = AsksPattern command
 HasPattern (Event.Admin command) = Unit {0}
 
--- the event is a step of any world that the parts show
+-- The event, with this reply, is the step of every world that the parts show. If it is refused, nothing changes. A tenant that the
+-- event does not name keeps everything.
 pub record Steps (old : KernelContent) (event : Event) (new : KernelContent) (reply : Reply) : Type 0 where
   pub sizes : SameSizes old new
   pub shows : (w : World) → Shows old w → Shows new (world_step cache_limit old.order event w).world
@@ -42,16 +43,17 @@ pub record Steps (old : KernelContent) (event : Event) (new : KernelContent) (re
   pub marks : MarksFollow old.space new.space
   pub spare : SpareStays old.space new.space
 
--- the command is a step of any machine that the parts show for the tenant
+-- The command, with this body of its reply, is the step of every machine that the parts show for tenant t. If it is refused,
+-- nothing changes.
 pub record StepsMachine (old : KernelContent) (t : ℕ) (command : Command) (new : KernelContent) (body : Body) : Type 0 where
   pub does : Does old t (command_step cache_limit old.order command) old.space.owners new body
   pub refused : is_refused body ≡ true → new ≡ old
 
--- the body of a reply: what the command returned, or the refusal
+-- the body of the reply to a command: what the command returned, or the refusal
 abbrev pub body_of : {A : Type 0} → (A → Body) → Result A Refusal → Body
 body_of said (Ok given) = said given
 body_of said (Err refusal) = Body.Refused refusal
 
--- the reply to the administrator: what its command returned, or the refusal
+-- the reply to the administrator: what the administrator's command returned, or the refusal
 abbrev pub to_admin : Result Answer Refusal → Reply
 to_admin result = record { addressee = Addressee.Admin; body = body_of body_of_answer result }

@@ -30,14 +30,14 @@ pub record Loads (k : KernelContent) (t place byte : ℕ) : Type 0 where
   pub reach : IsInReach k.space k.buddy k.slabs t place 1
   pub is : byte_at k.space t place ≡ Some byte
 
--- a store of any number of bytes is the step of a write of these bytes, and the kernel keeps its invariants
+-- a store of any number of bytes is the step of a `write` of these bytes, and the kernel after the store has its invariants
 abbrev pub StoresAreWrites : Type 0
 StoresAreWrites = (k k' : KernelContent) (t place : ℕ) (bytes : List ℕ) → IsKernel k → Stores k t place bytes k' →
     IsKernel k'
     × Steps k (Event.Tenant t (Command.Write place (record { items = bytes }))) k'
     (record { addressee = Addressee.Tenant t; body = Body.Written (length bytes) })
 
--- a loaded byte is the byte that the private machine has there
+-- a byte that tenant t loads at a place is the byte that the tenant's private machine has there
 abbrev pub LoadsAreOwn : Type 0
 LoadsAreOwn = (k : KernelContent) (w : World) (m : Machine) (t place byte : ℕ) → IsKernel k → Shows k w →
     slice_get w.machines t ≡ Some m → Loads k t place byte → m.bytes place ≡ Some byte

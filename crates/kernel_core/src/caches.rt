@@ -18,11 +18,11 @@ use slab_core::Taken;
 use words_core::{Answer, Refusal};
 
 impl Kernel {
-    /// Makes a cache for objects of `size` bytes, at multiples of `align` bytes, that are constructed with the pattern.
+    /// Makes a cache of objects of `size` bytes. An object begins at a multiple of `align` and is constructed with the pattern.
     ///
     /// Refuses with `BadSize`, then with `BadAlign`, then with `NoCacheSlot` if the tenant already has `MOST_CACHES` caches.
-    // Always inlined: a call would return its answer in memory. Every request, of any kind, would then clear that memory and read
-    // its own answer from it.
+    // Always inlined: a call would return the answer in memory. Every request, of any kind, would then clear that memory and read
+    // its answer from there.
     #[inline(always)]
     pub(crate) fn make_cache(
         &mut self,
@@ -56,7 +56,7 @@ impl Kernel {
         })
     }
 
-    /// Destroys a cache and returns the number of frames freed.
+    /// Destroys a cache, frees its slabs and returns their number of frames.
     pub(crate) fn destroy(&mut self, t: u8, cache: u32) -> Result<u32, Refusal>
         requires { t < self.old.tenants }
         ensures { StepsMachine self.old t (Command.Destroy cache) self.new (body_of Destroyed result) }
@@ -121,7 +121,7 @@ impl Kernel {
         Ok(())
     }
 
-    /// Frees all empty slabs and returns the number of frames freed.
+    /// Frees all empty slabs of the tenant and returns their number of frames.
     pub(crate) fn reap(&mut self, t: u8) -> u32
         requires { t < self.old.tenants }
         ensures { StepsMachine self.old t Command.Reap self.new (Reaped result) }

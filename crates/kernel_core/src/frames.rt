@@ -100,8 +100,8 @@ impl Kernel {
 
     /// Returns the kind of frame `first` of tenant `t`, and a number of frames from `first` on that all have this kind. The
     /// number is the size of the taken block that begins at `first`. If no block begins there, the frame is free and the number
-    /// is 1. `order` is the order of the block, or `None`. The result is valid only if no block that begins before `first`
-    /// contains it.
+    /// is 1. `order` is the order of the block, or `None`. The result is valid only if no taken block that begins before
+    /// `first` contains frame `first`.
     fn run_at(&self, superblock: u16, t: u8, first: u32, order: Option<u8>) -> (FrameKind, usize)
         requires tenant { t < self.now.tenants }
         requires held { superblock_at self.now t (first / 2 ^ self.now.order) ≡ Some superblock }
@@ -143,7 +143,7 @@ impl Kernel {
         self.superblock_of(t, frame >> self.order()).is_some()
     }
 
-    /// Returns the list of the slab that begins at a frame of tenant `t`, or `None` if none begins there.
+    /// Returns the list of the slab that begins at frame `first` of tenant `t`, or `None` if no slab begins there.
     fn list_at(&self, t: u8, first: u32) -> Option<ListId>
         requires { t < self.now.tenants }
         ensures { MatchOption result
@@ -196,7 +196,7 @@ impl Kernel {
     }
 }
 
-/// Returns the kind of the frames of a slab in the list.
+/// Returns the kind of the frames of the slabs in this list.
 fn kind_in(list: ListId) -> FrameKind
     ensures { (order : ℕ) (m : Machine) (frame : ℕ) → IsInSlab m frame (is_kind (list.number % 3)) → IsFrame order m frame result }
 {
@@ -207,8 +207,8 @@ fn kind_in(list: ListId) -> FrameKind
     }
 }
 
-/// Sets the cells `begin..end`, which must be `Free`. Most blocks have one frame. Their cells are set without the loop, because
-/// the loop is compiled to a call of `memset`.
+/// Sets the cells `begin..end`, which must be `Free`, to `kind`. Most blocks have one frame. A single cell is set without the
+/// loop, because the loop is compiled to a call of `memset`.
 fn set_cells(cells: &mut [FrameKind], begin: usize, end: usize, kind: FrameKind)
     requires inside { end ≤ length cells.old }
     requires free { (k : ℕ) (cell : FrameKind) → begin ≤ k → k < end → slice_get cells.old k ≡ Some cell → cell ≡ Free }
@@ -226,7 +226,7 @@ fn set_cells(cells: &mut [FrameKind], begin: usize, end: usize, kind: FrameKind)
     }
 }
 
-/// Sets one cell.
+/// Sets the cell with index `at` to `kind`.
 #[inline(always)]
 fn set_cell(cells: &mut [FrameKind], at: usize, kind: FrameKind)
     requires { at < length cells.old }
@@ -237,7 +237,7 @@ fn set_cell(cells: &mut [FrameKind], at: usize, kind: FrameKind)
     cells[at] = kind;
 }
 
-/// Sets the cells `begin..end`.
+/// Sets the cells `begin..end` to `kind`.
 fn set_more_cells(cells: &mut [FrameKind], begin: usize, end: usize, kind: FrameKind)
     requires { end ≤ length cells.old }
     ensures set { (k : ℕ) (cell : FrameKind) → begin ≤ k → k < end → slice_get cells.new k ≡ Some cell → cell ≡ kind }

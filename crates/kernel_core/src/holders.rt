@@ -14,9 +14,9 @@ use words_core::Refusal;
 pub struct Holder {
     /// The number of the object's cache, or `None` for a page block.
     pub cache: Option<u32>,
-    /// The place of the first byte.
+    /// The place of the first byte of the object or block.
     pub place: u32,
-    /// The size in bytes.
+    /// The size of the object or block in bytes.
     pub bytes: u32,
 }
 

@@ -29,8 +29,8 @@ pub enum BootError {
 /// A machine shared by tenants: its memory with the pool, and the buddy systems and caches of all tenants. [`Kernel::step`]
 /// runs events on it.
 ///
-/// The memory and the buddy systems have the same superblock in each slot of each tenant, and each slab is a taken block of its
-/// tenant.
+/// The memory and the buddy systems have the same superblock in each slot of each tenant. Each slab is a taken block of the tenant
+/// that has the slab's cache.
 #[derive(Debug, Drop)]
 pub struct Kernel {
     pub(crate) space: Space,
@@ -116,7 +116,8 @@ impl Kernel {
 
         ensures refused { is_refused result.body ≡ true → self.new ≡ self.old }
 
-        // All other tenants keep their slots with their superblocks, all their bytes, and their blocks, caches and slabs.
+        // Every tenant that the event does not name keeps its slots with their superblocks, all its bytes, and its blocks, caches
+        // and slabs.
         ensures others { (t : ℕ) → is_named t event.now ≡ false → Keeps self.old self.new t }
 
         // A superblock that lost its owner is marked, and one that got an owner is unmarked. A superblock without an owner keeps
@@ -234,7 +235,7 @@ impl Kernel {
         self.run(t, request)
     }
 
-    /// Runs a command of a tenant that exists.
+    /// Runs the request of tenant `t`, which must exist, and returns the answer.
     #[inline(always)]
     pub(crate) fn run(&mut self, t: u8, request: Request<'_>) -> Answer<'_>
         requires tenant { t < self.old.tenants }

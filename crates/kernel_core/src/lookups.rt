@@ -25,8 +25,8 @@ impl Kernel {
         Some(tenant as u8)
     }
 
-    /// Returns the superblock in slot `slot` of tenant `t`, or `None` if the tenant does not hold the slot. It is the superblock
-    /// whose owner is this slot of this tenant.
+    /// Returns the superblock in slot `slot` of tenant `t`, or `None` if the tenant does not hold the slot. The owner of the
+    /// returned superblock is tenant `t` with slot `slot`.
     pub fn superblock_of(&self, t: u8, slot: u32) -> Option<u16>
         ensures value { result ≡ superblock_at self.now t slot }
         ensures owner { (m : ℕ) → (result ≡ Some m) ↔ (owner_at self.now.space.owners m ≡ Some (owned_by t slot)) }
@@ -104,8 +104,8 @@ impl Kernel {
         self.laws();
     }
 
-    /// A law of every kernel, and so also after [`Kernel::ask`]: the last 32 bytes of each slab of small objects are the bitmap
-    /// of its live objects. The call does nothing.
+    /// A law: in every kernel, also after [`Kernel::ask`], the last 32 bytes of each slab of small objects are the bitmap of its
+    /// live objects. The call does nothing.
     pub fn records_stand(&self)
         ensures { RecordsStand self.now }
     {

@@ -1,4 +1,4 @@
--- For each law, an example that meets the premises of the law. The examples are a short run of events, and the machine of a tenant
+-- For each law, an example that meets the premises of the law. The examples are a short run of events, and the machine of tenant 0
 -- after this run.
 use Rattle.std.proofs.Common.{◌≡◌, List, [], ◌∷◌, Some, Ok, slice_get, refl, arith, map, length}
 use Rattle.std.specs.Prelude.{codes}

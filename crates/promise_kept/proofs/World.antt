@@ -107,7 +107,7 @@ module _ (limit order : ℕ) (w : World) (states : List State) where
     pub state_of : (t : ℕ) (m : Machine) → slice_get w.machines t ≡ Some m → (s : State) × (slice_get states t ≡ Some s)
     state_of t m is = beside states w.machines t m h.tenants is
 
-    -- If only the machine of tenant t and the owners of its slots change, and state `next` is true of the new machine, then what is
+    -- Only the machine of tenant t and the owners of its slots change, and state `next` is true of the new machine. Then what is
     -- known, with `next` as the state of tenant t, is true of the new world.
     step_meets : (t : ℕ) (next : State) (m after : Machine) (owners : List (Option Owner)) → slice_get w.machines t ≡ Some m → Meets order next after
         → IsWellFormed limit order after → length owners ≡ length w.owners → ((u : ℕ) → holds after u ≡ list_any (is_owner t u) owners)
