@@ -10,8 +10,8 @@ use Rattle.kernel_core.specs.Content.{MarksFollow}
 abbrev pub owner_without : ℕ → Option Owner → Option Owner
 owner_without t owner = if is_of t owner then None else owner
 
--- All superblocks of tenant t are taken back; `told` is their number. These superblocks are marked, and no byte changes. All other
--- tenants keep their superblocks.
+-- All superblocks of tenant t are taken back; `told` is their number. These superblocks are marked, and no byte changes. All
+-- other tenants keep their superblocks.
 pub record GivesUp (old new : Content) (t told : ℕ) : Type 0 where
   pub count : told ≡ count_by (is_of t) old.owners
   pub unit : new.unit ≡ old.unit

@@ -32,8 +32,8 @@ abbrev pub HasPattern : Event → Type 0
 HasPattern (Event.Tenant t command) = AsksPattern command
 HasPattern (Event.Admin command) = Unit {0}
 
--- The event, with this reply, is the step of every world that the parts show. If it is refused, nothing changes. A tenant that the
--- event does not name keeps everything.
+-- The event, with this reply, is the step of every world that the parts show. If the event is refused, nothing changes. A tenant
+-- that the event does not name keeps everything.
 pub record Steps (old : KernelContent) (event : Event) (new : KernelContent) (reply : Reply) : Type 0 where
   pub sizes : SameSizes old new
   pub shows : (w : World) → Shows old w → Shows new (world_step cache_limit old.order event w).world
@@ -43,8 +43,8 @@ pub record Steps (old : KernelContent) (event : Event) (new : KernelContent) (re
   pub marks : MarksFollow old.space new.space
   pub spare : SpareStays old.space new.space
 
--- The command, with this body of its reply, is the step of every machine that the parts show for tenant t. If it is refused,
--- nothing changes.
+-- The command, with this body of its reply, is the step of every machine that the parts show for tenant t. If the command is
+-- refused, nothing changes.
 pub record StepsMachine (old : KernelContent) (t : ℕ) (command : Command) (new : KernelContent) (body : Body) : Type 0 where
   pub does : Does old t (command_step cache_limit old.order command) old.space.owners new body
   pub refused : is_refused body ≡ true → new ≡ old

@@ -29,8 +29,8 @@ pub enum BootError {
 /// A machine shared by tenants: its memory with the pool, and the buddy systems and caches of all tenants. [`Kernel::step`]
 /// runs events on it.
 ///
-/// The memory and the buddy systems have the same superblock in each slot of each tenant. Each slab is a taken block of the tenant
-/// that has the slab's cache.
+/// The memory and the buddy systems have the same superblock in each slot of each tenant. Each slab is a taken block of the
+/// tenant that has the slab's cache.
 #[derive(Debug, Drop)]
 pub struct Kernel {
     pub(crate) space: Space,

@@ -23,8 +23,8 @@ pub fn one_world()
     ensures { OneWorld }
 {}
 
-/// A law: the parts of every kernel agree, and each part has its invariants. The laws of stores and actions require this. The call
-/// does nothing.
+/// A law: the parts of every kernel agree, and the invariants of each part hold. The laws of stores and actions require this.
+/// The call does nothing.
 pub fn is_kernel(kernel: &Kernel)
     ensures { IsKernel kernel.now }
 {

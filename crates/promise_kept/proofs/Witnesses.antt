@@ -1,5 +1,5 @@
--- For each law, an example that meets the premises of the law. The examples are a short run of events, and the machine of tenant 0
--- after this run.
+-- For each law, an example that meets the premises of the law. The examples use a short run of events, and the machine of tenant
+-- 0 after this run.
 use Rattle.std.proofs.Common.{◌≡◌, List, [], ◌∷◌, Some, Ok, slice_get, refl, arith, map, length}
 use Rattle.std.specs.Prelude.{codes}
 use Rattle.std.specs.List.{AllByRecursion}
