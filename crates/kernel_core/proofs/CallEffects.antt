@@ -52,8 +52,8 @@ marks_replaced old now m o is follows owner mark told n = ⊎_elim
 
 -- Calls
 
--- a call for tenant t does the step if it changes nothing that other tenants have, returns the step's answer, and the parts show
--- the machine after the step afterwards
+-- a call for tenant t does the step if it changes nothing that other tenants have, returns the step's answer, and makes the parts
+-- show the machine that the step makes
 pub does_called : {A : Type 0} (r r' : spaces.Content) (b b' : buddies.Content) (s s' : tables.Content) (t : ℕ) → Spares t r r' b b' s s'
     → (step : Machine → Step A) (told : A)
     → ((m : Machine) → ShowsMachine (content_of r b s) t m → told ≡ (step m).answer)

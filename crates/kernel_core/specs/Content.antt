@@ -29,7 +29,7 @@ content_of space buddy slabs = record {
   slabs = slabs;
 }
 
--- the superblock in the slot of tenant t, or None if the tenant does not hold the slot
+-- the superblock in slot `slot` of tenant t, or None if the tenant does not hold the slot
 abbrev pub superblock_at : KernelContent → ℕ → ℕ → Option ℕ
 superblock_at k t slot = spaces.superblock_at k.space.slots t slot
 

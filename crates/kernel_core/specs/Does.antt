@@ -8,10 +8,10 @@ use Rattle.space_core.specs.Laws.{SpareStays}
 use Rattle.kernel_core.specs.Content.{KernelContent, SameSizes, MarksFollow, Keeps, superblock_at}
 use Rattle.kernel_core.specs.Shows.{ShowsMachine}
 
--- The call does this step of a private machine. If the parts showed a machine for tenant t before the call, they show the machine
--- after the step when the call has returned, and the call returns the step's answer. All other tenants keep everything. `owned`
--- is the list of the superblocks' owners after the call. A superblock that lost its owner is marked, and a superblock that got an
--- owner is unmarked. A superblock without an owner keeps its bytes.
+-- The call does this step of a private machine. If the parts showed machine m for tenant t before the call, they show the machine
+-- that the step makes of m, and the call returned the step's answer. All other tenants keep everything. `owned` is the list of
+-- the superblocks' owners after the call. A superblock that lost its owner is marked, and a superblock that got an owner is
+-- unmarked. A superblock without an owner keeps its bytes.
 pub record Does {A : Type 0} (old : KernelContent) (t : ℕ) (step : Machine → Step A) (owned : List (Option Owner)) (new : KernelContent) (told : A) : Type 0 where
   pub sizes : SameSizes old new
   pub shows : (m : Machine) → ShowsMachine old t m → ShowsMachine new t (step m).machine

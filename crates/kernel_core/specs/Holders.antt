@@ -13,8 +13,8 @@ pub record HasObjectAround (m : Machine) (place c begin bytes : ℕ) : Type 0 wh
   pub from : begin ≤ place
   pub below : place < begin + bytes
 
--- the holder is a live page block of the machine if its cache is None, otherwise a live object of this cache, and it contains the
--- place
+-- The holder contains the place. If it has no cache, it is a live page block of the machine. If it has a cache, it is a live
+-- object of that cache.
 abbrev pub IsHolder : Machine → ℕ → Holder → Type 0
 IsHolder m place holder = MatchOption holder.cache
     (HasBlock m place holder.place holder.bytes)

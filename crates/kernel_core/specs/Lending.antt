@@ -33,11 +33,11 @@ LendsWithin s t place len r = Lends spaces.the_row (Array u8 0) s r (λ ws. with
 abbrev pub with_left : KernelContent → ℕ → ℕ → ℕ → List ℕ → KernelContent
 with_left k t place len ws = record k { space = stored t place (fit (bytes_in k.space t place len) ws) k.space }
 
--- when the borrow ends, the bytes of the span are the last bytes that were written through r, and everything else is as before
+-- when the borrow ends, the bytes that r then has are stored in the span, and everything else is as before
 abbrev pub LendsSpan : MutBor KernelContent → Span → MutBor (List ℕ) → Fml
 LendsSpan s span r = Lends the_row (Array u8 0) s r (with_left s.now span.tenant span.place span.bytes)
 
--- the span's bytes lie in its superblock, inside one live page block or one live object of its tenant
+-- the span's bytes lie in the span's superblock, inside one live page block or one live object of the span's tenant
 pub record IsLive (k : KernelContent) (span : Span) : Type 0 where
   pub tenant : span.tenant < k.tenants
   pub reach : IsInReach k.space k.buddy k.slabs span.tenant span.place span.bytes
@@ -66,7 +66,7 @@ pub record HasBlock (m : Machine) (place begin bytes : ℕ) : Type 0 where
   pub begins : begin ≡ FRAME_BYTES * first
   pub size : bytes ≡ FRAME_BYTES * 2 ^ order
 
--- tenant t's page block that begins at this frame and has 2 ^ order frames has exactly the bytes of the span
+-- the span has exactly the bytes of a page block of tenant t that begins at this frame and has 2 ^ order frames
 pub record IsBlockSpan (span : Span) (t frame order : ℕ) : Type 0 where
   pub tenant : span.tenant ≡ t
   pub place : span.place ≡ FRAME_BYTES * frame

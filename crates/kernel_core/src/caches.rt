@@ -56,7 +56,7 @@ impl Kernel {
         })
     }
 
-    /// Destroys a cache, frees its slabs and returns their number of frames.
+    /// Destroys a cache, frees its slabs and returns the number of frames that they had.
     pub(crate) fn destroy(&mut self, t: u8, cache: u32) -> Result<u32, Refusal>
         requires { t < self.old.tenants }
         ensures { StepsMachine self.old t (Command.Destroy cache) self.new (body_of Destroyed result) }
@@ -91,7 +91,7 @@ impl Kernel {
     }
 
     /// Gives an object back to its cache.
-    // Always inlined, so that a give of an object is one call, and its result is kept in registers.
+    // Always inlined, so that giving an object back is one call, and the result is kept in registers.
     #[inline(always)]
     pub(crate) fn give(&mut self, t: u8, cache: u32, place: u32) -> Result<(), Refusal>
         requires { t < self.old.tenants }
@@ -121,7 +121,7 @@ impl Kernel {
         Ok(())
     }
 
-    /// Frees all empty slabs of the tenant and returns their number of frames.
+    /// Frees all empty slabs of the tenant and returns the number of frames that they had.
     pub(crate) fn reap(&mut self, t: u8) -> u32
         requires { t < self.old.tenants }
         ensures { StepsMachine self.old t Command.Reap self.new (Reaped result) }

@@ -143,7 +143,7 @@ impl Kernel {
         self.superblock_of(t, frame >> self.order()).is_some()
     }
 
-    /// Returns the list of the slab that begins at frame `first` of tenant `t`, or `None` if no slab begins there.
+    /// Returns the list with the slab that begins at frame `first` of tenant `t`, or `None` if no slab begins there.
     fn list_at(&self, t: u8, first: u32) -> Option<ListId>
         requires { t < self.now.tenants }
         ensures { MatchOption result

@@ -64,7 +64,7 @@ impl Kernel {
     ghost use Rattle.kernel_core.specs.Asking.{RestsRequested, RestsRequestedKnown, RestsStepped};
     ghost use Rattle.std.specs.Borrow.{sem};
 
-    /// Boots a machine of these sizes. All its memory is zero, and no superblock has an owner.
+    /// Boots a machine of these sizes. All bytes of its memory are 0, and no superblock has an owner.
     ///
     /// Returns `BadConfig` if a number in the configuration is out of range, before anything is allocated. Returns `Memory` only
     /// if an allocation was refused. No later call allocates.

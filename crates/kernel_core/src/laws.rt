@@ -44,8 +44,8 @@ pub fn loads_are_own()
 {}
 
 /// In any list of events, stores and loads after boot, a tenant gets the replies and loads the bytes that its private machine
-/// gives for the tenant's own list. So if the tenant's own lists on two machines of the same order are equal, it sees the same on
-/// both. The other tenants may do anything.
+/// gives for the tenant's own list. So if the tenant's own lists on two machines of the same order are equal, the tenant sees the
+/// same on both machines. The other tenants may do anything.
 pub fn own_sights()
     ensures own { OwnSights }
     ensures same { SameSights }

@@ -52,7 +52,7 @@ lives_on b h Holder.Page place e = any_with (in_block place) (λ x. x.first) b h
 lives_on b h (Holder.Object n first) place e = e
 
 module _ {limit : ℕ} (order k first : ℕ) (s : State) (n : Machine) (w : IsWellFormed limit order n) (h : Meets order (untold s) n) (is : choice order n k ≡ Some first) where
-  -- no object has a byte in the allocated block
+  -- no byte of an object lies in the allocated block
   outside : (o : Object) (j : ℕ) → IsObject n o → j < o.cache.size → in_block (place_of o + j) (block first k) ≡ false
   unfolding model.taken_blocks
   outside o j i byte_in =

@@ -15,7 +15,7 @@ use Rattle.model_core.proofs.CountBelow.{bit}
 use Rattle.model_core.specs.Elements.{IsIn}
 use Rattle.model_core.proofs.Lists.{each_in, in_filter, some_any}
 
--- Halves
+-- Halves of blocks
 
 two_more : (p : ℕ → Bool) (n : ℕ) → count_below p (suc n * 2) ≡ count_below p (n * 2) + bit (p (2 * n)) + bit (p (2 * n + 1))
 two_more p n =
@@ -37,8 +37,8 @@ two_bits false false = refl
 abbrev pub is_clear_alone : (ℕ → Bool) → ℕ → ℕ → Bool
 is_clear_alone ok k q = is_clear ok k q && not (is_clear ok (suc k) (q / 2))
 
--- among the first 2 * n blocks of order k, there are as many clear blocks as blocks that are clear alone, plus two for each clear
--- block among the first n blocks of the next order
+-- the number of clear blocks among the first 2 * n blocks of order k is the number of these blocks that are clear alone, plus
+-- twice the number of clear blocks among the first n blocks of the next order
 pub clear_halves : (ok : ℕ → Bool) (k n : ℕ) → count_below (is_clear ok k) (n * 2) ≡ count_below (is_clear_alone ok k) (n * 2) + 2 * count_below (is_clear ok (suc k)) n
 clear_halves ok k zero = refl
 clear_halves ok k (suc n) =
@@ -81,7 +81,7 @@ strided p s (suc n) pos only =
     let last : count_below (λ q. p (q * s)) (suc n) ≡ count_below (λ q. p (q * s)) n + bit (p (n * s)) = refl in
     omega (arith, one, before, all, last)
 
--- Tests
+-- Two tests
 
 pub count_or : (p q : ℕ → Bool) (n : ℕ) → ((x : ℕ) → p x ≡ true → q x ≡ false) → count_below (λ x. p x || q x) n ≡ count_below p n + count_below q n
 count_or p q zero apart = refl
@@ -92,7 +92,8 @@ count_or p q (suc n) apart = let rest : count_below (λ x. p x || q x) n ≡ cou
     go true b off = let none : bit b ≡ 0 = ap bit (off refl) in omega (arith, none)
     go false b off = omega arith
 
--- if every number that passes q passes p, as many numbers below n pass p as pass q, plus those that pass p but not q
+-- If every number that passes q passes p, the number of numbers below n that pass p is a sum: those that pass q, plus those that
+-- pass p but not q.
 pub count_less : (p q : ℕ → Bool) (n : ℕ) → ((x : ℕ) → q x ≡ true → p x ≡ true) → count_below p n ≡ count_below q n + count_below (λ x. p x && not (q x)) n
 count_less p q zero fewer = refl
 count_less p q (suc n) fewer = let rest : count_below p n ≡ count_below q n + count_below (λ x. p x && not (q x)) n = count_less p q n fewer in

@@ -1,5 +1,5 @@
--- The number of frames in empty slabs is a multiple of the size of the smallest of these slabs. It follows from the rows of a
--- report.
+-- The number of frames in empty slabs is a multiple of the size of the smallest empty slab. The rows of a report give this
+-- number.
 use Rattle.std.proofs.Common.{◌≡◌, ℕ, ◌+◌, ◌-◌, ◌*◌, ◌%◌, ◌^◌, ◌≤◌, Bool, true, false, List, [], ◌∷◌, ◌++◌, map, length, refl, sym, ap, ◌∙◌, subst, ◌⊎◌, inl, inr, ⊎_elim, arith}
 use Rattle.std.specs.Prelude.{if◌then◌else◌, filter, flat_map, sum_by}
 use Rattle.std.specs.List.{zip, AllByRecursion as Each}
@@ -18,7 +18,7 @@ use Rattle.model_core.proofs.Lists.{each_append, each_weaker, each_map, each_tru
 use Rattle.promise_core.specs.Holdings.{KnownCache}
 use Rattle.promise_kept.specs.Meets.{cache_as_known}
 
--- The lowest order
+-- The lowest order of the empty slabs
 
 -- a slab of one of these caches, and its cache; no empty slab of these caches has a lower order than this slab
 pub record IsLeast (cs : List Cache) : Type 0 where

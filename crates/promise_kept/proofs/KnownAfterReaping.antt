@@ -1,4 +1,4 @@
--- What is known of a machine, except for its last report, stays true after all its empty slabs are freed.
+-- What is known of a machine, except for the last report, stays true after all empty slabs of the machine are freed.
 use Rattle.std.proofs.Common.{◌≡◌, ℕ, ◌+◌, ◌<◌, Bool, true, false, not, ◌||◌, map, Some, None, refl, sym, ap, ◌∙◌, subst}
 use Rattle.std.specs.Prelude.{if◌then◌else◌, filter, flat_map, Contains}
 use Rattle.std.specs.List.{list_any}
@@ -23,7 +23,7 @@ use Rattle.promise_kept.specs.Meets.{holdings_of, is_object_live, Meets}
 use Rattle.promise_kept.proofs.EmptySlabsUnseen.{holdings_reaped}
 use Rattle.promise_kept.proofs.PlaceCells.{fresh_may}
 
--- the state without its last report
+-- the state without the last report
 abbrev pub untold : State → State
 untold s = record s { told = None }
 

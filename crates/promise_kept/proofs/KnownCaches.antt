@@ -70,8 +70,8 @@ unfolding holdings_of
 told_live m number first place l = any_in (is_told number first) (cache_as_known l.cache) (map cache_as_known m.caches) (in_map cache_as_known l.cache m.caches l.cache_in)
     (and_from (eqb l.cache.number number) (list_any (λ p. eqb p first) (map (λ o. o.place) (live_objects l.cache))) (eq-eqb l.cache.number number l.number_is) (any_place first l.cache l.place))
 
--- Cache c is replaced by cache d with the same number. An object that was live is live afterwards too, if it is an object of
--- another cache or is live in d.
+-- Cache c is replaced by cache d, which has the same number. An object that was live is still live if it is an object of another
+-- cache, or if a live object of d begins at its first place.
 pub live_replaced : (c d : Cache) (m : Machine) → RisesFrom 0 (map (λ x. x.number) m.caches) → IsIn c m.caches → c.number ≡ d.number → (number first : ℕ) → IsLiveIn number first m.caches
     → (number ≡ c.number → IsLivePlace c first → IsLivePlace d first) → IsLiveIn number first (with_cache d m).caches
 live_replaced c d m rises in_c same number first k still = go (cases_eq k.cache.number c.number)

@@ -1,4 +1,4 @@
--- The live objects beside an object are the live objects of its slab.
+-- The live objects beside an object are the live objects of the object's slab.
 use Rattle.std.proofs.Common.{◌≡◌, ℕ, ◌+◌, ◌/◌, ◌<◌, ◌≤◌, Bool, true, false, eqb, List, [], ◌∷◌, ◌++◌, map, length, get_or, refl, sym, ap, ◌∙◌, subst, inl, inr, arith}
 use Rattle.std.specs.Prelude.{filter}
 use Rattle.std.specs.List.{list_any, list_all}
@@ -63,7 +63,7 @@ less_count c s e = not_all_live (alone c s) s 0 s.live e
 pub some_count : (c : Cache) (s : Slab) → list_any (λ live. live) s.live ≡ true → 0 < length (places_in c s)
 some_count c s e = any_live (alone c s) s 0 s.live e
 
--- The objects
+-- The live objects beside an object
 
 pub record IsBeside (c : Cache) (s : Slab) (u : ℕ) : Type 0 where
   pub index : ℕ

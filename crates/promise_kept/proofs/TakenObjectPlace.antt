@@ -1,4 +1,4 @@
--- If an object is taken, its first place is put among the places of its cache's live objects.
+-- If an object is taken, its first place is put among the first places of the cache's live objects.
 use Rattle.std.proofs.Common.{◌≡◌, ◌≢◌, ℕ, ◌<◌, true, List, map, refl, sym, subst, ◌⊎◌, inl, inr, arith}
 use Rattle.std.proofs.lemmas.List.{map-id}
 use Rattle.model_core.specs.Layouts.{object_place}

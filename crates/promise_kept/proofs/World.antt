@@ -1,4 +1,4 @@
--- Each grant, take-back, reset, move and command keeps the promises, in each case in which it is accepted or refused.
+-- Each grant, take-back, reset, move and command keeps the promises, whether it is accepted or refused.
 use Rattle.std.proofs.Common.{◌≡◌, ◌≢◌, ℕ, zero, suc, ◌+◌, ◌*◌, ◌^◌, ◌<◌, ◌≤◌, Bool, true, false, not, ◌&&◌, ◌||◌, eqb, List, [], ◌∷◌, map, length, Option, Some, None, Ok, is_none, position, slice_get, refl, sym, ap, ◌∙◌, subst, ⊎_elim, arith}
 use Rattle.std.specs.Prelude.{slice_set, count_by, is_some, unwrap_or}
 use Rattle.std.specs.List.{list_any, list_all, position_or_len}

@@ -44,27 +44,28 @@ CanBeRequested (Event.Admin command) = ⊤
 abbrev pub EventIsKept : Type 0
 EventIsKept = (limit order : ℕ) (event : Event) → 3 ≤ order → CanBeRequested event → IsEventKept limit order event
 
--- If an event names a tenant that does not exist, its reply is allowed, and neither the world nor what is known changes.
+-- If an event names a tenant that does not exist, the reply is allowed, and neither the world nor what is known changes.
 abbrev pub StrangerChangesNothing : Type 0
 StrangerChangesNothing = (limit order t : ℕ) (event : Event) (k : Known) (w : World) → MeetsWorld limit order k w
     → named event ≡ Some t → length w.machines ≤ t
     → (allowed event (world_step limit order event w).reply k ≡ Ok k) × ((world_step limit order event w).world ≡ w)
 
--- every reply in the run of these events from the opening world is allowed, and what is known after the run is true of the world
+-- Every reply in the run of these events from the opening world is allowed. What is known after the run is true of the world
+-- after the run.
 pub record IsKeptRun (limit order superblocks tenants : ℕ) (events : List Event) : Type 0 where
   pub after : Known
   pub are_allowed : all_allowed (opening_history limit order superblocks tenants events)
       (Ok (opening limit order superblocks tenants)) ≡ Ok after
   pub meets : MeetsWorld limit order after (world_after limit order (opening_world superblocks tenants) events)
 
--- In a run of possible events from the opening world, every reply is allowed. Slots have at least 8 frames, and RAM has at most
+-- In a run of possible events from the opening world, every reply is allowed, if slots have at least 8 frames and RAM has at most
 -- 2 ^ 32 places.
 abbrev pub KeepsPromises : Type 0
 KeepsPromises = (limit order superblocks tenants : ℕ) (events : List Event)
     → 3 ≤ order → superblocks * 2 ^ order * 4096 ≤ 2 ^ 32 → AllByRecursion CanBeRequested events
     → IsKeptRun limit order superblocks tenants events
 
--- In the run of the events of any trace, every reply is allowed. Slots and RAM are as in `KeepsPromises`.
+-- In the run of the events of any trace, every reply is allowed, if slots and RAM have the sizes that `KeepsPromises` requires.
 abbrev pub TraceKeepsPromises : Type 0
 TraceKeepsPromises = (limit order superblocks tenants : ℕ) (trace : List ℕ)
     → 3 ≤ order → superblocks * 2 ^ order * 4096 ≤ 2 ^ 32

@@ -44,13 +44,14 @@ pub fn event_is_kept()
     ensures { EventIsKept }
 {}
 
-/// If an event names a tenant that does not exist, its reply is allowed, and neither the world nor what is known changes.
+/// If an event names a tenant that does not exist, the reply is allowed, and neither the world nor what is known changes.
 pub fn stranger_changes_nothing()
     ensures { StrangerChangesNothing }
 {}
 
-/// In every run from the opening world, each reply is allowed. The events are those of any trace, or any events whose new caches
-/// have patterns of 1 to 16 bytes. Slots have at least 8 frames, and RAM has at most 2^32 places, as in every machine that boots.
+/// In every run from the opening world, each reply is allowed. The events are those of a trace, or any events whose new caches
+/// have patterns of 1 to 16 bytes. Slots must have at least 8 frames, and RAM must have at most 2^32 places, as in every machine
+/// that boots.
 pub fn keeps_promises()
     ensures kept { KeepsPromises }
     ensures by_traces { TraceKeepsPromises }
