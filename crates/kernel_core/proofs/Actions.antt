@@ -34,7 +34,8 @@ seen-append limit order (x ∷ xs) ys m =
     ap (then_seen first.sights) (seen-append limit order xs ys first.machine)
     ∙ ap (λ sights. record { sights = sights; machine = rest.machine }) (sym (append_assoc first.sights (own_seen limit order xs first.machine).sights rest.sights))
 
--- if an own list has only entries, its sights and its machine are those of a private run of these entries
+-- if an own list has only entries, the tenant sees the replies of a private run of these entries, and the machine afterwards is
+-- the machine after that run
 entered : (limit order : ℕ) (entries : List Entry) (m : Machine)
     → own_seen limit order (map Enters entries) m
     ≡ record { sights = map Told (private_run limit order entries m).replies; machine = (private_run limit order entries m).machine }

@@ -111,7 +111,7 @@ has_row r b s t agree known = omega (arith, agree.rows)
 pub no_row : (r : spaces.Content) (b : buddies.Content) (s : tables.Content) (t u : ℕ) → Agree r b s → length b.tenants ≤ t → spaces.superblock_at r.slots t u ≡ None
 no_row r b s t u agree past = ap (λ row. slice_index_or row u None) (get_or_past r.slots t [] (omega (arith, agree.rows)))
 
--- parts that hold together agree
+-- if `HoldTogether` is true of the parts of a kernel, the parts agree
 pub parts_agree : (r : spaces.Content) (b : buddies.Content) (s : tables.Content) → HoldTogether r b s → PartsAgree (content_of r b s)
 parts_agree r b s holds = record {
   space = holds.space.facts;

@@ -33,7 +33,7 @@ content_of space buddy slabs = record {
 abbrev pub superblock_at : KernelContent → ℕ → ℕ → Option ℕ
 superblock_at k t slot = spaces.superblock_at k.space.slots t slot
 
--- the bytes of a superblock
+-- the bytes of superblock m
 abbrev pub superblock_bytes : KernelContent → ℕ → List ℕ
 superblock_bytes k m = spaces.bank k.space.banks m
 

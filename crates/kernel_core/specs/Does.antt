@@ -1,4 +1,4 @@
--- What a call for one tenant does to the parts.
+-- What a call for one tenant does to the parts of a kernel.
 use Rattle.std.specs.Prelude.{◌≡◌, ◌≢◌, ℕ, List, Option, Some, None, slice_set}
 use Rattle.model_core.specs.declared.owner.Owner.{Owner}
 use Rattle.model_core.specs.Machine.{Machine, empty_machine}

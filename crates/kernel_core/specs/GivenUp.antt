@@ -1,4 +1,4 @@
--- Taking back all superblocks of one tenant.
+-- How the memory changes when all superblocks of one tenant are taken back.
 use Rattle.std.specs.Prelude.{◌≡◌, ◌≢◌, ℕ, Option, None, length, map, count_by, if◌then◌else◌}
 use Rattle.model_core.specs.declared.owner.Owner.{Owner}
 use Rattle.model_core.specs.Owners.{is_of}

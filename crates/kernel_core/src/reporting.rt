@@ -23,7 +23,7 @@ use words_core::{ORDERS, Report};
 /// The figures of a tenant's blocks.
 #[derive(Drop)]
 struct Blocks {
-    /// The blocks of each order, from order 0 on.
+    /// The numbers of free and taken blocks of each order, from order 0 on.
     orders: ArrayVec<OrderRow, ORDERS>,
     /// The number of frames in taken blocks.
     live: u32,
@@ -38,7 +38,7 @@ pub struct BlockFigures {
     pub frames: u32,
     /// The number of these frames in taken blocks: page blocks and slabs, including empty slabs.
     pub live: u32,
-    /// The blocks of each order, from order 0 on.
+    /// The numbers of free and taken blocks of each order, from order 0 on.
     pub orders: ArrayVec<OrderRow, ORDERS>,
 }
 
@@ -86,7 +86,8 @@ impl Kernel {
     }
 }
 
-/// Returns the blocks of tenant `t`: a row for each order, the number of taken frames, and the greatest order of a free block.
+/// Returns the figures of tenant `t`'s blocks: a row for each order, the number of taken frames, and the greatest order of a free
+/// block.
 fn orders_of(buddy: &Buddy, t: u8) -> Blocks
     requires tenant { t < length buddy.now.tenants }
     requires fit { AreWithin buddy.now t }

@@ -115,7 +115,7 @@ module _ {limit : ℕ} (order : ℕ) (m : Machine) (s : State) (w : IsWellFormed
   busy_seen u e = ap (λ b. not (not b)) (any_none (operations.overlaps (slot_block order u)) (known_blocks (holdings_of m)) (each_from (λ t. operations.overlaps (slot_block order u) t ≡ false) (known_blocks (holdings_of m))
       (λ t i. each_in (λ t. operations.overlaps (slot_block order u) t ≡ false) t (model.taken_blocks m) (none_any (operations.overlaps (slot_block order u)) (model.taken_blocks m) e) (taken_seen order m t w i))))
 
-  -- if a slot is busy, it is seen as busy or some cache may have an empty slab
+  -- if a slot is busy, it is seen as busy or some cache is known as one that may have an empty slab
   pub busy_may : (u : ℕ) → operations.is_busy order m u ≡ true → (is_slot_busy order (holdings_of m) u || list_any (λ c. s.may_have_empty c.number) (holdings_of m).caches) ≡ true
   unfolding operations.is_busy model.taken_blocks holdings_of known_blocks
   busy_may u e =
