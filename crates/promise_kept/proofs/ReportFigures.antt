@@ -45,8 +45,8 @@ module _ (top : ℕ) (held : ℕ → Bool) (taken : Taken) (slots : ℕ) where
   abbrev free : ℕ → ℕ
   free k = count_below (free_at k) (slots * 2 ^ top)
 
-  -- if k + d is the order of a slot, the number of free blocks of order k is the number of q below slots * 2 ^ d for which block q
-  -- of order k is free
+  -- if k + d is the order of a slot, the number of free blocks of order k is the number of q below slots * 2 ^ d for which block
+  -- q of order k is free
   numbered : (k d : ℕ) → k + d ≡ top → free k ≡ count_below (λ q. free_at k (q * 2 ^ k)) (slots * 2 ^ d)
   numbered k d e =
       let size : 2 ^ top ≡ 2 ^ k * 2 ^ d = ap (λ n. 2 ^ n) (sym e) ∙ pow-add 2 k d in
