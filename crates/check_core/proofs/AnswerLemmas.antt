@@ -1,4 +1,4 @@
--- Reading the whole text of an answer returns this answer.
+-- The text of an answer is read as this answer, and an answer that is read from a text has this text.
 use Rattle.std.proofs.Common.{◌≡◌, ℕ, ◌^◌, ◌<◌, true, List, [], ◌∷◌, ◌++◌, map, get_or, Option, Some, refl, sym, subst, ◌∙◌, ap, arith, append_assoc, append-nil}
 use Rattle.std.specs.Prelude.{codes, decimal, nat_lt}
 use Rattle.std.specs.List.{concat}
@@ -93,7 +93,7 @@ alone_of who said = whole said >>= (λ alone. Some (record { addressee = who; bo
 abbrev pub said_of : Addressee × List ℕ → Option Reply
 said_of front = said_at front.1 >>= alone_of front.0
 
--- if an answer is read from a text, it has this text
+-- if `answer_of` reads a reply from a text, the reply has this text and is an answer
 pub answer_takes : (text : List ℕ) (reply : Reply) → answer_of text ≡ Some reply
     → (text_of reply ≡ text) × IsAnswer reply.body
 unfolding answer_of
@@ -110,7 +110,7 @@ answer_takes text reply e =
     let is_answer = subst IsAnswer same answers in
     subst (λ (reply : Reply). (text_of reply ≡ text) × IsAnswer reply.body) (same_Some made reply last) (answer_text made is_answer ∙ sym parts, is_answer)
 
--- the text of an answer is read as this answer
+-- the text of an answer is read as this answer, if its numbers fit their types
 pub answer_again : (text : List ℕ) (reply : Reply) → IsAnswer reply.body → Fits reply → text_of reply ≡ text → answer_of text ≡ Some reply
 unfolding answer_of
 answer_again text reply answers (who_fits, said_fits) text_is =

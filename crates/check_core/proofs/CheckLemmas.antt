@@ -1,4 +1,4 @@
--- From the verdicts on replies to the finding.
+-- The finding follows from the verdicts on the replies, line by line.
 use Rattle.std.proofs.Common.{◌≡◌, ℕ, suc, ◌+◌, ◌-◌, ◌≤◌, true, false, List, [], ◌∷◌, ◌++◌, Option, Some, None, Result, Ok, Err, length, refl, sym, ap, subst, ◌∙◌, append-nil, append_assoc, arith}
 use Rattle.std.specs.Prelude.{◌==◌}
 use Rattle.std.specs.Option.{option_map_or}
@@ -32,7 +32,7 @@ use Rattle.check_core.specs.Finding.{after_lines, lines_at, broken_by, finding, 
 
 -- Lines that are read as a reply
 
--- the gathered lines are read as the same reply, whatever follows them
+-- whatever bytes follow `k` gathered lines, the first `k` lines are read as the reply with the gathered text
 pub read_first : {k : ℕ} {came : List ℕ} {text : Gathered MOST_TEXT_BYTES} → HasGathered k came text → (more : List ℕ) → reply_in k (came ++ more) ≡ text_read came
 read_first come more = ap (λ (found : Option (List ℕ × List ℕ)). found >>= (λ parts. text_read parts.0)) (stand_first come more)
 
@@ -40,12 +40,12 @@ pub read_there : {k : ℕ} {came : List ℕ} {text : Gathered MOST_TEXT_BYTES} (
     → (more : List ℕ) → reply_in (suc (more_lines event w)) (came ++ more) ≡ text_read came
 read_there {came = came} event w come count more = ap (λ n. reply_in n (came ++ more)) (sym count) ∙ read_first come more
 
--- if a part is `k` whole lines, what follows the first `k` lines is what follows the part
+-- if `part` is `k` whole lines, the bytes that follow the first `k` lines of `part ++ more` are `more`
 pub left_after : (k : ℕ) (part more : List ℕ) → lines_at k part ≡ Some (part, []) → after_lines k (part ++ more) ≡ more
 left_after k part more whole =
     ap (λ (found : Option (List ℕ × List ℕ)). option_map_or (λ parts. parts.1) found []) (lines_behind k part more (part, []) whole)
 
--- if the replies have ended before all lines of a reply have come, the missing lines never come
+-- if the replies have ended with fewer lines than the reply to the event must have, no reply is read from them
 pub none_there : (new : Source) (n : ℕ) (part : List ℕ) (event : Event) (w : Known) → HasEnded new → lines_at n part ≡ None → n ≤ suc (more_lines event w)
     → (more : List ℕ) → MayFollow new more → reply_in (suc (more_lines event w)) (part ++ more) ≡ None
 none_there new n part event w ended none few more may =
@@ -59,12 +59,12 @@ pub by_reply : (event : Event) (bytes : List ℕ) (w : Known) (found : Option Re
     → verdict_at (Ok (Some event)) bytes w ≡ option_map_or (λ reply. allowed event reply w) found (Err (broken_by event (refusal_read (reply_in 1 bytes)) w))
 by_reply event bytes w found e = ap (λ (r : Option Reply). option_map_or (λ reply. allowed event reply w) r (Err (broken_by event (refusal_read (reply_in 1 bytes)) w))) e
 
--- if the lines form no reply, the broken promise is the one that `broken_by` gives
+-- if the lines form no reply, the broken promise is the one that `broken_by` returns
 pub no_reply_judged : (event : Event) (bytes : List ℕ) (w : Known) (promise : Promise) → reply_in (suc (more_lines event w)) bytes ≡ None
     → promise ≡ broken_by event (refusal_read (reply_in 1 bytes)) w → verdict_at (Ok (Some event)) bytes w ≡ Err promise
 no_reply_judged event bytes w promise none is = by_reply event bytes w None none ∙ ap (λ (p : Promise). Err p) (sym is)
 
--- if the gathered bytes are within the limit, they are read as the reply that they spell
+-- if the gathered bytes are within the limit, `text_read` reads them as the reply that `reply_of_text` reads
 pub read_so : (came bytes : List ℕ) (found : Option Reply) → whole_of MOST_TEXT_BYTES came ≡ Some bytes → reply_of_text bytes ≡ found → text_read came ≡ found
 read_so came bytes found whole is = ap (λ text. text >>= reply_of_text) whole ∙ is
 
@@ -80,7 +80,7 @@ pub no_refusal_told : (who : Addressee) (answer : Answer) → ((refusal : Refusa
 no_refusal_told who (Answer.Refused refusal) other = absurd (other refusal refl)
 no_refusal_told who _ other = refl
 
--- a table is no refusal
+-- a table is not a refusal
 no_refusal : (who : Addressee) (body : Body) → is_table body ≡ true → refusal_told who body ≡ None
 no_refusal who (Say.Refused refusal) is = absurd cc
 no_refusal who _ is = refl
@@ -121,14 +121,15 @@ ends_broken line at ask (b ∷ tell) w none ended = ap (λ (bytes : List ℕ). f
 
 -- ---- the finding, whatever follows
 
--- The finding of two texts is the finding of what follows the parts that were read. If memory may run out in what follows, it may
--- run out in the two texts.
+-- The parts `asked` and `told` of the two texts have been read. The finding for the whole texts is the finding for the bytes that
+-- follow these parts, from the state `now` and the line numbers `line` and `at` on. If memory may run out in the bytes that
+-- follow, it may run out in the whole texts.
 abbrev pub IsBehind : (w : Known) (asked told : List ℕ) (line at : ℕ) (trace : Source) (now : Known) → Type 0
 IsBehind w asked told line at trace now = (more later : List ℕ) → MayFollow trace more
     → (finding_of w (asked ++ more) (told ++ later) ≡ finding line at (readings_of more) later now)
     × (ComesToAdd (readings_of more) later now → ComesToAdd (readings_of (asked ++ more)) (told ++ later) w)
 
--- this also holds if the texts go on with one more part each
+-- what `IsBehind` says of the bytes that follow `asked` and `told` also holds if these bytes begin with `part` and `answer`
 pub behind_parts : {now : Known} {line at : ℕ} {old new : Source} (w : Known) (asked told part answer : List ℕ) → IsBehind w asked told line at old now
     → HasGiven old new part → (more later : List ℕ) → MayFollow new more
     → (finding_of w ((asked ++ part) ++ more) ((told ++ answer) ++ later) ≡ finding line at (readings_of (part ++ more)) (answer ++ later) now)
@@ -151,7 +152,8 @@ has_reply (Ok None) bytes w promise is = absurd cc
 has_reply (Ok (Some event)) bytes w promise is = tt
 has_reply (Err fault) bytes w promise is = tt
 
--- if the next part of the trace is empty or one line with a reply, a breach with these numbers is at that part
+-- Let the next part of the trace be empty, or one line that has a reply. If the breach is at the last trace line up to the end of
+-- this part, and at reply line `at + 1`, it is a breach at this part.
 pub breach_at : {now : Known} {line at : ℕ} (trace : Source) (w : Known) (asked told part answer : List ℕ) (breach : Breach) (readings : List Line)
     → IsBehind w asked told line at trace now → lines_at at told ≡ Some (told, []) → readings_of part ≡ readings → breach.line ≡ line + length readings
     → breach.reply ≡ at + 1 → IsLineOrNone readings → IsBreachAt w breach (asked ++ part) (told ++ answer) part answer

@@ -1,4 +1,4 @@
--- The number of lines of an allowed reply is the number that is read for its event.
+-- An allowed reply has as many lines as are read for its event.
 use Rattle.std.proofs.Common.{◌≡◌, ℕ, suc, ◌+◌, Bool, true, false, List, [], ◌∷◌, map, length, length-append, Option, Some, None, Ok, slice_get, refl, sym, ap, ◌∙◌, inl, inr, arith}
 use Rattle.std.specs.Prelude.{nat_lt, if◌then◌else◌}
 use Rattle.std.specs.Option.{option_map_or}

@@ -1,4 +1,4 @@
--- How a call ends, from the calls that it made.
+-- How a call ends follows from how the calls that it made ended.
 use Rattle.std.proofs.Common.{◌≡◌, ℕ, suc, Bool, false, List, ◌∷◌, Option, Some, Result, Ok, Err, inr, subst, sym}
 use Rattle.std.specs.Prelude.{IsErrAnd}
 use Rattle.words_core.specs.declared.event.Event.{Event}
@@ -21,17 +21,18 @@ pub ended_so : {A : Type 0} (r : Result A Unchecked) (u v : Bool) (S T : Type 0)
 ended_so (Ok done) u v S T f is = is
 ended_so (Err why) u v S T f is = stopped_so why u v S T f is
 
--- a call that returns the error of a stopped call is stopped in the same way
+-- if a call was stopped, and its caller returns the same error, the caller is stopped in the same way
 pub stopped_on : {A : Type 0} (why : Unchecked) (r : Result A Unchecked) (u v : Bool) (S : Type 0) → IsErrAnd r (λ e. e ≡ why)
     → IsStoppedBy why u v S → IsEndedBy r u v S
 stopped_on why (Ok done) u v S same is = absurd same
 stopped_on why (Err e) u v S same is = subst (λ x. IsStoppedBy x u v S) (sym same) is
 
--- what is known of the end of a call without a reader also holds with a reader that has not failed
+-- what `IsEndedBy` says of a call without readers also holds with a reader of the replies that has not failed
 pub ended_where : {A : Type 0} (r : Result A Unchecked) (v : Bool) (S T : Type 0) → v ≡ false → (S → T) → IsEndedBy r false false S → IsEndedBy r false v T
 ended_where r v S T fine f is = subst (λ untold. IsEndedBy r false untold T) (sym fine) (ended_so r false false S T f is)
 
--- if one reader failed and the other had not, the error of the failed reader stops the call
+-- if a call that uses one reader was stopped, the other reader has not failed, and the caller returns the same error, the caller
+-- is stopped in the same way
 pub stopped_reading : {A : Type 0} (why : Unchecked) (r : Result A Unchecked) (u v : Bool) (S : Type 0) → IsErrAnd r (λ e. e ≡ why)
     → v ≡ false → IsStoppedBy why u false ⊥ → IsEndedBy r u v S
 stopped_reading why r u v S same fine is = stopped_on why r u v S same
@@ -42,18 +43,18 @@ pub stopped_telling : {A : Type 0} (why : Unchecked) (r : Result A Unchecked) (u
 stopped_telling why r u v S T same fine f is = stopped_on why r u v T same
     (subst (λ unread. IsStoppedBy why unread v T) (sym fine) (stopped_so why false v S T f is))
 
--- if memory ran out and neither reader had failed, the call is stopped by that
+-- if a call returns `Memory`, and neither reader has failed, the call was stopped because memory ran out
 pub ran_out : {A : Type 0} (r : Result A Unchecked) (u v : Bool) (S : Type 0) → IsErrAnd r (λ e. e ≡ Not.Memory) → u ≡ false → v ≡ false → S
     → IsEndedBy r u v S
 ran_out r u v S same fine_u fine_v on = stopped_on Not.Memory r u v S same (fine_u, fine_v, on)
 
--- if the reply to the judged line is allowed and adds something, memory may run out at that line
+-- an allowed addition in a machine is also an allowed addition in the state that this machine shows
 pub adds_at : (event : Event) (reply : Reply) (bytes : List ℕ) (m : SeenMachine) (w : Known) → reply_in (suc (more_lines event w)) bytes ≡ Some reply
     → ShowsKnown m w → IsAllowedAddition event reply m → AddsAt (Ok (Some event)) bytes w
 adds_at event reply bytes m w found shown is =
     let after = is.allowed w shown in (reply, after.0, found, after.1, is.adds)
 
--- if the reply to a line is allowed, and memory may run out at a later line, it may run out in all of these lines
+-- if the reply to a line is allowed, and memory may run out at one of the later lines, it may run out at one of all these lines
 pub adds_later : (lines : ℕ) (reading : Result (Option Event) LineFault) (readings : List (Result (Option Event) LineFault)) (bytes : List ℕ)
     (w after : Known) → verdict_at reading bytes w ≡ Ok after → lines ≡ lines_to reading w → ComesToAdd readings (after_lines lines bytes) after
     → ComesToAdd (reading ∷ readings) bytes w

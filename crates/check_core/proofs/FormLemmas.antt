@@ -1,4 +1,5 @@
--- The numbers that are found in a form give its text, and its text gives the numbers.
+-- A text that matches a form is the form with its numbers filled in, and a form with numbers filled in matches with these
+-- numbers.
 use Rattle.std.proofs.Common.{rules, ◌≡◌, ℕ, zero, suc, ◌+◌, ◌-◌, ◌*◌, ◌^◌, ◌<◌, ◌≤◌, Bool, true, false, cond, not, ◌&&◌, List, [], ◌∷◌, ◌++◌, length, get_or, take, drop, fold, Option, Some, None, refl, sym, ◌∙◌, ap, subst, append_assoc, arith, take-append-drop}
 use Rattle.std.specs.Prelude.{decimal, ◌==◌, take_while}
 use Rattle.std.specs.List.{list_all, prefix_len, All}
@@ -31,7 +32,7 @@ is_decimal : (word : List ℕ) (n : ℕ) → plain_number word ≡ Some n
     → (0 < length word) × (list_all is_ascii_digit word ≡ true) × (value_of word ≡ n) × (n < 2 ^ 32) × (get_or word 0 0 ≡ 48 → length word ≡ 1)
 is_decimal word n e = grind (arith, nat_tests)
 
--- a word that was read as a number is that number in decimal
+-- if a word is read as a number, the word is this number in decimal, and the number is below 2 ^ 32
 decimal_is : (word : List ℕ) (n : ℕ) → plain_number word ≡ Some n → (decimal n ≡ word) × (n < 2 ^ 32)
 decimal_is word n e =
     let (some, digits, value, small, lead) = is_decimal word n e in
@@ -51,7 +52,7 @@ plain_again n small =
     again (decimal n) n (decimal_nonempty n wide) (length-decimal-le 10 n (omega arith) (omega arith) wide)
     (digits_decimal own n wide) (digits_value-decimal own n wide) small (no_zero n small)
 
--- the text does not begin with a byte that passes
+-- the text is empty, or its first byte does not pass the test `p`
 abbrev pub StopsAt : (ℕ → Bool) → List ℕ → Type 0
 StopsAt p [] = Unit {0}
 StopsAt p (b ∷ _) = p b ≡ false
@@ -77,7 +78,7 @@ size_of p front rest all ends =
     let whole = front ++ rest in
     ap (λ n. length (take n whole)) (prefix_is p front rest all ends) ∙ ap length (take_at front rest (length front) refl)
 
--- a number that was found at the front is a decimal number, with the rest behind it
+-- if `number_at` finds a number, the text is this number in decimal, and then the rest
 number_takes : (text : List ℕ) (n : ℕ) (rest : List ℕ) → number_at text ≡ Some (n, rest) → text ≡ decimal n ++ rest
 unfolding number_at
 number_takes text n rest e =
@@ -98,12 +99,12 @@ number_again n rest small ends =
 
 -- ---- forms
 
--- The text of a form: the numbers in decimal, in the places of the `#`.
+-- the text of a form with these numbers: each `#` is replaced by the next number in decimal
 abbrev pub form_text : List ℕ → List ℕ → List ℕ
 form_text [] ns = []
 form_text (mark ∷ form) ns = cond (mark == 35) (decimal (get_or ns 0 0) ++ form_text form (drop 1 ns)) (mark ∷ form_text form ns)
 
--- what may follow a `#`: neither a digit nor another `#`
+-- the form begins with a byte that may follow a `#`, which is neither a digit nor another `#`
 abbrev pub may_follow : List ℕ → Bool
 may_follow [] = false
 may_follow (b ∷ _) = not (is_ascii_digit b) && not (b == 35)
@@ -162,7 +163,8 @@ one_takes mark form text None after others rest found after_is count =
       omega (arith, count, first_mark (mark ∷ form) form mark false refl test),
     )
 
--- if a form matches, the text is the text of the form and what follows it
+-- if a text matches a form, it is the text of the form with the numbers found, and then the rest; there is one number for each
+-- `#`
 pub form_takes : (form text ns rest : List ℕ) → form_at form text ≡ Some (ns, rest)
     → (text ≡ form_text form ns ++ rest) × (length ns ≡ marks form)
 unfolding form_at
@@ -214,7 +216,7 @@ again_letter mark form ns rest is more =
     ∙ ap (λ t. cond t (Some (None, text)) None) (itself mark))
     ∙ ap (λ others. others >>= (λ others. Some (others.0, others.1))) more
 
--- the text of a form matches the form, with the same numbers
+-- the text of a form with numbers below 2 ^ 32 matches the form, with these numbers
 pub form_again : (form ns rest : List ℕ) → is_form form ≡ true → length ns ≡ marks form → All (λ n. n < 2 ^ 32) ns
     → form_at form (form_text form ns ++ rest) ≡ Some (ns, rest)
 unfolding form_at

@@ -1,10 +1,10 @@
--- The numbers of a form, one after the other.
+-- Matching a form one byte at a time.
 use Rattle.std.proofs.Common.{◌≡◌, ℕ, suc, ◌+◌, Bool, true, false, cond, List, [], ◌∷◌, ◌++◌, Option, Some, None, refl, sym, ◌∙◌, ap, append-nil, append_assoc, arith, ◌<◌, length, get_or, drop, drop-cons}
 use Rattle.std.specs.Prelude.{count_by, ◌==◌}
 use Rattle.std.proofs.lemmas.List.Sums.{sum_by-cons}
 use Rattle.check_core.specs.Forms.{◌>>=◌, number_at, letter_at, mark_at, onto, form_at}
 
--- these numbers, before the ones that were found
+-- the result of a match, with the numbers `front` put in front of the numbers that were found
 abbrev pub with_front : List ℕ → Option (List ℕ × List ℕ) → Option (List ℕ × List ℕ)
 with_front front found = found >>= (λ others. Some (front ++ others.0, others.1))
 
@@ -14,7 +14,7 @@ onto_front front number None = refl
 onto_front front None (Some others) = ap (λ numbers. Some (numbers ++ others.0, others.1)) (sym (append-nil front))
 onto_front front (Some n) (Some others) = ap (λ numbers. Some (numbers, others.1)) (sym (append_assoc front (n ∷ []) others.0))
 
--- if one more byte of the form matches, its number is put behind the numbers in front, and the result is the same
+-- if one more byte of the form matches, its number, if it has one, is put at the end of `front`, and the total stays the same
 pub goes_on : (front form next rest after : List ℕ) (mark : ℕ) (number : Option ℕ) (total : Option (List ℕ × List ℕ))
     → form ≡ mark ∷ next → mark_at mark rest ≡ Some (number, after) → with_front front (form_at form rest) ≡ total
     → with_front (front ++ onto number []) (form_at next after) ≡ total
@@ -50,7 +50,7 @@ letter b text = Some (None, text)
 abbrev numbered : Option (ℕ × List ℕ) → Found
 numbered found = found >>= (λ number. Some (Some number.0, number.1))
 
--- 2 for a number, 1 for another byte, 0 for no match
+-- 2 if a number matches, 1 if another byte matches, and 0 if nothing matches
 abbrev kind : Found → ℕ
 kind None = 0
 kind (Some (None, text)) = 1
@@ -81,7 +81,7 @@ pub letter_is : (mark : ℕ) (text after : List ℕ) → mark_at mark text ≡ S
 unfolding mark_at
 letter_is mark text after e = is_letter (mark == 35) (number_at text) (letter_at mark text) after e
 
--- the form from byte k on is byte k and the form behind it
+-- the form from byte k on is byte k, and then the form from byte k + 1 on
 pub left_from : (form : List ℕ) (k : ℕ) → k < length form → drop k form ≡ get_or form k 0 ∷ drop (k + 1) form
 left_from form k within =
     let next : suc k ≡ k + 1 = omega arith in drop-cons form k 0 within ∙ ap (λ n. get_or form k 0 ∷ drop n form) next
@@ -122,7 +122,7 @@ letter_on form next rest letter form_is is =
     ap (λ form. form_at form rest) form_is
     ∙ ap (λ test. cond test (numbered (number_at rest)) (letter_at letter rest) >>= (λ first. form_at next first.1 >>= (λ others. Some (onto first.0 others.0, others.1)))) is
 
--- if the form and the text begin with the same letter, matching them is matching what follows the letter in both
+-- if the form and the text begin with the same letter, matching them gives the same as matching what follows this letter in both
 pub letter_found : (form next rest after : List ℕ) (letter : ℕ) → form ≡ letter ∷ next → (letter == 35) ≡ false → letter_at letter rest ≡ Some (None, after)
     → form_at form rest ≡ form_at next after
 letter_found form next rest after letter form_is is found =
@@ -140,11 +140,11 @@ pub word_ends : (word rest : List ℕ) → word ≡ [] → form_at word rest ≡
 unfolding form_at
 word_ends word rest is = ap (λ word. form_at word rest) is
 
--- this word is matched behind a number, which is put in front of what is found
+-- the form `after` is matched with the text that follows a number, and the number is put in front of the numbers found
 abbrev pub number_then : List ℕ → ℕ × List ℕ → Option (List ℕ × List ℕ)
 number_then after number = with_front (number.0 ∷ []) (form_at after number.1)
 
--- a number and this word are matched behind what was found
+-- a number, and then the form `after`, are matched with the text that follows the match `at`
 abbrev pub number_behind : List ℕ → Option (List ℕ × List ℕ) → Option (List ℕ × List ℕ)
 number_behind after at = at >>= (λ found. number_at found.1 >>= number_then after)
 
@@ -159,7 +159,7 @@ no_number_at : (letter n : ℕ) (text after : List ℕ) → letter_at letter tex
 no_number_at letter n [] after e = omega (arith, ap kind e)
 no_number_at letter n (b ∷ text) after e = not_letter (b == letter) b n text after e
 
--- a number between two words is matched as the first word, then the number, then the second word
+-- a form that is a word, a `#` and the form `after` is matched as the word, then a number, then `after`
 pub between : (before after text : List ℕ) → marks before ≡ 0 → form_at (before ++ 35 ∷ after) text ≡ number_behind after (form_at before text)
 unfolding form_at mark_at
 between [] after text none = number_first (number_at text) after

@@ -1,4 +1,4 @@
--- Lines in the bytes that a reader holds.
+-- A reader of lines gives the lines in the bytes that it holds.
 use Rattle.std.proofs.Common.{◌≡◌, ℕ, ◌+◌, ◌-◌, ◌<◌, ◌≤◌, Bool, true, List, [], ◌∷◌, ◌++◌, Option, Some, length, take, drop, refl, sym, ap, subst, ◌∙◌, arith, take-append-drop}
 use Rattle.std.proofs.lemmas.List.{drop_all, drop-take, drop-drop, length-drop, length-take}
 use Rattle.std.specs.Prelude.{position, ◌==◌}
@@ -25,7 +25,7 @@ none_held : (xs : List ℕ) → length xs ≡ 0 → xs ≡ []
 none_held [] none = refl
 none_held (x ∷ xs) none = absurd (omega (arith, none))
 
--- the bytes from `start` to `end` of a piece are held, in front of those that a feed has left
+-- a source that has left the bytes from `start` to `end` of a piece, and then the bytes that a feed has left
 abbrev pub held_source : (piece : List ℕ) (start end : ℕ) (left : Option (List ℕ)) (room : ℕ) (ended failed : Bool) → Source
 held_source piece start end left room ended failed = record {
   left = prepend_known (drop start (take end piece)) left;
@@ -34,7 +34,8 @@ held_source piece start end left room ended failed = record {
   failed = failed;
 }
 
--- The reader gives a line of the held bytes, whose LF is at the index `at`, and keeps the bytes behind it.
+-- The reader gives the first line of the held bytes. The LF of this line is at index `at` of the held bytes. The bytes that
+-- follow the LF are left.
 pub record IsGiven (piece : List ℕ) (start end at : ℕ) (left : Option (List ℕ)) (room : ℕ) (ended failed : Bool) : Type 0 where
   pub given : HasGiven (held_source piece start end left room ended failed) (held_source piece (start + (at + 1)) end left room ended failed)
       (take (at + 1) (mid_of start (end - start) piece))
@@ -70,7 +71,7 @@ line_given piece start end at left room ended failed order fits empty within fou
       going_on = going_on;
     }
 
--- All held bytes are given before a pull, and then the pulled bytes are held.
+-- if all held bytes were given and then bytes were pulled, exactly the held bytes were given, and the pulled bytes are held
 pub all_given : (piece into : List ℕ) (start end count : ℕ) (old new : Option (List ℕ)) (room room' : ℕ) (ended failed ended' failed' : Bool)
     → start ≤ end → end ≤ length piece → (ended ≡ true → start ≡ end) → Consumes old new (take count into) → room' + count ≡ room
     → (ended ≡ true → HasEnded (held_source into 0 count new room' ended' failed'))
@@ -85,7 +86,7 @@ all_given piece into start end count old new room room' ended failed ended' fail
       none_later = λ has. (none_held mid (omega (arith, empty has.0, size)), stays has.0);
     }
 
--- all held bytes are given before a pull that fails, and then no bytes are held
+-- if all held bytes were given and the next pull failed, exactly the held bytes were given, and no bytes are held
 pub all_given_failed : (piece into : List ℕ) (start end : ℕ) (old new : Option (List ℕ)) (room room' : ℕ) (ended failed ended' failed' : Bool)
     → start ≤ end → end ≤ length piece → Keeps old new → room' ≡ room → (ended ≡ true → ⊥)
     → HasGiven (held_source piece start end old room ended failed) (held_source into end end new room' ended' failed') (mid_of start (end - start) piece)
@@ -100,7 +101,7 @@ all_given_failed piece into start end old new room room' ended failed ended' fai
       none_later = λ has. absurd (going_on has.0);
     }
 
--- at the end, no bytes are held
+-- if a pull reaches the end, the source has ended: no bytes are held, and none are left in the feed
 pub ended_here : (into : List ℕ) (count : ℕ) (left : Option (List ℕ)) (room : ℕ) (ended failed : Bool) → count ≡ 0 → ended ≡ (count == 0) → IsAtEnd left
     → HasEnded (held_source into 0 count left room ended failed)
 ended_here into count left room ended failed none is end =

@@ -33,7 +33,7 @@ pair_is h l [] two h_small l_small h_is l_is = absurd (omega (arith, two))
 pair_is h l (high ∷ []) two h_small l_small h_is l_is = absurd (omega (arith, two))
 pair_is h l (high ∷ low ∷ more ∷ rest) two h_small l_small h_is l_is = absurd (omega (arith, two))
 
--- the first digit of a pair is that of byte / 16, and the second is that of byte % 16
+-- if a pair spells a byte, its first digit is the digit of byte / 16, and its second is the digit of byte % 16
 pub pair_parts : (byte : ℕ) (pair : List ℕ) → encode_lower (byte ∷ []) ≡ pair
     → (get_or lower_digits (byte / 16) 0 ≡ get_or pair 0 0) × (get_or lower_digits (byte % 16) 0 ≡ get_or pair 1 0)
 unfolding encode_with
@@ -50,7 +50,8 @@ pub none_yet : (word : List ℕ) → encode_lower [] ++ word ≡ word
 unfolding encode_with
 none_yet word = refl
 
--- if the front bytes and what follows spell the word, and the next pair spells a byte, this byte can be added to the front
+-- Let the word be the digits of `front` and then `rest`, which begins with a pair. If the pair spells a byte, the word is the
+-- digits of `front` and this byte, and then what follows the pair.
 pub byte_more : (front rest pair behind word : List ℕ) (byte : ℕ) → encode_lower front ++ rest ≡ word → pair ++ behind ≡ rest
     → encode_lower (byte ∷ []) ≡ pair → encode_lower (front ++ byte ∷ []) ++ behind ≡ word
 byte_more front rest pair behind word byte is cut pair_is =
@@ -65,7 +66,7 @@ bytes_more [] byte are small (suc i) = omega arith
 bytes_more (b ∷ front) byte are small zero = are 0
 bytes_more (b ∷ front) byte are small (suc i) = bytes_more front byte (λ j. are (suc j)) small i
 
--- a word that encodes the bytes is decoded to them
+-- a word of at most 128 digits that encodes some bytes is decoded to these bytes
 pub word_is : (word bytes : List ℕ) → length word ≤ 128 → IsBytes bytes → encode_lower bytes ≡ word → bytes_of word ≡ Some bytes
 unfolding bytes_of
 word_is word bytes few are is =
@@ -87,7 +88,7 @@ split_at_byte xs bs [] behind two are is = absurd (omega (arith, two))
 split_at_byte xs bs (high ∷ []) behind two are is = absurd (omega (arith, two))
 split_at_byte xs bs (high ∷ low ∷ more ∷ rest) behind two are is = absurd (omega (arith, two))
 
--- a word with a pair that spells no byte is not decoded
+-- a word is not decoded if it begins with the digits of `front` and then a pair that spells no byte
 pub no_word : (word front pair behind : List ℕ) → length pair ≡ 2 → encode_lower front ++ (pair ++ behind) ≡ word
     → ((byte : ℕ) → byte < 256 → encode_lower (byte ∷ []) ≡ pair → ⊥) → bytes_of word ≡ None
 no_word word front pair behind two is none = elim (bytes_of word) as (λ r. bytes_of word ≡ r → r ≡ None) [

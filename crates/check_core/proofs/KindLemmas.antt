@@ -1,4 +1,4 @@
--- Values made from the numbers in a form.
+-- A value that is made from the numbers in a form has the form's text, and this text is read as the value.
 use Rattle.std.proofs.Common.{◌≡◌, ℕ, ◌^◌, ◌<◌, Bool, true, false, cond, List, [], ◌∷◌, ◌++◌, length, get_or, Option, Some, None, refl, sym, subst, ◌∙◌, ap, arith}
 use Rattle.std.specs.List.{All}
 use Rattle.std.proofs.lemmas.Bool.Decides.{nat_tests}
@@ -13,7 +13,8 @@ use Rattle.check_core.proofs.FormLemmas.{bind_some, form_text, is_form, form_tak
 abbrev if_fit : {A : Type 0} → (List ℕ → Bool) → (List ℕ → A) → List ℕ × List ℕ → Option (A × List ℕ)
 if_fit fits make found = cond (fits found.0) (Some (make found.0, found.1)) None
 
--- if a value is made from a form at the front of a text, the text is the value's text and what follows it
+-- if a value is made from a form at the front of a text, the text is the value's text and then the rest, and P holds for the
+-- value
 pub kind_takes : {A : Type 0} (form : List ℕ) (fits : List ℕ → Bool) (make : List ℕ → A) (spell : A → List ℕ) (P : A → Type 0)
     → ((ns : List ℕ) → length ns ≡ marks form → fits ns ≡ true → (spell (make ns) ≡ form_text form ns) × P (make ns))
     → (text : List ℕ) (x : A) (rest : List ℕ) → made_at form fits make text ≡ Some (x, rest) → (text ≡ spell x ++ rest) × P x

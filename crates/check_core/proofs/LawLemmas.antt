@@ -1,4 +1,5 @@
--- The meaning of a finding: the lines before its end have allowed replies, and if it is broken, the next line has none.
+-- If the finding is kept, all replies are allowed. If it is broken, the replies before the breach are allowed, and no allowed
+-- reply begins at the breach.
 use Rattle.std.proofs.Common.{◌≡◌, ℕ, zero, suc, ◌+◌, ◌==◌, Bool, true, false, cond, List, [], ◌∷◌, ◌++◌, map, take, Option, Some, None, Ok, Err, length, refl, sym, ap, subst, ◌∙◌, arith, append_assoc, append-nil}
 use Rattle.std.specs.Prelude.{nat_lt, if◌then◌else◌, count_by}
 use Rattle.std.specs.Option.{option_map_or}
@@ -46,7 +47,7 @@ feeds-append front rest = sum_by-append (λ b. cond (b == 10) 1 0) front rest
 byte_feeds : (b : ℕ) (text : List ℕ) (is : Bool) → (b == 10) ≡ is → feeds (b ∷ text) ≡ cond is 1 0 + feeds text
 byte_feeds b text is test = sum_by-cons (λ b. cond (b == 10) 1 0) b text ∙ ap (λ is. cond is 1 0 + feeds text) test
 
--- the bytes begin with these `k` whole lines
+-- the bytes are `found.0`, which has `k` line feeds, and then `found.1`
 record AreLines (k : ℕ) (bytes : List ℕ) (found : List ℕ × List ℕ) : Type 0 where
   parts : bytes ≡ found.0 ++ found.1
   count : feeds found.0 ≡ k
@@ -141,12 +142,13 @@ line_step (Ok (Some event)) bytes w after verdict = event_step event bytes w aft
 
 -- ---- all lines
 
--- if a line is left, the reply to the first one is not allowed
+-- if lines are left, the reply to the first of them is not allowed
 abbrev Stops : List (List ℕ) → List ℕ → Known → Type 0
 Stops [] bytes w = Unit {0}
 Stops (line ∷ lines) bytes w = (promise : Promise) × (verdict_at (reading_of line) bytes w ≡ Err promise)
 
--- the lines up to the end of the finding, with their replies, which are all allowed
+-- The replies to the lines `before` are allowed, and `rest` is the bytes that follow them. The reply to the first line of `left`
+-- is not allowed. The finding for all lines is the finding for the lines `left` and the bytes `rest`.
 record IsWalk (lines : List (List ℕ)) (bytes : List ℕ) (w : Known) : Type 0 where
   before : List (List ℕ)
   left : List (List ℕ)
@@ -237,7 +239,7 @@ kept_is_allowed limit order superblocks tenants n trace replies kept =
 
 -- ---- broken findings
 
--- an allowed reply at the front of the bytes is read
+-- if the bytes begin with the text of an allowed reply whose numbers fit their types, this reply is read
 reads_again : (event : Event) (reply : Reply) (w after : Known) (bytes rest : List ℕ) → Fits reply → bytes ≡ text_of reply ++ rest → allowed event reply w ≡ Ok after
     → reply_in (suc (more_lines event w)) bytes ≡ Some reply
 reads_again event reply w after bytes rest fits is allowed =
@@ -262,7 +264,8 @@ no_reply (Ok (Some event)) bytes w promise broken = λ reply rest after fits is 
 same_breach : (x y : Breach) → ◌≡◌ {A = Finding} (Broken x) (Broken y) → x ≡ y
 same_breach x y e = cc
 
--- the rest is wrong, and the breach has these numbers
+-- The bytes `rest` are wrong for the lines `left`. The breach is at the first of these lines, or at the last line before them if
+-- there is none. Its reply line is `at + 1`.
 record IsEnd (left : List (List ℕ)) (rest : List ℕ) (w : Known) (before at : ℕ) (breach : Breach) : Type 0 where
   wrong : IsWrong left rest w
   line : breach.line ≡ before + length (take 1 left)

@@ -25,7 +25,7 @@ use Rattle.check_core.specs.Gathered.{Gathers, HasAdded, whole_of}
 use Rattle.check_core.specs.Reading.{HasEnded, HasGiven, IsPartAtOk, IsNextReading, MayFollow, Source, readings_of, without_line_feed}
 use Rattle.check_core.proofs.FormLemmas.{bind_some}
 
--- an unchanged source has given nothing, and two parts that were given, one after the other, are one
+-- an unchanged source has given nothing; two parts that were given one after the other are together one given part
 pub gives_nothing : (source : Source) → HasGiven source source []
 gives_nothing source = record { bytes = consumes_nothing source.left; count = omega arith; none_later = λ ended. (refl, ended) }
 
@@ -46,25 +46,25 @@ rest_of : (left : Option (List ℕ)) (given text : List ℕ) → Consumes (Some 
 rest_of None given text is = absurd is
 rest_of (Some rest) given text is = (rest, is, λ end. end)
 
--- a known text is what was given and a rest that may follow it
+-- if the text that is left is known, it is what the source gives, and then a rest that may follow
 pub known_rest : {old new : Source} {given : List ℕ} → HasGiven old new given → (text : List ℕ) → old.left ≡ Some text
     → (rest : List ℕ) × (text ≡ given ++ rest) × MayFollow new rest
 known_rest {new = new} {given = given} is text known =
     let (rest, same, none) = rest_of new.left given text (subst (λ left. Consumes left new.left given) known is.bytes) in
     (rest, same, λ ended. none ended.1)
 
--- held bytes are given from the front, and those behind them are left
+-- if the front of the held bytes is given, the held bytes behind it are left
 pub gives_front : (front behind : List ℕ) (known : Option (List ℕ)) → Consumes (prepend_known (front ++ behind) known) (prepend_known behind known) front
 gives_front front behind None = tt
 gives_front front behind (Some xs) = append_assoc front behind xs
 
--- all held bytes are given before a pull, and then the pulled bytes are left in front
+-- if all held bytes are given and then bytes are pulled, the pulled bytes are left, in front of those of the feed
 pub gives_held : (held pulled : List ℕ) (old new : Option (List ℕ)) → Consumes old new pulled → Consumes (prepend_known held old) (prepend_known pulled new) held
 gives_held held pulled None new h = tt
 gives_held held pulled (Some xs) None h = absurd h
 gives_held held pulled (Some xs) (Some ys) h = ap (λ more. held ++ more) h
 
--- all held bytes are given before a pull that fails, and then no bytes are held
+-- if all held bytes are given and the next pull fails, exactly the bytes of the feed are left
 pub gives_none : (held : List ℕ) (old new : Option (List ℕ)) (behind : List ℕ) → behind ≡ [] → Keeps old new
     → Consumes (prepend_known held old) (prepend_known behind new) held
 gives_none held None new behind none h = tt
@@ -97,14 +97,14 @@ with_feed bytes rest at within e =
     ap (λ xs. take (at + 1) xs) e ∙ take-append-le (at + 1) (take at bytes ++ 10 ∷ []) rest (omega (arith, long))
     ∙ take_all (at + 1) (take at bytes ++ 10 ∷ []) (omega (arith, long))
 
--- if `whole_of` returns nothing, more than `most` bytes have come
+-- if `whole_of` returns `None`, more than `most` bytes have come
 pub whole_none : (most : ℕ) (came : List ℕ) → whole_of most came ≡ None → most < length came
 whole_none most came h = elim (nat_lt most (length came)) as (λ b. nat_lt most (length came) ≡ b → (if b then None else Some came) ≡ None → most < length came) [
   | true ↦ λ over _. ltb-true most (length came) over
   | false ↦ λ _ none. absurd cc
 ] refl h
 
--- a longer text is different
+-- a text is not equal to a shorter text
 pub longer_differs : (xs ys : List ℕ) → length ys < length xs → bytes_eq xs ys ≡ false
 longer_differs xs ys h = elim (bytes_eq xs ys) as (λ b. bytes_eq xs ys ≡ b → b ≡ false) [
   | true ↦ λ e. absurd (omega (arith, h, ap (λ (zs : List ℕ). length zs) ((bytes_eq-Decides xs ys).0 e)))
@@ -163,7 +163,7 @@ reading_in (b ∷ part) = Some (reading_of (without_line_feed (b ∷ part)))
 read_ended : (part line more : List ℕ) → IsOneLine line → part ≡ line ++ 10 ∷ [] → readings_of (part ++ more) ≡ reading_of line ∷ readings_of more
 read_ended part line more one is = ap (λ xs. readings_of (xs ++ more)) is ∙ ap (λ lines. map reading_of lines) (ended_lines line more one)
 
--- a last line without LF is read as one more line, and nothing follows it
+-- a last line without an LF is read as one more line, if nothing follows it
 read_last : (b : ℕ) (part more : List ℕ) → IsOneLine (b ∷ part) → more ≡ []
     → readings_of ((b ∷ part) ++ more) ≡ reading_of (without_line_feed (b ∷ part)) ∷ readings_of more
 read_last b part more one none =
@@ -194,7 +194,7 @@ pub next_some : (part : List ℕ) (new : Source) → (length part == 0) ≡ fals
 next_some [] new some is = absurd cc
 next_some (b ∷ part) new some is = is
 
--- a part that is not empty is not empty with more behind it
+-- if a part is not empty, it is not empty with more bytes behind it; an empty part with nothing behind it is empty
 pub some_behind : (part more : List ℕ) → (length part == 0) ≡ false → (length (part ++ more) == 0) ≡ false
 some_behind [] more some = absurd cc
 some_behind (b ∷ part) more some = eqb-suc-zero (length (part ++ more))
@@ -267,6 +267,6 @@ pub none_more : {k : ℕ} {came : List ℕ} {text : Gathered MOST_TEXT_BYTES} (n
 none_more {k = k} {came = came} n part come one more =
     none_later (n - suc k) (suc k) n (came ++ part) (omega (arith, more)) (rw (stand_first come part, no_line part one) refl)
 
--- lines that have not come at the end never come
+-- if a source has ended, and fewer than `n` lines have come, there are fewer than `n` lines with any bytes that may follow
 pub none_follows : (n : ℕ) (bytes more : List ℕ) (new : Source) → HasEnded new → lines_at n bytes ≡ None → MayFollow new more → lines_at n (bytes ++ more) ≡ None
 none_follows n bytes more new ended none may = ap (λ xs. lines_at n (bytes ++ xs)) (may ended) ∙ ap (lines_at n) (append-nil bytes) ∙ none

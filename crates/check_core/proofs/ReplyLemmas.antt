@@ -1,4 +1,4 @@
--- Reading the whole text of a reply returns this reply.
+-- The text of a reply is read as this reply, and a reply that is read from a text has this text.
 use Rattle.std.proofs.Common.{◌≡◌, ℕ, Bool, true, false, cond, List, ◌++◌, Option, Some, None, refl, sym, ◌∙◌, ap}
 use Rattle.std.specs.Prelude.{MatchOption}
 use Rattle.std.proofs.lemmas.Option.{same_Some}
@@ -49,7 +49,7 @@ only false text due None none e = let no : None ≡ Some due = sym none ∙ e in
 only true text due (Some found) is e = let no : None ≡ Some (reply_to found.0 found.1) = sym e ∙ is in absurd cc
 only false text due (Some found) is e = same_Some (reply_to found.0 found.1) due (sym is ∙ e)
 
--- the text of a reply is read as this reply, if the reply is not a table
+-- `answer_of` reads the text of a reply as this reply, and finds nothing only if the reply is a table
 pub answer_only : (text : List ℕ) (due : Reply) (found : Option (Addressee × Answer)) → Gives (λ found. reply_to found.0 found.1) found (answer_of text)
     → Fits due → text_of due ≡ text → MatchOption found (is_table due.body ≡ true) (λ found. reply_to found.0 found.1 ≡ due)
 answer_only text due found is fits same =

@@ -16,7 +16,7 @@ use Rattle.check_core.specs.Tables.{after_front, then_rows, rows_from, order_at,
 use Rattle.check_core.proofs.FormLemmas.{bind_some, same_byte, itself, form_text, form_takes, form_again}
 use Rattle.check_core.proofs.KindLemmas.{text_takes, kind_again, either, if_same, two, three, five, small_one, small_more, below}
 
--- the text of the rows from this index on, each behind the front
+-- the text of these rows, with indices from `index` on; each row follows the front
 abbrev pub shown : {A : Type 0} → (ℕ → A → List ℕ) → List ℕ → ℕ → List A → List ℕ
 shown show front index [] = []
 shown show front index (row ∷ rows) = (front ++ show index row) ++ shown show front (index + 1) rows
@@ -36,7 +36,7 @@ front_again front rest =
     ∙ ap (λ test. cond test (Some (drop (length front) (front ++ rest))) None) ((bytes_eq-Decides front front).1 refl)
     ∙ ap (λ t. Some t) (drop_at front rest (length front) refl)
 
--- at the end of a text there is no row
+-- if `next` finds nothing in the empty text, no row is found in it
 pub nothing_again : {A : Type 0} (front : List ℕ) (next : List ℕ → Option A) → next [] ≡ None → (after_front front [] >>= next) ≡ None
 unfolding after_front
 nothing_again front next none = step (bytes_eq (take (length front) []) front) where

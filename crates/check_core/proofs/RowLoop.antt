@@ -1,4 +1,4 @@
--- Rows, one after the other.
+-- Reading rows one at a time.
 use Rattle.std.proofs.Common.{◌≡◌, ℕ, suc, ◌+◌, List, [], ◌∷◌, ◌++◌, Option, Some, None, sym, ◌∙◌, ap, append-nil, append_assoc}
 use Rattle.check_core.specs.Forms.{◌>>=◌}
 use Rattle.check_core.specs.Tables.{after_front, then_rows, rows_from}
@@ -6,7 +6,7 @@ use Rattle.check_core.specs.Tables.{after_front, then_rows, rows_from}
 abbrev paired : {A : Type 0} → List A → List ℕ → List A × List ℕ
 paired rows text = (rows, text)
 
--- these rows, before the ones that were found
+-- the rows and the text that were found, with `rows` put in front of the rows
 abbrev pub with_rows : {A : Type 0} → List A → List A × List ℕ → List A × List ℕ
 with_rows rows found = (rows ++ found.0, found.1)
 

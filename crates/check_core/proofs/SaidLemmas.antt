@@ -27,7 +27,7 @@ use Rattle.check_core.proofs.FormLoop.{marks}
 use Rattle.check_core.proofs.FormLemmas.{bind_some, same_byte, size_of, form_text, is_form, form_takes, form_again}
 use Rattle.check_core.proofs.KindLemmas.{either, if_same, kind_takes, kind_again, two, three, five, small_one, small_more, below}
 
--- the text of an answer, with its line feed
+-- the text of an answer behind its addressee, with its line feed
 abbrev pub spelled : Body → List ℕ
 spelled (Frame frame) = form_text (codes "frame #\n") (frame ∷ [])
 spelled (Freed order) = form_text (codes "freed #\n") (order ∷ [])
@@ -47,14 +47,14 @@ spelled (Moved tenant slot superblock) = form_text (codes "moved # slot # superb
 spelled (Fault fault) = codes "fault " ++ (name_of_fault fault ++ 10 ∷ [])
 spelled _ = []
 
--- the bodies that answers have
+-- the body of an answer: it is not a table, and `Bytes` has at most 64 bytes
 abbrev pub IsAnswer : Body → Type 0
 IsAnswer (Owners owners) = ⊥
 IsAnswer (Report report) = ⊥
 IsAnswer (Bytes bytes) = length bytes.items ≤ 64
 IsAnswer _ = Unit {0}
 
--- the text is that of this answer, and what follows it
+-- the text is the text of this answer, and then `rest`
 abbrev pub Takes : List ℕ → Body → List ℕ → Type 0
 Takes text said rest = (text ≡ spelled said ++ rest) × IsAnswer said
 
@@ -72,7 +72,7 @@ found_passes p (y ∷ xs) x e = step (p y) refl e (found_passes p xs x) where
   step true is e later = ap p (sym (same_Some y x e)) ∙ is
   step false is e later = later e
 
--- the name of a refusal is a form without numbers, and its number finds this refusal
+-- the name of a refusal is a form without a `#`; `refusal_of` finds the refusal by its number, which is below 16
 record IsNamed (refusal : Refusal) : Type 0 where
   good : is_form (name_of_refusal refusal) ≡ true
   none : 0 ≡ marks (name_of_refusal refusal)
@@ -193,7 +193,7 @@ again_is word (Err fault) bytes e = absurd cc
 half : (n m : ℕ) → nat_le n 128 ≡ true → n ≡ 2 * m → m ≤ 64
 half n m few twice = grind (arith, nat_tests)
 
--- if a word is read as bytes, it is decoded to them, they are encoded to it, and there are at most 64
+-- if a word is read as bytes, decoding the word gives these bytes, encoding them gives the word, and there are at most 64
 pub bytes_are : (word bytes : List ℕ) → bytes_of word ≡ Some bytes
     → (decode_of word ≡ Ok bytes) × (encode_lower bytes ≡ word) × (length bytes ≤ 64)
 unfolding bytes_of
@@ -270,7 +270,7 @@ bytes_again_of bytes rest small few =
 
 -- ---- all of them
 
--- the first match of these alternatives, in order
+-- the first match of these alternatives, in order; the last alternative is `some_fault_at`
 abbrev first_of : List (List ℕ → Option (Body × List ℕ)) → List ℕ → Option (Body × List ℕ)
 first_of [] text = some_fault_at text
 first_of (kind ∷ kinds) text = kind text or_else first_of kinds text
@@ -323,7 +323,7 @@ pub said_takes : (text : List ℕ) (said : Body) (rest : List ℕ) → said_at t
 unfolding said_at rare_at notice_at
 said_takes = first_takes kinds all_take
 
--- the match, if the alternative at `count` finds this and those before it find nothing
+-- the first match of all kinds, if the kind before index `count` finds `found`, and the kinds before that one find nothing
 abbrev then : ℕ → List ℕ → Option (Body × List ℕ) → Option (Body × List ℕ)
 then count text found = found or_else first_of (drop count kinds) text
 

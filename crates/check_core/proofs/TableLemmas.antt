@@ -1,4 +1,4 @@
--- Reading the whole text of a report or a table of owners returns it.
+-- The text of a report or of a table of owners is read as this table, and a table that is read from a text has this text.
 use Rattle.std.proofs.Common.{◌≡◌, ℕ, ◌+◌, ◌-◌, ◌^◌, ◌<◌, ◌≤◌, true, cond, List, [], ◌∷◌, ◌++◌, map, length, take, get_or, Option, Some, None, refl, sym, subst, ◌∙◌, ap, arith, append-nil, append_assoc, length-append, take_at}
 use Rattle.std.proofs.lemmas.List.Sums.{count_by-le-length}
 use Rattle.arrayvec.specs.ArrayVec.{ArrayVec}
@@ -94,7 +94,7 @@ head_text front report =
     ∙ ap (λ t. front ++ (codes "frames " ++ (f ++ (codes " live " ++ (l ++ (codes " free " ++ (r ++ (codes " top " ++ t)))))))) (top_is report.top report.split)
     ∙ ap (λ t. front ++ t) (sym (grouped (codes "frames ") f (codes " live ") l (codes " free ") r (codes " top ") (top_line report.top report.split)))
 
--- the lines of a report, without the front of the first
+-- the lines of a report; the front of the first line is left out
 abbrev pub report_lines : List ℕ → Report → List ℕ
 report_lines front report =
     head_line report ++ (shown order_line front 0 report.orders.items ++ shown cache_line front 0 report.caches.items)
@@ -136,7 +136,7 @@ top_again (Some top) split rest fits small =
 abbrev after_head : List ℕ → List ℕ × List ℕ → Option (Body × List ℕ)
 after_head front head = some_top_at head.1 >>= with_top front head.0
 
--- the text behind the front is that of this table, and what follows it
+-- the front and the text are the text of this table, and then `rest`
 abbrev Takes : List ℕ → List ℕ → Body → List ℕ → Type 0
 Takes front text body rest = (front ++ text ≡ with_end (body_texts front body) ++ rest) × (is_table body ≡ true)
 
@@ -171,7 +171,7 @@ report_takes front text body rest e =
     ∙ (λ i. with_end (body_texts front (body_is i)) ++ rest_is i) in
     (taken, subst (λ (body : Body). is_table body ≡ true) body_is refl)
 
--- no order row follows the order rows, and no cache row follows the cache rows
+-- no row of an order is read from the text of cache rows, and no row of a cache is read from the empty text
 no_order : (front : List ℕ) (order : ℕ) (rows : List CacheRow) → (after_front front (shown cache_line front 0 rows ++ []) >>= order_at order) ≡ None
 unfolding order_at form_at mark_at
 no_order front order [] = nothing_again front (order_at order) refl
@@ -274,7 +274,7 @@ front_is front rest =
     let size : length (front ++ rest) - length rest ≡ length front = omega (arith, length-append front rest) in
     ap (λ n. take n (front ++ rest)) size ∙ take_at front rest (length front) refl
 
--- if a table is read from a text, it has this text
+-- if `table_of` reads a reply from a text, the reply has this text and is a table
 pub table_takes : (text : List ℕ) (reply : Reply) → table_of text ≡ Some reply → (text_of reply ≡ text) × (is_table reply.body ≡ true)
 unfolding table_of
 table_takes text reply e =
@@ -309,7 +309,7 @@ again text who body lines fits is read =
     ∙ ap (λ front. body_at front lines >>= alone_of who) (front_is front lines)
     ∙ ap (λ found. found >>= alone_of who) read
 
--- the text of a pool is not read as a report
+-- the text of a table of owners is not read as a report
 no_report : (front : List ℕ) (owners : List (Option Owner)) → report_at front (pool_lines front owners) ≡ None
 unfolding report_at form_at mark_at
 no_report front owners = refl

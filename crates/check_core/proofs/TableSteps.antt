@@ -54,7 +54,7 @@ pool_read front text ns rows owners rest head owner_rows =
     ap (λ found. found >>= (λ head. with_owners head.0 (rows_from owner_at front 256 0 head.1))) head
     ∙ ap (with_owners ns) owner_rows
 
--- a table of owners is read if the counts in its first line are those of its rows
+-- a table of owners is read if, and only if, the counts in its first line are the counts of its rows
 pub pool_so : (test fits : Bool) (front text ns rows : List ℕ) (slice owners : List (Option Owner)) (rest : List ℕ)
     → form_at (codes "pool free # of #\n") text ≡ Some (ns, rows) → rows_from owner_at front 256 0 rows ≡ (owners, rest) → slice ≡ owners
     → fits ≡ (count_by is_none slice == get_or ns 0 0 && length slice == get_or ns 1 0) → fits ≡ test

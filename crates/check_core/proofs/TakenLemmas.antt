@@ -1,4 +1,4 @@
--- The first shared frame of a page block in the way.
+-- The first frame that a block shares with a page block in its way.
 use Rattle.std.proofs.Common.{◌≡◌, ℕ, ◌+◌, ◌^◌, ◌<◌, true, Option, Some, None, max, arith}
 use Rattle.std.specs.Prelude.{find, nat_lt}
 use Rattle.std.specs.Option.{option_map_or}
@@ -25,13 +25,13 @@ shared_first a b is =
       first = λ x in_a in_b. omega (arith, in_a.0, in_b.0);
     }
 
--- the first frame that a block shares with a page block in the way is the larger of their first frames
+-- the first frame that a block shares with the page block in its way is the larger of the first frames of the two
 pub way_first : (b : Block) (tenant : Option Seen) (page : Block)
     → option_map_or (λ y. find (overlaps b) y.has.pages) tenant None ≡ Some page → IsFirstShared b page (max page.first b.first)
 way_first b None page is = let clash : ◌≡◌ {A = Option Block} None (Some page) = is in absurd cc
 way_first b (Some y) page is = shared_first b page (find_in (overlaps b) page y.has.pages is).1
 
--- equal events and equal replies have equal numbers
+-- equal `alloc` events have equal orders, and equal `frame` replies have equal frames
 pub same_alloc : (t t' k k' : ℕ) → Event.Tenant t (Command.Alloc k) ≡ Event.Tenant t' (Command.Alloc k') → k ≡ k'
 same_alloc t t' k k' e = cc
 

@@ -1,5 +1,5 @@
--- The text of a reply: its lines are the first lines of bytes that begin with it, and it is within the limit of a text that is
--- read.
+-- If bytes begin with the text of a reply, their first lines are the lines of this reply. The text has at most `MOST_TEXT_BYTES`
+-- bytes.
 use Rattle.std.proofs.Common.{◌≡◌, ℕ, zero, suc, ◌+◌, ◌*◌, ◌/◌, ◌%◌, ◌≤◌, Bool, true, false, cond, not, List, [], ◌∷◌, ◌++◌, length, get_or, drop, Option, Some, None, refl, sym, ap, ◌∙◌, arith, append_assoc, append-nil, length-append}
 use Rattle.std.specs.Prelude.{codes, decimal, ◌==◌, nat_le, if◌then◌else◌, count_by, is_none}
 use Rattle.std.specs.List.{list_all}
@@ -80,7 +80,7 @@ few_decimals : (n : ℕ) → length (decimal n) ≤ 64
 unfolding digits
 few_decimals n = few_digits 64 n []
 
--- a bound of the bytes of a form's text, for any numbers
+-- an upper bound on the length of the form's text, whatever its numbers are
 abbrev most_of : List ℕ → ℕ
 most_of form = length form + 63 * marks form
 

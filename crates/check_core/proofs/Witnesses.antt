@@ -1,4 +1,4 @@
--- A trace with a grant, a page block that is allocated and freed, and a comment meets the premises of the laws.
+-- The premises of the laws hold for a trace with a grant, a comment, and a page block that is allocated and freed.
 use Rattle.std.proofs.Common.{List, ℕ, [], ◌∷◌, None, codes}
 use Rattle.promise_kept.specs.Written.{IsAllowedText}
 use Rattle.promise_core.specs.declared.promise.Promise.{Promise}
@@ -11,14 +11,14 @@ trace = codes "admin grant 0\n# a block\n0 alloc 1\n0 free 0\n"
 abbrev lines : List (List ℕ)
 lines = codes "admin grant 0" ∷ codes "# a block" ∷ codes "0 alloc 1" ∷ codes "0 free 0" ∷ []
 
--- a superblock that partmem would not choose, and a block of two frames, which is freed
+-- these replies are allowed, although partmem would choose another superblock
 abbrev allowed_replies : List ℕ
 allowed_replies = codes "admin> granted 0 slot 0 superblock 1\n0> frame 0\n0> freed 1\n"
 
 KeptIsAllowed-met : KeptIsAllowed → IsAllowedText None 32 3 2 2 lines allowed_replies
 KeptIsAllowed-met law = law 32 3 2 2 4 trace allowed_replies texts_are_found.all_kept
 
--- the block of two frames is not aligned
+-- in these replies, the block of two frames is not aligned
 abbrev broken_replies : List ℕ
 broken_replies = codes "admin> granted 0 slot 0 superblock 1\n0> frame 1\n0> freed 1\n"
 

@@ -17,8 +17,8 @@ pub enum Finding {
 /// The first reply that is not allowed, is missing or is left over.
 #[derive(Clone, Copy, Debug, PartialEq, Eq)]
 pub struct Breach {
-    /// The number of the trace line that the reply answers, counted from 1. For a reply that is left over, the number of the last
-    /// line.
+    /// The number of the trace line that the reply answers, counted from 1. If the reply is left over, this is the number of the
+    /// last line of the trace, or 0 if the trace has no lines.
     pub line: u128,
     /// The number of the reply's first line among all lines of the replies, counted from 1.
     pub reply: u128,

@@ -1,4 +1,4 @@
-//! Forms, which are texts with a `#` in the place of each number.
+//! Matches texts against forms. A form is a text with a `#` in place of each number.
 
 ghost use Rattle.std.specs.Prelude.{◌≡◌, ◌<◌, ◌≤◌, ◌^◌, ◌==◌, [], ◌∷◌, ◌++◌, None, count_by, length, take_while};
 ghost use Rattle.std.specs.Char.{is_ascii_digit};
@@ -6,7 +6,7 @@ ghost use Rattle.check_core.specs.Forms.{Gives, plain_number, number_at, letter_
 
 use arrayvec::ArrayVec;
 
-/// The number of decimal digits of the largest number, `2^32 - 1`.
+/// The number of decimal digits of the largest `u32`, `2^32 - 1`.
 const MOST_DIGITS: usize = 10;
 
 /// Returns the number that a word spells in decimal. Returns `None` if the word is not a number, has leading zeros, or spells a
@@ -27,7 +27,8 @@ fn plain_number(word: &[u8]) -> Option<u32>
     u32::try_from(value).ok()
 }
 
-/// Returns the number at the front of the text, and the text that follows it.
+/// Returns the number at the front of the text, and the text that follows it. Returns `None` if [`plain_number`] does not accept
+/// the digits at the front.
 #[tactic(auto, unfolding(crate::specs::Forms::number_at))]
 fn number_at(text: &[u8]) -> Option<(u32, &[u8])>
     ensures { Gives (λ found. (found.0, found.1.now)) result (number_at text.now) }
@@ -46,7 +47,7 @@ fn digits_len(text: &[u8]) -> usize
 }
 
 /// Matches one byte of a form with the front of the text. A `#` matches a number, and any other byte matches only itself. Returns
-/// the number, if there is one, and the text that follows.
+/// the number if the byte is a `#`, and the text that follows the match.
 #[tactic(auto, unfolding(crate::specs::Forms::mark_at))]
 fn mark_at(mark: u8, text: &[u8]) -> Option<(Option<u32>, &[u8])>
     ensures { Gives (λ found. (found.0, found.1.now)) result (mark_at mark text.now) }
@@ -69,7 +70,7 @@ fn letter_at(letter: u8, text: &[u8]) -> Option<&[u8]>
     }
 }
 
-/// Matches the form with the front of the text. Returns the numbers that match the `#`s, and the text that follows the match.
+/// Matches the front of the text against the form. Returns the numbers in place of the `#`s, and the text that follows the match.
 pub fn form_at<'a, const N: usize>(form: &[u8], text: &'a [u8]) -> Option<([u32; N], &'a [u8])>
     requires few { N < 2 ^ 32 }
     requires marks { count_by (λ b. b == 35) form.now ≡ N }
@@ -103,7 +104,7 @@ pub fn behind_word<'a>(word: &[u8], text: &'a [u8]) -> Option<&'a [u8]>
     Some(rest)
 }
 
-/// If the text begins with the word `before`, a number, and the word `after`, returns the number and the text that follows.
+/// Reads the word `before`, a number and the word `after` at the front of the text. Returns the number and the text that follows.
 #[inline(always)]
 pub fn number_between<'a>(before: &[u8], after: &[u8], text: &'a [u8]) -> Option<(u32, &'a [u8])>
     requires before { count_by (λ b. b == 35) before.now ≡ 0 }

@@ -1,4 +1,4 @@
-//! Bytes that come in pieces, up to a limit.
+//! A buffer for the first bytes of a text that comes in pieces.
 
 ghost use Rattle.std.specs.Prelude.{◌≡◌, ℕ, List, [], ◌++◌, ◌<◌, ◌==◌, length, take};
 ghost use Rattle.check_core.specs.Gathered.{Gathers, whole_of};
@@ -14,7 +14,7 @@ pub struct Gathered<const N: usize> {
 }
 
 impl<const N: usize> Gathered<N> {
-    /// Returns a value without any bytes.
+    /// Returns an empty buffer.
     pub fn new() -> Self
         ensures { Gathers N [] result }
     {
@@ -24,7 +24,7 @@ impl<const N: usize> Gathered<N> {
         }
     }
 
-    /// Removes all bytes.
+    /// Removes all bytes, as if none had come.
     pub fn clear(&mut self)
         ensures { Gathers N [] self.new }
     {
@@ -32,7 +32,7 @@ impl<const N: usize> Gathered<N> {
         self.longer = false;
     }
 
-    /// Adds these bytes.
+    /// Adds these bytes to those that have come. The buffer stores only the first `N` of all bytes.
     pub fn add(&mut self, bytes: &[u8])
         ensures { (front : List ℕ) → Gathers N front self.old → Gathers N (front ++ bytes.now) self.new }
     {

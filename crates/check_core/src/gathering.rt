@@ -13,7 +13,7 @@ use crate::reader::LineReader;
 use crate::shown::MOST_TEXT_BYTES;
 use streams::{Feed, Stopped};
 
-/// Returns whether exactly the bytes `due` were gathered.
+/// Returns whether the gathered bytes are exactly `due`.
 pub fn is_text(text: &Gathered<MOST_TEXT_BYTES>, due: &[u8]) -> bool
     requires { length due.now ≤ MOST_TEXT_BYTES }
     ensures { (came : List ℕ) → Gathers MOST_TEXT_BYTES came text.now → result ≡ bytes_eq came due.now }
@@ -24,7 +24,8 @@ pub fn is_text(text: &Gathered<MOST_TEXT_BYTES>, due: &[u8]) -> bool
     }
 }
 
-/// Reads this number of lines and adds them to what was gathered. Returns whether there were that many, each with its LF.
+/// Reads `lines` more lines of the replies and adds them to `text`. Returns false if the replies end before the line feed of the
+/// last of these lines. Fails with `Unchecked::Replies` if the replies cannot be read.
 pub fn gather<F: Feed>(
     replies: &mut LineReader<F>,
     lines: u128,

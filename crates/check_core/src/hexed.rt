@@ -7,8 +7,8 @@ ghost use Rattle.check_core.specs.Replies.{bytes_of};
 
 use model_core::limits::MOST_BYTES;
 
-/// Decodes a word of lower-case hex into `buffer`, and returns the bytes. Returns `None` if the word is not pairs of lower-case
-/// digits, or if it spells more than 64 bytes.
+/// Decodes a word of lower-case hex into `buffer`, and returns the decoded bytes. Returns `None` if the word spells more than 64
+/// bytes, or is not made of pairs of lower-case hex digits.
 #[tactic(auto, unfolding(crate::specs::Replies::bytes_of))]
 pub fn bytes_of<'a>(word: &[u8], buffer: &'a mut [u8; MOST_BYTES]) -> Option<&'a [u8]>
     ensures value { Gives (λ bytes. bytes.now) result (bytes_of word.now) }
@@ -31,7 +31,7 @@ pub fn bytes_of<'a>(word: &[u8], buffer: &'a mut [u8; MOST_BYTES]) -> Option<&'a
     }
 }
 
-/// Returns the byte that two digits spell, if both are lower-case hex digits.
+/// Returns the byte that two characters spell in hex. Returns `None` if one of them is not a lower-case hex digit.
 #[inline(always)]
 fn byte_of(pair: &[u8; 2]) -> Option<u8>
     ensures found { IfSome result (λ byte. encode_lower (byte ∷ []) ≡ pair.now) }

@@ -2,14 +2,14 @@
 
 ghost use Rattle.check_core.specs.Laws.{BrokenIsNotAllowed, KeptIsAllowed};
 
-/// If a finding is kept, the replies are the text of replies to the trace's events, and each of these replies keeps every
-/// promise.
+/// If the finding is `Kept`, the replies are the texts of one reply to each faulty line and each event of the trace, in order.
+/// Each reply to an event is allowed.
 pub fn kept_is_allowed()
     ensures { KeptIsAllowed }
 {}
 
-/// If a finding is broken, the replies before the breach keep every promise. No reply that begins at the breach keeps every
-/// promise, if its numbers have the types of `Reply`.
+/// If the finding is `Broken`, the replies before the breach are allowed. The text from the breach on does not begin with an
+/// allowed reply whose numbers fit the types of `Reply`.
 pub fn broken_is_not_allowed()
     ensures { BrokenIsNotAllowed }
 {}

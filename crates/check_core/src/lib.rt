@@ -1,7 +1,7 @@
-//! Checks the replies to a trace. `specs/` defines the finding for the texts of a trace and of its replies. `check` reads both
-//! texts in step, one line at a time, and returns that finding.
+//! Checks the replies to a trace. `specs/` defines the finding for the texts of a trace and of its replies. `check` reads one
+//! line of the trace at a time, and then its reply, and returns the finding.
 //!
-//! A text is read as the reply that has this text, if there is one.
+//! If a text is the text of a reply, it is read as this reply. Any other text is not a reply.
 #![tactic(auto)]
 
 mod answer;

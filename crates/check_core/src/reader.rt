@@ -67,8 +67,8 @@ impl<F: Feed> LineReader<F> {
         (self.end - self.start) as u128 + u128::from(self.feed.room())
     }
 
-    /// Reads the next line, with its LF if it has one, and adds it to what was gathered. Returns whether it has an LF. The text
-    /// after the last LF is read as a line without an LF, and may be empty. Returns `Err` if the feed fails.
+    /// Reads the next line, with its LF if it has one, and adds it to `into`. Returns whether it has an LF. The text after the
+    /// last LF is read as a line without an LF, and may be empty. Returns `Err` if the feed fails.
     pub fn next<const N: usize>(&mut self, into: &mut Gathered<N>) -> Result<bool, Stopped>
         requires fine { self.old.failed ≡ false }
         // The part that was read.
@@ -94,8 +94,8 @@ impl<F: Feed> LineReader<F> {
         }
     }
 
-    /// Reads the next line of a trace, adds it to what was gathered, and returns its event. Returns `None` and reads nothing if
-    /// the line is not a quick request, or if too few bytes have been pulled to read it as one.
+    /// Reads the next line of a trace, adds it to `into`, and returns its event. Returns `None` and reads nothing if the line is
+    /// not a quick request, or if too few bytes have been pulled to read it as one.
     #[inline(always)]
     pub fn next_event<const N: usize>(&mut self, into: &mut Gathered<N>) -> Option<Event>
         ensures reading { IfSome result (λ event. (part : List ℕ) × HasGiven self.old self.new part

@@ -11,15 +11,17 @@ use model_core::report::{CacheRow, OrderRow};
 
 /// A row of a table.
 pub trait Row: Default + Sized {
-    // The row with this index at the front of a text, and the text that follows it.
+    // The row with this index at the beginning of a text, and the text that follows the row.
     ghost row_at: { ℕ → List ℕ → Option (Self × List ℕ) };
 
-    /// Reads the row with this index, without the front. Returns the row and the text that follows it.
+    /// Reads the row with this index at the beginning of a text, from which the front was removed. Returns the row and the text
+    /// that follows it.
     fn read(index: u32, text: &[u8]) -> Option<(Self, &[u8])>
         ensures { Gives (λ found. (found.0, found.1.now)) result (row_at index text.now) };
 }
 
-/// Reads the rows with this front from index 0 on, at most `N`. Returns them and the text that follows them.
+/// Reads the rows that begin with this front, with indices from 0 on, until a row is missing or `N` rows were read. Returns the
+/// rows and the text that follows them.
 pub fn rows_at<'a, R: Row + Drop, const N: usize>(
     front: &[u8],
     text: &'a [u8],
@@ -39,7 +41,7 @@ pub fn rows_at<'a, R: Row + Drop, const N: usize>(
     (rows, rest)
 }
 
-/// Reads the front, and then the row with this index.
+/// Reads the front, and then the row with this index. Returns the row and the text that follows it.
 fn row_behind<'a, R: Row>(front: &[u8], index: u32, text: &'a [u8]) -> Option<(R, &'a [u8])>
     ensures { Gives (λ found. (found.0, found.1.now)) result (row_behind (R.row_at index) front.now text.now) }
 {

@@ -30,7 +30,7 @@ pub fn said_at<'a>(
         .or_else(|| rare_at(text))
 }
 
-/// Does the same as [`said_at`], for rare answers.
+/// Returns the rare answer at the front of the text, and the text that follows it.
 #[tactic(auto, unfolding(crate::specs::Replies::rare_at))]
 #[inline(never)]
 fn rare_at(text: &[u8]) -> Option<(Answer<'_>, &[u8])>
@@ -43,7 +43,7 @@ fn rare_at(text: &[u8]) -> Option<(Answer<'_>, &[u8])>
         .or_else(|| notice_at(text))
 }
 
-/// Does the same as [`said_at`], for answers to the administrator and to faulty lines.
+/// Returns the answer to the administrator or to a faulty line at the front of the text, and the text that follows it.
 #[tactic(auto, unfolding(crate::specs::Replies::notice_at))]
 fn notice_at(text: &[u8]) -> Option<(Answer<'_>, &[u8])>
     ensures { Gives (λ found. (body_of_answer found.0, found.1.now)) result (notice_at text.now) }
@@ -218,7 +218,7 @@ fn moved_at(text: &[u8]) -> Option<(Answer<'_>, &[u8])>
     Some((answer, rest))
 }
 
-/// If the text begins with this fault, returns the fault and the rest of the text.
+/// Returns an answer with this fault, and the text that follows it, if the text begins with this answer.
 #[tactic(auto, unfolding(crate::specs::Replies::fault_at))]
 fn fault_at(fault: LineFault, text: &[u8]) -> Option<(Answer<'_>, &[u8])>
     ensures { Gives (λ found. (body_of_answer found.0, found.1.now)) result (fault_at fault text.now) }

@@ -21,7 +21,8 @@ pub const MOST_TEXT_BYTES: usize = 65_792;
 pub struct Shown {
     pub line: Gathered<MOST_PART_BYTES>,
     pub reply: Gathered<MOST_TEXT_BYTES>,
-    /// The live page block that overlaps the page block of the reply, and the first frame in both, if a search has found them.
+    /// The live page block that overlaps the page block of the reply, and the first frame that both share. `None` until
+    /// [`Shown::look_for_taken`] finds them.
     pub taken: Option<TakenFrame>,
 }
 
@@ -41,8 +42,9 @@ impl Shown {
         }
     }
 
-    /// Looks for a live page block that overlaps the page block of the reply, in the machine that judged the line, and stores the
-    /// result in `taken`.
+    /// Looks in `machine` for a live page block that overlaps the page block of the reply, and stores the result in `taken`.
+    /// `machine` must be the one that judged the line. Does nothing if the line has no event, or if the reply is not a reply of
+    /// one line.
     pub fn look_for_taken(&mut self, machine: &KnownMachine)
         ensures line { self.new.line ≡ self.old.line }
         ensures reply { self.new.reply ≡ self.old.reply }

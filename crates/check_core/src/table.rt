@@ -64,7 +64,7 @@ fn report_at<'a>(front: &[u8], text: &'a [u8]) -> Option<(Body, &'a [u8])>
     Some((Body::Report(report), rest))
 }
 
-/// Returns the greatest order of a free block, if there is one, the share of free frames outside a block of that order, and the
+/// Returns the greatest order of a free block, if there is one, the share of free frames outside the largest free block, and the
 /// text that follows.
 #[tactic(auto, unfolding(crate::specs::Tables::some_top_at))]
 fn some_top_at(text: &[u8]) -> Option<(Option<u8>, u32, &[u8])>

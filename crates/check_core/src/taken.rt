@@ -14,7 +14,7 @@ use judge_core::FrameBlock;
 use model_core::limits::MOST_ORDER;
 use words_core::{Answer, Command, Event};
 
-/// A frame of the page block of a reply that is also in a live page block of the tenant.
+/// A frame of a reply's page block that is already in a live page block of the tenant.
 #[derive(Clone, Copy, Debug)]
 pub struct TakenFrame {
     /// The first frame that both blocks share.
@@ -23,8 +23,8 @@ pub struct TakenFrame {
     pub page: FrameBlock,
 }
 
-/// Returns the tenant's first live page block that shares a frame with the page block of this answer, and the first shared frame.
-/// Returns `None` if there is none, or if the answer allocates no page block.
+/// Returns the tenant's first live page block that shares a frame with the page block of this answer, and the first frame that
+/// both share. Returns `None` if there is no such live block, or if `answer` does not allocate a page block for `event`.
 pub fn taken_frame(machine: &KnownMachine, event: &Event, answer: &Answer<'_>) -> Option<TakenFrame>
     ensures page { option_map (λ taken. taken.page) result ≡ page_in_way machine.now event.now (body_of_answer answer.now) }
     // The frame is the first one that both blocks share.

@@ -30,7 +30,7 @@ use words_core::{
 /// The number of lines of the reply if it is allowed, or else the first promise that it breaks.
 pub(crate) type LineVerdict = Result<u128, Promise>;
 
-/// Reads the reply to a line, and judges it.
+/// Reads the reply to a line into `text`, and judges it. A blank line or a comment has no reply.
 pub(crate) fn judge_line<R: Feed>(
     machine: &mut KnownMachine,
     reading: &Result<Option<Event>, LineFault>,
@@ -137,8 +137,8 @@ fn judge_lines<R: Feed>(
     judge_gathered(machine, event, more + 1, refused, text)
 }
 
-/// Judges the lines that were gathered as the reply to an event. `refused` matters only if they do not form a reply: it is then
-/// the refusal in the first line, if there is one.
+/// Judges the lines that were gathered as the reply to an event. If they do not form a reply, `refused` must be the refusal in
+/// the first line, if there is one. Otherwise `refused` is not used.
 #[inline(always)]
 fn judge_gathered(
     machine: &mut KnownMachine,
@@ -163,7 +163,7 @@ fn judge_gathered(
     }
 }
 
-/// Judges what was gathered as the reply to an event. Returns `None` if that is not a reply.
+/// Judges the gathered text as the reply to an event. Returns `None` if the text is not a reply.
 #[inline(always)]
 fn judge_text(
     machine: &mut KnownMachine,
@@ -196,7 +196,7 @@ fn judge_table(machine: &mut KnownMachine, event: &Event, text: &[u8]) -> Option
     Some(machine.judge_table(event, &table))
 }
 
-/// Returns the refusal and its addressee if what was gathered is a refusal, and `None` otherwise.
+/// Returns the refusal and its addressee if the gathered text is a refusal, and `None` otherwise.
 fn refusal_in(text: &Gathered<MOST_TEXT_BYTES>) -> Option<(Addressee, Refusal)>
     ensures { (came : List ℕ) → Gathers MOST_TEXT_BYTES came text.now → result ≡ refusal_read (text_read came) }
 {
@@ -209,8 +209,8 @@ fn refusal_in(text: &Gathered<MOST_TEXT_BYTES>) -> Option<(Addressee, Refusal)>
     }
 }
 
-/// Returns the promise that is broken by lines that do not form a reply. `refused` is the refusal in the first of them, if there
-/// is one.
+/// Returns the promise that is broken if the lines do not form a reply. `refused` is the refusal in the first line, if there is
+/// one.
 fn broken_by(
     machine: &mut KnownMachine,
     event: &Event,

@@ -3,7 +3,7 @@ use Rattle.std.specs.Prelude.{count_by, ◌==◌}
 use Rattle.check_core.specs.Forms.{form_at}
 use Rattle.check_core.proofs.form.behind_word.Given as goal
 
--- matching the rest of the word with the rest of the text gives the result of the whole match
+-- matching the rest of the word with the rest of the text gives the result of the whole match; the rest of the word has no `#`
 abbrev pub invariant-loop-letter : goal.invariant-loop-letter
 invariant-loop-letter l = record {
   left : form_at (drop l.letter-index l.word) l.rest ≡ form_at l.word l.text;

@@ -5,7 +5,8 @@ use Rattle.check_core.specs.Forms.{form_at}
 use Rattle.check_core.proofs.FormLoop.{with_front}
 use Rattle.check_core.proofs.form.form_at.Given as goal
 
--- the numbers so far and those of the rest of the form are the result of the whole match
+-- The numbers so far, put in front of those that the rest of the form matches, are the numbers of the whole match. The numbers so
+-- far and the `#`s in the rest of the form are `N` together.
 abbrev pub invariant-loop-mark : goal.invariant-loop-mark
 invariant-loop-mark g l = record {
   all : with_front l.numbers.items (form_at (drop l.mark-index l.form) l.rest) ≡ form_at l.form l.text;

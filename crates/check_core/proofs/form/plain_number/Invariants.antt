@@ -4,7 +4,7 @@ use Rattle.std.specs.Char.{is_ascii_digit}
 use Rattle.words_core.specs.Numbers.{value_of}
 use Rattle.check_core.proofs.form.plain_number.Given as goal
 
--- the value so far is the number that the first digits spell
+-- all bytes before the index are digits, and the value is the number that they spell
 abbrev pub invariant-loop-digit : goal.invariant-loop-digit
 invariant-loop-digit l = record {
   value : l.value ≡ value_of (take l.digit-index l.word);

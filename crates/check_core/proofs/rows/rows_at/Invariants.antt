@@ -4,7 +4,7 @@ use Rattle.check_core.specs.Tables.{rows_from}
 use Rattle.check_core.proofs.RowLoop.{with_rows}
 use Rattle.check_core.proofs.rows.rows_at.Given as goal
 
--- the rows so far and those in the rest of the text are all rows
+-- the rows so far, followed by the rows that the rest of the text has, are the rows of the whole text
 abbrev pub invariant-loop-index : goal.invariant-loop-index
 invariant-loop-index g l = record {
   all : with_rows l.rows.items (rows_from g.R.Row.row_at l.front (g.row.N - l.index) l.index l.rest) ≡ rows_from g.R.Row.row_at l.front g.row.N 0 l.text;
