@@ -13,6 +13,6 @@ last_error reader = reader.error
 abbrev pub is_plain_byte : ℕ → Bool
 is_plain_byte byte = nat_le 32 byte && nat_le byte 126 && not (byte == 39 || byte == 34 || byte == 92)
 
--- a path of plain bytes is printed unchanged; None means that the path is quoted, in a form that is not defined here
+-- how a path is printed: unchanged if all its bytes are plain; None means that it is quoted, in a form that is not defined here
 abbrev pub plain_path : Text → Option Text
 plain_path path = if list_all is_plain_byte path then Some path else None

@@ -1,4 +1,4 @@
--- How the machine of a command line is read from its words.
+-- How the machine that a command line requests is read from its arguments.
 use Rattle.std.specs.Prelude.{◌≡◌, ℕ, ◌^◌, ◌<◌, ◌≤◌, true, Option, Some, None, codes}
 use Rattle.std.specs.String.{string_bytes}
 use Rattle.std.specs.Str.Parse.{IsNumeral, digits_value, without_leading_plus}
@@ -12,7 +12,7 @@ use Rattle.command_line.specs.declared.outcome.Outcome.{Outcome}
 abbrev pub IsNumber : Text → Type 0
 IsNumber text = IsNumeral 10 (without_leading_plus text) × (digits_value 10 (without_leading_plus text) < 2 ^ 32)
 
--- there is a text, and this is its number
+-- there is a text, and it is the number n
 abbrev pub Writes : Option Text → ℕ → Type 0
 Writes None n = ⊥
 Writes (Some text) n = IsNumber text × (n ≡ digits_value 10 (without_leading_plus text))

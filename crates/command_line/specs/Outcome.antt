@@ -1,4 +1,4 @@
--- How a program ends, and what it prints about that.
+-- How a program ends, and what it prints at its end.
 use Rattle.std.specs.Prelude.{◌≡◌, ◌≢◌, ◌⊎◌, ℕ, ◌++◌, [], Bool, true, false, codes}
 use Rattle.std.specs.Prelude.{Option, Some, None, MatchOption, Result, Ok, Err, MatchResult}
 use Rattle.std.specs.Io.KnownBytes.{Appends, Keeps}
@@ -40,13 +40,14 @@ outcome_text program unread unwritten (Outcome.Help text) = None
 outcome_text program unread unwritten (Outcome.Version text) = None
 outcome_text program unread unwritten (Outcome.BadLine text) = None
 
--- the outcome of a replay
+-- the outcome of a run whose replay had this result
 abbrev pub outcome_of : Result Tally ReplayError → Outcome
 outcome_of (Ok tally) = Outcome.Done
 outcome_of (Err (ReplayError.Feed tally)) = Outcome.Unreadable
 outcome_of (Err (ReplayError.Drain tally)) = Outcome.Unwritable
 
--- the first failure decides: a send that failed came before a feed that failed, and the flush comes last
+-- The outcome after the output was flushed. The first failure decides. A failed send (`unsent`) came before a failed feed, and a
+-- failed flush comes last.
 abbrev pub after_flush : Outcome → (unsent flushed : Bool) → Outcome
 after_flush Outcome.Done unsent true = Outcome.Done
 after_flush Outcome.Done unsent false = Outcome.Unwritable

@@ -12,11 +12,11 @@ use Rattle.command_line.specs.declared.machine_options.MachineOptions.{MachineOp
 use Rattle.command_line.specs.declared.outcome.Outcome.{Outcome}
 use Rattle.command_line.specs.declared.settings.Settings.{Settings}
 
--- the machine, and the tenant whose lines are written
+-- the machine that these settings request, with the tenant whose lines are written
 abbrev pub machine_of : Settings → MachineOptions
 machine_of settings = record { config = settings.config; only = settings.only; bootable = settings.bootable; below = settings.below }
 
--- a flag is set if its text is `true`
+-- a flag is set if its text is `true`, and not set if its text is `false` or missing
 pub record IsFlag (text : Option Text) (flag : Bool) : Type 0 where
   pub given : text ≡ Some (codes "true") → flag ≡ true
   pub denied : text ≡ Some (codes "false") → flag ≡ false
@@ -27,7 +27,8 @@ abbrev pub IsAlone : Option ℕ → Option ℕ → Bool → Type 0
 IsAlone None only tally = Unit {0}
 IsAlone (Some t) only tally = (only ≡ None) × (tally ≡ false)
 
--- the settings are those given under the arguments' names: `read` gives the texts of options, and `whole` the text of FILE
+-- The settings are those given under the arguments' names. `read` gives the texts of options, and `whole` gives the text of FILE.
+-- If `--own` is given, it names a tenant of the machine, and `--only` and `--tally` are not given.
 pub record Asks (read whole : Text → Option Text) (settings : Settings) : Type 0 where
   pub machine : AsksMachine read (machine_of settings)
   pub own : MayWrite (read (codes "own")) settings.own
@@ -58,14 +59,15 @@ pub record CanBeHad (words : List Text) (settings : Settings) : Type 0 where
   pub asked : IsRequestedBy words settings
   pub own_alone : (flag : Bool) → IsFlag (one_of (codes "tally") (matches_of command_line words)) flag → IsAlone settings.own settings.only flag
 
--- the messages if `--own` is given beside `--only` or `--tally`, and if it is not a tenant of the machine
+-- the message if `--own` is given beside `--only` or `--tally`, and then the message if `--own` names no tenant of the machine
 abbrev pub own_beside_text : Text
 own_beside_text = codes "error: --own goes with neither --only nor --tally\n"
 
 abbrev pub own_no_tenant_text : Text
 own_no_tenant_text = codes "partmem: --own names no tenant\n"
 
--- why a tenant's own list is refused for this machine, with a tally or without; `--only` and `--tally` are tested first
+-- why `--own` is refused for this machine: it is given beside `--only` or `--tally`, or otherwise it names no tenant of the
+-- machine
 abbrev pub IsNoOwn : (Text → Option Text) → MachineOptions → Bool → Outcome → Type 0
 IsNoOwn read machine tally outcome = (tenant : ℕ) × Writes (read (codes "own")) tenant
     × (((¬ IsAlone (Some tenant) machine.only tally) × IsBadLine own_beside_text outcome)

@@ -13,10 +13,10 @@ use clap::{Arg, ArgAction, ArgMatches, Command, value_parser};
 use model_core::limits::{LEAST_ORDER, MOST_ORDER, MOST_SUPERBLOCKS, MOST_TENANTS};
 use std::alloc::{AllocError, Global};
 
-/// What `--version` prints.
+/// The version that `--version` prints.
 const VERSION: &str = "2.0.0";
 
-/// What a program that runs a trace prints about itself.
+/// The texts of a program that runs a trace: its name, its help and its messages.
 #[derive(Clone, Copy, Debug)]
 pub struct Program<'a> {
     /// The name of the program.
@@ -25,14 +25,14 @@ pub struct Program<'a> {
     pub about: &'a str,
     /// What `--help` prints below the arguments.
     pub after_help: &'a str,
-    /// What it prints if its input could not be read.
+    /// What the program prints if its input could not be read.
     pub unread: &'a str,
-    /// What it prints if its output could not be written.
+    /// What the program prints if its output could not be written.
     pub unwritten: &'a str,
 }
 
-/// Returns the command of a program that needs a machine: the sizes with their ranges, and `--only`. The program adds its own
-/// arguments.
+/// Returns the command of a program that needs a machine: the sizes with their ranges, and `--only`, whose help is the text
+/// `only`. The program adds its own arguments.
 pub fn command<'a>(
     alloc: Global,
     program: Program<'a>,

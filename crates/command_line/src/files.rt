@@ -29,9 +29,9 @@ pub fn open<R: Files + Input>(rt: &R, path: Option<&str>) -> io::Result<Either<R
 /// Why a file could not be opened or read.
 #[derive(Clone, Copy, Debug)]
 pub enum FileError {
-    /// It could not be opened.
+    /// The file could not be opened.
     Open(io::Error),
-    /// A read failed.
+    /// A read of the file failed.
     Read(io::Error),
 }
 

@@ -1,5 +1,6 @@
-//! The common part of programs that run a trace: the machine of a command line, the files that it names, the progress of the
-//! run, and the end of the program. The command line of `partmem` itself is here too ([`read_words`]), so that tests can call it.
+//! The common part of programs that run a trace: the machine and the files that a command line names, the progress of the run,
+//! and the end of the program. The parser of `partmem`'s own command line, [`read_words`], is here too, so that tests can call
+//! it.
 //!
 //! A program that runs a trace has the arguments of `command`, or of `sizes_command` if it has no `--only`, and adds its own with
 //! `Command::arg`. From the matches it reads the machine with `MachineOptions::found`, or the sizes with `sizes_found`, and then

@@ -1,4 +1,4 @@
-//! How a program ends, and what it prints about that.
+//! How a program ends, and what it prints at its end.
 
 ghost use Rattle.std.specs.Prelude.{◌≡◌, Some, option_map};
 ghost use Rattle.std.specs.declared.io.ErrorKind.TheVariants as SystemKind;
@@ -26,7 +26,7 @@ use streams::{ReplayError, Tally};
 /// | `NoMemory` | 3 | `not enough memory` |
 #[derive(Debug, Drop)]
 pub enum Outcome {
-    /// The trace is done.
+    /// The trace was run to its end.
     Done,
     /// `--help` was given. The value is the text of the help.
     Help(String),
@@ -119,7 +119,8 @@ pub(crate) fn bad_line(alloc: Global, text: &str) -> Outcome
     }
 }
 
-/// Returns the outcome if the words of the command line could not be read because memory ran out or because a word is not UTF-8.
+/// Returns the outcome if the words of the command line could not be read. It is `NoMemory` if memory ran out. Otherwise it is
+/// `BadLine` with the message for a word that is not UTF-8, or `NoMemory` if there is no memory for the message.
 pub(crate) fn not_words(alloc: Global, kind: io::ErrorKind) -> Outcome
     ensures text { IsBadLine not_utf8_text result }
     ensures memory { kind ≡ SystemKind.OutOfMemory → result ≡ Outcome.NoMemory }
@@ -133,7 +134,7 @@ pub(crate) fn not_words(alloc: Global, kind: io::ErrorKind) -> Outcome
     )
 }
 
-/// Returns the outcome if the parser refused the words.
+/// Returns the outcome if the parser refused the words with this error.
 pub(crate) fn not_parsed(alloc: Global, error: &Error) -> Outcome
     ensures { IsReportedAs (kind_of error.now) result }
 {
@@ -148,7 +149,7 @@ pub(crate) fn not_parsed(alloc: Global, error: &Error) -> Outcome
     }
 }
 
-/// A line on standard error: the program that prints it, and its text.
+/// A line on standard error: the name of the program that prints it, and the text that follows the name.
 #[derive(Clone, Copy, Debug)]
 pub struct Line<'a> {
     pub program: &'a str,

@@ -27,7 +27,7 @@ pub fn words_given(rt: &(impl Env + AllocGlobal)) -> Result<Vec<String>, Outcome
     }
 }
 
-/// Returns the texts of these words, including empty ones.
+/// Returns these words as string slices, including empty words.
 pub fn texts_of<'a>(alloc: Global, words: &'a [String]) -> Result<Vec<&'a str>, AllocError>
     ensures { IfOk result (λ texts. map (λ text. text.now) texts.items ≡ map (λ word. string_bytes word) words.entry.now) }
 {

@@ -9,7 +9,7 @@ use std::rt::{Clock, Files};
 use std::time::Instant;
 use std::{fmt, fs};
 
-/// The largest input for which no progress is shown, 64 MiB. A load of this size takes about a second.
+/// The largest input for which no progress is shown, 64 MiB. An input of this size is run in about a second.
 const SMALL_BYTES: u64 = 64 << 20;
 
 /// The number of seconds until the line is first shown, and then between two updates of the line. So a run of less than a second
@@ -29,7 +29,7 @@ struct Position {
 }
 
 impl Position {
-    /// Counts a piece that was read.
+    /// Counts the bytes and the line feeds of a piece that was read.
     fn add(&mut self, piece: &[u8])
         ensures lines { self.new.lines ≡ min (self.old.lines + count_by (λ byte. byte == 10) piece.now) (2 ^ 64 - 1) }
         ensures bytes { self.new.bytes ≡ min (self.old.bytes + length piece.now) (2 ^ 64 - 1) }
@@ -142,8 +142,8 @@ impl<P: Eprint + Clock> Drop for Progress<'_, P> {
 /// Returns the progress of a run of `program` that begins now in the file at this path, or in standard input if there is no path.
 /// The run may read another file `beside` it.
 ///
-/// Returns `None` if progress is not `wanted`, if one of these is not a regular file, if the first is empty, if they have at most
-/// 64 MiB in total, or if there is no clock.
+/// Returns `None` if progress is not `wanted`, if one of the files is not a regular file, if the first file is empty, if the
+/// files have at most 64 MiB in total, or if there is no clock.
 pub fn progress_in<'a, P: Files + Eprint + Clock>(
     rt: &'a P,
     program: Program<'a>,
@@ -167,7 +167,7 @@ pub fn progress_in<'a, P: Files + Eprint + Clock>(
     Progress::begin(rt, program, size, size.saturating_add(other))
 }
 
-/// Returns the size in bytes of the file at this path, or `None` if it is not a regular file.
+/// Returns the size in bytes of the file at this path, or `None` if it is not a regular file or its size cannot be read.
 fn size_of(rt: &impl Files, path: &str) -> Option<u64> {
     let metadata = fs::metadata(rt, path).ok()?;
     metadata.is_file().then_some(metadata.len())

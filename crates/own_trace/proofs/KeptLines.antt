@@ -1,4 +1,4 @@
--- The lines that are kept, and their entries.
+-- The lines that are kept for a tenant have exactly the entries of its own list.
 use Rattle.std.proofs.Common.{◌≡◌, ℕ, true, false, cond, List, [], ◌∷◌, ◌++◌, map, filter, refl, ap, sym, ◌∙◌, append_assoc}
 use Rattle.std.specs.List.{flat_map}
 use Rattle.std.proofs.lemmas.List.{append-nil}
@@ -58,7 +58,7 @@ own_list_both t limit order (event ∷ xs) ys w =
     let entries : List Entry = own_entries t event (world_step limit order event w).reply.body in
     ap (λ more. entries ++ more) (own_list_both t limit order xs ys (world_step limit order event w).world) ∙ sym (append_assoc entries _ _)
 
--- if a line has entries, it is kept and adds them in front of the entries of the later lines
+-- keeping a line only if it has entries puts its entries in front of the entries of the later lines
 kept_entries : (t : ℕ) (run : RunLine) (more : List RunLine) (entries : List Entry) → own_list t run.exchanges ≡ entries
     → flat_map (λ run. own_list t run.exchanges) (cond (has_entry entries) (run ∷ more) more) ≡ entries ++ flat_map (λ run. own_list t run.exchanges) more
 kept_entries t run more [] is = refl

@@ -1,4 +1,4 @@
--- One more line is run, and kept or not.
+-- Running one more line, and keeping it if it is the tenant's own.
 use Rattle.std.proofs.Common.{◌≡◌, ℕ, Bool, true, false, List, [], ◌∷◌, ◌++◌, Result, Ok, Option, Some, refl, ap, sym, subst, ◌∙◌, append_assoc}
 use Rattle.std.proofs.lemmas.List.{append-nil}
 use Rattle.words_core.specs.declared.event.Event.{Event}
@@ -66,7 +66,7 @@ not_kept own line before after known is_own run is = record {
   whole = refl;
 }
 
--- if a line of the tenant's own was run, and it was pushed with an LF, the line was processed: in full if the push succeeded
+-- if a line of the tenant's own was run, and was pushed with an LF, the line was processed, and in full if the push succeeded
 pub kept : (own : OwnLines) (line : List ℕ) (before after : KernelContent) (old new : Option (List ℕ)) (failing is_own : Bool) (written written' : ℕ) (result : Result (Unit {0}) Stopped)
     → IsLineRun own.tenant line before after is_own → is_own ≡ true → HasPushed old new failing (line ++ 10 ∷ []) written written' result
     → HasDone keeps (own, before) line old new result (own, after)
@@ -85,8 +85,8 @@ kept own line before after old new failing is_own written written' result run is
   whole = pushed.whole;
 }
 
--- if `taken` is the text kept of the lines `xs`, and `text` is the text kept of the next line, the text kept of all is both
--- joined
+-- if `taken` is the text kept of the lines `xs`, and `text` is the text kept of the next line, the text kept of all these lines
+-- is `taken ++ text`
 own_more : (t : ℕ) (before now next : KernelContent) (xs : List (List ℕ)) (line taken text : List ℕ)
     → HasKept t before now xs taken → KeepsLine t line now next text
     → (w : World) → Shows before w → own_text t cache_limit before.order (xs ++ line ∷ []) w ≡ taken ++ text
@@ -97,7 +97,7 @@ own_more t before now next xs line taken text sofar kept w shows =
     ∙ ap (λ order. taken ++ own_text t cache_limit order (line ∷ []) later) (sym sofar.stands.sizes.order)
     ∙ ap (λ more. taken ++ more) (kept.kept later (sofar.stands.shows w shows))
 
--- The kernel has run these lines, and the bytes taken are those of the tenant's own lines among them.
+-- the kernel has run these lines, and the bytes taken are the text of the tenant's own lines among them
 abbrev pub AreKept : ℕ → KernelContent → List (List ℕ) → List ℕ → OwnLines × KernelContent → Type 0
 AreKept t before lines taken s = (s.0.tenant ≡ t) × HasKept t before s.1 lines taken
 
@@ -118,7 +118,8 @@ are_kept own before lines taken s ran =
     run_keeps keeps (AreKept own.tenant before) (one_kept own.tenant before) [] lines [] taken (own, before) s
     (refl, record { stands = record { sizes = same_sizes before; shows = λ w shows. shows }; kept = λ w shows. refl }) ran
 
--- if the drain failed within the text of a line, the text of the lines before it was taken in full, and its own only in part
+-- if the drain failed within the text of a line, the text of the earlier lines was taken in full, and the text of this line only
+-- in part
 pub kept_short : (own : OwnLines) (before : KernelContent) (done : List (List ℕ)) (line taken : List ℕ) (s : OwnLines × KernelContent) → IsCutOff keeps (own, before) done line taken s
     → IsKeptShort own.tenant before s.1 done line taken
 kept_short own before done line taken s cut =

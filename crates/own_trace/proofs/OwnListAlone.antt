@@ -1,4 +1,4 @@
--- If a tenant's own list is run alone on a machine with as many superblocks, its own list there is the same.
+-- If a tenant's own lines are run alone on a new machine of the same sizes, its own list there is the same as in the whole trace.
 use Rattle.std.proofs.Common.{◌≡◌, ℕ, ◌+◌, ◌*◌, ◌^◌, ◌<◌, ◌≤◌, Bool, true, false, cond, ◌==◌, ◌&&◌, List, [], ◌∷◌, ◌++◌, length, map, filter, Option, Some, None, Result, Ok, Err, is_none, position, slice_get, refl, ap, sym, subst, ◌∙◌, arith}
 use Rattle.std.specs.Prelude.{if◌then◌else◌, slice_set}
 use Rattle.std.specs.List.{list_all, onto_first}
@@ -36,12 +36,13 @@ use Rattle.own_trace.specs.Kept.{RunLine, run_lines, has_entry, is_own_line, own
 use Rattle.own_trace.specs.Laws.{OwnListAlone, LinesAlone}
 use Rattle.own_trace.proofs.Superblocks.{Owners, is_own_or_free, one, times, no_times, alone_has_room, granted_times, granted_all, given_times, given_all, new_all, new_times}
 
--- every superblock is free or the tenant's, and no two are in the same slot
+-- every superblock is free or the tenant's, and no slot of the tenant has two superblocks
 pub record IsAlone (t : ℕ) (owners : Owners) : Type 0 where
   pub only : list_all (is_own_or_free t) owners ≡ true
   pub once : (u : ℕ) → times (is_owner t u) owners ≤ 1
 
--- the tenant has the same machine in the world of all tenants and in one of its own, with as many superblocks
+-- The tenant has the same machine in both worlds: the world `whole` of all tenants, and the world `alone`, in which only its own
+-- lines were run. Both worlds have the same number of superblocks. In `alone`, every superblock is free or the tenant's.
 pub record Beside (limit order t : ℕ) (whole alone : World) : Type 0 where
   pub machine : Machine
   pub here : slice_get whole.machines t ≡ Some machine
@@ -192,7 +193,7 @@ grant_refused order t w m is =
     subst (λ o. is_refused (grant_step order t w o (position is_none w.owners)).reply.body ≡ is_none (position is_none w.owners)) (sym is)
     (granted_refused order t w m (position is_none w.owners))
 
--- if the tenant is alone, it is still alone after a grant, since no superblock was in the slot that it gets
+-- `IsAlone` still holds after a grant, since no superblock was in the slot that the tenant gets
 granted_alone : (limit order t : ℕ) (k : Known) (w : World) (m : Machine) (free : Option ℕ) → MeetsWorld limit order k w → slice_get w.machines t ≡ Some m → position is_none w.owners ≡ free
     → IsAlone t w.owners → IsAlone t (grant_step order t w (Some m) free).world.owners
 unfolding grant_step answer
@@ -272,8 +273,8 @@ both_after limit order t event w v le can b step =
       by_itself = step.by_itself;
     }
 
--- after an event that is not in the own list, and is not run in the tenant's own world, the tenant still has the same machine in
--- both
+-- if an event is not in the own list, and is run only in the world of all tenants, the tenant still has the same machine in both
+-- worlds
 other_after : (limit order t : ℕ) (event : Event) (w v : World) → 3 ≤ order → CanBeRequested event → (b : Beside limit order t w v) → entries_at limit order t event w ≡ []
     → Beside limit order t (world_step limit order event w).world v
 other_after limit order t event w v le can b none =
@@ -301,7 +302,8 @@ some_entry (entry ∷ entries) some = refl
 abbrev lines_in : List RunLine → List (List ℕ)
 lines_in runs = map (λ run. run.line) runs
 
--- if the lines kept after an event have the same own list when they are run alone, so have the lines kept from this event on
+-- Suppose that the later kept lines, run alone, give the own list of the later events. Then the kept lines from this event on,
+-- run alone, give the own list from this event on.
 one_event : (limit order t : ℕ) (line : List ℕ) (event : Event) (w v : World) (later : List RunLine) (more : List Event) → 3 ≤ order → reading_of line ≡ Ok (Some event)
     → Beside limit order t w v
     → ((next : World) → Beside limit order t (world_step limit order event w).world next

@@ -1,4 +1,4 @@
--- The superblocks of one tenant, no two of them in the same slot: there are at most as many as the tenant has slots.
+-- If the world of all tenants has a free superblock, the world in which a tenant is alone has one too.
 use Rattle.std.proofs.Common.{◌≡◌, ◌≢◌, ℕ, zero, suc, ◌+◌, ◌≤◌, Bool, true, false, ◌||◌, ◌==◌, List, [], ◌∷◌, map, length, Option, Some, None, is_none, position, slice_get, replicate, refl, sym, ap, ◌∙◌, arith}
 use Rattle.std.specs.Prelude.{if◌then◌else◌, is_some, slice_set}
 use Rattle.std.specs.List.{list_any, list_all}
@@ -54,7 +54,7 @@ same_free test (Some x ∷ xs) none = go (test (Some x)) (same_free test xs none
     go true later = refl
     go false later = later
 
--- removing an element that does not pass another test does not change whether some element passes that other test
+-- if no element passes both tests, removing an element that passes `test` does not change whether some element passes `other`
 others_stay : (test other : Option Owner → Bool) (xs : Owners) → ((o : Option Owner) → test o ≡ true → other o ≡ false)
     → list_any other (without test xs) ≡ list_any other xs
 others_stay test other [] apart = refl
@@ -81,8 +81,8 @@ no_times test (x ∷ xs) none = go (test x) none (no_times test xs)
     go true none later = absurd (false≢true (sym none))
     go false none later = omega (arith, later none)
 
--- if `ys` has each slot of `xs`, in which no slot comes twice, `ys` has at least as many elements that are not free as `xs` has
--- elements
+-- Let all superblocks in `xs` be those of tenant t, no two in the same slot. If `ys` has a superblock of t in each of these
+-- slots, at least as many superblocks in `ys` have an owner as there are superblocks in `xs`.
 pigeons : (t : ℕ) (xs ys : Owners) → list_all (is_of t) xs ≡ true → ((u : ℕ) → times (is_owner t u) xs ≤ 1)
     → ((u : ℕ) → list_any (is_owner t u) xs ≡ true → list_any (is_owner t u) ys ≡ true) → length xs + nobodys ys ≤ length ys
 pigeons t [] ys all once there = omega (arith, free_few ys)
@@ -115,8 +115,8 @@ both t (Some x ∷ xs) taken own =
     let parts = and_parts (x.tenant == t) (list_all (is_own_or_free t) xs) own in
     and_from (x.tenant == t) (list_all (is_of t) xs) parts.0 (both t xs taken parts.1)
 
--- If another machine has as many superblocks, the same slots of this tenant, and a free superblock, the tenant's own machine has
--- one too.
+-- Let each superblock in `alone` be free or the tenant's, no two in the same slot. If `whole` has as many superblocks as `alone`,
+-- the same slots of the tenant, and a free superblock, `alone` has a free superblock too.
 pub alone_has_room : (t : ℕ) (whole alone : Owners) (found : Option ℕ) → list_all (is_own_or_free t) alone ≡ true → ((u : ℕ) → times (is_owner t u) alone ≤ 1)
     → ((u : ℕ) → list_any (is_owner t u) alone ≡ list_any (is_owner t u) whole) → length alone ≡ length whole → position is_none alone ≡ found
     → is_none (position is_none whole) ≡ false → is_none found ≡ false

@@ -1,4 +1,4 @@
--- Which bytes the drain takes for the bytes that the feed gives.
+-- What the drain takes while a tenant's own lines are copied from a feed into it.
 use Rattle.std.specs.Prelude.{◌≡◌, ℕ, Bool, true, false, List, [], ◌∷◌, ◌++◌, Result, Ok, Err}
 use Rattle.words_core.specs.Cutting.{lines_of_trace}
 use Rattle.words_core.specs.Grammar.{reading_of}
@@ -12,35 +12,37 @@ use Rattle.own_trace.specs.declared.keeping.KeepError.{KeepError}
 use Rattle.own_trace.specs.declared.keeping.OwnLines.{OwnLines}
 use Rattle.own_trace.specs.Kept.{own_text}
 
--- these lines were run, and the text of those in the tenant's own list was taken
+-- these lines were run, and the drain took the text of those that are in the tenant's own list
 pub record HasKept (t : ℕ) (before after : KernelContent) (lines : List (List ℕ)) (taken : List ℕ) : Type 0 where
   pub stands : StandsAfter before after lines
   pub kept : (w : World) → Shows before w → taken ≡ own_text t cache_limit before.order lines w
 
--- these lines and one more were run; the last one is in the tenant's own list, and its text was taken only in part
+-- these lines and then `line` were run; the drain took the own text of `lines`, and only a part of what `line` adds to it
 pub record IsKeptShort (t : ℕ) (before after : KernelContent) (lines : List (List ℕ)) (line taken : List ℕ) : Type 0 where
   pub stands : StandsAfter before after (lines ++ line ∷ [])
   pub kept : (w : World) → Shows before w → IsCutIn (λ xs. own_text t cache_limit before.order xs w) lines line taken
 
--- the relation between the bytes given, the bytes taken, the kernel before and after, and the result
+-- What the drain took of the lines in the bytes that the feed gave. If the result is Ok, it took the text of all own lines. If
+-- the feed failed, it took the own lines among those that ended in LF. If the drain failed, the text of the last line that was
+-- run is cut.
 abbrev pub KeepsOwn : Bool → ℕ → KernelContent → KernelContent → List ℕ → List ℕ → Result (Unit {0}) KeepError → Type 0
 KeepsOwn ended t before after given taken (Ok done) = HasKept t before after (lines_of_trace given) taken
 KeepsOwn ended t before after given taken (Err KeepError.Feed) = HasKept t before after (ended_lines given) taken
 KeepsOwn ended t before after given taken (Err KeepError.Drain) =
     (lines : List (List ℕ)) × (line : List ℕ) × HasCome ended given (lines ++ line ∷ []) × IsKeptShort t before after lines line taken
 
--- the result names the end that failed, or is Ok if neither did
+-- the result names the one that failed, the feed or the drain; it is Ok if neither failed
 abbrev pub NamesEnd : Result (Unit {0}) KeepError → Bool → Bool → Type 0
 NamesEnd (Ok done) feed drain = (feed ≡ false) × (drain ≡ false)
 NamesEnd (Err KeepError.Feed) feed drain = (feed ≡ true) × (drain ≡ false)
 NamesEnd (Err KeepError.Drain) feed drain = (feed ≡ false) × (drain ≡ true)
 
--- a line was run, and this is its text in the tenant's own list: the line, or nothing
+-- a line was run, and this is its text in the tenant's own list: the line with an LF, or nothing
 pub record KeepsLine (t : ℕ) (line : List ℕ) (before after : KernelContent) (text : List ℕ) : Type 0 where
   pub sizes : SameSizes before after
   pub shows : (w : World) → Shows before w → Shows after (world_after cache_limit before.order w (event_in (reading_of line)))
   pub kept : (w : World) → Shows before w → own_text t cache_limit before.order (line ∷ []) w ≡ text
 
--- the effect of a line: of its text in the own list, `taken` was taken and `rest` was not
+-- the effect of a line: the drain took the part `taken` of its text in the own list, and did not take the part `rest`
 abbrev pub keeps : OwnLines × KernelContent → List ℕ → List ℕ → List ℕ → OwnLines × KernelContent → Type 0
 keeps s line taken rest s' = (s'.0.tenant ≡ s.0.tenant) × KeepsLine s.0.tenant line s.1 s'.1 (taken ++ rest)

@@ -7,7 +7,7 @@ use Rattle.world_core.specs.World.{World, Exchange, opening_world, history, worl
 use Rattle.world_core.specs.OwnList.{own_list}
 use Rattle.world_core.specs.Output.{event_in, with_line_feeds}
 
--- a line, and the exchange of its event and the reply; a line that is blank, a comment or faulty has no exchange
+-- a line that was run, with the exchange of its event and the reply; a blank line, a comment or a faulty line has no exchange
 pub record RunLine : Type 0 where
   pub line : List ℕ
   pub exchanges : List Exchange
@@ -31,10 +31,10 @@ is_own_line t run = has_entry (own_list t run.exchanges)
 abbrev pub own_lines : ℕ → ℕ → ℕ → List (List ℕ) → World → List (List ℕ)
 own_lines t limit order lines w = map (λ run. run.line) (filter (is_own_line t) (run_lines limit order lines w))
 
--- the same lines as bytes, each with an LF
+-- the text of these lines, each with an LF
 abbrev pub own_text : ℕ → ℕ → ℕ → List (List ℕ) → World → List ℕ
 own_text t limit order lines w = with_line_feeds (own_lines t limit order lines w)
 
--- the own list of a whole trace, on a new machine, as bytes
+-- the text of the tenant's own lines if the whole trace is run on a new machine
 abbrev pub own_trace : ℕ → ℕ → ℕ → ℕ → ℕ → List ℕ → List ℕ
 own_trace limit order superblocks tenants t trace = own_text t limit order (lines_of_trace trace) (opening_world superblocks tenants)

@@ -3,15 +3,15 @@
 
 ghost use Rattle.own_trace.specs.Laws.{KeptAreOwnList, OwnListAlone, LinesAlone};
 
-/// The entries of the lines that are kept for a tenant are that tenant's own list of the trace, in order. None is left out, and
-/// none is another tenant's.
+/// The lines that are kept for a tenant have, in order, exactly the entries of the tenant's own list of the trace. No entry is
+/// left out, and none is another tenant's.
 pub fn kept_are_own_list()
     ensures { KeptAreOwnList }
 {}
 
 /// If the lines that are kept for a tenant are run alone on a new machine of the same sizes, the tenant's own list there is its
-/// own list of the whole trace. So the tenant gets the same reply lines. This holds if slots have at least 8 frames and RAM has
-/// at most 2^32 bytes.
+/// own list of the whole trace. So the tenant gets the same reply lines as in the run of the whole trace. This holds if slots
+/// have at least 8 frames and RAM has at most 2^32 bytes.
 pub fn alone()
     ensures list { OwnListAlone }
     ensures lines { LinesAlone }

@@ -1,5 +1,5 @@
-//! A tenant's own list of a trace, as lines of the trace: the tenant's commands, and its grants, take-backs and resets. Which
-//! lines these are depends on the replies, so the trace is run.
+//! Copies the lines of a trace that make a tenant's own list: the tenant's commands, and the grants, take-backs and resets that
+//! name the tenant. A refused grant or take-back is not in the list, so the trace is run to find these lines.
 #![tactic(auto)]
 
 mod keeping;

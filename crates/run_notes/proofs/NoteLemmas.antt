@@ -1,4 +1,4 @@
--- Adding one more faulty line to the notes.
+-- If fewer than ten faulty lines are noted, one more is appended, and its note depends only on its first 256 bytes.
 use Rattle.std.proofs.Common.{◌≡◌, ℕ, ◌<◌, Bool, List, [], ◌∷◌, ◌++◌, length, take, ap, sym, ◌∙◌, arith}
 use Rattle.std.specs.Prelude.{if◌then◌else◌}
 use Rattle.std.proofs.lemmas.List.{take-take}

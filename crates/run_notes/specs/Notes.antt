@@ -23,7 +23,7 @@ abbrev pub times_of : RunNotes → ℕ → ℕ
 times_of notes zero = 0
 times_of notes (suc place) = slice_index_or notes.times place 0
 
--- the notes with one more refusal counted; a count stays below 2^64
+-- the notes with this refusal counted once more; a count stops at 2 ^ 64 - 1
 abbrev pub with_refusal : RunNotes → Refusal → RunNotes
 with_refusal notes refusal = let at = number_of_refusal refusal - 1 in
     record notes { times = slice_set notes.times at (min (slice_index notes.times at + 1) (2 ^ 64 - 1)) }

@@ -1,5 +1,5 @@
 //! The notes of `partmem --tally`, to find out what went wrong in a trace: its first faulty lines, and the number of times that
-//! each refusal was the answer. No call allocates.
+//! each refusal was shown. No call allocates.
 #![tactic(auto)]
 
 mod faults;

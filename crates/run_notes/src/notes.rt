@@ -10,7 +10,7 @@ use arrayvec::ArrayVec;
 use replay_core::Notes;
 use words_core::{LineFault, REFUSALS, Refusal};
 
-/// The first faulty lines of a trace, and the number of times that each refusal was the answer.
+/// The first faulty lines of a trace, and the number of times that each refusal was shown.
 #[derive(Debug, Drop)]
 pub struct RunNotes {
     first: ArrayVec<FaultyLine, MOST_FAULTS>,
@@ -41,8 +41,8 @@ impl RunNotes {
         self.first.as_slice()
     }
 
-    /// Returns the refusal with this number, counted from 1, and the number of answers that were this refusal. Returns `None` if
-    /// there were none.
+    /// Returns the refusal with this number, counted from 1, and the number of times that it was shown. Returns `None` if it was
+    /// never shown, or if no refusal has this number.
     pub fn told(&self, number: u8) -> Option<Refused>
         ensures { MatchOption result (times_of self.now number ≡ 0)
             (λ refused. (number_of_refusal refused.refusal ≡ number) × (refused.times ≡ times_of self.now number)) }
@@ -58,7 +58,7 @@ impl RunNotes {
         })
     }
 
-    /// Counts a refusal.
+    /// Counts a refusal that is shown. A count stops at the largest `u64`.
     fn count(&mut self, refusal: Refusal)
         ensures { self.new ≡ with_refusal self.old refusal }
     {

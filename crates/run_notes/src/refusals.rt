@@ -1,12 +1,12 @@
-//! Refusals, each with the number of times that it was the answer.
+//! Refusals, each with the number of times that it was shown.
 
 use std::fmt;
 use words_core::Refusal;
 
-/// The highest number that a refusal has.
+/// The highest number of a refusal. Refusals are numbered from 1.
 pub const MOST_NUMBER: u8 = 15;
 
-/// A refusal, and the number of answers that were this refusal.
+/// A refusal, and the number of times that it was shown.
 #[derive(Clone, Copy, Debug)]
 pub struct Refused {
     pub(crate) refusal: Refusal,
