@@ -1,4 +1,4 @@
--- How a call ends follows from how the calls that it made ended.
+-- The end of a call follows from the ends of the calls that it made.
 use Rattle.std.proofs.Common.{◌≡◌, ℕ, suc, Bool, false, List, ◌∷◌, Option, Some, Result, Ok, Err, inr, subst, sym}
 use Rattle.std.specs.Prelude.{IsErrAnd}
 use Rattle.words_core.specs.declared.event.Event.{Event}

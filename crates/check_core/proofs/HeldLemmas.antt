@@ -9,7 +9,7 @@ use Rattle.check_core.specs.Reading.{HasEnded, HasGiven, Source}
 use Rattle.check_core.proofs.ReadingLemmas.{at_end, gives_front, gives_held, gives_none, with_feed}
 use borrow.Rule.Slice.PartMut.{mid_of}
 
--- the bytes from `start` to `end` of a piece are `end - start` bytes, beginning at `start`
+-- cutting a piece at `end` and dropping the bytes before `start` leaves the `end - start` bytes that begin at `start`
 pub held_is : (piece : List ℕ) (start end : ℕ) → start ≤ end → drop start (take end piece) ≡ mid_of start (end - start) piece
 held_is piece start end within =
     let e : end ≡ start + (end - start) = omega (arith, within) in

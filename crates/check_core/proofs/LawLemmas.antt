@@ -78,7 +78,7 @@ lines_are (suc k) bytes found is =
 
 -- ---- one line
 
--- the bytes begin with the reply to the line; if the line has an event, this exchange is allowed
+-- the bytes begin with the reply to the line; if the line has an event, the event and this reply are an allowed exchange
 record IsStep (reading : Line) (bytes : List ℕ) (w after : Known) : Type 0 where
   exchanges : List Exchange
   asked : map (λ e. e.event) exchanges ≡ event_in reading

@@ -38,7 +38,7 @@ gives_more {a = a} {b = b} {c = c} {xs = xs} {ys = ys} first later = record {
       let (nor, still) = later.none_later now in (ap (λ zs. zs ++ ys) none ∙ nor, still);
 }
 
--- if bytes may follow a part, the part and these bytes may follow what came before it
+-- if bytes may follow a part, the part and these bytes may follow what came before the part
 pub follows : {old new : Source} {part : List ℕ} → HasGiven old new part → (more : List ℕ) → MayFollow new more → MayFollow old (part ++ more)
 follows given more may ended = let (none, now) = given.none_later ended in ap (λ xs. xs ++ more) none ∙ may now
 

@@ -36,7 +36,7 @@ front_again front rest =
     ∙ ap (λ test. cond test (Some (drop (length front) (front ++ rest))) None) ((bytes_eq-Decides front front).1 refl)
     ∙ ap (λ t. Some t) (drop_at front rest (length front) refl)
 
--- if `next` finds nothing in the empty text, no row is found in it
+-- no row is found in the empty text, if `next` finds nothing in it
 pub nothing_again : {A : Type 0} (front : List ℕ) (next : List ℕ → Option A) → next [] ≡ None → (after_front front [] >>= next) ≡ None
 unfolding after_front
 nothing_again front next none = step (bytes_eq (take (length front) []) front) where

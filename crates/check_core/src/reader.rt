@@ -71,7 +71,7 @@ impl<F: Feed> LineReader<F> {
     /// last LF is read as a line without an LF, and may be empty. Returns `Err` if the feed fails.
     pub fn next<const N: usize>(&mut self, into: &mut Gathered<N>) -> Result<bool, Stopped>
         requires fine { self.old.failed ≡ false }
-        // The part that was read.
+        // `part` is what was read.
         ensures taken { (part : List ℕ) × HasGiven self.old self.new part × IsPartAtOk result part self.new
             × ((front : List ℕ) → Gathers N front into.old → Gathers N (front ++ part) into.new) }
         ensures failed { self.new.failed ≡ is_err result }

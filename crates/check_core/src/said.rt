@@ -30,7 +30,7 @@ pub fn said_at<'a>(
         .or_else(|| rare_at(text))
 }
 
-/// Returns the rare answer at the front of the text, and the text that follows it.
+/// Returns the answer at the front of the text, and the text that follows it, if the answer is of a rare kind.
 #[tactic(auto, unfolding(crate::specs::Replies::rare_at))]
 #[inline(never)]
 fn rare_at(text: &[u8]) -> Option<(Answer<'_>, &[u8])>
@@ -43,7 +43,7 @@ fn rare_at(text: &[u8]) -> Option<(Answer<'_>, &[u8])>
         .or_else(|| notice_at(text))
 }
 
-/// Returns the answer to the administrator or to a faulty line at the front of the text, and the text that follows it.
+/// Returns the answer at the front of the text, and the text that follows it, if it answers the administrator or a faulty line.
 #[tactic(auto, unfolding(crate::specs::Replies::notice_at))]
 fn notice_at(text: &[u8]) -> Option<(Answer<'_>, &[u8])>
     ensures { Gives (λ found. (body_of_answer found.0, found.1.now)) result (notice_at text.now) }

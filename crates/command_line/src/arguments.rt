@@ -96,7 +96,8 @@ pub fn positional<'a>(alloc: Global, name: &'a str, help: &'a str) -> Arg<'a>
 
 /// Parses these words, which do not include the program's name, and returns the matches.
 ///
-/// Fails with `Help`, `Version`, `BadLine` or `NoMemory`. If clap's model accepts the words, it can fail only with `NoMemory`.
+/// Fails with `Help`, `Version`, `BadLine` or `NoMemory`. If clap's model accepts the words, the call can fail only with
+/// `NoMemory`.
 pub fn parse<'a>(
     alloc: Global,
     command: Command<'a>,

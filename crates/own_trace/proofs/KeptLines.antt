@@ -30,7 +30,7 @@ map_both : (xs ys : List RunLine) → map (λ run. run.line) (xs ++ ys) ≡ map 
 map_both [] ys = refl
 map_both (x ∷ xs) ys = ap (λ more. x.line ∷ more) (map_both xs ys)
 
--- the text kept of two lists of lines is the text kept of the first list and then the text kept of the second list, run after it
+-- the own text of two lists of lines is the own text of the first, and then the own text of the second, run after the first
 pub own_both : (t limit order : ℕ) (xs ys : List (List ℕ)) (w : World)
     → own_text t limit order (xs ++ ys) w ≡ own_text t limit order xs w ++ own_text t limit order ys (world_after limit order w (events_of xs))
 own_both t limit order xs ys w =
@@ -40,7 +40,7 @@ own_both t limit order xs ys w =
     ∙ ap with_line_feeds (map_both (filter (is_own_line t) (run_lines limit order xs w)) (filter (is_own_line t) (run_lines limit order ys later)))
     ∙ with_line_feeds-append (own_lines t limit order xs w) (own_lines t limit order ys later)
 
--- no text is kept of a line that has no entry in the own list
+-- a line that has no entry in the own list is not kept
 pub none_kept : (t limit order : ℕ) (line : List ℕ) (w : World) → has_entry (own_list t (history limit order w (event_in (reading_of line)))) ≡ false
     → own_text t limit order (line ∷ []) w ≡ []
 none_kept t limit order line w is = rw is refl
@@ -50,7 +50,7 @@ pub line_kept : (t limit order : ℕ) (line : List ℕ) (w : World) → has_entr
     → own_text t limit order (line ∷ []) w ≡ line ++ 10 ∷ []
 line_kept t limit order line w is = rw is (append-nil (line ++ 10 ∷ []))
 
--- the own list of two lists of events is the own list of the first and then the own list of the second, run after it
+-- the own list of two lists of events is the own list of the first, and then the own list of the second, run after the first
 pub own_list_both : (t limit order : ℕ) (xs ys : List Event) (w : World)
     → own_list t (history limit order w (xs ++ ys)) ≡ own_list t (history limit order w xs) ++ own_list t (history limit order (world_after limit order w xs) ys)
 own_list_both t limit order [] ys w = refl

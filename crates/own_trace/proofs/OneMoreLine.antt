@@ -66,7 +66,7 @@ not_kept own line before after known is_own run is = record {
   whole = refl;
 }
 
--- if a line of the tenant's own was run, and was pushed with an LF, the line was processed, and in full if the push succeeded
+-- if one of the tenant's own lines was run and pushed with an LF, it was processed, and in full if the push succeeded
 pub kept : (own : OwnLines) (line : List ℕ) (before after : KernelContent) (old new : Option (List ℕ)) (failing is_own : Bool) (written written' : ℕ) (result : Result (Unit {0}) Stopped)
     → IsLineRun own.tenant line before after is_own → is_own ≡ true → HasPushed old new failing (line ++ 10 ∷ []) written written' result
     → HasDone keeps (own, before) line old new result (own, after)
@@ -85,8 +85,8 @@ kept own line before after old new failing is_own written written' result run is
   whole = pushed.whole;
 }
 
--- if `taken` is the text kept of the lines `xs`, and `text` is the text kept of the next line, the text kept of all these lines
--- is `taken ++ text`
+-- if `taken` is the own text of the lines `xs`, and `text` is the own text of the next line, the own text of all these lines is
+-- `taken ++ text`
 own_more : (t : ℕ) (before now next : KernelContent) (xs : List (List ℕ)) (line taken text : List ℕ)
     → HasKept t before now xs taken → KeepsLine t line now next text
     → (w : World) → Shows before w → own_text t cache_limit before.order (xs ++ line ∷ []) w ≡ taken ++ text

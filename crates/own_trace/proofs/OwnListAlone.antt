@@ -360,7 +360,7 @@ opening_beside limit order superblocks tenants t ram here = record {
   };
 }
 
--- The text of the lines is cut into the same lines again
+-- The text of the kept lines is cut into the same lines again
 
 onto_one : (b : ℕ) (lines : List (List ℕ)) → b == 10 ≡ false → AreLines lines → AreLines (onto_first b lines)
 onto_one b [] other h = ((other, tt), tt)
