@@ -1,4 +1,4 @@
--- `is_free` is true of exactly the free blocks. `choose` finds the free block that serves a request. There is at most one.
+-- `is_free` is true of exactly the free blocks. `choose` finds the free block that serves a request. At most one block serves it.
 use Rattle.std.proofs.Common.{◌≡◌, ◌⊎◌, inl, inr, refl, sym, ◌∙◌, ap, ℕ, zero, suc, ◌*◌, ◌/◌, ◌%◌, ◌^◌, ◌<◌, ◌≤◌, Bool, true, false, not, Option, Some, None, eq-eqb, arith}
 use Rattle.std.specs.Prelude.{◌==◌, ◌&&◌, ◌||◌, nat_le, if◌then◌else◌, is_some, MatchOption}
 use Rattle.std.specs.Option.{option_and_then, option_map}

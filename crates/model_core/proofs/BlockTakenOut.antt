@@ -5,8 +5,8 @@ use Rattle.std.proofs.lemmas.Bool.{both_ways, cases_lt, cases_eq, false_from_ne_
 use Rattle.model_core.specs.Numbered.{number_at, is_clear, IsOpen}
 use Rattle.model_core.proofs.BlockHalves.{clear_below, clear_at, same_above, clear_same, clear_more, one_open}
 
--- `small` passes the frames that `large` passes, except the frames of the block of order k around f. This block lies in the block
--- of order j around f, which is open under `large`.
+-- The frames that pass `small` are those that pass `large`, except the frames of the block of order k around f. This block lies
+-- in the block of order j around f, which is open under `large`.
 pub record TakesOut (large small : ℕ → Bool) (top f k j : ℕ) : Type 0 where
   pub order : k ≤ j
   pub open_block : IsOpen large top j (number_at j f)

@@ -48,7 +48,8 @@ aligned_below f k j le aligned = ap (λ n. n % 2 ^ k) parts ∙ mul-mod_left (nu
     parts : f ≡ number_at j f * 2 ^ (j - k) * 2 ^ k
     parts = sym (first_is f j aligned) ∙ ap (λ n. number_at j f * n) size ∙ regroup (number_at j f) (2 ^ (j - k)) (2 ^ k)
 
--- a frame lies in the aligned block of order k at f if and only if the frame and f have the same number at order k
+-- a frame lies in the aligned block of order k at f if and only if the blocks of order k around the frame and around f have the
+-- same number
 pub number_of_frame : (f k x : ℕ) → f % 2 ^ k ≡ 0 → HasFrame (block f k) x → number_at k x ≡ number_at k f
 number_of_frame f k x aligned (low, high) =
     let first : number_at k f * 2 ^ k ≡ f = first_is f k aligned in

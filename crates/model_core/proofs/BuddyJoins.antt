@@ -70,8 +70,8 @@ buddy_number x i = go (halves n)
 pub buddy_aligned : (x i : ℕ) → (buddy (around x i)).first % 2 ^ i ≡ 0
 buddy_aligned x i = let w = buddy_number x i in ap (λ m. m % 2 ^ i) w.1.first ∙ mul-mod_left w.0 (2 ^ i)
 
--- The block of order i around x and its buddy are the two halves of the block of order i + 1 around x. No other aligned block
--- of order i is the half that does not contain x.
+-- The block of order i around x and its buddy are the two halves of the block of order i + 1 around x. The buddy is the only
+-- aligned block of order i that is the half without x.
 pub buddy_is_half : (x i : ℕ) → IsOtherHalf x i (buddy (around x i)).first
 buddy_is_half x i =
     let w = buddy_number x i in

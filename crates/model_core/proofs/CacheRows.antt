@@ -83,8 +83,8 @@ record_reads_zero : (read_step 4064 2 (machine_after reaped_and_taken)).answer �
 unfolding layout_of cache_step create_step next_number take_step give_step reap_step reaped alloc_step read_step in_reach grown_cache grown slab_to_use fresh_byte by_need choice taken_blocks empty_machine next_slot after_grant
 record_reads_zero = refl
 
--- A slab cannot be freed as a page block, and its slot cannot be taken back. An object can be given back only once, only at its
--- first byte, and only to its own cache.
+-- A slab cannot be freed as a page block, and its slot cannot be taken back before a reap frees the slab. An object can be given
+-- back only once, and only at its first byte. A give to a cache that does not exist is refused, and so is a take without a slot.
 abbrev a_slab : List Operation
 a_slab = Grant ∷ Alloc 0 ∷ Free 0 ∷ Create 64 8 (0 ∷ []) ∷ Take 0 ∷ []
 

@@ -93,7 +93,7 @@ reserved_is_untaken top held taken f j k free le = ((omega (arith, free.0.0), al
         number : number_at j x ≡ number_at j f
         number = same_above x f k j le (number_of_frame f k x aligned has)
 
--- if f is a multiple of 2 ^ (i + 1), its number at order i is twice its number at order i + 1
+-- if f is a multiple of 2 ^ (i + 1), the block of order i at f has twice the number of the block of order i + 1 at f
 pub even_number : (f i : ℕ) → f % 2 ^ suc i ≡ 0 → number_at i f ≡ 2 * number_at (suc i) f
 even_number f i aligned = ap (number_at i) parts ∙ number_first (2 * number_at (suc i) f) i
   where
@@ -106,8 +106,8 @@ even_number f i aligned = ap (number_at i) parts ∙ number_first (2 * number_at
 pub number_plus : (f i : ℕ) → number_at i (f + 2 ^ i) ≡ number_at i f + 1
 number_plus f i = number_is i (f + 2 ^ i) ∙ add-div_right f (pow_pos i) ∙ ap (λ n. n + 1) (sym (number_is i f))
 
--- An aligned block of order i + 1 at frame f has two halves: the lower half begins at f, the other half begins at f + 2 ^ i. No
--- other aligned block of order i is the other half.
+-- An aligned block of order i + 1 at frame f has two halves: the lower half begins at f, the upper half begins at f + 2 ^ i. The
+-- upper half is the only aligned block of order i that is the half without f.
 pub upper_half : (f i : ℕ) → f % 2 ^ suc i ≡ 0 → IsOtherHalf f i (f + 2 ^ i)
 upper_half f i aligned =
     let even : number_at i f ≡ 2 * number_at (suc i) f = even_number f i aligned in

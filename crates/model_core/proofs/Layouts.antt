@@ -74,7 +74,7 @@ colour_most align room used made le =
     let least : made % ((room - used) / align + 1) ≤ (room - used) / align = omega arith in
     omega (arith, mul-le-mul_left align least, div-mul-le_self (room - used) align, mul_comm align ((room - used) / align))
 
--- if the chunk is a multiple of the alignment, a multiple of the alignment plus a multiple of the chunk is aligned
+-- if the chunk is a multiple of the alignment, so is align * k + i * chunk
 aligned_sum : (align k i chunk : ℕ) → chunk % align ≡ 0 → (align * k + i * chunk) % align ≡ 0
 aligned_sum align k i chunk e =
     let whole : chunk / align * align ≡ chunk = omega (arith, div-add-mod' chunk align) in

@@ -72,8 +72,9 @@ alloc_outcome order k m Q refused found = go (ltb order k) (choice_by_need order
     go false None e = subst (λ n. Q (refuse AllocRefusal.NoFrames n)) (sym (by_need_none order k m e)) (refused AllocRefusal.NoFrames)
     go false (Some first) e = found first e
 
--- Q is true of the step of a take and of the block of the slab that it makes (None if it makes no slab), if Q is true in three
--- cases: of each refusal, of each object of an existing slab, and of the first object of each slab that is made on demand.
+-- Q is true of the step of a take, paired with the block of the slab that the take makes (None if it makes no slab), if Q is true
+-- in three cases: of each refusal, of the take of each object of an existing slab, and of the take of the first object of each
+-- new slab. Before a new slab is made, empty slabs are freed on demand.
 pub take_outcome : (order number : ℕ) (m : Machine) (Q : Option Block → Step (Result ℕ TakeRefusal) → Type 0) → ((refusal : TakeRefusal) → Q None (refuse refusal m))
     → ((c : Cache) (s : Slab) → IsIn c m.caches → IsIn s c.slabs → Q None (hand_out c s m))
     → ((c : Cache) (first : ℕ) → let n = by_need order (layout c).order m in IsIn c n.caches → choice_by_need order (layout c).order m ≡ Some first

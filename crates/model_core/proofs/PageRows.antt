@@ -15,8 +15,8 @@ no_slots : (alloc_step 3 0 empty_machine).answer ≡ Err AllocRefusal.NoFrames
 unfolding alloc_step by_need reaped choice taken_blocks empty_machine
 no_slots = refl
 
--- Requests for orders 0, 1, 2 and 0 get the blocks at frames 0, 2, 4 and 1, and the slot is then used up. A request for an order
--- above the order of a slot is refused as well.
+-- Requests for orders 0, 1, 2 and 0 get the blocks at frames 0, 2, 4 and 1. The slot is then used up, so a request for order 0 is
+-- refused. A request for an order above the order of a slot is refused as well.
 abbrev four_blocks : List Operation
 four_blocks = Grant ∷ Alloc 0 ∷ Alloc 1 ∷ Alloc 2 ∷ Alloc 0 ∷ []
 
@@ -38,8 +38,8 @@ joins : numbers (four_blocks ++ (Free 0 ∷ Free 1 ∷ Free 2 ∷ Free 4 ∷ All
 unfolding number_of alloc_step free_step by_need reaped choice taken_blocks empty_machine next_slot after_grant
 joins = refl
 
--- Frame 0 and the block at frame 4 are free. A request for order 1 gets frame 4, because frame 0 alone is too small. A request
--- for order 0 then gets frame 0.
+-- Frame 0 and the block at frame 4 are free. A request for order 1 gets frames 4 and 5, because frame 0 alone is too small. A
+-- request for order 0 then gets frame 0.
 too_small : numbers (four_blocks ++ (Free 0 ∷ Free 4 ∷ Alloc 1 ∷ Alloc 0 ∷ []))
     ≡ Some 0 ∷ Some 0 ∷ Some 2 ∷ Some 4 ∷ Some 1 ∷ Some 0 ∷ Some 2 ∷ Some 4 ∷ Some 0 ∷ []
 unfolding number_of alloc_step free_step by_need reaped choice taken_blocks empty_machine next_slot after_grant

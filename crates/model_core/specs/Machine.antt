@@ -1,5 +1,5 @@
 -- The private machine of a tenant: what the tenant would have if it were alone. Slots, frames and places are
--- numbered from 0; a frame has FRAME_BYTES places, one byte each.
+-- numbered from 0; a frame has FRAME_BYTES places, each of which can have one byte.
 use Rattle.std.specs.Prelude.{ℕ, ◌+◌, ◌/◌, ◌^◌, Bool, List, [], ◌∷◌, ◌++◌, map, flat_map, max, Option, Some, None, option_map, if◌then◌else◌, nat_lt, nat_le, ◌&&◌, ◌==◌}
 use Rattle.std.specs.List.{list_any}
 use Rattle.model_core.specs.declared.limits.TheConstants.{FRAME_BYTES}

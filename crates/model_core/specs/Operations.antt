@@ -55,7 +55,7 @@ read_step place len m =
     else (if not (in_reach m place len) then refuse ReadRefusal.OutOfReach m
     else record { answer = Ok (filter_map m.bytes (range_with_len place len)); machine = m })
 
--- the bytes after `new` is written from a place on
+-- what the bytes become when `new` is written from a place on
 abbrev pub written : ℕ → List ℕ → (ℕ → Option ℕ) → ℕ → Option ℕ
 written place new bytes p = if nat_le place p && nat_lt p (place + length new) then slice_get new (p - place) else bytes p
 
@@ -72,7 +72,7 @@ write_step place new m =
 unfoldable pub next_slot : Machine → ℕ
 next_slot m = least_missing 0 m.slots
 
--- after a grant the least slot that was not held is held, and its places read as zero
+-- after a grant the machine also holds the least slot that it did not hold before, and the places of this slot read as zero
 unfoldable pub after_grant : ℕ → Machine → Machine
 after_grant order m = record m {
   slots = put_rising (λ u. u) (next_slot m) m.slots;

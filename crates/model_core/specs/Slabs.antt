@@ -92,7 +92,7 @@ slab_to_use None empty = empty
 abbrev pub next_object : Slab → ℕ
 next_object s = position_or_len not s.live
 
--- the bytes after slabs on these blocks are freed
+-- what the bytes become when the slabs on these blocks are freed: each place of the blocks reads as zero
 abbrev pub zeroed : List Block → (ℕ → Option ℕ) → ℕ → Option ℕ
 zeroed blocks bytes place = if list_any (in_block place) blocks then Some 0 else bytes place
 
