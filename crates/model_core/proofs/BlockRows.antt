@@ -54,8 +54,8 @@ joins = refl
 not_joined : filter (λ b. is_free 3 (first_slots 1) (without_taken full 0) b) all_blocks ≡ block 0 0 ∷ []
 not_joined = refl
 
--- Frame 0 is free but too small for order 1, so a request for order 1 gets frames 4 and 5. A request for order 0 then gets frame
--- 0.
+-- Frame 0 is free but too small for order 1, so a request for order 1 gets frames 4 and 5. A request for order 0 then
+-- gets frame 0.
 too_small_passed_over : serve 1 (without_taken (without_taken full 0) 4) (1 ∷ 0 ∷ []) ≡ Some 4 ∷ Some 0 ∷ []
 too_small_passed_over = refl
 

@@ -29,7 +29,7 @@ unfolding number_of layout_of cache_step create_step next_number take_step grown
 large_slabs = refl
 
 -- The partial slab at frame 0 is used before the empty slab at frame 1. An object that is given back and taken again has the same
--- bytes as before.
+-- bytes as before. A cache can be destroyed only if none of its objects is live.
 abbrev three_taken : List Operation
 three_taken = Grant ∷ Create 2048 8 (17 ∷ []) ∷ Take 0 ∷ Take 0 ∷ Take 0 ∷ Write 2048 (34 ∷ []) ∷ Give 0 4096 ∷ Give 0 2048 ∷ Take 0 ∷ []
 

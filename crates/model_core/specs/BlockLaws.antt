@@ -8,8 +8,8 @@ abbrev pub EachFrameInOne : Type 0
 EachFrameInOne = (top : ℕ) (held : ℕ → Bool) (taken : Taken) (x : ℕ) → held (x / 2 ^ top) ≡ true → (IsTaken taken x → ⊥)
     → (b : Block) × IsFree top held taken b × HasFrame b x × ((c : Block) → IsFree top held taken c → HasFrame c x → c ≡ b)
 
--- Block b is free once the first 2 ^ k frames of the free block of order j at frame f are reserved. The free blocks lose
--- the block of order j and gain the upper half of each split: one block of each order from k to j - 1.
+-- Block b is free once the first 2 ^ k frames of the free block of order j at frame f are reserved. The free blocks lose the
+-- block of order j and gain the upper half of each split: one block of each order from k to j - 1.
 abbrev pub IsFreeOnceSplit : (Block → Type 0) → ℕ → ℕ → ℕ → Block → Type 0
 IsFreeOnceSplit WasFree f j k b = (WasFree b × (b ≡ block f j → ⊥)) ⊎ ((i : ℕ) × (k ≤ i) × (i < j) × (b ≡ block (f + 2 ^ i) i))
 
@@ -26,8 +26,8 @@ pub record JoinsTo (top : ℕ) (held : ℕ → Bool) (taken : Taken) (f k j : �
   pub joined : (i : ℕ) → k ≤ i → i < j → IsFree top held taken (buddy (around f i))
   pub stops : (j ≡ top) ⊎ (IsFree top held taken (buddy (around f j)) → ⊥)
 
--- Block b is free once the block of order k at frame f is released and joined up to order j. The free blocks lose the buddies that
--- are joined and gain the joined block.
+-- Block b is free once the block of order k at frame f is released and joined up to order j. The free blocks lose the
+-- buddies that are joined with it, and gain the joined block.
 abbrev pub IsFreeOnceJoined : (Block → Type 0) → ℕ → ℕ → ℕ → Block → Type 0
 IsFreeOnceJoined WasFree f k j b = (b ≡ around f j) ⊎ (WasFree b × ((i : ℕ) → k ≤ i → i < j → b ≡ buddy (around f i) → ⊥))
 
