@@ -1,5 +1,5 @@
--- An aligned block has exactly the frames with its number. An aligned block is free if and only if it is open under the test
--- `is_available`.
+-- A frame lies in an aligned block of order k if and only if `number_at k` of the frame is the number of the block. An aligned
+-- block is free if and only if it is open under the test `is_available`.
 use Rattle.std.proofs.Common.{◌≡◌, ◌⊎◌, inl, inr, refl, sym, ◌∙◌, ap, ℕ, zero, suc, ◌+◌, ◌-◌, ◌*◌, ◌/◌, ◌%◌, ◌^◌, ◌<◌, ◌≤◌, Bool, true, false, not, Option, Some, None, add-one, arith}
 use Rattle.std.proofs.Math.Nat.{pow-suc, div-div-eq-div-mul, div-eq_of_lt-le, div-mul-le_self, lt-div-mul-add, mul-mod_left, mul-div_cancel}
 use Rattle.std.proofs.lemmas.Nat.{pow_pos, pow-add, shr_split}

@@ -27,7 +27,7 @@ pub record JoinsTo (top : ℕ) (held : ℕ → Bool) (taken : Taken) (f k j : �
   pub stops : (j ≡ top) ⊎ (IsFree top held taken (buddy (around f j)) → ⊥)
 
 -- Block b is free once the block of order k at frame f is released and joined up to order j. The free blocks lose the
--- buddies that are joined with it, and gain the joined block.
+-- buddies that are joined with the released block, and gain the block of order j that results.
 abbrev pub IsFreeOnceJoined : (Block → Type 0) → ℕ → ℕ → ℕ → Block → Type 0
 IsFreeOnceJoined WasFree f k j b = (b ≡ around f j) ⊎ (WasFree b × ((i : ℕ) → k ≤ i → i < j → b ≡ buddy (around f i) → ⊥))
 

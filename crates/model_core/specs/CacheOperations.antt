@@ -32,7 +32,7 @@ create_step limit size align pattern m =
 abbrev pub cache_answer : Step (Option ℕ) → Step (Result ℕ CacheRefusal)
 cache_answer step = record { answer = ok_or step.answer CacheRefusal.NoCacheSlot; machine = step.machine }
 
--- makes a cache; refuses a size or an alignment that is not allowed, and every cache if all numbers below the limit are used
+-- Makes a cache. Refuses a size or an alignment that is not allowed. It also refuses if all numbers below the limit are used.
 unfoldable pub cache_step : ℕ → ℕ → ℕ → List ℕ → Machine → Step (Result ℕ CacheRefusal)
 cache_step limit size align pattern m =
     if not (is_size size) then refuse CacheRefusal.BadSize m
