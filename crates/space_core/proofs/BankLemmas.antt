@@ -1,4 +1,4 @@
--- If any `unit` bytes replace those of an owned superblock, all that is true of every space stays true.
+-- `IsSpace` stays true if any other bytes, `unit` in number, replace those of a superblock that has an owner.
 use Rattle.std.proofs.Common.{◌≡◌, ◌≢◌, ℕ, ◌+◌, ◌<◌, ◌≤◌, List, [], ◌++◌, length, get_or, take, drop, replicate, None, sym, ◌∙◌, ap, subst, inl, inr, arith}
 use Rattle.std.proofs.lemmas.List.{get_or-set_same, get_or-set_other, length-set, length-take-le, length-append, length-drop, drop-drop, take-append-le}
 use Rattle.std.proofs.lemmas.Bool.{cases_eq}
@@ -23,7 +23,7 @@ with_bank s m bytes = record s { banks = set s.banks m bytes }
 abbrev pub with_banks : Content → List (List ℕ) → Content
 with_banks s banks = record s { banks = banks }
 
--- a space stays a space if any `unit` bytes replace the bytes of a superblock that has an owner
+-- if superblock m has an owner and gets other bytes, `unit` in number, `IsSpace` stays true
 pub with_bank-IsSpace : {s : Content} → IsSpace s → (m : ℕ) → owner_at s.owners m ≢ None → m < length s.owners → (bytes : List ℕ) → length bytes ≡ s.unit → IsSpace (with_bank s m bytes)
 with_bank-IsSpace {s} facts m owned within bytes size = record {
   some = facts.some;

@@ -1,4 +1,4 @@
--- All that is true of every space is true of the space that boot makes.
+-- `IsSpace` is true of the space that boot makes.
 use Rattle.std.proofs.Common.{◌≡◌, ℕ, ◌<◌, ◌≤◌, ◌^◌, ◌*◌, zero, Bool, cond, false, List, [], Option, None, length, get_or, replicate, count_by, is_some, sym, ◌∙◌, ap, inl, inr, refl, arith}
 use Rattle.std.proofs.lemmas.List.{get_or-replicate, length-replicate, get_or_past}
 use Rattle.std.proofs.lemmas.List.Folds.{sum_by-replicate}

@@ -61,7 +61,7 @@ bank-shown_full unit stored m full =
       | inr past ↦ absurd (full (get_or_past stored m [] past))
     ]
 
--- all superblocks show the same bytes after the zeros of superblock m are written out
+-- after the zeros of superblock m are written out, each superblock shows the bytes that it showed before
 pub shown-written_out : (unit : ℕ) (stored : List (List ℕ)) (m : ℕ) → shown_banks unit (set stored m (or_zeros unit (get_or stored m []))) ≡ shown_banks unit stored
 shown-written_out unit stored m = elim (cases_lt m (length stored)) [
   | inl lt ↦

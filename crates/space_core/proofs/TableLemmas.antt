@@ -22,7 +22,8 @@ lists_of-set {X} rows i row = map-set (λ (r : Vec X). r.items) rows i row
 pub length-lists_of : {X : Type 0} (rows : List (Vec X)) → length (lists_of rows) ≡ length rows
 length-lists_of {X} rows = length-map rows (λ (r : Vec X). r.items)
 
--- if a list is `front` followed by `back`, reading or writing an entry of one part reads or writes the list
+-- if a list is `front` followed by `back`, reading or writing an entry of `front`, or the first entry of `back`, reads or writes
+-- this entry of the list
 pub front_read : {A : Type 0} (xs front back : List A) (i : ℕ) (d : A) → xs ≡ front ++ back → i < length front → get_or front i d ≡ get_or xs i d
 front_read xs front back i d whole lt = sym (get_or_append_left front back d i lt) ∙ ap (λ ys. get_or ys i d) (sym whole)
 
@@ -41,7 +42,7 @@ bytes_of-copied v all from to source row written within read same =
     ap lists_of (with_items_is v all (ap length written ∙ omega (arith, length-set v.items to row, v.ok.0)) ∙ written)
     ∙ (lists_of-set v.items to row ∙ ap (λ (bytes : List ℕ). set (lists_of v.items) to bytes) (same ∙ sym (get_or-lists_of v.items from source within read)))
 
--- .. and if the new row has at least the capacity of the old row, every row still has capacity for `unit` bytes
+-- if every row has capacity for `unit` bytes, every row still has it after row `to` is replaced by one with no less capacity
 pub HaveCapacity-written : (v : Vec (Vec ℕ)) (all : List (Vec ℕ)) (to : ℕ) (target row : Vec ℕ) → all ≡ set v.items to row → to < length v.items → target ≡ get_or v.items to target → target.cap ≤ row.cap → (unit : ℕ) → HaveCapacity unit v.items → HaveCapacity unit (with_items v all).items
 HaveCapacity-written v all to target row written within read more unit capacity =
     let was : unit ≤ target.cap = subst (λ (bank : Vec ℕ). unit ≤ bank.cap) (sym read) (capacity to target within) in

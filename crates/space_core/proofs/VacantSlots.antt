@@ -22,7 +22,7 @@ some_from_test : {A : Type 0} (o : Option A) → is_none o ≡ false → IsSome 
 some_from_test None e = cc
 some_from_test (Some x) e = refl
 
--- if a search finds no None in a list, every entry of the list is counted
+-- if a search for None reaches the end of a list, the count of the entries that are not None is the length of the list
 count_by_full : {A : Type 0} (xs : List (Option A)) → length xs ≤ position_or_len is_none xs → count_by is_some xs ≡ length xs
 count_by_full [] full = refl
 count_by_full (None ∷ xs) full = absurd (omega arith)
@@ -40,7 +40,7 @@ count_by-lt-length t owners m within none =
     let bound = count_by-le-length (is_of t) (set owners m o) in
     omega (arith, one_more, bound, length-set owners m o, ap (λ p. one_if (is_of t p)) none, ap one_if (is_of_self t zero))
 
--- if the search finds something, there is a superblock m that has no owner
+-- if a search for None in the list of owners finds one, some superblock m has no owner
 pub unowned_from_pool : (owners : List (Option Owner)) → IsSome (position is_none owners) → (m : ℕ) × (m < length owners) × (owner_at owners m ≡ None)
 unowned_from_pool owners pool = go (position is_none owners) refl pool
   where

@@ -9,7 +9,7 @@ use Rattle.space_core.specs.contracts.Space.{the_row}
 abbrev pub LendsWindow : MutBor Content → ℕ → ℕ → ℕ → MutBor (List ℕ) → Fml
 LendsWindow s t place len r = Lends the_row (Array u8 0) s r (with_window s.now t place len)
 
--- When the borrow r ends, superblock m has the last value written through r from offset i on. All else is as in s.
+-- When the borrow r ends, superblock m holds, from offset i on, the last value written through r. All else is as in s.
 abbrev pub LendsPart : MutBor Content → ℕ → ℕ → MutBor (List ℕ) → Fml
 LendsPart s m i r = Lends the_row (Array u8 0) s r
     (λ w. record s.now { banks = slice_set s.now.banks m (put_within (bank s.now.banks m) i w) })

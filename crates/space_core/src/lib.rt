@@ -55,8 +55,8 @@ pub enum MoveRefusal {
 #[derive(Debug, Drop)]
 pub struct Space {
     unit: u32,
-    // A superblock has 2^bits bytes, so a shift splits a place into slot and offset. A division would take longer than the rest of
-    // a short read.
+    // A superblock has 2^bits bytes, so a shift gives the slot of a place. A division would take longer than the rest of a short
+    // read.
     bits: u8,
     owners: Vec<Option<Owner>>,
     slots: Vec<Vec<Option<u16>>>,

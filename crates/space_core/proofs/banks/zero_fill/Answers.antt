@@ -2,7 +2,7 @@ use Rattle.std.proofs.Common.{◌≡◌, ℕ, ◌+◌, ◌*◌, ◌-◌, ◌≤�
 use Rattle.std.proofs.lemmas.List.{length-replicate, replicate-append-replicate}
 use Rattle.space_core.proofs.banks.zero_fill.Goals as goal
 
--- a list of a copies of z, resized with z to n entries (a ≤ n), is a list of n copies of z
+-- if a list has only copies of z and is extended with z to n entries, the new list is n copies of z
 grown : (a n z len : ℕ) → a ≤ n → len ≡ length (replicate a z) → take n (replicate a z) ++ replicate (n - len) z ≡ replicate n z
 grown a n z len few whole =
     let long = length-replicate a z in
