@@ -23,7 +23,7 @@ pub record StandsAsBefore (superblocks superblocks' : List StoredSuperblock) (te
   pub held : held_by tenant' ≡ held_by tenant
   pub same : (u m : ℕ) → superblock_at tenant' u ≡ Some m → (i : ℕ) × (superblock_at tenant u ≡ Some i) × (superblock_of m superblocks' ≡ superblock_of i superblocks)
 
--- then `tenant'` has the same taken blocks as `tenant`
+-- if `StandsAsBefore` is true, `tenant'` has the same taken blocks as `tenant`
 pub taken_as_before : (top : ℕ) (superblocks superblocks' : List StoredSuperblock) (tenant tenant' : StoredTenant) → StandsAsBefore superblocks superblocks' tenant tenant' → taken_by top superblocks' tenant' ≡ taken_by top superblocks tenant
 taken_as_before top superblocks superblocks' tenant tenant' stands = λ i f. go (f / 2 ^ top) (f % 2 ^ top) (superblock_at tenant' (f / 2 ^ top)) (superblock_at tenant (f / 2 ^ top)) refl refl i
   where
@@ -47,7 +47,7 @@ module _ (top : ℕ) (superblocks : List StoredSuperblock) where
           get_or_past (holding_shown top superblocks tenant).taken f None (subst (λ n. n ≤ f) (sym (length-map-range_with_len (taken_by top superblocks tenant) 0 (length tenant.slots * 2 ^ top))) ge)
           ∙ sym (ap (λ o. order_under superblocks o (f % 2 ^ top)) (get_or_past tenant.slots (f / 2 ^ top) None (le-div (length tenant.slots) f (2 ^ top) (pow_pos top) ge)))
 
-  -- if a superblock changes that is in no slot of a tenant, the tenant's taken blocks stay the same
+  -- if a superblock that is in no slot of a tenant changes, the tenant's taken blocks stay the same
   pub taken_stays : (m : ℕ) (s : StoredSuperblock) (tenant : StoredTenant) → ((w : ℕ) → superblock_at tenant w ≡ Some m → ⊥) → taken_by top (set superblocks m s) tenant ≡ taken_by top superblocks tenant
   taken_stays m s tenant other = taken_as_before top superblocks (set superblocks m s) tenant tenant
       (record { held = refl; same = λ u i at. (i, at, get_or-set_other superblocks m i s _ (λ e. other u (at ∙ ap Some e))) })
@@ -112,7 +112,7 @@ module _ (top : ℕ) (superblocks : List StoredSuperblock) (tenants : List Store
           (length-map (set tenants t tenant') (holding_shown top superblocks') ∙ length-set tenants t tenant' ∙ sym (length-map tenants (holding_shown top superblocks)) ∙ sym (length-set (map (holding_shown top superblocks) tenants) t h))
           (λ v d lt. each v d (subst (λ n. v < n) (length-map (set tenants t tenant') (holding_shown top superblocks') ∙ length-set tenants t tenant') lt))
 
--- c is what contracts see, and in c tenant t holds what is stored for it
+-- c is what contracts see, and tenant t holds in c what is stored for the tenant
 pub record IsShown (top : ℕ) (superblocks : List StoredSuperblock) (tenants : List StoredTenant) (t : ℕ) (c : Content) : Type 0 where
   pub order : c.top ≡ top
   pub count : c.superblocks ≡ length superblocks

@@ -170,7 +170,8 @@ module _ (top : ℕ) (held held' : ℕ → Bool) (taken taken' : Taken) (f k j s
   pub half_counts : (i : ℕ) → k ≤ i → i < j → 0 < count_below (small i) (slots * 2 ^ top)
   half_counts i up lt = omega (arith, count_half i up lt)
 
-  -- if a tenant's counts change as `IsTakenOut` says, each count of free blocks changes as the number of free blocks does
+  -- if a tenant's counts change as `IsTakenOut` says, each count of free blocks changes by as much as the number of
+  -- free blocks of its order
   pub free_balance : (whole part : StoredTenant) → IsTakenOut k j whole part → (i : ℕ)
       → slice_index part.free i + count_below (large i) (slots * 2 ^ top) ≡ slice_index whole.free i + count_below (small i) (slots * 2 ^ top)
   free_balance whole part counts i = go (cases_order i j) (cases_lt i k)

@@ -1,4 +1,5 @@
--- After a superblock in no slot is put into an empty slot, its tenant's invariants hold, and contracts see it there.
+-- After a superblock in no slot is put into an empty slot of a tenant, the tenant's invariants hold, and contracts see the
+-- superblock in the slot.
 use Rattle.std.proofs.Common.{◌≡◌, ◌⊎◌, inl, inr, sym, ◌∙◌, ap, subst, ℕ, ◌+◌, ◌*◌, ◌/◌, ◌%◌, ◌^◌, ◌<◌, ◌≤◌, true, Option, Some, None, List, length, get_or, set, arith, length-set}
 use Rattle.std.specs.Prelude.{slice_index, is_some}
 use Rattle.std.proofs.lemmas.List.{get_or-set_same, get_or-set_other}

@@ -88,7 +88,8 @@ module _ (top : ℕ) (superblocks : List StoredSuperblock) (tenants : List Store
   order_now i lt (inr _) (inl e) = ap (λ (z : StoredSuperblock). z.tree.order) (ap (λ n. superblock_of n after) e ∙ swapped.1 bare_of) ∙ kept.order from (mine.within slot from here)
   order_now i lt (inr a) (inr b) = ap (λ (z : StoredSuperblock). z.tree.order) (superblock_other i a b) ∙ kept.order i lt
 
-  -- Every superblock that is in no slot is blank. The old superblock is blank because it now has the new one's old stored state.
+  -- Afterwards, every superblock in no slot is blank. The old superblock is blank because it now has the stored state that m had
+  -- before.
   bare_now : (i : ℕ) → i < length superblocks → ((v u : ℕ) → superblock_at (stored_tenant v (set tenants t moved)) u ≡ Some i → ⊥) → (i ≡ from) ⊎ (i ≡ from → ⊥) → superblock_of i after ≡ bare_superblock top
   bare_now i lt none (inl e) = ap (λ n. superblock_of n after) e ∙ swapped.0 bare_of ∙ kept.bare m m_lt unused
   bare_now i lt none (inr ne) =

@@ -18,7 +18,7 @@ use Rattle.buddy_core.specs.Kept.{available_in}
 use Rattle.buddy_core.proofs.ContentShown.{bare_of}
 use Rattle.buddy_core.proofs.TreeSlots.{shows_same}
 
--- `more` holds slot u and the slots that `fewer` holds, and no frame of slot u is taken
+-- `more` holds one slot more than `fewer`, slot u, and no frame of slot u is taken
 pub record IsOneMore (top : ℕ) (more fewer : ℕ → Bool) (taken : Taken) (u : ℕ) : Type 0 where
   pub on : more u ≡ true
   pub off : fewer u ≡ false
@@ -45,7 +45,7 @@ module _ (top : ℕ) (more fewer : ℕ → Bool) (taken : Taken) (u : ℕ) (one 
     outside = λ x ne. available_elsewhere x (λ e. ne (number_is top x ∙ e ∙ sym (number_first u top)));
   }
 
--- `tenant` and `tenant'` differ only in slot u, and no other slot of theirs has superblock m
+-- the slots of `tenant` and `tenant'` differ only in slot u, and no other slot of theirs has superblock m
 pub record IsSlotStep (top : ℕ) (superblocks : List StoredSuperblock) (tenant : StoredTenant) (m u : ℕ) (s : StoredSuperblock) (tenant' : StoredTenant) : Type 0 where
   pub inside : u < length tenant.slots
   pub size : length tenant'.slots ≡ length tenant.slots

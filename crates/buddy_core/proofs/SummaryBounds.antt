@@ -73,7 +73,7 @@ module _ {superblocks : List StoredSuperblock} {tenants : List StoredTenant} {su
       each = λ v j u i at bit. each v j u i at bit (cases_eq i m) (cases_eq v t);
     }
 
-  -- a slot loses its superblock, and the root word of superblock m becomes 0
+  -- one slot of tenant t loses its superblock, and the root word of one superblock, m, becomes 0
   module _ (top m t slot : ℕ) (s : StoredSuperblock) (tenant : StoredTenant) (listed : t < length tenants) (m_lt : m < length superblocks) (blank : slice_index s.tree.words 0 ≡ 0)
       (slot_lt : slot < length (stored_tenant t tenants).slots) (slots : tenant.slots ≡ set (stored_tenant t tenants).slots slot None) where
     pub bounded_dropped : AreBounded (set superblocks m s) (set tenants t tenant) summaries

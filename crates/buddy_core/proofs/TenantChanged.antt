@@ -1,4 +1,4 @@
--- If one tenant and one superblock change as `IsChange` says, all that is always true stays true.
+-- If one tenant and one superblock change as `IsChange` says, `IsKept` stays true.
 use Rattle.std.proofs.Common.{◌≡◌, ◌⊎◌, inl, inr, refl, sym, ◌∙◌, ap, ap₂, subst, Bool, Option, ℕ, ◌+◌, ◌*◌, ◌^◌, ◌<◌, ◌≤◌, Some, List, length, set, map, length-set}
 use Rattle.std.proofs.lemmas.List.{get_or-set_same, get_or-set_other}
 use Rattle.std.proofs.lemmas.Bool.{cases_eq}
@@ -12,7 +12,7 @@ use Rattle.buddy_core.specs.Stored.{StoredSuperblock, StoredTenant, bare_superbl
 use Rattle.buddy_core.specs.Kept.{IsKept, IsTenantKept, available_in}
 use Rattle.buddy_core.proofs.ContentShown.{StandsAsBefore, taken_as_before, blank_of, bare_of, taken_stays, content_replaced}
 
--- what is always true of a tenant stays true if each slot has the same stored superblock, perhaps under another number
+-- `IsTenantKept` stays true of a tenant if each slot has the same stored superblock, perhaps under another number
 pub tenant_kept_as_before : (top : ℕ) (superblocks superblocks' : List StoredSuperblock) (tenant : StoredTenant) (slots : List (Option ℕ)) → length superblocks' ≡ length superblocks → length slots ≡ length tenant.slots
     → StandsAsBefore superblocks superblocks' tenant (record tenant { slots = slots }) → ((u m : ℕ) → superblock_at (record tenant { slots = slots }) u ≡ Some m → m < length superblocks)
     → IsTenantKept top superblocks tenant → IsTenantKept top superblocks' (record tenant { slots = slots })
@@ -40,7 +40,7 @@ tenant_kept_as_before top superblocks superblocks' tenant slots size count stand
     number : (ℕ → Bool) → Taken → ℕ → ℕ → ℕ
     number h T n k = count_below (λ f. is_free top h T (block f k)) (n * 2 ^ top)
 
--- what is always true of a tenant stays true if none of its superblocks changes
+-- `IsTenantKept` stays true of a tenant if none of its superblocks changes
 pub tenant_stays : (top : ℕ) (superblocks superblocks' : List StoredSuperblock) (tenant : StoredTenant) → length superblocks' ≡ length superblocks
     → ((u m : ℕ) → superblock_at tenant u ≡ Some m → superblock_of m superblocks' ≡ superblock_of m superblocks) → IsTenantKept top superblocks tenant → IsTenantKept top superblocks' tenant
 tenant_stays top superblocks superblocks' tenant size stays kept = tenant_kept_as_before top superblocks superblocks' tenant tenant.slots size refl (record { held = refl; same = λ u m at. (m, at, stays u m at) }) kept.within kept

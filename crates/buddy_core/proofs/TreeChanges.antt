@@ -30,7 +30,8 @@ word_free : (ok : ℕ → Bool) (top k f i e q : ℕ) → ((x : ℕ) → IsWith 
 word_free ok top k f i e q all small s a =
     word_inside ok top i q small ∙ cond-true _ 0 (orders ok i q) (clear_from ok (suc i) (q / 2) (λ x h. all x (around_with k f i e q x s a h)))
 
--- after the word of the changed block is written, all words inside this block are the words of a separate tree of it under `new`
+-- after the word of the changed block is written, the words inside this block are those of a separate tree of the block under
+-- `new`
 start_within : (top k d f v : ℕ) (old new : ℕ → Bool) (words : List ℕ) → d + k ≡ top → f < 2 ^ top → Shows top old words
     → v ≡ orders new k (number_at k f)
     → ((i e q : ℕ) → i + suc e ≡ k → number_at (suc e) q ≡ number_at k f → word old top i q ≡ word new k i q)
@@ -82,7 +83,8 @@ start_release top k d f small large words s b shows less =
 agree_above : (a b : ℕ → Bool) (k n m f : ℕ) → k + n ≡ m → ((x : ℕ) → (IsWith k f x → ⊥) → a x ≡ b x) → (x : ℕ) → (IsWith m f x → ⊥) → a x ≡ b x
 agree_above a b k n m f s same x off = same x (λ w. off (sym (number_above n k m x s) ∙ ap (λ i. number_at n i) w ∙ number_above n k m f s))
 
--- if the block around the changed block was not clear, the word of each of its halves is the word of a separate tree under `new`
+-- if the block of order k + 1 around the changed block was not clear, the word of each of its halves is the root word of a
+-- separate tree of the half under `new`
 halves_stand : (top k f d : ℕ) (old new : ℕ → Bool) (words : List ℕ) → d + suc k ≡ top → ((x : ℕ) → (IsWith k f x → ⊥) → old x ≡ new x)
     → Mended top k f old new words → is_clear old (suc k) (number_at (suc k) f) ≡ false
     → (q : ℕ) → q / 2 ≡ number_at (suc k) f → q < 2 ^ suc d → word_at words (suc d) q ≡ orders new k q
@@ -109,8 +111,8 @@ confined_up top k f old new c = record {
   after = λ i le lt. c.after i (omega arith) lt;
 }
 
--- Let the block of order k + 1 around frame f not be clear, before or after. Then a step up writes v, the bitwise or of the words
--- of its halves. Here s is the number of the half that does not contain f.
+-- Let the block of order k + 1 around frame f be clear neither before nor after the change. Then a step up writes v, the bitwise
+-- or of the words of its halves. Here s is the number of the half that does not contain f.
 pub climb_step : (top k f d : ℕ) (old new : ℕ → Bool) (words : List ℕ) → f < 2 ^ top → length words + 1 ≡ 2 ^ (top + 1) → d + suc k ≡ top
     → IsConfined top k f old new → Mended top k f old new words → (n s v : ℕ) → n ≡ 2 ^ d + number_at (suc k) f → s + number_at k f ≡ 4 * number_at (suc k) f + 1
     → v ≡ bit_or (word_at words (suc d) (number_at k f)) (word_at words (suc d) s) → Mended top (suc k) f old new (set words (n - 1) v)

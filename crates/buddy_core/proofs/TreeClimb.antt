@@ -26,7 +26,8 @@ away_around : (k f i e q x : ℕ) → i + suc e ≡ k → (number_at (suc e) q �
 away_around k f i e q x s off h w =
     off (sym (number_above e 1 (suc e) q (omega arith)) ∙ ap (λ n. number_at e n) (sym h) ∙ number_above e (suc i) k x (omega arith) ∙ w)
 
--- a block outside the changed block has the same word for `a` in the whole tree as for `b` in a tree of order k + 1
+-- if `a` and `b` agree outside the changed block, a smaller block outside it has the same word for `a` in the whole tree as for
+-- `b` in a tree of order k + 1
 only_place : (k f i e q : ℕ) → i + e ≡ k → (number_at e q ≡ number_at k f → ⊥) → (n : ℕ) → i + n ≡ k → number_at n q ≡ number_at k f → ⊥
 only_place k f i e q s off n t r = off (subst (λ j. number_at j q ≡ number_at k f) (let same : n ≡ e = omega arith in same) r)
 
@@ -38,7 +39,7 @@ word_same a b top k f i e q agree small s off =
     ∙ ap (λ n. cond (is_clear b (suc i) (q / 2)) 0 n) (orders_same a b i q (λ x h. agree x (away k f i (suc e) q x s off h)))
     ∙ sym (word_inside b (suc k) i q (omega arith))
 
--- the word of a block strictly inside another is the same in the smaller and in the larger tree
+-- a block of an order below k has the same word in a tree of order k as in a tree of order k + 1
 word_part : (ok : ℕ → Bool) (k i q : ℕ) → i < k → word ok k i q ≡ word ok (suc k) i q
 word_part ok k i q h = word_inside ok k i q h ∙ sym (word_inside ok (suc k) i q (omega arith))
 

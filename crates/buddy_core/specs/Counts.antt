@@ -7,7 +7,7 @@ abbrev pub CanCountMore : StoredTenant → Type 0
 CanCountMore tenant = (i : ℕ) → (slice_index tenant.free i + 1 < 2 ^ 32) × (slice_index tenant.taken i + 1 < 2 ^ 32)
 
 -- `whole` has the counts before a block of order k is taken out of a free block of order j, and `part` has the counts afterwards.
--- One half of each order from k to j - 1 is then free.
+-- For each order from k to j - 1, one more block is then free: the half that was split off.
 pub record IsTakenOut (k j : ℕ) (whole part : StoredTenant) : Type 0 where
   pub slots : part.slots ≡ whole.slots
   pub free_size : length part.free ≡ length whole.free

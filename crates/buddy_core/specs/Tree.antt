@@ -52,7 +52,8 @@ abbrev pub IsLeast : (ℕ → Bool) → ℕ → ℕ → ℕ → Type 0
 IsLeast ok top j q = IsOpen ok top j q × ((p : ℕ) → p < 2 ^ (top - j) → IsOpen ok top j p → q ≤ p)
 
 -- The words while a change of the available frames from `old` to `new` is carried up the tree. Each node inside the block of
--- order k around frame f has its word for `new` in a separate tree of that block. Every other node still has its word for `old`.
+-- order k around frame f has the word that it would have for `new` if the block had a tree of its own. Every other node still has
+-- its word for `old`.
 pub record Mended (top k f : ℕ) (old new : ℕ → Bool) (words : List ℕ) : Type 0 where
   pub within : (d i e q : ℕ) → d + i ≡ top → q < 2 ^ d → i + e ≡ k → number_at e q ≡ number_at k f → word_at words d q ≡ word new k i q
   pub beyond : (d i q : ℕ) → d + i ≡ top → q < 2 ^ d → ((e : ℕ) → i + e ≡ k → number_at e q ≡ number_at k f → ⊥) → word_at words d q ≡ word old top i q

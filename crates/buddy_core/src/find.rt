@@ -20,8 +20,8 @@ pub struct Source {
 }
 
 /// Finds the least order of at least `k` in which the tenant has a free block, and returns the first slot with a free block of
-/// that order. Returns `None` if no block of order `k` or more is free. Clears in `summaries` the bit of each group that it
-/// searched in vain.
+/// that order. Returns `None` if no block of order `k` or more is free. Clears in `summaries`, for that order, the bit of each
+/// group that it searched in vain.
 pub fn find(
     superblocks: &[Superblock],
     tenant: &Tenant,

@@ -225,7 +225,7 @@ impl Buddy {
     }
 
     /// Does the same as [`Buddy::reserve`]. It also returns the superblock in the block's slot, so the caller does not have to
-    /// look up the slot.
+    /// look it up.
     // Always inlined: its result is then kept in registers, not written to memory and read again.
     #[inline(always)]
     pub fn reserve_block(&mut self, t: u8, k: u8) -> Option<ReservedBlock>

@@ -123,7 +123,7 @@ impl Tenant {
         self.slots[slot as usize] = Some(superblock);
     }
 
-    /// Takes a superblock whose frames are all free out of its slot, and counts one free block of `order` less.
+    /// Takes a superblock whose frames are all free out of its slot, and lowers the count of free blocks of `order` by 1.
     pub fn drop_slot(&mut self, slot: u16, order: u8)
         requires slot { slot < length self.old.slots }
         requires order { order < length self.old.free }

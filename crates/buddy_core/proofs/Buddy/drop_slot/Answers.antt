@@ -74,7 +74,7 @@ drop_slot-requires-clause-some c =
     subst (λ (r : StoredTenant). 0 < slice_index r.free a.order) (sym tenant)
     (some_free a.order a.superblocks.items a.tenants.items c.self.invariant.0 c.args.t s.listed c.args.slot c.unwrap-m.result at none)
 
--- the code writes a blank superblock, and tenant t without the slot
+-- the superblock that is written is blank, and the tenant that is written is tenant t without the slot and its free block
 blank : (c : After-drop_slot) → c.unwrap-m.result < length c.self.inside.superblocks.items → c.clear.new.self ≡ bare_superblock c.self.inside.order
 blank c lt =
     let a = c.self.inside in
