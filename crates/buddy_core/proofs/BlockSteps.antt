@@ -27,7 +27,7 @@ changed_here taken f o g e = cond-true (g == f) o (taken g) (eq-eqb g f e)
 pub changed_other : (taken : Taken) (f : ℕ) (o : Option ℕ) (g : ℕ) → (g ≡ f → ⊥) → changed taken f o g ≡ taken g
 changed_other taken f o g ne = cond-false (g == f) o (taken g) (ne_eqb g f ne)
 
--- after this change, the table of taken blocks at the first n frames is the old table with entry f replaced by o
+-- the table of `changed taken f o` at the first n frames is the table of `taken` with entry f replaced by o
 pub map_changed : (taken : Taken) (n f : ℕ) (o : Option ℕ) → map (changed taken f o) (range_with_len 0 n) ≡ set (map taken (range_with_len 0 n)) f o
 map_changed taken n f o = same_lists _ _
     (length-map-range_with_len (changed taken f o) 0 n ∙ sym (length-map-range_with_len taken 0 n) ∙ sym (length-set (map taken (range_with_len 0 n)) f o))

@@ -36,7 +36,7 @@ module _ {superblocks : List StoredSuperblock} {tenants : List StoredTenant} {su
           ∙ told j u i (ap (λ n. superblock_at (stored_tenant n tenants) u) (sym e) ∙ at) bit
       each v j u i at bit (inr ne) = ap (λ (ws : List ℕ). bit_at (get_or ws j 0) (u / 8)) (get_or-set_other summaries t v words [] ne) ∙ bounded.each v j u i at bit
 
-  -- superblock m changes, and the tenant's words note the orders of the free blocks that it then has
+  -- superblock m changes, and the tenant's words note the orders of the free blocks that m then has
   module _ (top m t slot : ℕ) (s : StoredSuperblock) (tenant : StoredTenant) (words : List ℕ) (listed : t < length tenants) (m_lt : m < length superblocks)
       (kept : IsKept top (set superblocks m s) (set tenants t tenant)) (here : superblock_at tenant slot ≡ Some m)
       (others : (u : ℕ) → (u ≡ slot → ⊥) → superblock_at tenant u ≡ superblock_at (stored_tenant t tenants) u)

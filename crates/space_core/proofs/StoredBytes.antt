@@ -70,7 +70,7 @@ shown-written_out unit stored m = elim (cases_lt m (length stored)) [
   | inr past ↦ ap (shown_banks unit) (set_past stored m (or_zeros unit (get_or stored m [])) past)
 ]
 
--- after its zeros are written out, a superblock has stored bytes
+-- superblock m has stored bytes after its zeros are written out
 pub written_out-full : (unit : ℕ) (stored : List (List ℕ)) (m : ℕ) → 0 < unit → m < length stored → get_or (set stored m (or_zeros unit (get_or stored m []))) m [] ≢ []
 written_out-full unit stored m some lt =
     full-from_length (get_or (set stored m (or_zeros unit (get_or stored m []))) m [])
