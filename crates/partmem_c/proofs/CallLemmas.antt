@@ -1,4 +1,4 @@
--- What a list of calls does to a world, and which text it writes.
+-- A list of calls of `partmem_line` runs the events of its lines in the world, and writes the output of the trace of its lines.
 use Rattle.std.proofs.Common.{◌≡◌, ℕ, ◌≤◌, List, [], ◌∷◌, ◌++◌, Option, Some, None, Result, Ok, Err, refl, sym, ap, subst, ◌∙◌, arith}
 use Rattle.std.proofs.lemmas.List.{append-nil}
 use Rattle.words_core.specs.declared.event.Event.{Event}
@@ -18,7 +18,8 @@ use Rattle.replay_core.proofs.LineLemmas.{lines_cut}
 use Rattle.partmem_c.specs.Lines.{AnswersLine}
 use Rattle.partmem_c.specs.Laws.{Call, lines_of_calls, texts_of, Ran, OwnLinesOfCalls, SameLinesOfCalls, StandsAfterCalls}
 
--- after a line with this reading, k' shows the world after the line's event, and the text is the reply in that step
+-- A line with this reading leads from kernel k, which shows world w, to kernel k'. Then k' shows the world after the line's
+-- event, or w if the line has no event, and `text` is what is shown for the line in w.
 record Follows (k k' : KernelContent) (reading : Result (Option Event) LineFault) (text : List ℕ) (w : World) : Type 0 where
   pub order : k'.order ≡ k.order
   pub shows : Shows k' (world_after cache_limit k.order w (event_in reading))
@@ -42,7 +43,8 @@ follows k k' (Err fault) text w did shows = record {
   shown = did.1;
 }
 
--- after a list of calls, k' shows the world after the events of their lines, and the texts are the replies
+-- A list of calls leads from kernel k, which shows world w, to kernel k'. Then k' shows the world after the events of the lines,
+-- and the texts of the calls are what is shown for the lines, from world w on.
 record AllFollow (k k' : KernelContent) (calls : List Call) (w : World) : Type 0 where
   pub shows : Shows k' (world_after cache_limit k.order w (events_of (lines_of_calls calls)))
   pub shown : texts_of calls ≡ shown_lines None cache_limit k.order (lines_of_calls calls) w
@@ -68,7 +70,7 @@ are_lines : (k k' : KernelContent) (calls : List Call) → Ran k calls k' → Ar
 are_lines k k' [] ran = tt
 are_lines k k' (call ∷ calls) ran = (ran.1, are_lines ran.0 k' calls ran.3)
 
--- the trace of the lines, each with a line feed, is cut into the same lines again
+-- if each line of the calls gets a line feed, the trace that they form is cut into the lines of the calls again
 cut_again : (k k' : KernelContent) (calls : List Call) → Ran k calls k' → lines_of_trace (with_line_feeds (lines_of_calls calls)) ≡ lines_of_calls calls
 cut_again k k' calls ran =
     ap lines_of_trace (sym (append-nil (with_line_feeds (lines_of_calls calls)))) ∙ lines_cut (lines_of_calls calls) [] (are_lines k k' calls ran)
@@ -77,7 +79,7 @@ cut_again k k' calls ran =
 few_tenants : (k : KernelContent) (superblocks tenants : ℕ) → Shows k (opening_world superblocks tenants) → tenants ≤ 64
 few_tenants k superblocks tenants shows = omega (arith, shows.tenants, shows.agree.tenants, opening_tenants superblocks tenants)
 
--- the written texts are the output of the trace
+-- from the opening world on, the texts that the calls write are the output of the trace of their lines
 output_is : (k k' : KernelContent) (superblocks tenants : ℕ) (calls : List Call) → Shows k (opening_world superblocks tenants) → Ran k calls k'
     → texts_of calls ≡ output_of cache_limit k.order (with_line_feeds (lines_of_calls calls)) (opening_world superblocks tenants)
 unfolding output_of

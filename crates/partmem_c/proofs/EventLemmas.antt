@@ -1,4 +1,4 @@
--- An event that is run with only the front of a buffer is an event that is run with the whole buffer.
+-- An event that is run with the front of a buffer counts as run with the whole buffer.
 use Rattle.std.proofs.Common.{◌≡◌, ℕ, ◌≤◌, List, ◌++◌, Option, length, take, drop, sym, ap, ◌∙◌, arith, append_assoc, length-append}
 use Rattle.std.proofs.lemmas.List.{drop-append-le, take-append-drop, length-take-le, length-drop}
 use Rattle.kernel_core.specs.Content.{KernelContent}
@@ -17,7 +17,7 @@ over_wider n read buffer first wide same over =
     ∙ ap (λ xs. read ++ xs) (sym (drop-append-le (length read) (take n buffer) (drop n buffer) few)
     ∙ ap (drop (length read)) (take-append-drop n buffer))
 
--- if an event was run with the first n bytes of a buffer, it was run with the whole buffer, and the rest is unchanged
+-- if an event was run with the first n bytes of a buffer, it was run with the whole buffer, whose bytes from n on are unchanged
 pub runs_wider : (n : ℕ) (old new : Option KernelContent) (a : RequestNumbers) (bytes : List ℕ) (numbers : ReplyNumbers) (buffer first : List ℕ)
     → n ≤ length buffer → length first ≡ length (take n buffer) → RunsEvent old new a bytes numbers (take n buffer) first
     → RunsEvent old new a bytes numbers buffer (first ++ drop n buffer)

@@ -1,9 +1,10 @@
--- Copying the rows of a report one after another.
+-- Copying the rows of a report over the front of an array, one row at a time.
 use Rattle.std.proofs.Common.{◌≡◌, ℕ, zero, suc, ◌<◌, ◌≤◌, List, [], ◌∷◌, ◌++◌, length, map, take, drop, slice_set, slice_index_or, refl, ap, ◌∙◌, arith}
 use Rattle.std.proofs.lemmas.List.{take_all, length-map}
 use Rattle.partmem_c.specs.Figures.{over}
 
--- if the rows before index `at` are copied, copying the row at `at` copies the rows before at + 1
+-- A copy of a row is f of the row. If the first `at` rows are copied over the front of `before`, copying the row at index `at`
+-- too gives `before` with the first at + 1 rows copied.
 pub row_put : {A B : Type 0} (f : A → B) (rows : List A) (before : List B) (at : ℕ) (d : A) → at < length rows → length rows ≤ length before
     → slice_set (map f (take at rows) ++ drop at before) at (f (slice_index_or rows at d)) ≡ map f (take (suc at) rows) ++ drop (suc at) before
 row_put f [] before at d some few = absurd (omega (arith, some))
@@ -12,7 +13,7 @@ row_put f (row ∷ rows) (b ∷ before) zero d some few = refl
 row_put f (row ∷ rows) (b ∷ before) (suc at) d some few =
     ap (λ xs. f row ∷ xs) (row_put f rows before at d (omega (arith, some)) (omega (arith, few)))
 
--- if `at` is the number of rows, all rows are copied
+-- if `at` is the number of rows, copying the first `at` rows over the front of `before` copies all rows
 pub rows_put : {A B : Type 0} (f : A → B) (rows : List A) (before : List B) (at : ℕ) → at ≤ length rows → length rows ≤ at
     → map f (take at rows) ++ drop at before ≡ over (map f rows) before
 rows_put f rows before at most least =

@@ -26,7 +26,7 @@ neither_none false x none = none
 abbrev reply_of : ℕ → Option ℕ → Reply
 reply_of t freed = record { addressee = To.Tenant t; body = free_body freed }
 
--- no taken block begins at a frame from 2 ^ 20 on
+-- a tenant has no taken block that begins at frame 2 ^ 20 or above
 none_taken : (k : KernelContent) (t frame : ℕ) → IsKernel k → t < k.tenants → 2 ^ 20 ≤ frame → taken_of (holding_of t k.buddy) frame ≡ None
 none_taken k t frame is here large =
     let sizes = is.together.buddy.sizes in

@@ -1,4 +1,4 @@
--- A live object or a page block as numbers.
+-- The numbers of the live page block or live object that contains a place.
 use Rattle.std.proofs.Common.{◌≡◌, ℕ, inl, inr, Option, Some, None, sym, subst}
 use Rattle.std.specs.Prelude.{MatchOption}
 use Rattle.model_core.specs.Machine.{Machine}

@@ -1,4 +1,4 @@
--- The results of commands that lend.
+-- The status of an alloc or a take, and the bytes that it lends, agree with the numbers of its reply.
 use Rattle.std.proofs.Common.{◌≡◌, ℕ, ◌*◌, ◌/◌, ◌^◌, Some, Result, Ok, Err, IfOk, sym, subst}
 use Rattle.model_core.specs.declared.limits.TheConstants.{FRAME_BYTES}
 use Rattle.words_core.specs.declared.reply.Refusal.{Refusal}

@@ -1,4 +1,4 @@
--- Bytes that a read copies into its caller's buffer.
+-- The bytes that a read copies over the front of its caller's buffer.
 use Rattle.std.proofs.Common.{◌≡◌, ◌≢◌, ℕ, ◌≤◌, min, List, [], ◌++◌, Some, length, take, drop, refl, ap, arith}
 use Rattle.std.proofs.Math.Nat.{zero-min, min-le_left}
 use Rattle.std.proofs.lemmas.List.{length-take-le}
@@ -18,7 +18,7 @@ read_not_past n bytes to few =
     let count : ℕ = min (length bytes) (length to) in let within : count ≤ length bytes = min-le_left (length bytes) (length to) in
     drop-append-drop count to (take count bytes) n (omega (arith, within, few)) (length-take-le count bytes within)
 
--- a call that is not done leaves the buffer unchanged
+-- if a reply has a status other than DONE, a read leaves the buffer unchanged
 pub refused_reads_nothing : (body : Body) (to : List ℕ) → call_status (Some (numbers_of_body body)) ≢ DONE
     → read_over (answered_bytes body) to ≡ to
 refused_reads_nothing (Body.Bytes bytes) to failed = absurd (failed refl)

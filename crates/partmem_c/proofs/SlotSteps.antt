@@ -1,4 +1,4 @@
--- A slot in a proof by hand: putting what it owns into it and taking that out again. Assumes `Logic`.
+-- Steps of proofs by hand that take what a slot owns out of it, and put it in. Assumes `Logic`.
 use Rattle.std.proofs.Common.{◌≡◌, List, [], ◌∷◌, ◌++◌, true, Option, Some, None, is_some, refl, subst}
 use mathlib.Core.Bool.{◌&&◌}
 use lib.Dec.{T, lit<}
@@ -20,7 +20,7 @@ use Rattle.partmem_c.specs.contracts.slot.Slot as slot
 abbrev pub word : Ptr → Val
 word p = vstruct (vcons (ptr_val p) vnil)
 
--- a place that is not empty holds a kernel
+-- if a slot's `held` is not None, it is some kernel k
 pub holds : (held : Option KernelContent) → is_some held ≡ true → (k : KernelContent) × (held ≡ Some k)
 holds (Some k) some = (k, refl)
 holds None some = cc

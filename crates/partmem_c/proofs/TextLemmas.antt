@@ -1,4 +1,4 @@
--- A text that is written part by part.
+-- Texts that are written to a buffer part by part, and the first line of a list of bytes.
 use Rattle.std.proofs.Common.{◌≡◌, ℕ, cond, suc, ◌+◌, ◌-◌, ◌*◌, ◌≤◌, ◌==◌, Bool, true, false, ◌||◌, List, [], ◌∷◌, ◌++◌, Some, Ok, length, take, drop, position, refl, sym, ap, ◌∙◌, arith, append_assoc, length-append}
 use Rattle.std.proofs.lemmas.List.{take-append-le, take-append-drop, take_all, length-take-le, length-drop}
 use Rattle.std.proofs.lemmas.Slice.{drop-append-drop}
@@ -18,7 +18,7 @@ pub one_line : (bytes : List ℕ) → has_line_feed bytes ≡ false → IsOneLin
 one_line [] none = tt
 one_line (b ∷ bytes) none = let facts = or_parts (b == 10) (has_line_feed bytes) none in (facts.0, one_line bytes facts.1)
 
--- all of the text but its end, `rest`, is at the front of the buffer, and `written` is the number of its bytes there
+-- The text without its end, `rest`, is written over the front of the buffer. `written` is the number of bytes written.
 pub record IsPart (text rest buffer buffer' : List ℕ) (written : ℕ) : Type 0 where
   pub front : List ℕ
   pub split : text ≡ front ++ rest
@@ -29,7 +29,7 @@ take-front : (xs ys : List ℕ) → take (length xs) (xs ++ ys) ≡ xs
 take-front [] ys = refl
 take-front (x ∷ xs) ys = ap (λ zs. x ∷ zs) (take-front xs ys)
 
--- after the next part is copied behind the written bytes, only the rest behind this part is left
+-- if the unwritten rest is `line` and then `after`, and `line` is copied behind the written bytes, then only `after` is unwritten
 pub written_more : (text rest line after buffer now then : List ℕ) (written written' : ℕ) → IsPart text rest buffer now written → rest ≡ line ++ after
     → then ≡ take written now ++ (line ++ drop (written + length line) now) → written' ≡ written + length line
     → IsPart text after buffer then written'
@@ -49,11 +49,11 @@ written_more text rest line after buffer now then written written' had cut put c
           (sym (append_assoc had.front line (drop (length had.front + length line) buffer)));
     }
 
--- the last n bytes
+-- the last n of these bytes, or all of them if there are fewer
 abbrev pub last : ℕ → List ℕ → List ℕ
 last n bytes = take (length bytes - (length bytes - n)) (drop (length bytes - n) bytes)
 
--- if there are at most 2 * n bytes, copying the first n bytes and the last n bytes copies all
+-- if there are n to 2 * n bytes, copying the first n of them, and then the last n to where these belong, copies all of them
 pub ends_put : (n : ℕ) (bytes old mid out : List ℕ) → n ≤ length bytes → length bytes ≤ 2 * n
     → mid ≡ take 0 old ++ (take n bytes ++ drop (0 + length (take n bytes)) old)
     → out ≡ take (length bytes - n) mid ++ (last n bytes ++ drop (length bytes - n + length (last n bytes)) mid)
@@ -77,7 +77,8 @@ ends_put n bytes old mid out long short first second =
     ∙ sym (append_assoc (take k bytes) (drop k bytes) (drop (length bytes) old))
     ∙ ap (λ xs. xs ++ drop (length bytes) old) (take-append-drop k bytes)
 
--- after a line and then a line feed are copied, the buffer is the line, the line feed and the old bytes behind them
+-- if a line is copied to the front of a buffer, and then a line feed behind it, the buffer is the line, the line feed, and the
+-- old bytes behind them
 pub ended_put : (line old mid out : List ℕ) → mid ≡ line ++ drop (length line) old
     → out ≡ take (length line) mid ++ (10 ∷ [] ++ drop (length line + 1) mid)
     → out ≡ line ++ 10 ∷ drop (length line + 1) old
@@ -87,14 +88,15 @@ ended_put line old mid out line_first second =
     let front : take (length line) mid ≡ line = ap (take (length line)) line_first ∙ take-front line (drop (length line) old) in
     second ∙ ap (λ xs. xs ++ 10 ∷ drop (length line + 1) mid) front ∙ ap (λ xs. line ++ 10 ∷ xs) rest
 
--- in a line without line feeds, then a line feed and other bytes, the first line feed is the one after the line
+-- if a line without a line feed is followed by a line feed, a search whose count begins at k finds that line feed at k plus the
+-- length of the line
 found_end : (k : ℕ) (line rest : List ℕ) → has_line_feed line ≡ false → position_from (λ b. b == 10) k (line ++ 10 ∷ rest) ≡ Some (k + length line)
 found_end k [] rest none = ap (λ n. Some n) (omega arith)
 found_end k (b ∷ line) rest none =
     let facts = or_parts (b == 10) (has_line_feed line) none in
     rw facts.0 (found_end (k + 1) line rest facts.1 ∙ ap (λ n. Some n) (omega arith))
 
--- a request that is read at the front of these bytes is the reading of the line
+-- if the bytes begin with a line and its line feed, a request that is read at their front is the reading of this line
 pub line_reads : (line rest bytes : List ℕ) (tenant : ℕ) (command : Command) (len : ℕ) → has_line_feed line ≡ false
     → bytes ≡ line ++ 10 ∷ rest → ReadsAs bytes tenant command len → reading_of line ≡ Ok (Some (Tenant tenant command))
 line_reads line rest bytes tenant command len none are read =
@@ -103,12 +105,12 @@ line_reads line rest bytes tenant command len none are read =
     let end : len - 1 ≡ length line = same_Some _ _ (sym read.ended ∙ at) in
     ap reading_of (sym (ap (take (len - 1)) are ∙ ap (λ n. take n (line ++ 10 ∷ rest)) end ∙ take-front line (10 ∷ rest))) ∙ read.reading
 
--- a line with this reading is answered as this command
+-- if a line reads as a command of a tenant, an answer to this command is an answer to the line
 pub answered_as : (k k' : KernelContent) (line text : List ℕ) (tenant : ℕ) (command : Command) → reading_of line ≡ Ok (Some (Tenant tenant command))
     → AnswersLine k (Ok (Some (Tenant tenant command))) k' text → AnswersLine k (reading_of line) k' text
 answered_as k k' line text tenant command reads answers = rw reads answers
 
--- so a line in these bytes is answered as the request that was read
+-- if the bytes begin with a line and its line feed, an answer to the request that is read at their front is an answer to the line
 pub line_answered : (k k' : KernelContent) (line rest bytes text : List ℕ) (tenant : ℕ) (command : Command) (len : ℕ) → has_line_feed line ≡ false
     → bytes ≡ line ++ 10 ∷ rest → ReadsAs bytes tenant command len
     → AnswersLine k (Ok (Some (Tenant tenant command))) k' text → AnswersLine k (reading_of line) k' text
@@ -118,7 +120,7 @@ line_answered k k' line rest bytes text tenant command len none are read answers
 no_longer : (k n : ℕ) → k ≡ k + suc n → ⊥
 no_longer k n e = omega (arith, e)
 
--- the bytes before the first line feed have no line feed
+-- if the first line feed is found directly behind `line`, `line` has no line feed
 found_none : (k : ℕ) (line rest : List ℕ) → position_from (λ b. b == 10) k (line ++ rest) ≡ Some (k + length line) → has_line_feed line ≡ false
 found_none k [] rest found = refl
 found_none k (b ∷ line) rest found =

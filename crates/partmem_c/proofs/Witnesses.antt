@@ -1,4 +1,4 @@
--- Calls on machines with 2 and with 3 superblocks that have no owner, and an instance of the law of threads.
+-- Calls on two machines, with 2 and with 3 superblocks, none of which has an owner. And an instance of the law of threads.
 use Rattle.std.proofs.Common.{◌≡◌, [], ◌∷◌, Some, true, codes, refl, subst, arith}
 use base.Shift.{Keyless}
 use denote.RawPtr.{block_ptr}
@@ -31,13 +31,13 @@ use Rattle.partmem_c.specs.Lines.{AnswersLine}
 use Rattle.partmem_c.specs.Laws.{Call, lines_of_calls, Ran, MayChangeThreads}
 use Rattle.partmem_c.specs.contracts.machine_storage.MachineStorage.{the_row}
 
--- an event that changes nothing in the world that is shown is a step to the same kernel
+-- if a kernel shows a world, and an event does not change this world, the event is a step from the kernel to itself
 stays : (k : KernelContent) (w : World) (event : Event) (to : Addressee) (body : Body) → Shows k w → world_step cache_limit k.order event w ≡ answer to body w
     → Steps k event k (record { addressee = to; body = body })
 stays k w event to body shown same =
     steps_answered k event to body (λ v there. subst (λ x. world_step cache_limit k.order event x ≡ answer to body x) (one_world k w v shown there) same)
 
--- a tenant without a superblock requests a frame
+-- tenant 0 or tenant 1 requests a frame, but has no superblock
 abbrev pub by_0 : Call
 by_0 = record { line = codes "0 alloc 0"; text = codes "0> refused 1 NoFrames\n" }
 
@@ -50,7 +50,7 @@ one_line_0 = (refl, (refl, (refl, (refl, (refl, (refl, (refl, (refl, (refl, tt))
 one_line_1 : IsOneLine by_1.line
 one_line_1 = (refl, (refl, (refl, (refl, (refl, (refl, (refl, (refl, (refl, tt)))))))))
 
--- the machine of 2 superblocks and 3 tenants
+-- The machine with 2 superblocks and 3 tenants.
 
 abbrev pub small : KernelContent
 small = opening_content 3 2 3
@@ -65,7 +65,7 @@ small_answers = (record { addressee = To.Tenant 0; body = Refused NoFrames }, st
 pub small_ran : Ran small (by_0 ∷ []) small
 small_ran = (small, one_line_0, small_answers, refl)
 
--- the machine of 3 superblocks and 4 tenants
+-- The machine with 3 superblocks and 4 tenants.
 
 abbrev pub great : KernelContent
 great = opening_content 3 3 4
@@ -93,7 +93,7 @@ pub same_order : great.order ≡ small.order
 unfolding opening_content
 same_order = refl
 
--- a machine that holds a kernel
+-- the storage of a booted machine, whose kernel is `small`
 abbrev booted : the_row.Denot
 booted = record { is_booted = true; slot = record { at = block_ptr 1 0; held = Some small }; agrees = refl }
 

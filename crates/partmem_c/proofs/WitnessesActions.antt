@@ -1,7 +1,7 @@
--- An instance of the law of offsets: a free at place 4097. And an instance of the law of sights with two tenants. Each is granted
--- a superblock by a line, allocates a frame in it, by an event as numbers or by a direct call, and stores 100 bytes there. Then
--- there is a blank line, and tenant 1 stores one more byte, at place 104. Tenant 0 loads the last of its own bytes, at the same
--- place, and reads it by a line and by a direct call.
+-- An instance of the law of offsets: a free at place 4097. And an instance of the law of sights with two tenants. Each tenant
+-- gets a superblock by a line, allocates a frame in it, and stores 100 bytes there. Tenant 1 allocates by an event as numbers,
+-- tenant 0 by a direct call. Then there is a blank line. Tenant 1 stores once more, at the place of tenant 0's last byte.
+-- Tenant 0 loads its own byte there, and reads it by a line and by a direct call.
 use Rattle.std.proofs.Common.{◌≡◌, ℕ, List, [], ◌∷◌, codes, refl, arith}
 use Rattle.std.specs.Prelude.{replicate}
 use Rattle.std.specs.Fmt.{digits}
@@ -94,7 +94,7 @@ done = (
   (beside_2, taken_by_1, (beside_3, stored_1, (beside_4, granted_to_0, (beside_5, taken_by_0, (beside_6, stored_0, after_stores))))),
 )
 
--- everything that was done is a list of actions, and the tenant sees what its private machine returns
+-- all that was done is a list of actions, in which tenant t sees what its private machine returns for t's own list
 abbrev SeesItsOwn : ℕ → Type 0
 SeesItsOwn t = (actions : List Action) × AreOf all actions × AllAct opened actions beside_7
     × (sights_of t actions ≡ (own_seen cache_limit 3 (own_actions t actions) empty_machine).sights)

@@ -1,6 +1,5 @@
--- An instance of the premises of each law of calls of `partmem_line`, on granted memory. On one machine tenant 0 is alone: it
--- allocates a frame, writes a byte there and reads it. On the other machine tenant 1 comes first, and has a superblock, a frame
--- and a byte of its own.
+-- An instance of each law of calls of `partmem_line`. Tenant 0 gets a superblock, allocates a frame, writes a byte there and
+-- reads it. On one machine tenant 0 is alone. On a second machine tenant 1 comes first, and writes a byte in a frame of its own.
 use Rattle.std.proofs.Common.{◌≡◌, ℕ, Bool, true, false, not, ◌==◌, List, [], ◌∷◌, Some, None, codes, refl, arith}
 use Rattle.std.specs.List.{list_all}
 use Rattle.std.specs.Fmt.{digits}
@@ -56,7 +55,7 @@ write_0 = record { line = codes "0 write 5 07"; text = codes "0> written 1\n" }
 abbrev read_0 : Call
 read_0 = record { line = codes "0 read 5 1"; text = codes "0> bytes 07\n" }
 
--- Alone
+-- Tenant 0 alone
 
 abbrev alone : List Call
 alone = grant_0 ∷ alloc_0 ∷ write_0 ∷ read_0 ∷ []
@@ -77,7 +76,7 @@ loaded_alone = record {
   is = alone_granted.1.together.space.own_bytes.window 0 5 1 (7 ∷ []) refl refl 5;
 }
 
--- the four lines read as their events, and the texts are the replies
+-- for each of the four lines: if its event is a step with this reply, the text of the call answers the line
 granting : (k k' : KernelContent) → Steps k (On.Admin (Do.Grant 0)) k' (granted_reply 0 0 0) → AnswersLine k (reading_of grant_0.line) k' grant_0.text
 unfolding reading_of words_of reading_of_words event_of digits
 granting k k' steps = (granted_reply 0 0 0, steps, refl)
@@ -114,7 +113,7 @@ alone_ran = (
   ),
 )
 
--- Beside tenant 1
+-- Tenant 0 beside tenant 1
 
 abbrev grant_1 : Call
 grant_1 = record { line = codes "admin grant 1"; text = codes "admin> granted 1 slot 0 superblock 0\n" }
@@ -125,7 +124,7 @@ alloc_1 = record { line = codes "1 alloc 0"; text = codes "1> frame 0\n" }
 abbrev write_1 : Call
 write_1 = record { line = codes "1 write 5 09"; text = codes "1> written 1\n" }
 
--- tenant 0 gets the other superblock
+-- tenant 0 gets superblock 1, since tenant 1 has superblock 0
 abbrev grant_other : Call
 grant_other = record { line = codes "admin grant 0"; text = codes "admin> granted 0 slot 0 superblock 1\n" }
 
@@ -247,7 +246,8 @@ same_lists : HaveSameOwnList cache_limit 3 2 2 2 2 0 (events_of (lines_of_calls 
 unfolding reading_of words_of reading_of_words event_of hex_on_literals opening_history opening_world world_step grant_step tenant_step answer command_step
 same_lists = record { tenant = omega arith; tenant' = omega arith; own = refl }
 
--- the lines are also the same on machines of different sizes, where tenant 0 is refused
+-- Tenant 0 gets the same lines alone and beside tenant 1. It also gets the same lines on machines of different sizes, where its
+-- request is refused.
 SameLinesOfCalls-met : SameLinesOfCalls → (lines_for 0 (texts_of alone) ≡ lines_for 0 (texts_of beside))
     × (lines_for 0 (texts_of (by_0 ∷ [])) ≡ lines_for 0 (texts_of (by_1 ∷ by_0 ∷ [])))
 SameLinesOfCalls-met law = (

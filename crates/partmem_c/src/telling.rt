@@ -25,7 +25,7 @@ pub struct ReplyNumbers {
     pub fifth: u32,
 }
 
-/// Returns the table of owners as numbers.
+/// Returns the numbers of a table of owners: its kind and the number of superblocks. The owners are not among them.
 pub fn numbers_of_owners(owners: &[Option<Owner>]) -> ReplyNumbers
     requires { length owners.now ≤ MOST_SUPERBLOCKS }
     ensures { result ≡ numbers_of_body (Say.Owners (record { items = owners.now })) }
@@ -33,7 +33,7 @@ pub fn numbers_of_owners(owners: &[Option<Owner>]) -> ReplyNumbers
     one(OWNERS, owners.len() as u32)
 }
 
-/// Returns a report as numbers.
+/// Returns the numbers of a report: its kind and five figures. The rows of the report are not among them.
 pub fn numbers_of_report(report: &Report) -> ReplyNumbers
     ensures { result ≡ numbers_of_body (Say.Report report.now) }
 {
@@ -47,7 +47,7 @@ pub fn numbers_of_report(report: &Report) -> ReplyNumbers
     }
 }
 
-/// Returns an answer as numbers.
+/// Returns the numbers of an answer: its kind, and the numbers that [`crate::kinds`] gives for this kind.
 #[inline(always)]
 pub fn numbers_of_answer(answer: Answer<'_>) -> ReplyNumbers
     requires { HasFewBytes answer }

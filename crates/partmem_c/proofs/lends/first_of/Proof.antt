@@ -1,4 +1,4 @@
--- `first_of` returns the address of its slice: a walk of its MIR by hand.
+-- `first_of` returns the address of its slice. The proof walks through its MIR by hand.
 use Rattle.std.proofs.Common.{List, [], ◌∷◌, refl}
 use Rattle.std.proofs.raw_atomic.Walks.{proved}
 use mir.Syntax.{named}

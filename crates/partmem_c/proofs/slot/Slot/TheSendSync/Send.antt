@@ -1,4 +1,4 @@
--- A place may pass to another thread: its kernel is the same in each thread, and any thread may free the block.
+-- A slot may pass to another thread: its kernel is the same in every thread, and any thread may free the kernel's block.
 use mir.Raw.{raw}
 use base.Shift.{Keyless}
 use denote.Memory.{lone}

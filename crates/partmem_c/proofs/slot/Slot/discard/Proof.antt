@@ -1,4 +1,4 @@
--- `discard` drops a pointer that owns nothing.
+-- `discard` drops a slot without a machine, whose pointer owns nothing.
 use Rattle.std.proofs.Common.{List, [], ◌∷◌, ◌++◌, refl, sym, subst}
 use mir.Val.{Val, vunit}
 use base.Logic.{SProp, ent, id⊢}

@@ -1,4 +1,4 @@
--- `kernel` lends the kernel at the pointer, and the place changes with that kernel.
+-- `kernel` lends the kernel at the slot's pointer. When the borrow ends, the slot holds the kernel as the borrower left it.
 use Rattle.std.proofs.Common.{◌≡◌, List, [], ◌∷◌, Option, Some, is_some, true, refl, sym, ap, ◌∙◌}
 use Prim.Native.Nat.{ℕ}
 use seplogic.Ra.Ura.{Ura}
@@ -41,7 +41,7 @@ abbrev stayed : Stays f.ended.signature.params f.ended.kept
 stayed = (stay_dropped (mut_ref_to (0 ∷ []) tt (plain (λ _. slot.the_row))) no, tt)
 
 module _ {M : Type 1} {𝓤 : Ura M} (𝓛 : Logic 𝓤) (s : slot.the_row.Denot) (from : Global) (b o rb ro : ℕ) where
-  -- everything of the place except its kernel
+  -- what the slot keeps while its kernel is lent: the right to free the kernel's block, and the memory of the slot itself
   abbrev Rest : Fml
   Rest = fsep (ghosts.dealloc_token from (bare (lone the_row.mir)) (block_ptr b o)) (cell_at full_share slot.the_row.mir (word (block_ptr b o) ∷ []) rb ro)
 
@@ -70,7 +70,7 @@ kernel_spec 𝓤 𝓛 𝓜 𝓡 wired =
     rewrite ! 0 (λ (h : Option KernelContent). ‵ (slot_owns s.at h)) held.1 refl $ fpick ! (λ from.
     in_a_block ! s.at (λ p. box_owns (ghosts.dealloc_token from) the_row p held.0) (fst∗ 𝓤 (never 𝓤) (sem 𝓛 (ghosts.dealloc_token from (bare (lone the_row.mir)) null_ptr))) (λ b o e. fsplit ! $
     rewrite ! 2 (λ (ps : List Val). ‵ (cell_at full_share slot.the_row.mir ps rb ro)) (ws ∙ ap (λ (p : Ptr). word p ∷ []) e) refl $
-    -- [the kernel; the right to free its block; the place's cell; the open borrow; obs; auth]
+    -- [the kernel; the right to free its block; the slot's cell; the open borrow; obs; auth]
     first ! $ blocks ! $ sets ! (of_opd ! (load ! (through ! refl (fld ! refl (stop !))) (look_in ! 2 (sub ! 0 refl (whole !))))) refl (tt, tt) $
     sets ! (of_opd ! (get ! refl)) refl (tt, tt) $ sets_last ! (addr ! (through ! refl (stop !))) refl (tt, tt) $
     exec ! 𝓣.C 𝓣.Λ (env code.Mir.locals l) code.Mir.t-2 (at_ret _ (W.post y)) $ sets ! (of_opd ! (get ! refl)) refl (tt, tt) $

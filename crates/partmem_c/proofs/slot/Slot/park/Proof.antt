@@ -1,4 +1,4 @@
--- `park` keeps only the pointer: what the box owned goes into the slot.
+-- `park` returns a slot with the pointer of a box. The slot then owns what the box owned.
 use Rattle.std.proofs.Common.{◌≡◌, List, [], ◌∷◌, ◌++◌, Some, refl, sym, subst}
 use mir.Val.{Val, vptr}
 use base.Logic.{SProp, ent, emp, id⊢}
