@@ -1,4 +1,4 @@
-//! Worked traces that are built by code, since most of their lines are alike.
+//! Worked traces that code builds, since most of their lines are alike.
 
 use crate::running::{PIECES, replayed};
 use crate::tables::{MACHINE, WIDEST};
@@ -7,7 +7,7 @@ use std::io::Write;
 use std::process::Abort;
 use std::test::Fail;
 
-/// Runs the trace in pieces of each size, and expects this output each time.
+/// Checks that a trace has this output on a new machine of these sizes, in pieces of each size in `PIECES`.
 fn expect_output(
     rt: &(impl AllocGlobal + Abort),
     config: Config,

@@ -19,7 +19,7 @@ fn read(alloc: Global, line: &str) -> Result<Result<Settings, Outcome>, AllocErr
     Ok(read_words(alloc, &words))
 }
 
-/// Valid command lines, with their order, superblocks and tenants, and the tenant of `--only`.
+/// Valid command lines, each with its order, superblocks and tenants, and with the tenant of `--only` if there is one.
 const IN_ORDER: [(&str, (u32, u32, u32), Option<u8>); 3] = [
     (
         "--order 3 --superblocks 256 --tenants 64 --only 63",
@@ -128,7 +128,7 @@ fn faulty_words_are_refused(rt: HostRuntime) -> Result<(), Fail> {
     Ok(())
 }
 
-/// Expects an outcome to have this status and this line.
+/// Checks that an outcome has this status, and this line as its text. An empty line means that it has no text.
 fn expect_outcome(
     rt: &(impl AllocGlobal + Abort),
     outcome: &Outcome,

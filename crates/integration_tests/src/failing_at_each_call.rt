@@ -1,4 +1,4 @@
-//! Worked traces and long lines, with a feed or a drain that fails at each of its calls.
+//! Worked traces and long lines, run with a feed or a drain that fails at its first call, then at its second call, and so on.
 
 use crate::pieces::{in_pieces, taking};
 use crate::running::{ALL, WHOLE};
@@ -19,7 +19,7 @@ fn ends_fail_at_each_call(rt: HostRuntime) -> Result<(), Fail> {
     Ok(())
 }
 
-/// The lengths of lines, without their ends, and the ends.
+/// For each line of a trace, its length without the end, in bytes, and its end.
 const LINES: [(usize, &[u8]); 4] = [(255, b"\n"), (255, b"\r\n"), (256, b"\n"), (255, b"")];
 
 const REPLIES: &[u8] =
@@ -43,8 +43,9 @@ fn ends_fail_at_each_call_of_long_lines(rt: HostRuntime) -> Result<(), Fail> {
     fails_at_each_call(&rt, &table, &trace, REPLIES)
 }
 
-/// Runs a trace on the machine of a table, first with a feed that fails at call 1, 2, 3 and so on, and then with a drain that
-/// fails at these calls. Pieces have one byte if only one tenant's lines are shown, and 20 bytes otherwise.
+/// Runs a trace on new machines of a table's sizes: with a feed that fails at call 1, then at call 2, and so on, until it does
+/// not fail. Then it does the same with a drain. Pieces have one byte if only one tenant's lines are shown, and 20 bytes
+/// otherwise.
 fn fails_at_each_call(
     rt: &(impl AllocGlobal + Abort),
     table: &Table,
@@ -67,8 +68,8 @@ fn fails_at_each_call(
 /// Runs a trace with a feed and a drain that fail after these numbers of good calls. Returns true if neither failed.
 ///
 /// Checks that the pushed bytes are a beginning of the trace's output, and as many as the tally says. Then the kernel runs the
-/// lines that the tally does not count. After a failed feed, they write the rest of the output. After a failed drain, they write
-/// what comes after the reply that was cut.
+/// lines that the tally does not count. After a failed feed, their output is the rest of the trace's output. After a failed
+/// drain, it is only the rest after the reply that was cut.
 fn is_done_after(
     rt: &(impl AllocGlobal + Abort),
     table: &Table,
@@ -105,14 +106,14 @@ fn begins(output: &[u8], taken: &[u8], tally: Tally) -> bool {
     output.starts_with(taken) && tally.written == taken.len() as u128
 }
 
-/// Returns whether `rest` is an end of the output that does not overlap what was taken. Bytes must be missing between the two if
-/// a reply was cut, and only then.
+/// Returns whether the output ends with `rest` and `rest` does not overlap the taken bytes. If a reply was cut, bytes must be
+/// missing between `taken` and `rest`, and otherwise none.
 fn goes_on(output: &[u8], taken: &[u8], rest: &[u8], is_cut: bool) -> bool {
     let answered = output.len().saturating_sub(rest.len());
     output.ends_with(rest) && taken.len() <= answered && (taken.len() < answered) == is_cut
 }
 
-/// Returns the part of a trace after its first lines.
+/// Returns the part of a trace after its first `lines` lines.
 fn behind(trace: &[u8], lines: u64) -> &[u8] {
     let mut rest = trace;
     for _line in 0..lines {

@@ -33,7 +33,7 @@ enum End {
     DrainFails,
 }
 
-/// Returns whether a replay ended in this way, after this number of lines and of written bytes.
+/// Returns whether a replay ended in this way, after this number of lines and this number of written bytes.
 fn is_ended(ran: Result<Tally, ReplayError>, end: End, lines: u64, written: u128) -> bool {
     let tally = tally(lines, written);
     match (ran, end) {
@@ -44,10 +44,10 @@ fn is_ended(ran: Result<Tally, ReplayError>, end: End, lines: u64, written: u128
     }
 }
 
-/// The number of good pulls, and then the tally: lines, and bytes written.
+/// The number of good pulls, and the tally after them: the lines, and the bytes written.
 const FAILING_FEEDS: [(u32, u64, u128); 4] = [(0, 0, 0), (14, 1, 37), (19, 1, 37), (24, 2, 48)];
 
-/// After a failed feed, the finished lines have been run, and the unfinished one has not.
+/// When the feed fails, all lines that it returned in full have been run, and a line that it returned in part has not.
 #[test]
 fn feed_fails(rt: HostRuntime) -> Result<(), Fail> {
     for (good_pulls, lines, written) in FAILING_FEEDS {
@@ -60,7 +60,7 @@ fn feed_fails(rt: HostRuntime) -> Result<(), Fail> {
     Ok(())
 }
 
-/// The number of good pushes, then the tally (lines and bytes written), and the reply to one more line.
+/// The number of good pushes, the tally after them (lines and bytes written), and the reply to `NEXT_LINE` on the same kernel.
 const FAILING_DRAINS: [(u32, u64, u128, &[u8]); 2] = [
     (1, 1, 10, b"0> frame 0\n"),
     (4, 2, 37, b"0> frame 1\n"),
@@ -84,7 +84,7 @@ fn drain_fails(rt: HostRuntime) -> Result<(), Fail> {
     Ok(())
 }
 
-/// The limit of a feed in bytes, how the replay ends then, and the tally. The limits are around the length of the trace.
+/// The limit of a feed in bytes, how a replay of `TRACE` then ends, and its tally (lines and bytes written).
 const ROOMS: [(u64, End, u64, u128); 4] = [
     (0, End::FeedFails, 0, 0),
     (LEN - 1, End::FeedFails, 2, 48),
@@ -95,7 +95,7 @@ const ROOMS: [(u64, End, u64, u128); 4] = [
 /// The length of the trace in bytes.
 const LEN: u64 = TRACE.len() as u64;
 
-/// When a feed has reached its limit, it reads once more. If the reader has ended, so has the feed; if the reader has more, the
+/// When a feed has reached its limit, it reads once more. If the reader has no more bytes, the feed ends. If it has more, the
 /// feed fails.
 #[test]
 fn room_ends(rt: HostRuntime) -> Result<(), Fail> {
@@ -200,7 +200,8 @@ impl Write for LogWriter<'_> {
 /// The numbers of good reads, writes and flushes.
 type Good = (u32, u32, u32);
 
-/// The sizes of a drain's buffer in bytes: none, less than one reply, less than two replies, and more than the whole output.
+/// The sizes of a drain's buffer in bytes: no buffer, less than the first reply to `TRACE`, more than its first two replies but
+/// less than all three, and more than all three.
 const SIZES: [usize; 4] = [0, 16, 64, 4096];
 
 /// Returns a drain with a buffer of `size` bytes, or without a buffer if `size` is 0.
@@ -217,7 +218,7 @@ fn drain_into<'a>(
     Ok(WriterDrain::holding(writer, Vec::with_capacity(alloc, size)?))
 }
 
-/// How a replay ended, whether the flush at its end succeeded, and how many bytes were then unwritten.
+/// How a replay ended, whether it and a flush after it succeeded, and the number of bytes that were then unwritten.
 #[derive(Drop)]
 struct Told {
     ran: Result<Tally, ReplayError>,
@@ -225,7 +226,7 @@ struct Told {
     unwritten: usize,
 }
 
-/// Runs a replay with a [`LineReader`] and a [`LogWriter`].
+/// Runs a replay from a [`LineReader`] to a [`LogWriter`], and flushes the drain if the replay succeeded.
 fn between(alloc: Global, trace: &[u8], size: usize, log: &Log, good: Good) -> Result<Told, Fail> {
     let (good_reads, good_writes, good_flushes) = good;
     let mut kernel = Kernel::boot(alloc, MACHINE)?;
@@ -252,12 +253,12 @@ fn between(alloc: Global, trace: &[u8], size: usize, log: &Log, good: Good) -> R
     })
 }
 
-/// How a replay ends, its tally (lines and bytes written), whether the flush at its end succeeds, and the number of unwritten
-/// bytes.
+/// How a replay ends, its tally (lines and bytes written), whether it and the flush after it succeed, and the number of bytes
+/// that are then unwritten.
 type Ending = (End, u64, u128, bool, usize);
 
 /// The numbers of good reads, writes and flushes, and the ending with each size of the drain's buffer: 0, 16, 64 and 4,096 bytes.
-/// A buffer of 16 bytes holds only the second of the three replies until it is sent; a larger buffer holds each reply.
+/// A buffer of 16 bytes is large enough for the second reply to `TRACE`, but not for the other two.
 const STAYING: [(Good, [Ending; 4]); 9] = [
     ((ALL, ALL, ALL), [(End::Done, 3, 66, true, 0); 4]),
     ((0, ALL, ALL), [(End::FeedFails, 0, 0, false, 0); 4]),
@@ -286,8 +287,8 @@ const STAYING: [(Good, [Ending; 4]); 9] = [
     ((ALL, ALL, 3), [(End::Done, 3, 66, false, 0); 4]),
 ];
 
-/// A failed read, a write that took no byte and a failed flush are not tried again, although they would succeed. If a call fails
-/// while the drain sends its buffer, the next push reports it, or the flush at the end does.
+/// A failed read, a write that took no byte and a failed flush are not tried again, although a second try would succeed. If the
+/// drain fails while it sends its buffer, the next push fails, or the flush after the replay does.
 #[test]
 fn failures_stay(rt: HostRuntime) -> Result<(), Fail> {
     for (good, endings) in STAYING {
@@ -307,7 +308,7 @@ fn failures_stay(rt: HostRuntime) -> Result<(), Fail> {
     Ok(())
 }
 
-/// Traces, and the numbers of writes and flushes for them.
+/// Traces, each with the numbers of writes and flushes that a replay of it makes.
 const CALLS: [(&[u8], u32, u32); 4] = [
     (TRACE, 3, 4),
     (b"", 0, 1),
@@ -315,7 +316,7 @@ const CALLS: [(&[u8], u32, u32); 4] = [
     (b"# note\nfrob\n\n# note\n", 1, 2),
 ];
 
-/// Each reply is sent before the reader is called again, and these are the numbers of writes and flushes.
+/// Each reply is sent before the reader is called again. A replay makes the numbers of writes and flushes in `CALLS`.
 #[test]
 fn answers_at_once(rt: HostRuntime) -> Result<(), Fail> {
     for (trace, writes, flushes) in CALLS {
@@ -334,10 +335,10 @@ fn answers_at_once(rt: HostRuntime) -> Result<(), Fail> {
 /// The size of the buffer of a program's drain, in bytes.
 const FULL: usize = 65_536;
 
-/// The number of bytes that are pushed, and the number that the drain holds then.
+/// The number of bytes that are pushed, and the number of bytes that are then still in the drain's buffer.
 const FILLINGS: [(usize, usize); 3] = [(FULL - 1, FULL - 1), (FULL, FULL), (FULL + 1, 1)];
 
-/// A drain is flushed without an error if its buffer is full, if one byte is free, and if the last byte did not fit.
+/// A drain is flushed without an error if its buffer is full, if one byte of it is free, and if the last byte pushed did not fit.
 #[test]
 fn full_buffer_is_flushed(rt: HostRuntime) -> Result<(), Fail> {
     for (len, held) in FILLINGS {

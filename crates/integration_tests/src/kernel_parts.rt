@@ -1,4 +1,4 @@
-//! Fixed values of the parts of a kernel, alone and as the kernel shows them.
+//! Fixed values that the parts of a kernel return, alone and after the kernel has run a trace.
 
 use buddy_core::Buddy;
 use kernel_core::{Config, Kernel};
@@ -10,7 +10,7 @@ use std::alloc::Global;
 use std::process::Abort;
 use std::test::Fail;
 
-/// Returns a machine with two superblocks of eight frames and two tenants, after a trace.
+/// Returns a kernel with two superblocks of eight frames and two tenants, after it has run a trace.
 fn kernel_after(alloc: Global, trace: &[u8]) -> Result<Kernel, Fail> {
     let config = Config {
         order: 3,
@@ -28,11 +28,11 @@ fn kernel_after(alloc: Global, trace: &[u8]) -> Result<Kernel, Fail> {
     Ok(kernel)
 }
 
-/// After these lines, all blocks are freed and joined.
+/// After these lines, all blocks are freed and joined to one block.
 const JOINED: &[u8] = b"admin grant 0\n0 alloc 0\n0 alloc 1\n0 alloc 2\n0 alloc 0\n\
     0 free 0\n0 free 1\n0 free 2\n0 free 4\n";
 
-/// After these lines, frame 0 is free, but too small for the last block, which begins at frame 4.
+/// After these lines, frame 0 is a free block. It was too small for the last alloc, whose block begins at frame 4.
 const PASSED_OVER: &[u8] = b"admin grant 0\n0 alloc 0\n0 alloc 1\n0 alloc 2\n0 alloc 0\n\
     0 free 0\n0 free 4\n0 alloc 1\n";
 
@@ -66,7 +66,8 @@ fn free_count_follows_splits(rt: HostRuntime) -> Result<(), Fail> {
     Ok(())
 }
 
-/// The words of a tree: bit `j` of a word is 1 if a free block of order `j` lies in that part of the superblock.
+/// The words of superblock 0's tree after `PASSED_OVER`. Each word is for a part of the superblock. Its bit `j` is 1 if a free
+/// block of order `j` lies in that part.
 const WORDS: [u16; 15] = [3, 1, 2, 1, 0, 0, 2, 1, 0, 0, 0, 0, 0, 0, 0];
 
 #[test]
@@ -90,7 +91,7 @@ fn would_fit(kernel: &Kernel, order: u8) -> bool {
         && slabs.would_fit(space, kernel.buddy(), 0, order)
 }
 
-/// One live object keeps its slab, so the superblock is not one free block.
+/// After these lines, a slab has a live object, so it is not freed on demand and the whole superblock cannot become one block.
 const LIVE_OBJECT: &[u8] = b"admin grant 0\n0 cache 64 8 00\n0 take 0\n";
 
 const EMPTY_SLAB: &[u8] = b"admin grant 0\n0 cache 64 8 00\n0 take 0\n0 give 0 0\n";
@@ -135,7 +136,7 @@ fn parts_begin_empty(rt: HostRuntime) -> Result<(), Fail> {
     Ok(())
 }
 
-/// A page block at frame 0, a slab at frame 1, and its first object of 100 bytes.
+/// After these lines, there is a page block at frame 0, and a slab at frame 1 whose first object, of 100 bytes, is live.
 const OBJECT: &[u8] = b"admin grant 0\n0 alloc 0\n0 cache 100 8 5a\n0 take 0\n";
 
 /// Returns whether a slab of tenant 0 begins at a frame.

@@ -1,9 +1,10 @@
-//! Fixed values of layouts and patterns.
+//! Fixed values that layouts of slabs, and patterns of new objects, have to return.
 
 use layout_core::{Layout, Pattern};
 use std::process::Abort;
 
-/// Size, alignment, chunk, order, bytes for objects, number of objects, bytes after the last object, and number of colours.
+/// The size and alignment of an object; then its chunk, the order of a slab, the slab's bytes for objects, its number of objects,
+/// its bytes after the last object, and its number of colours.
 type Row = (u32, u32, u32, u8, u32, u32, u32, u32);
 
 const ROWS: [Row; 22] = [
@@ -31,7 +32,8 @@ const ROWS: [Row; 22] = [
     (4096, 8, 4096, 0, 4096, 1, 0, 1),
 ];
 
-/// Returns whether a layout has the numbers of its row. The record of a small slab is the last 32 bytes of its frame.
+/// Returns whether a layout has the numbers of a row. A slab of small objects has 4,064 bytes for objects, since its record is
+/// the last 32 bytes of its frame.
 fn has_numbers(layout: &Layout, row: Row) -> bool {
     let (size, align, chunk, order, bytes, count, rest, colours) = row;
     layout.size() == size
@@ -68,7 +70,8 @@ fn objects_are_found(rt: HostRuntime) {
     holds_ranges(&rt, &layout);
 }
 
-/// Ranges inside one object, across two, before the first, and of no bytes.
+/// Checks which object contains a range. No object does if the range goes past the object's end, begins before the first object,
+/// or has no bytes.
 fn holds_ranges(rt: &impl Abort, layout: &Layout) {
     for (offset, len, index) in [
         (3960, 100, Some(38)),

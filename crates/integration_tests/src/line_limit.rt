@@ -1,4 +1,4 @@
-//! A feed with a limit on its line feeds: once it has reached the limit, the next pull fails, unless the feed has ended.
+//! A feed with a limit on its line feeds. When it has returned that many, its next pull fails, unless the feed ended before.
 
 use streams::{Feed, LineLimit, ReaderFeed, Stopped};
 

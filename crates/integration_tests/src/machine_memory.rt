@@ -1,4 +1,4 @@
-//! The memory of a machine, seen from outside: bytes that change hands and that move, and the records of live objects.
+//! The memory of a machine, read from outside: bytes whose superblock is granted again or moved, and the records of slabs.
 
 use crate::running::{run, written_by};
 use crate::tables::MACHINE;
@@ -6,11 +6,11 @@ use kernel_core::Kernel;
 use std::alloc::Global;
 use std::test::Fail;
 
-/// Lines, and then a superblock: its number, its first byte, its byte 4095, and whether it is marked.
+/// Lines of a trace, and a superblock after them: its number, its byte 0, its byte 4095, and whether it is marked.
 type Step = (&'static [u8], u16, u8, u8, bool);
 
-/// Written bytes are in the memory of the machine. They stay there after a take-back, and the next grant sets them to zero. A
-/// move copies them, and marks the superblock that it leaves.
+/// Written bytes are in the memory of the machine. They stay there after a take-back, which marks the superblock. The next grant
+/// sets them to zero. A move copies them to another superblock, and marks the one that they leave.
 const STEPS: [Step; 6] = [
     (
         b"admin grant 1\n1 alloc 0\n1 alloc 0\n1 write 4095 aabb\n",
@@ -53,7 +53,7 @@ fn bytes_change_hands(rt: HostRuntime) -> Result<(), Fail> {
     Ok(())
 }
 
-/// The sizes of a frame and of the record at its end, in bytes.
+/// The size of a frame in bytes. A slab of small objects has a record in the last `RECORD_BYTES` bytes of its frame.
 const FRAME_BYTES: usize = 4096;
 
 const RECORD_BYTES: usize = 32;
@@ -63,12 +63,12 @@ const FULLEST: &[u8] = b"\xff\xff\xff\xff\xff\xff\xff\xff\xff\xff\xff\xff\xff\xf
     \xff\xff\xff\xff\xff\xff\xff\xff\xff\xff\xff\xff\xff\x3f";
 
 /// A cache, the number of takes from it, and the lines after the takes. Then a superblock, one of its frames, and the record at
-/// the end of that frame, without the zeroes after it.
+/// the end of that frame, without the record's last zeroes.
 type Case = (&'static [u8], u32, &'static [u8], u16, usize, &'static [u8]);
 
-/// A record has one bit for each object, the least significant bit for the first object. The bit is 1 if the object is live.
-/// Zeroes follow the bits. A freed slab leaves zeroes, a move copies the record, and a slab of large objects has object bytes
-/// there instead.
+/// A record has one bit for each object, and bit 0 of its first byte is for the first object. The bit is 1 if the object is live.
+/// The bits after the last object are 0. A freed slab leaves a record of zeroes, and a move copies the record. A slab of large
+/// objects has no record: the end of its frame belongs to an object.
 const CASES: [Case; 8] = [
     (b"200 8 a5", 21, b"", 0, 0, b"\xff\xff\x0f"),
     (b"200 8 a5", 21, b"", 0, 1, b"\x01"),
@@ -95,7 +95,7 @@ fn records_stand(rt: HostRuntime) -> Result<(), Fail> {
     Ok(())
 }
 
-/// Returns whether the frame ends with the record.
+/// Returns whether the frame of a case ends with its record, after the lines of the case.
 fn stands(alloc: Global, case: &Case) -> Result<bool, Fail> {
     let (_, _, _, superblock, frame, record) = *case;
     let trace = trace_of(alloc, case)?;
@@ -112,7 +112,7 @@ fn stands(alloc: Global, case: &Case) -> Result<bool, Fail> {
     )
 }
 
-/// Returns the lines that make the cache and take objects, and the lines after these.
+/// Returns the trace of a case: lines that make its cache and take its objects, and the lines after the takes.
 fn trace_of(alloc: Global, case: &Case) -> Result<Vec<u8>, Fail> {
     let (cache, takes, after, ..) = *case;
     let mut trace = b"admin grant 0\n0 cache ".to_vec(alloc)?;

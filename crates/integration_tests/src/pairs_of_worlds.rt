@@ -1,4 +1,4 @@
-//! Pairs of worlds in which one tenant has the same commands: it gets the same replies, whatever comes between.
+//! Pairs of worlds in which a tenant has the same commands. It gets the same replies in both, whatever other lines come between.
 
 use crate::running::{WHOLE, replayed};
 use crate::tables::own::ROWS;
@@ -10,7 +10,7 @@ use std::test::Fail;
 /// The number of gaps in the tenant's trace: before, between and after its lines.
 const GAPS: usize = 7;
 
-/// The commands of others. Tests use prefixes of this list.
+/// Lines of others, one of them faulty. Tests use prefixes of this list.
 const NOISE: [&[u8]; 7] = [
     b"admin grant 1\n",
     b"1 cache 16 8 ee\n",
@@ -24,7 +24,7 @@ const NOISE: [&[u8]; 7] = [
 /// Commands about the tenant itself, whose replies go only to the administrator.
 const QUIET: [&[u8]; 2] = [b"admin takeback 0 1\n", b"admin move 0 0\n"];
 
-/// Returns the trace `alone` with these lines in the gaps from `first` to `last`.
+/// Returns the trace `alone` with all lines of `noise` in each gap from `first` to `last`.
 fn among(
     alloc: Global,
     alone: &[u8],
@@ -47,7 +47,8 @@ fn among(
     Ok(trace)
 }
 
-/// Checks that a tenant with six lines gets the same replies with these lines in these gaps as it gets alone.
+/// Checks that tenant 0, whose trace has six lines, gets the same replies alone and with all lines of `noise` in each gap from
+/// `first` to `last`.
 fn is_told_alike(
     rt: &(impl AllocGlobal + Abort),
     noise: &[&[u8]],
@@ -65,8 +66,9 @@ fn is_told_alike(
     begins_alike(rt, &trace, alone.output)
 }
 
-/// Checks for each beginning of the trace that the tenant gets the replies to its finished lines, which are a beginning of the
-/// whole output. A last line that is cut is also a line, and may add a reply.
+/// Checks the replies to tenant 0 for each beginning of a trace. If the beginning ends with a line feed, they are a beginning of
+/// the whole output. If its last line is cut, they begin with the replies to the lines before it. A cut line may have a reply
+/// too.
 fn begins_alike(rt: &(impl AllocGlobal + Abort), trace: &[u8], output: &[u8]) -> Result<(), Fail> {
     let (mut ended, _) = replayed(rt.alloc(), MACHINE, b"", WHOLE, Some(0))?;
     for len in 0..=trace.len() {
@@ -87,7 +89,7 @@ fn begins_alike(rt: &(impl AllocGlobal + Abort), trace: &[u8], output: &[u8]) ->
     Ok(())
 }
 
-/// A tenant gets the same replies with each prefix of the noise in each gap, and with all of the noise in every gap.
+/// A tenant gets the same replies with any prefix of the noise in any one gap, and with the whole noise in all gaps.
 #[test]
 fn others_make_noise(rt: HostRuntime) -> Result<(), Fail> {
     for count in 0..=NOISE.len() {
@@ -98,7 +100,8 @@ fn others_make_noise(rt: HostRuntime) -> Result<(), Fail> {
     is_told_alike(&rt, &NOISE, 0, GAPS)
 }
 
-/// A tenant gets the same replies with a refused take-back, or a move of its only slot, in each gap and in every gap.
+/// A tenant gets the same replies with a refused take-back or a move of its only slot, in any one gap or in all gaps. It also
+/// gets them with both in all gaps.
 #[test]
 fn administrator_is_quiet(rt: HostRuntime) -> Result<(), Fail> {
     for line in &QUIET {

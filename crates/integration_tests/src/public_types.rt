@@ -1,7 +1,7 @@
-//! The types of the public functions, written out: if one changes, this module does not compile.
+//! The types of the public functions, written out: if a type changes, this module does not compile.
 //!
 //! Generic functions, and functions that return a borrow, are called with their types written out, since the prover does not
-//! follow pointers to them. `pieces` has a feed and a drain, with all methods of these traits.
+//! follow pointers to them. The methods of feeds and drains are in `pieces`, which implements both traits.
 
 ghost use Rattle.std.specs.Prelude.{◌≡◌, false};
 
@@ -118,7 +118,8 @@ fn parts(kernel: &Kernel) -> (&Space, &Buddy, &Slabs, &Lists) {
     (kernel.space(), kernel.buddy(), slabs, slabs.lists())
 }
 
-/// Returns the bytes of a superblock, once from the kernel and once from its memory, and the words of its tree.
+/// Returns the bytes of superblock `m`, from the kernel and from its `Space`, and the words of its tree, if there is a superblock
+/// `m`.
 fn superblock(kernel: &Kernel, m: u16) -> Option<(&[u8], &[u8], &[u16])> {
     let (space, buddy, ..) = parts(kernel);
     if u32::from(m) < kernel.superblocks() && m < space.superblocks() && m < buddy.superblocks() {

@@ -17,7 +17,7 @@ pub const WHOLE: usize = 200_000;
 pub const PIECES: [usize; 5] = [1, 2, 3, 7, WHOLE];
 
 /// Runs a trace on a new machine, with pulls and pushes of at most `piece` bytes. Returns the drain with the output, and the
-/// tally.
+/// tally. If `only` is a tenant, the output has only this tenant's lines.
 pub fn replayed(
     alloc: Global,
     config: Config,

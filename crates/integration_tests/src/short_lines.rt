@@ -6,7 +6,7 @@ use std::process::Abort;
 use std::test::Fail;
 use words_core::Request;
 
-/// Returns the line with a line feed, followed by other lines.
+/// Returns `WINDOW` bytes that begin with the line and a line feed. Parts of other lines follow.
 fn window_of(line: &[u8]) -> [u8; WINDOW] {
     let mut window = *b"7 free 7\n7 free 7\n7 free 7\n7 fre";
     let len = line.len().min(WINDOW - 1);
@@ -15,12 +15,12 @@ fn window_of(line: &[u8]) -> [u8; WINDOW] {
     window
 }
 
-/// Numbers of tenants. The other numbers in a line are below.
+/// The numbers of tenants in lines. Each line has one of `NUMBERS` too.
 const TENANTS: [u32; 6] = [0, 1, 9, 10, 63, 999];
 
 const NUMBERS: [u32; 8] = [0, 1, 9, 10, 255, 4096, 12_345, 999_999_999];
 
-/// The words before a number, and the words after it.
+/// The words of a line between its tenant and one of `NUMBERS`, and the words after this number.
 const COMMANDS: [(&str, &str); 8] = [
     ("alloc", ""),
     ("free", ""),

@@ -1,4 +1,4 @@
-//! Worked traces with their whole output, by topic.
+//! Worked traces with their whole output, in one table for each topic.
 
 mod caches;
 mod limits;
@@ -32,14 +32,14 @@ pub const WIDEST: Config = Config {
     ..MACHINE
 };
 
-/// A trace, and its output.
+/// A trace, and its whole output.
 #[derive(Debug)]
 pub struct Row {
     pub trace: &'static [u8],
     pub output: &'static [u8],
 }
 
-/// Rows that run on machines of one size.
+/// Rows that run on machines of the same sizes, with the output for the same tenant or for all.
 #[derive(Clone, Copy, Debug)]
 pub struct Table {
     pub name: &'static str,
@@ -68,7 +68,7 @@ pub fn tables() -> [Table; 10] {
     ]
 }
 
-/// Returns a table of rows on the small machine, with the lines for everyone.
+/// Returns a table of rows on the small machine, whose output has all lines.
 fn of_all(name: &'static str, rows: &'static [Row]) -> Table {
     Table {
         name,
@@ -78,7 +78,7 @@ fn of_all(name: &'static str, rows: &'static [Row]) -> Table {
     }
 }
 
-/// Returns a table of rows with only one tenant's lines.
+/// Returns a table of rows whose output has only the lines for one tenant.
 fn of_tenant(tenant: u8, config: Config, rows: &'static [Row]) -> Table {
     Table {
         name: "of a tenant",

@@ -1,4 +1,4 @@
-//! The output and the counts of worked traces, for all sizes of pieces and all ends of lines.
+//! The output and the counts of worked traces, in pieces of several sizes and with both ends of lines, LF and CR LF.
 
 use crate::running::{PIECES, replayed};
 use crate::tables::{MACHINE, tables};
@@ -44,7 +44,7 @@ fn ended_by(alloc: Global, trace: &[u8], ends: [&[u8]; 2]) -> Result<Vec<u8>, Fa
     Ok(ended)
 }
 
-/// The counts do not depend on the pieces, and `only` hides the lines of others.
+/// The tally of a replay does not depend on the size of the pieces. With `only`, the output has only this tenant's lines.
 #[test]
 fn counts_and_empty_slabs(rt: HostRuntime) -> Result<(), Fail> {
     let granted = b"admin grant 0\n0 alloc 0\n0 read 0 4\n".as_slice();

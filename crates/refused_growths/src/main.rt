@@ -1,8 +1,8 @@
 //! Makes one call after a number of allocations, and prints its result.
 //!
-//! Standard input is a line `SPENT CALL`: first SPENT allocations are made and freed, and then the call with that name is made.
-//! `tests/refused-growths` lets the allocation with a fixed number fail. SPENT decides which growth of the call has this number,
-//! and the test tries all growths.
+//! Standard input is a line `SPENT CALL`. First SPENT allocations are made and freed, and then the call with the name CALL is
+//! made. `tests/refused-growths` refuses the allocation with a fixed number in each run. SPENT decides which allocation of the
+//! call has this number, and the test tries all of them.
 #![tactic(auto)]
 
 use buddy_core::Buddy;
@@ -42,7 +42,8 @@ const MACHINE: Config = Config {
     tenants: 2,
 };
 
-/// Makes a part of the small machine, or boots a kernel. Returns the result, if there is a call with this name.
+/// Makes a part of `MACHINE`, or boots a kernel. Returns the result of the call with this name, or `None` if there is no such
+/// call.
 fn made(alloc: Global, call: &str) -> Option<&'static str> {
     match call {
         "Lists::new" => Some(part(&Lists::new(alloc, 16, 6))),
@@ -70,7 +71,7 @@ fn booted(alloc: Global, config: Config) -> &'static str {
     }
 }
 
-/// Sizes just outside their ranges.
+/// Sizes of machines that are out of range: orders, superblocks and tenants.
 const BAD: [(u32, u32, u32); 7] = [
     (2, 2, 2),
     (9, 2, 2),
@@ -99,7 +100,7 @@ fn badly_booted(alloc: Global) -> &'static str {
     "BadConfig"
 }
 
-/// Command lines: the first one is accepted, and the others are refused.
+/// The words of a command line that is accepted. Those of `ONLY_TWO` and `ORDER_TWO` are refused.
 const IN_ORDER: [&str; 9] = [
     "--order",
     "3",
@@ -125,7 +126,7 @@ const ONLY_TWO: [&str; 8] = [
 
 const ORDER_TWO: [&str; 6] = ["--order", "2", "--superblocks", "2", "--tenants", "2"];
 
-/// Reads the words of a command line. Returns the result, if there is a call with this name.
+/// Reads the words of a command line. Returns the result of the call with this name, or `None` if there is no such call.
 fn read(alloc: Global, call: &str) -> Option<&'static str> {
     match call {
         "read_words" => Some(answered(alloc, &IN_ORDER)),

@@ -3,8 +3,8 @@
 use super::Row;
 
 pub static ROWS: [Row; 9] = [
-    // After the objects of one slab comes the first object of a second slab, which has another colour. The report counts both
-    // slabs as taken blocks.
+    // When all objects of a slab are taken, the next take makes a second slab. Its colour differs, so its first object begins at
+    // another offset. The report counts both slabs as taken blocks.
     Row {
         trace: b"admin grant 0\n0 cache 200 8 a5\n0 take 0\n0 take 0\n0 take 0\n0 take 0\n\
             0 take 0\n0 take 0\n0 take 0\n0 take 0\n0 take 0\n0 take 0\n0 take 0\n0 take 0\n\
@@ -43,8 +43,8 @@ pub static ROWS: [Row; 9] = [
             0> cache 0 chunk 104 order 0 objects 39 colours 2\n0> object 0\n0> bytes 5a5a\n\
             0> refused 4 OutOfReach\n0> given\n0> refused 4 OutOfReach\n",
     },
-    // A block can be freed once, a slab is not a page block, and an object can be given back once, by its first byte, to its
-    // cache.
+    // A block can be freed only once, and a slab is not freed as a page block. An object can be given back only once, only at its
+    // first byte, and only to its cache.
     Row {
         trace: b"admin grant 0\n0 alloc 0\n0 free 0\n0 free 0\n0 cache 64 8 00\n0 take 0\n\
             0 free 0\n0 give 0 1\n0 give 0 0\n0 give 0 0\n0 give 1 0\n",
@@ -53,7 +53,8 @@ pub static ROWS: [Row; 9] = [
             0> object 0\n0> refused 3 NotABlock\n0> refused 11 NotAnObject\n0> given\n\
             0> refused 11 NotAnObject\n0> refused 9 NoCache\n",
     },
-    // A partial slab is used before an empty one. An object that was given back keeps its bytes. A cache in use is not destroyed.
+    // A take uses a partial slab before an empty one. An object that was given back keeps its bytes. A destroy is refused if the
+    // cache has a live object.
     Row {
         trace: b"admin grant 0\n0 cache 2048 8 11\n0 take 0\n0 take 0\n0 take 0\n\
             0 write 2048 22\n0 give 0 4096\n0 give 0 2048\n0 take 0\n0 read 2048 2\n0 destroy 0\n\
@@ -70,7 +71,7 @@ pub static ROWS: [Row; 9] = [
             0> cache 0 chunk 200 order 0 objects 20 colours 9\n\
             0> cache 1 chunk 200 order 0 objects 20 colours 9\n0> object 0\n0> object 4096\n",
     },
-    // A take is refused if the cache has no slab and no block is free for one. The cache stays.
+    // A take is refused if the cache has no slab, and no block is free for a new slab. The cache can still be used later.
     Row {
         trace: b"0 cache 200 8 a5\n0 take 0\nadmin grant 0\n0 take 0\n",
         output: b"0> cache 0 chunk 200 order 0 objects 20 colours 9\n0> refused 1 NoFrames\n\

@@ -1,4 +1,4 @@
-//! Lines that are events, lines that are nothing, and faulty lines.
+//! Lines that are events, blank lines and comments, and faulty lines.
 
 use super::Row;
 
@@ -37,8 +37,8 @@ pub static ROWS: [Row; 7] = [
         trace: b"\t00  alloc\t 0000000000 \n",
         output: b"0> refused 1 NoFrames\n",
     },
-    // Places, lengths, patterns and numbers at the ends of their ranges, lines with two faults, and bytes that are not blanks. A
-    // comment must begin its line.
+    // Places, lengths, patterns and numbers at the ends of their ranges, lines with two faults, and bytes such as
+    // CR that do not separate words. A line is a comment only if its first word begins with `#`.
     Row {
         trace: b"admin grant 0\n0 alloc 3\n0 read 32767 2\n0 read 32768 1\n\
             0 write 4294967295 00\n\

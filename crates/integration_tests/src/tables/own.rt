@@ -2,24 +2,24 @@
 
 use super::Row;
 
-/// The replies to tenant 0, the same whether it is alone on its machine or among others.
+/// The replies to tenant 0, which are the same whether it is alone on its machine or among others.
 const TOLD: &[u8] = b"0> frame 0\n0> written 1\n0> cache 0 chunk 24 order 0 objects 169 colours 2\n\
     0> object 8192\n0> frames 8 live 3 free 5 top 2 split 200\n\
     0> order 0 free 1 taken 1\n0> order 1 free 0 taken 1\n0> order 2 free 1 taken 0\n\
     0> order 3 free 0 taken 0\n0> cache 0 full 0 partial 1 empty 0 live 1\n";
 
-/// A trace with the replies `TOLD`, in which another tenant has memory, is reset and is granted more.
+/// A trace in which tenant 0 gets the replies `TOLD`. Tenant 1 has memory too, is reset, and then gets memory again.
 const AMONG_OTHERS: &[u8] =
     b"admin grant 1\n1 alloc 0\n1 write 0 ffff\nadmin grant 0\n1 cache 24 8 99\n\
     0 alloc 1\n1 take 0\n0 write 8191 7f\nadmin reset 1\n0 cache 24 8 c3\nadmin grant 1\n\
     admin grant 1\n0 take 0\n0 report\n";
 
-/// A trace in which one tenant gets all superblocks, and the other none.
+/// A trace in which tenant 1 gets all superblocks, and tenant 0 gets none.
 const UNEQUAL: &[u8] =
     b"admin grant 1\nadmin grant 1\nadmin grant 0\nadmin pool\n1 alloc 3\n1 alloc 3\n\
     0 alloc 0\nadmin reset 1\n";
 
-/// The lines for tenant 0.
+/// Traces with the lines for tenant 0.
 pub static ROWS: [Row; 5] = [
     // A tenant alone on its machine.
     Row {
@@ -46,13 +46,13 @@ pub static ROWS: [Row; 5] = [
     },
 ];
 
-/// The lines for tenant 1.
+/// A trace with the lines for tenant 1.
 pub static OTHER_ROWS: [Row; 1] = [Row {
     trace: UNEQUAL,
     output: b"1> frame 0\n1> frame 8\n",
 }];
 
-/// The lines for tenant 0 on a machine of three superblocks and three tenants.
+/// A trace with the lines for tenant 0, on a machine of three superblocks and three tenants.
 pub static THREE_ROWS: [Row; 1] = [Row {
     trace: AMONG_OTHERS,
     output: TOLD,

@@ -3,7 +3,7 @@
 use super::Row;
 
 pub static ROWS: [Row; 10] = [
-    // A new machine's bytes are zero.
+    // The bytes of a new machine read as zero.
     Row {
         trace: b"admin grant 0\n0 alloc 0\n0 read 0 4\n",
         output: b"admin> granted 0 slot 0 superblock 0\n0> frame 0\n0> bytes 00000000\n",
@@ -15,14 +15,14 @@ pub static ROWS: [Row; 10] = [
             0> order 0 free 0 taken 0\n0> order 1 free 0 taken 0\n0> order 2 free 0 taken 0\n\
             0> order 3 free 0 taken 0\n",
     },
-    // Blocks are split until none is free. An order above a superblock's is a bad order even then.
+    // Blocks are split until no frame is free. Even then, an order above that of a superblock is refused as a bad order.
     Row {
         trace: b"admin grant 0\n0 alloc 0\n0 alloc 1\n0 alloc 2\n0 alloc 0\n0 alloc 0\n\
             0 alloc 4\n",
         output: b"admin> granted 0 slot 0 superblock 0\n0> frame 0\n0> frame 2\n0> frame 4\n\
             0> frame 1\n0> refused 1 NoFrames\n0> refused 2 BadOrder\n",
     },
-    // Freed blocks join through all orders.
+    // Freed blocks join with their buddies, order by order, until the whole superblock is one free block.
     Row {
         trace: b"admin grant 0\n0 alloc 0\n0 alloc 1\n0 alloc 2\n0 alloc 0\n0 alloc 0\n\
             0 alloc 4\n0 free 0\n0 free 1\n0 free 2\n0 free 4\n0 report\n",
@@ -49,7 +49,8 @@ pub static ROWS: [Row; 10] = [
         output: b"admin> granted 0 slot 0 superblock 0\n0> frame 0\n0> frame 1\n0> frame 2\n\
             0> freed 0\n0> freed 0\n0> frame 2\n",
     },
-    // The free block of the least order is split, not the one at the least frame. Only a block that begins at the frame is freed.
+    // An alloc uses the free block of the least order that is large enough, even if a larger one begins at a lower frame. A free
+    // is refused if no block begins at its frame.
     Row {
         trace: b"admin grant 0\n0 alloc 2\n0 alloc 0\n0 free 0\n0 free 1\n0 alloc 0\n0 free 4\n\
             0 free 5\n0 alloc 3\n",
@@ -63,7 +64,7 @@ pub static ROWS: [Row; 10] = [
         output: b"admin> granted 0 slot 0 superblock 0\n0> frame 0\n0> written 2\n\
             0> bytes 0a0b00\n0> freed 0\n0> frame 0\n0> bytes 0a0b\n",
     },
-    // A range must lie in one page block. Its length is tested before its reach.
+    // The range of a read must lie in one page block. A bad length is refused first, even if the range is also out of reach.
     Row {
         trace: b"admin grant 0\n0 alloc 0\n0 alloc 0\n0 read 4095 2\n0 read 4095 1\n\
             0 read 4294967295 64\n0 read 0 0\n0 read 4294967295 65\n",

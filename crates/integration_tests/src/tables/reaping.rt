@@ -12,7 +12,8 @@ pub static ROWS: [Row; 7] = [
             0> refused 4 OutOfReach\n0> given\n0> refused 4 OutOfReach\n0> reaped 1\n0> frame 0\n\
             0> bytes 0000\n0> bytes 0000\n",
     },
-    // The colour of the next slab continues after slabs were freed, and starts again with a new cache.
+    // The first slab of a cache after a reap has the next colour. A new cache begins with the first colour, also if it has the
+    // number of a destroyed cache.
     Row {
         trace: b"admin grant 0\n0 cache 200 8 a5\n0 take 0\n0 give 0 0\n0 reap\n0 take 0\n\
             0 give 0 8\n0 destroy 0\n0 cache 200 8 a5\n0 take 0\n",
@@ -40,7 +41,7 @@ pub static ROWS: [Row; 7] = [
             0> order 1 free 0 taken 0\n0> order 2 free 0 taken 0\n0> order 3 free 0 taken 1\n\
             0> cache 0 full 0 partial 0 empty 0 live 0\n",
     },
-    // No slab is freed if that would not help.
+    // No slab is freed on demand if the requested block would still not fit.
     Row {
         trace: b"admin grant 0\n0 alloc 0\n0 cache 64 8 00\n0 take 0\n0 give 0 4096\n0 alloc 3\n\
             0 report\n",
@@ -50,7 +51,7 @@ pub static ROWS: [Row; 7] = [
             0> order 0 free 0 taken 2\n0> order 1 free 1 taken 0\n0> order 2 free 1 taken 0\n\
             0> order 3 free 0 taken 0\n0> cache 0 full 0 partial 0 empty 1 live 0\n",
     },
-    // A cache that grows takes the frames of another cache's empty slabs.
+    // A cache that requires a new slab gets the frames of another cache's empty slabs.
     Row {
         trace: b"admin grant 0\n0 cache 4096 8 11\n0 take 0\n0 take 0\n0 take 0\n0 take 0\n\
             0 take 0\n0 take 0\n0 take 0\n0 take 0\n0 give 0 0\n0 give 0 4096\n0 give 0 8192\n\

@@ -15,14 +15,15 @@ pub static ROWS: [Row; 10] = [
         output: b"admin> granted 1 slot 0 superblock 0\nadmin> granted 0 slot 0 superblock 1\n\
             0> frame 0\n1> frame 0\n1> frame 2\n0> refused 1 NoFrames\n",
     },
-    // Frames are numbered over all slots. A range must lie in one block.
+    // A tenant's frames are numbered through all its slots. The range of a read must lie in one block.
     Row {
         trace: b"admin grant 1\nadmin grant 1\n1 alloc 3\n1 alloc 3\n1 read 65535 1\n\
             1 read 32767 2\n",
         output: b"admin> granted 1 slot 0 superblock 0\nadmin> granted 1 slot 1 superblock 1\n\
             1> frame 0\n1> frame 8\n1> bytes 00\n1> refused 4 OutOfReach\n",
     },
-    // The free block of least order is chosen from all slots. A slot that was taken back is the least free one again.
+    // An alloc uses the free block of the least order that is large enough, from any slot. After a take-back of slot 0, the next
+    // grant uses slot 0 again.
     Row {
         trace: b"admin grant 0\nadmin grant 0\nadmin takeback 0 0\n0 alloc 0\nadmin grant 0\n\
             0 alloc 0\n0 alloc 3\n",
@@ -30,7 +31,7 @@ pub static ROWS: [Row; 10] = [
             admin> taken superblock 0\n0> frame 8\nadmin> granted 0 slot 0 superblock 0\n\
             0> frame 9\n0> frame 0\n",
     },
-    // A superblock that changes hands reads as zero.
+    // A superblock that is granted to another tenant reads as zero.
     Row {
         trace: b"admin grant 1\n1 alloc 0\n1 write 0 aa\n1 free 0\nadmin takeback 1 0\n\
             admin grant 0\n0 alloc 0\n0 read 0 1\n",
@@ -38,7 +39,8 @@ pub static ROWS: [Row; 10] = [
             admin> taken superblock 0\nadmin> granted 0 slot 0 superblock 0\n0> frame 0\n\
             0> bytes 00\n",
     },
-    // If no superblock is free, a grant is refused. `admin pool` lists the owners. A reset takes everything that a tenant has.
+    // If no superblock is free, a grant is refused. `admin pool` lists the owners. A reset takes back all slots of a tenant, even
+    // those with taken frames.
     Row {
         trace: b"admin grant 1\nadmin grant 1\nadmin grant 0\nadmin pool\n1 alloc 3\n1 alloc 3\n\
             0 alloc 0\nadmin reset 1\n",
@@ -47,14 +49,15 @@ pub static ROWS: [Row; 10] = [
             admin> superblock 0 tenant 1 slot 0\nadmin> superblock 1 tenant 1 slot 1\n\
             1> frame 0\n1> frame 8\n0> refused 1 NoFrames\nadmin> reset 1 superblocks 2\n",
     },
-    // After a reset all superblocks are free.
+    // After a reset, all superblocks of the tenant are free.
     Row {
         trace: b"admin grant 1\n1 alloc 3\nadmin reset 1\nadmin pool\n",
         output: b"admin> granted 1 slot 0 superblock 0\n1> frame 0\n\
             admin> reset 1 superblocks 1\nadmin> pool free 2 of 2\nadmin> superblock 0 free\n\
             admin> superblock 1 free\n",
     },
-    // A slot with a taken frame is not taken back. A reset takes it, and its bytes are gone.
+    // A take-back is refused if a frame of the slot is taken. A reset takes the slot back, and it reads as zero when it
+    // is granted again.
     Row {
         trace: b"admin grant 0\n0 alloc 3\n0 write 32767 ff\nadmin takeback 0 0\nadmin reset 0\n\
             0 read 32767 1\nadmin grant 0\n0 alloc 3\n0 read 32767 1\n",
