@@ -1,4 +1,4 @@
--- The lines that have columns, from line to line.
+-- After each line, the columns stay even, and at the end they are complete.
 use Rattle.std.proofs.Common.{◌≡◌, ◌≢◌, ℕ, ◌+◌, ◌*◌, ◌/◌, ◌%◌, ◌<◌, ◌≤◌, min, List, Some, length, slice_get, subst, sym, ◌∙◌, ap, arith, ◌⊎◌, inl, inr}
 use Rattle.std.proofs.Math.Nat.{mul-le-mul_right, mul-mod_left}
 use Rattle.std.proofs.lemmas.Bool.{cases_order}
@@ -18,7 +18,7 @@ factor_below a b w less = go (cases_order a b)
         let more : b * w ≤ a * w = mul-le-mul_right w le in
         absurd (omega arith)
 
--- if l lines fill n columns of width w, and l + 1 is a multiple of w, line l + 1 fills column n + 1
+-- if l lines fill n columns of width w but not n + 1, and l + 1 is a multiple of w, then l + 1 lines fill n + 1 columns exactly
 pub next_multiple : (n w l : ℕ) → n * w ≤ l → l < (n + 1) * w → (l + 1) % w ≡ 0 → l + 1 ≡ (n + 1) * w
 next_multiple n w l some all zero =
     let q : ℕ = (l + 1) / w in
@@ -37,7 +37,7 @@ positive n w l all = go (cases_order 0 w)
     go (inr (inl pos)) = pos
     go (inr (inr below)) = absurd (omega arith)
 
--- if line l + 1 fills column n + 1, then l lines fill n / 2 columns of twice the width
+-- if l + 1 lines fill n + 1 columns exactly, then l lines fill n / 2 columns of twice the width, but not one more
 half_reach : (n h w l : ℕ) → 0 < w → l + 1 ≡ (n + 1) * w → h ≡ n / 2 → (h * (2 * w) ≤ l) × (l < (h + 1) * (2 * w))
 half_reach n h w l pos is half = go (cases_order n (2 * h))
   where
@@ -49,7 +49,7 @@ half_reach n h w l pos is half = go (cases_order n (2 * h))
         let at : l + 1 ≡ (2 * h + 1 + 1) * w = subst (λ x. l + 1 ≡ (x + 1) * w) e is in
         (omega arith, omega arith)
 
--- if l lines fill n columns of width w, and l is a multiple of w, no line is left over
+-- if l lines fill n columns of width w but not n + 1, and l is a multiple of w, the l lines fill the n columns exactly
 last_multiple : (n w l : ℕ) → 0 < w → n * w ≤ l → l < (n + 1) * w → l % w ≡ 0 → l ≡ n * w
 last_multiple n w l pos some all zero =
     let q : ℕ = l / w in
@@ -59,8 +59,8 @@ last_multiple n w l pos some all zero =
     let e : q ≡ n = omega arith in
     sym is ∙ ap (λ x. x * w) e
 
--- if l lines fill n columns and more lines are left over, they also fill n / 2 columns of twice the width with lines left over,
--- and one more column is enough for these
+-- If l lines fill n columns but not n + 1, and lines are left over, they also fill n / 2 columns of twice the width. Lines are
+-- left over then too, and one more column is enough for these.
 half_within : (n h w l : ℕ) → n * w < l → l < (n + 1) * w → h ≡ n / 2 → (h * (2 * w) < l) × (l ≤ (h + 1) * (2 * w))
 half_within n h w l some all half = go (cases_order n (2 * h))
   where
@@ -76,8 +76,8 @@ half_within n h w l some all half = go (cases_order n (2 * h))
         let to : l < (2 * h + 1 + 1) * w = subst (λ x. l < (x + 1) * w) e all in
         (omega arith, omega arith)
 
--- if lines are left over after these columns, at most as many as a column has, one more column for the last line makes the
--- columns complete
+-- Let each column but the last be for the next multiple of the width w. If 1 to w lines are left over after these columns, and
+-- the last column is for the last line, the columns are complete.
 completes : (columns more : List Column) (w l : ℕ) → length columns * w < l → l ≤ (length columns + 1) * w
     → ((i : ℕ) (column : Column) → slice_get columns i ≡ Some column → column.line ≡ (i + 1) * w)
     → length more ≡ length columns + 1 → ((i : ℕ) → i < length columns → slice_get more i ≡ slice_get columns i)
@@ -144,7 +144,8 @@ module _ (columns : List Column) (w l : ℕ) (even : IsEven columns w l) where
       go i column there (inr (inl below)) = even.each i column (sym (before i below) ∙ there)
       go i column there (inr (inr above)) = absurd (omega (arith, slice_get_within more i column there))
 
-  -- if line l + 1 is a multiple of the width and every second column is dropped, the columns are even with twice the width
+  -- if l + 1 is a multiple of the width, and every second column is dropped, the columns are even for l lines with twice the
+  -- width
   pub halves : (l + 1) % w ≡ 0 → (half : List Column) → length half ≡ length columns / 2
       → ((i : ℕ) → i < length half → slice_get half i ≡ slice_get columns (2 * i + 1))
       → IsEven half (2 * w) l
@@ -159,7 +160,7 @@ module _ (columns : List Column) (w l : ℕ) (even : IsEven columns w l) where
       is : l + 1 ≡ (length columns + 1) * w
       is = next_multiple (length columns) w l even.some even.all zero
 
-  -- if the trace ends at a line that is a multiple of the width, the columns are complete
+  -- if the trace ends after l lines, and l is a multiple of the width, the columns are complete
   pub ends_even : l % w ≡ 0 → IsComplete columns w l
   ends_even zero =
       let is : l ≡ length columns * w = last_multiple (length columns) w l pos even.some even.all zero in record {
@@ -172,20 +173,20 @@ module _ (columns : List Column) (w l : ℕ) (even : IsEven columns w l) where
             omega (arith, at, most, is);
       }
 
-  -- if the trace ends at another line, some lines have no column yet
+  -- if l is not a multiple of the width, some of the l lines have no column yet
   some_left : l % w ≢ 0 → length columns * w < l
   some_left other =
       let same : length columns * w ≡ l → ⊥ = λ e. other (ap (λ x. x % w) (sym e) ∙ mul-mod_left (length columns) w) in
       omega (arith, even.some, same)
 
-  -- if the trace ends at another line and this line gets the next column, the columns are complete
+  -- if the trace ends after l lines, l is not a multiple of the width, and line l gets the next column, the columns are complete
   pub ends_after : l % w ≢ 0 → (more : List Column) → length more ≡ length columns + 1
       → ((i : ℕ) → i < length columns → slice_get more i ≡ slice_get columns i)
       → ((column : Column) → slice_get more (length columns) ≡ Some column → column.line ≡ l)
       → IsComplete more w l
   ends_after other more = completes columns more w l (some_left other) (omega (arith, even.all)) even.each
 
-  -- the columns are also complete if every second one is dropped before the last line gets the next column
+  -- they are also complete, with twice the width, if every second column is dropped before line l gets the next column
   pub ends_halved : l % w ≢ 0 → (half more : List Column) → length half ≡ length columns / 2
       → ((i : ℕ) → i < length half → slice_get half i ≡ slice_get columns (2 * i + 1))
       → length more ≡ length half + 1 → ((i : ℕ) → i < length half → slice_get more i ≡ slice_get half i)

@@ -11,7 +11,7 @@ greatest_none P lowest none = record { above = omega arith; all = λ n p. absurd
 pub greatest_one : (v : ℕ) → IsGreatest (λ n. n ≡ v) 0 v
 greatest_one v = record { above = omega arith; all = λ n e. omega arith; some = inr refl }
 
--- the greatest number of two sets is the greater one of their two greatest numbers
+-- the greatest number of two sets together is the greater one of their greatest numbers
 pub greatest_both : (P Q R : ℕ → Type 0) (lowest a b : ℕ) → IsGreatest P lowest a → IsGreatest Q 0 b
     → ((n : ℕ) → P n → R n) → ((n : ℕ) → Q n → R n) → ((n : ℕ) → R n → P n ⊎ Q n) → IsGreatest R lowest (max b a)
 greatest_both P Q R lowest a b first second left right split = record {
@@ -44,7 +44,7 @@ IsValue value count n = (at : ℕ) × (at < count) × (value at ≡ n)
 pub values_none : (value : ℕ → ℕ) (lowest : ℕ) → IsGreatest (IsValue value 0) lowest lowest
 values_none value lowest = greatest_none (IsValue value 0) lowest (λ n is. let less : is.0 < 0 = is.1 in omega arith)
 
--- with one more value, the greatest is the greater one of the old greatest and this value
+-- if v is the next value, the greatest of count + 1 values is the greater one of v and the greatest of the first `count` values
 pub values_more : (value : ℕ → ℕ) (count lowest most v : ℕ) → v ≡ value count → IsGreatest (IsValue value count) lowest most
     → IsGreatest (IsValue value (count + 1)) lowest (max v most)
 values_more value count lowest most v next before =

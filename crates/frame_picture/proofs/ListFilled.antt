@@ -4,7 +4,7 @@ use Rattle.std.proofs.lemmas.Bool.{cases_order}
 use Rattle.std.proofs.lemmas.Option.{slice_get_within, slice_get-get_or, get_or_from_slice_get}
 use Rattle.std.proofs.lemmas.List.{get_or-set_same, get_or-set_other}
 
--- a fact about the elements before i and the new one at i holds for all elements up to i
+-- if P is true of all elements before index i, and of v, then after v is set at index i it is true of all elements up to i
 pub more_set : {X : Type 0} (d : X) (P : ℕ → X → Type 0) (xs : List X) (i : ℕ) (v : X) → i < length xs
     → ((k : ℕ) → k < i → P k (slice_index_or xs k d)) → P i v → (k : ℕ) → k < i + 1 → P k (slice_index_or (slice_set xs i v) k d)
 more_set {X} d P xs i v within before here k less = go (cases_order k i)
@@ -21,7 +21,7 @@ more_filled P xs i v within before here k x less is =
     subst (P k) (get_or_from_slice_get (slice_set xs i v) k x x is)
     (more_set x P xs i v within (λ j below. before j (get_or xs j x) below (slice_get-get_or xs j x (omega arith))) here k less)
 
--- if at most one element is added behind the old ones, and it has the property P, each element is an old one or has P
+-- if at most one element is added behind the old ones, and P is true of it, each element is an old one or P is true of it
 pub old_or_new : {X : Type 0} (P : X → Type 0) (old new : List X) (most : ℕ) → (length old < most → length new ≡ length old + 1)
     → (most ≤ length old → new ≡ old) → ((i : ℕ) → i < length old → slice_get new i ≡ slice_get old i)
     → ((x : X) → length old < most → slice_get new (length old) ≡ Some x → P x)

@@ -1,4 +1,4 @@
--- One more sheet is searched: it is listed, or has no frame of the tenant.
+-- A search for a tenant's sheets reaches the next sheet: the sheet is listed, or it has no frame of the tenant.
 use Rattle.std.proofs.Common.{◌≡◌, ◌≢◌, ℕ, ◌+◌, ◌^◌, ◌<◌, ◌≤◌, ◌==◌, min, List, [], ◌∷◌, ◌++◌, Some, length, take, count_by, get_or, set, slice_get, slice_index, ap, sym, subst, ◌∙◌, refl, ◌⊎◌, inl, inr, append_assoc, arith, length-append}
 use Rattle.std.proofs.lemmas.List.Sums.{sum_by-append, count_by-le-length}
 use Rattle.std.proofs.Math.ListN.{length-set}
@@ -29,8 +29,8 @@ listed_more order t first end sheets listed j sheet within there is =
     ∙ ap (λ cells. listed_cells order t first end sheets (take j listed) ++ cells)
     (append-nil _ ∙ ap (cells_of order t first end) (slice_get-get_or sheets (slice_index listed j) sheet there ∙ ap Some (sym is)))
 
--- if the counts were those of the cells before, and the cells of one more sheet are counted, the counts are those of all the
--- cells
+-- if the old counts are those of the cells before, and the cells of one more sheet are counted too, the new counts are those of
+-- all these cells
 pub counts_more : (before here after : List FrameKind) (old new : List ℕ) → after ≡ before ++ here
     → ((k : ℕ) → k < 6 → length before < 2 ^ 64 → get_or old k 0 ≡ count_by (λ cell. rank_of cell == k) before)
     → ((k : ℕ) → k < 6 → get_or old k 0 + length here < 2 ^ 64 → get_or new k 0 ≡ get_or old k 0 + count_by (λ cell. rank_of cell == k) here)
@@ -42,7 +42,8 @@ counts_more before here after old new more was counted k less fits =
     let few : count_by test before ≤ length before = count_by-le-length test before in
     counted k less (omega (arith, fits, long, is, few)) ∙ ap (λ n. n + count_by test here) is ∙ sym (ap (count_by test) more ∙ sum_by-append _ before here)
 
--- if the total was the number of the cells before, and the cells of one more sheet are added, it is the number of all the cells
+-- if the old total is the number of the cells before, and the cells of one more sheet are added, the new total is the number of
+-- all these cells
 pub shown_more : (before here after : List FrameKind) (old new : ℕ) → after ≡ before ++ here → (length before < 2 ^ 64 → old ≡ length before)
     → new ≡ min (old + length here) 18446744073709551615 → length after < 2 ^ 64 → new ≡ length after
 shown_more before here after old new more was is fits =
@@ -66,7 +67,7 @@ listed_set order t first end sheets listed len i sheet within there is =
     (subst (λ (n : ℕ). n < length sheets) (sym same) there) (is ∙ ap (λ (n : ℕ). get_or sheets n sheet) (sym same))
     ∙ ap (λ (xs : List ℕ). listed_cells order t first end sheets xs ++ cells_in order t first end sheet) (take-set listed len i)
 
--- if the listed indices and the index that is stored behind them are indices of sheets, all listed indices are
+-- if all listed indices are below `most`, and an index below `most` is stored behind them, all listed indices are below `most`
 pub listed_inside : (listed : List ℕ) (len i most : ℕ) → len < length listed → i < most → ((j : ℕ) → j < len → slice_index listed j < most)
     → (j : ℕ) → j < len + 1 → slice_index (set listed len i) j < most
 listed_inside listed len i most within less before j below = go (cases_order j len)

@@ -1,4 +1,4 @@
--- The rectangles of a tone contain its cells, and no others.
+-- The rectangles of a tone contain all its cells, and no other cells.
 use Rattle.std.proofs.Common.{◌≡◌, ◌≢◌, ℕ, zero, suc, ◌+◌, ◌-◌, ◌<◌, ◌≤◌, true, false, List, [], ◌∷◌, ◌++◌, Some, Any, length, drop, take, get_or, slice_get, ap, subst, sym, ◌∙◌, refl, ◌⊎◌, inl, inr, arith, length-append}
 use Rattle.std.proofs.lemmas.Bool.{cases_order, cases_Bool, cases_eq, cases_lt, cond-true, cond-false, false≢true}
 use Rattle.std.proofs.lemmas.List.{get_or-drop, get_or-take, length-drop, length-take, get_or_append_left}
@@ -81,7 +81,7 @@ run_of_cell tone cells (suc row) within is =
 
 -- ---- the columns with one run
 
--- the columns from c to e - 1 have the run; e is behind the last column, or is a column with another run
+-- the columns from c to e - 1 have the run `run`; column e has another run, or is behind the last of the n columns
 record IsUntil (runs : ℕ → ℕ) (run n c e : ℕ) : Type 0 where
   more : c < e
   most : e ≤ n
@@ -129,7 +129,8 @@ until runs run n c (suc k) at is = go (cases_eq (runs (c + 1)) run) (until runs 
 
 -- ---- the rectangles
 
--- if a rectangle of the run at a row ends where the columns with this run end, it begins at their first column or before
+-- if the columns from c to e - 1 have equal runs, and column e does not, a rectangle that ends before column e begins at column c
+-- or before, and is as high as the run
 reaches : (runs : ℕ → ℕ) (n c e : ℕ) (r : Rectangle) → IsUntil runs (runs c) n c e → IsRectangle runs n e r
     → (r.column ≤ c) × (r.rows ≡ runs c)
 reaches runs n c e r here rectangle =
@@ -171,7 +172,8 @@ module _ (columns : List (List Tone)) (tone : Tone) (rows : ℕ) (rectangles : L
       let run : run_at tone (take rows cells) r.row ≡ r.rows = sym (runs_here r.row) ∙ rectangle.same column has.left has.right in
       run_has_tone tone (take rows cells) r.row row cell has.lower (omega (arith, has.upper, run)) (read_here cell)
 
-  -- the rectangle that ends where the columns with the run end contains the cell
+  -- let a run of the column contain the cell, and let the columns from there to e - 1 have the same run, but not column e; then a
+  -- rectangle that ends before column e contains the cell
   ends_there : (first e : ℕ) → first ≤ row → row < first + run_in columns tone rows first column
       → IsUntil (run_in columns tone rows first) (run_in columns tone rows first column) (length columns) column e
       → GoesOn (run_in columns tone rows first) (length columns) e ⊎ Any (λ r. (r.row ≡ first) × (r.column + r.columns ≡ e)) rectangles
@@ -254,8 +256,8 @@ rows_none columns tone rows from to = record {
   all = λ end row above upto less. absurd (omega arith);
 }
 
--- the rectangles that end before a column up to `mid`, and those that end before a later column up to `to`, are together all that
--- end before a column up to `to`
+-- all rectangles for the columns from + 1 to `mid`, and all for the columns mid + 1 to `to`, are together all for the columns
+-- from + 1 to `to`; a rectangle is for a column if it ends before this column
 pub rectangles_on : (columns : List (List Tone)) (tone : Tone) (rows height from mid to : ℕ) (front back : List Rectangle) → mid ≤ to
     → AreRectangles columns tone rows height from mid front → AreRectangles columns tone rows height mid to back
     → AreRectangles columns tone rows height from to (front ++ back)
@@ -283,7 +285,8 @@ rectangles_on columns tone rows height from mid to front back le before after = 
         ahead (inl on) = inl on
         ahead (inr any) = inr (any_before (λ r. (r.row ≡ row) × (r.column + r.columns ≡ end)) front back any)
 
--- if rectangle r begins in row `height` and ends before column `end`, it is added to the rectangles of the rows below
+-- if rectangle r begins in row `height` and ends before column `end`, then r and all rectangles of lower rows that end there are
+-- all rectangles of the rows below height + 1 that end there
 pub row_with : (columns : List (List Tone)) (tone : Tone) (rows height end : ℕ) (rectangles : List Rectangle) (r : Rectangle) → r.row ≡ height
     → IsRectangle (run_in columns tone rows height) (length columns) end r → AreRectangles columns tone rows height (end - 1) end rectangles
     → AreRectangles columns tone rows (height + 1) (end - 1) end (rectangles ++ r ∷ [])
@@ -325,7 +328,8 @@ row_with columns tone rows height end rectangles r top_row rectangle are = recor
     split at row above upto less (inr top) =
         inr (Any-push (λ x. (x.row ≡ row) × (x.column + x.columns ≡ at)) rectangles r (omega (arith, top_row), omega (arith, ends)))
 
--- if no rectangle begins in row `height` and ends before column `end`, the rectangles of the rows below do not change
+-- if no rectangle of row `height` ends before column `end`, all rectangles of lower rows that end there are also all rectangles
+-- of the rows below height + 1 that end there
 pub row_without : (columns : List (List Tone)) (tone : Tone) (rows height end : ℕ) (rectangles : List Rectangle)
     → GoesOn (run_in columns tone rows height) (length columns) end → AreRectangles columns tone rows height (end - 1) end rectangles
     → AreRectangles columns tone rows (height + 1) (end - 1) end rectangles

@@ -3,7 +3,7 @@ use Rattle.std.specs.Prelude.{◌≡◌, ℕ, ◌+◌, ◌-◌, ◌*◌, ◌^◌
 use Rattle.frame_picture.specs.declared.history.Column.{Column}
 use Rattle.frame_picture.specs.declared.history.History.{History}
 
--- a superblock has 2 ^ order frames
+-- the order of a superblock, which has 2 ^ order frames
 abbrev pub drawn_order : History → ℕ
 drawn_order h = h.order
 
@@ -34,25 +34,25 @@ line_count h = h.lines
 abbrev pub refusals_of : History → List ℕ
 refusals_of h = h.refused.items
 
--- the sizes of the machine and the largest number of columns stay the same
+-- both histories have the same sizes of the machine and the same largest number of columns
 pub record SameShape (old new : History) : Type 0 where
   pub order : drawn_order new ≡ drawn_order old
   pub superblocks : superblocks_of new ≡ superblocks_of old
   pub tenants : tenants_of new ≡ tenants_of old
   pub most_columns : most_columns_of new ≡ most_columns_of old
 
--- all columns were in use, and now a column has twice as many lines
+-- in `old` all columns are in use, and in `new` a column has twice as many lines, but at most 2^32 - 1
 abbrev pub Doubles : History → History → Type 0
 Doubles old new = (length (columns_of old) ≡ most_columns_of old) × (width_of new ≡ min (2 * width_of old) (2 ^ 32 - 1))
 
--- After this number of lines, each line whose number is a multiple of the width has a column, and no other line has one.
+-- After `lines` lines, each line whose number is a multiple of the width has a column, and no other line has one.
 pub record IsEven (columns : List Column) (width lines : ℕ) : Type 0 where
   pub some : length columns * width ≤ lines
   pub all : lines < (length columns + 1) * width
   pub each : (i : ℕ) (column : Column) → slice_get columns i ≡ Some column → column.line ≡ (i + 1) * width
 
--- At the end, after this number of lines, each line whose number is a multiple of the width has a column, and so has the last
--- line. No other line has one.
+-- At the end, after `lines` lines, each line whose number is a multiple of the width has a column, and so does the last line. No
+-- other line has one.
 pub record IsComplete (columns : List Column) (width lines : ℕ) : Type 0 where
   pub all : lines ≤ length columns * width
   pub few : length columns * width < lines + width

@@ -1,4 +1,4 @@
--- The cells of a tenant's listed sheets.
+-- The sheets that are listed for a tenant, and their cells.
 use Rattle.std.specs.Prelude.{◌≡◌, ℕ, ◌<◌, ◌≤◌, List, [], ◌∷◌, ◌++◌, Option, Some, None, length, take, slice_get, slice_index}
 use Rattle.kernel_core.specs.declared.frames.FrameKind.{FrameKind}
 use Rattle.frame_picture.specs.declared.history.Sheet.{Sheet}
@@ -10,12 +10,13 @@ abbrev pub cells_of : ℕ → ℕ → ℕ → ℕ → Option Sheet → List Fram
 cells_of order t first end None = []
 cells_of order t first end (Some sheet) = cells_in order t first end sheet
 
--- the cells of tenant t's frames from first to end - 1 in the sheets with these indices
+-- the cells of tenant t's frames from first to end - 1 in the sheets with these indices, one sheet after another
 abbrev pub listed_cells : ℕ → ℕ → ℕ → ℕ → List Sheet → List ℕ → List FrameKind
 listed_cells order t first end sheets [] = []
 listed_cells order t first end sheets (i ∷ listed) = cells_of order t first end (slice_get sheets i) ++ listed_cells order t first end sheets listed
 
--- all sheets before `rest` that have frames of the tenant are listed
+-- The listed indices are indices of sheets. The listed sheets have all cells of tenant t in the sheets before `rest`, in the same
+-- order.
 pub record IsOwn (t : ℕ) (sheets : List Sheet) (own : OwnSheets) : Type 0 where
   pub rest : own.rest ≤ length sheets
   pub few : own.len ≤ length own.listed

@@ -6,7 +6,7 @@ use Rattle.frame_picture.specs.declared.history.Sheet.{Sheet}
 use Rattle.frame_picture.specs.Kinds.{rank_of}
 use Rattle.frame_picture.specs.declared.grid.Grid.{Grid}
 
--- the cells of the frames from first to end - 1, in a slot that begins at frame base
+-- the cells of the frames from first to end - 1, if `cells` are those of a slot that begins at frame base
 abbrev pub cells_between : ℕ → ℕ → ℕ → List FrameKind → List FrameKind
 cells_between base first end cells = slice_range cells (min (length cells) (first - base)) (min (length cells) (end - base))
 
@@ -24,12 +24,12 @@ abbrev pub row_cells : ℕ → ℕ → ℕ → ℕ → List Sheet → List Frame
 row_cells order t first end [] = []
 row_cells order t first end (sheet ∷ sheets) = cells_in order t first end sheet ++ row_cells order t first end sheets
 
--- how many of `frames` frames have the kind of this rank; frames without a cell are not held
+-- how many of `frames` frames have the kind of rank k; frames without a cell count as not held
 abbrev pub kind_count : List FrameKind → ℕ → ℕ → ℕ
 kind_count cells frames k =
     count_by (λ cell. rank_of cell == k) cells + (if k == rank_of FrameKind.NotHeld then frames - length cells else 0)
 
--- the frames of a row: the number of the first one, and the number of the last one plus 1
+-- The number of the first frame of a row, and the number of its last frame plus 1.
 
 abbrev pub first_of : Grid → ℕ → ℕ
 first_of grid row = row * grid.frames_per_row

@@ -15,6 +15,6 @@ HasSlot t slot column = Any (IsSheetOf t slot) column.sheets.items
 abbrev pub HaveSlot : ℕ → ℕ → List Column → Type 0
 HaveSlot t slot columns = Any (HasSlot t slot) columns
 
--- n is 1 more than a slot that has the property
+-- n is 1 more than a slot for which `IsOne` is true
 abbrev pub IsAbove : (ℕ → Type 0) → ℕ → Type 0
 IsAbove IsOne n = (slot : ℕ) × IsOne slot × (n ≡ slot + 1)

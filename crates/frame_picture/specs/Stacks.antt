@@ -4,20 +4,20 @@ use Rattle.std.specs.Prelude.{ℕ, zero, suc, ◌+◌, ◌-◌, ◌*◌, ◌^◌
 use Rattle.frame_picture.specs.declared.history.Column.{Column}
 use Rattle.frame_picture.specs.declared.history.Figures.{Figures}
 
--- no frame is held
+-- the figures of a tenant that holds no frame
 abbrev pub empty_figures : Figures
 empty_figures = record { held = 0; taken = 0; free = replicate 9 0 }
 
--- the figures of tenant t in a column, if there is one
+-- the figures of tenant t in a column; they are `empty_figures` if there is no column, or if the column has none for tenant t
 abbrev pub column_figures : ℕ → Option Column → Figures
 column_figures t None = empty_figures
 column_figures t (Some column) = slice_index_or column.figures.items t empty_figures
 
--- the figures in column n, which are empty if there is no column n
+-- the figures of tenant t in column n; they are `empty_figures` if there is no column n
 abbrev pub figures_in_column : List Column → ℕ → ℕ → Figures
 figures_in_column columns t n = column_figures t (slice_get columns n)
 
--- the number of taken frames in column n
+-- the number of tenant t's taken frames in column n
 abbrev pub taken_in_column : List Column → ℕ → ℕ → ℕ
 taken_in_column columns t n = (figures_in_column columns t n).taken
 
@@ -39,12 +39,12 @@ free_of t k (Some column) = free_in k (slice_get column.figures.items t)
 abbrev pub free_in_column : List Column → ℕ → ℕ → ℕ → ℕ
 free_in_column columns t k n = free_of t k (slice_get columns n)
 
--- this number in the column before column n, or 0 if n is the first column
+-- `free_in_column` of the column before column n, or 0 if n is the first column
 abbrev pub free_before : List Column → ℕ → ℕ → ℕ → ℕ
 free_before columns t k zero = 0
 free_before columns t k (suc n) = free_in_column columns t k n
 
--- the number of requests of tenant t that were refused for lack of frames up to a column
+-- the number of requests of tenant t that were refused for lack of frames up to the last line of a column
 abbrev pub refused_in : ℕ → Option Column → ℕ
 refused_in t None = 0
 refused_in t (Some column) = slice_index_or column.refused.items t 0

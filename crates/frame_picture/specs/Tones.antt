@@ -15,13 +15,13 @@ not_held = record { kind = NotHeld; quarters = 0 }
 abbrev pub is_tone : Tone → Tone → Bool
 is_tone tone cell = (rank_of cell.kind == rank_of tone.kind) && (cell.quarters == tone.quarters)
 
--- `kind` is the index of the greatest of the first `kinds` counts; if several are greatest, it is the first of them
+-- `kind` is the index of the greatest of the first `kinds` counts; if several counts are greatest, the index of the first of them
 pub record IsMostCommon (kinds : ℕ) (count : ℕ → ℕ) (kind : ℕ) : Type 0 where
   pub among : kind < kinds
   pub greatest : (k : ℕ) → k < kinds → count k ≤ count kind
   pub first : (k : ℕ) → k < kind → count k < count kind
 
--- the number of taken frames, from the counts of the kinds
+-- the number of taken frames: the sum of the counts of the four taken kinds
 abbrev pub taken_cells : (ℕ → ℕ) → ℕ
 taken_cells count = count 0 + count 1 + count 2 + count 3
 
@@ -29,7 +29,7 @@ taken_cells count = count 0 + count 1 + count 2 + count 3
 abbrev pub drawn_kinds : ℕ → ℕ
 drawn_kinds taken = if taken == 0 then 6 else 4
 
--- the taken share of the frames in quarters, rounded up
+-- how many quarters of the frames are taken, rounded up
 abbrev pub quarters_of : ℕ → ℕ → ℕ
 quarters_of taken frames = min (div_ceil (4 * min taken frames) frames) 4
 

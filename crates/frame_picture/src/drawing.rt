@@ -22,7 +22,7 @@ pub const MOST_ROWS: usize = 256;
 pub struct Tone {
     /// The most common kind of the row's taken frames. If no frame is taken: free or not held, whichever is more common.
     pub kind: FrameKind,
-    /// The taken share of its frames in quarters, rounded up: 0 to 4.
+    /// How many quarters of the row's frames are taken, rounded up: 0 to 4.
     pub quarters: u8,
 }
 
@@ -41,7 +41,7 @@ pub fn is_tone(tone: Tone, cell: Tone) -> bool
     rank(cell.kind) == rank(tone.kind) && cell.quarters == tone.quarters
 }
 
-/// Stores the tones of tenant `t`'s rows in column `i` in `cells[i]`, for each index `i` of both slices.
+/// Sets `cells[i]` to the tones of tenant `t`'s rows in `columns[i]`, for each index `i` that both slices have.
 pub fn set_cells(cells: &mut [[Tone; MOST_ROWS]], columns: &[Column], t: u8, grid: Grid)
     ensures { (at row : ℕ) (column : Column) (rows : List Tone) → slice_get columns.now at ≡ Some column → slice_get cells.new at ≡ Some rows
         → row < 256 → row < grid.rows → IsRowTone column t grid row (slice_index_or rows row not_held) }
@@ -77,7 +77,7 @@ fn row_tone(column: &Column, own: &OwnSheets, t: u8, grid: Grid, row: u32) -> To
     tone_of(&counts, frames.end - frames.start)
 }
 
-/// Returns the number of a row's frames of each kind. Frames that the column does not show count as not held.
+/// Returns how many frames of a row have each kind. Frames that the column does not show count as not held.
 fn row_counts(column: &Column, own: &OwnSheets, t: u8, grid: Grid, row: u32) -> [usize; KINDS]
     requires row { row < grid.rows }
     requires own { IsOwn t column.now.sheets.items own.now }
@@ -101,7 +101,7 @@ fn row_counts(column: &Column, own: &OwnSheets, t: u8, grid: Grid, row: u32) -> 
     counts
 }
 
-/// Returns the tone of a row with these numbers of frames of each kind.
+/// Returns the tone of a row of `frames` frames. `counts` has the number of its frames of each kind.
 fn tone_of(counts: &[usize; KINDS], frames: u32) -> Tone
     requires { 0 < frames }
     ensures most { IsMostCommon (drawn_kinds (taken_cells (slice_index counts.now))) (slice_index counts.now) (rank_of result.kind) }
@@ -118,7 +118,7 @@ fn tone_of(counts: &[usize; KINDS], frames: u32) -> Tone
     }
 }
 
-/// Returns the taken share of a number of frames in quarters, rounded up.
+/// Returns how many quarters of `frames` frames are taken, rounded up.
 fn quarters_of(taken: usize, frames: u32) -> u8
     requires { 0 < frames }
     ensures { result ≡ quarters_of taken frames }

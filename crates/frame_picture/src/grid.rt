@@ -16,7 +16,7 @@ pub struct Grid {
     /// The number of frames shown: the frames of the slots up to the greatest one that the tenant holds in any column. At least
     /// one slot is shown.
     pub frames: u32,
-    /// The number of frames in a row: a power of two, or all frames if 2^15 is too small. The last row may have fewer.
+    /// The number of frames in a row: a power of two, or all frames if 2^15 frames are too few. The last row may have fewer.
     pub frames_per_row: u32,
     /// The number of rows.
     pub rows: u32,
@@ -60,7 +60,7 @@ impl Grid {
     }
 
     /// Returns the distance between marks, in slots: the least power of two that gives at most `most_marks` marks. The first mark
-    /// is at slot 0. If 2^15 is too small, there is only one mark.
+    /// is at slot 0. If 2^15 slots are too few, the distance is so large that only this mark is left.
     pub fn slots_between(self, most_marks: u32) -> u32
         requires { 0 < most_marks }
         ensures some { 0 < result }
@@ -93,7 +93,7 @@ impl Grid {
 }
 
 /// Returns the number of frames in a row: the least power of two that gives at most `most_rows` rows for `frames` frames. If 2^15
-/// is too small, all frames are one row.
+/// frames are too few, all frames are one row.
 fn frames_per_row(frames: u32, most_rows: u32) -> u32
     requires { 0 < most_rows }
     ensures some { 0 < result }
@@ -109,7 +109,7 @@ fn frames_per_row(frames: u32, most_rows: u32) -> u32
     frames.max(1)
 }
 
-/// Returns the number of rows for a number of frames.
+/// Returns the number of rows that `frames` frames need. The last row may be shorter.
 fn rows_up_to(frames: u32, frames_per_row: u32) -> u32
     requires { 0 < frames_per_row }
     ensures { result ≡ div_ceil frames frames_per_row }

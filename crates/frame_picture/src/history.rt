@@ -8,7 +8,8 @@ use kernel_core::{FrameKind, Kernel};
 use model_core::owner::Owner;
 use std::alloc::{AllocError, Global};
 
-/// The largest number of columns. With it, the kinds of the frames, one byte each, take as many bytes as the machine's RAM.
+/// The largest number of columns. With this number, the kinds of the frames, one byte each, need as many bytes as the machine's
+/// RAM.
 pub const MOST_COLUMNS: u32 = 4096;
 
 /// A superblock after some line.
@@ -37,13 +38,13 @@ pub struct Figures {
 /// The machine after some line.
 #[derive(Debug, Drop)]
 pub struct Column {
-    /// The number of lines that were run up to then.
+    /// The number of lines that the machine had run.
     pub line: u32,
     /// The superblocks, indexed by number.
     pub sheets: Vec<Sheet>,
     /// The figures of each tenant.
     pub figures: Vec<Figures>,
-    /// For each tenant, the number of its requests that were refused so far for lack of frames.
+    /// For each tenant, the number of its requests that had been refused for lack of frames.
     pub refused: Vec<u32>,
 }
 
@@ -173,14 +174,14 @@ impl History {
         }
     }
 
-    /// Counts one more line, after which the kernel is in this state. If the number of lines is then a multiple of the width, the
-    /// next column gets the state.
+    /// Counts one more line, which the kernel has just run. If the number of lines is then a multiple of the width, the next
+    /// column gets the state of the kernel. If all columns are in use, every second one is dropped first, and the width doubles.
     pub fn add_line(&mut self, kernel: &Kernel)
         ensures counted { line_count self.old < u32.MAX → line_count self.new ≡ line_count self.old + 1 }
         ensures sizes { SameShape self.old self.new }
         ensures refused { refusals_of self.new ≡ refusals_of self.old }
         ensures width { width_of self.old ≤ width_of self.new }
-        // If this line gets a column and all are in use, the width doubles.
+        // The width stays the same, or it doubles since all columns were in use.
         ensures full { (width_of self.new ≡ width_of self.old)
             ⊎ ((line_count self.new % width_of self.old ≡ 0) × Doubles self.old self.new) }
         ensures even { line_count self.old < 2 ^ 30 → IsEven (columns_of self.old) (width_of self.old) (line_count self.old)
@@ -196,7 +197,7 @@ impl History {
         }
     }
 
-    /// Drops every second column if the next line, `line`, gets a column and all are in use.
+    /// Drops every second column if `line`, the number of the next line, is a multiple of the width and all columns are in use.
     fn halve_if_full(&mut self, line: u32)
         ensures lines { line_count self.new ≡ line_count self.old }
         ensures sizes { SameShape self.old self.new }
@@ -215,7 +216,8 @@ impl History {
         }
     }
 
-    /// Ends the history: if the last lines have no column yet, the next column gets the state of the kernel.
+    /// Ends the history. If the last lines have no column yet, the next column gets the state of the kernel. If all columns are
+    /// in use, every second one is dropped first.
     pub fn end(&mut self, kernel: &Kernel)
         ensures lines { line_count self.new ≡ line_count self.old }
         ensures sizes { SameShape self.old self.new }
@@ -256,7 +258,7 @@ impl History {
         }
     }
 
-    /// Drops every second column, from the first on. The remaining ones have twice as many lines.
+    /// Drops the first column and every second one after it. Each column that is left has twice as many lines.
     fn halve(&mut self)
         ensures lines { line_count self.new ≡ line_count self.old }
         ensures sizes { SameShape self.old self.new }

@@ -8,10 +8,10 @@ use kernel_core::FrameKind;
 /// The number of kinds of frames.
 pub const KINDS: usize = 6;
 
-/// The number of kinds of taken frames, which come first.
+/// The number of kinds of taken frames. These kinds are the first ones in `ALL`.
 pub const TAKEN_KINDS: usize = 4;
 
-/// All kinds.
+/// All kinds of frames, in the order in which they are drawn.
 pub const ALL: [FrameKind; KINDS] = [
     FrameKind::Page,
     FrameKind::Full,

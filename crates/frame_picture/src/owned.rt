@@ -30,7 +30,7 @@ impl OwnSheets {
         }
     }
 
-    /// Lists the sheets of tenant `t` among these. Replaces the old list.
+    /// Lists the indices of the sheets of tenant `t`. Replaces the old list.
     pub fn list(&mut self, sheets: &[Sheet], t: u8)
         ensures { IsOwn t sheets.now self.new }
     {

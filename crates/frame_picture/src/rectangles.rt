@@ -19,8 +19,8 @@ pub struct Rectangle {
     pub rows: usize,
 }
 
-/// Returns the rectangle of a tone that begins in a row and ends before column `end`, if there is one. Its run of rows is the same
-/// in all its columns, and differs in the columns beside it.
+/// Returns the rectangle of a tone that begins at a row and ends before column `end`, if there is one. All its columns have the
+/// same run of rows there, and the columns beside it do not. Only the first `rows` rows of a column are shown.
 pub fn rectangle_at(
     columns: &[[Tone; MOST_ROWS]],
     tone: Tone,
@@ -52,7 +52,8 @@ pub fn rectangle_at(
     })
 }
 
-/// Returns the number of rows in the run of the tone that begins at this row in a column, or 0 if none begins there.
+/// Returns the number of rows in the run of the tone that begins at this row in a column, or 0 if none begins there. Only the
+/// first `rows` rows of a column are shown.
 fn run_in(
     columns: &[[Tone; MOST_ROWS]],
     tone: Tone,

@@ -30,7 +30,7 @@ pub fn show_sheets(sheets: &mut [Sheet], kernel: &Kernel)
     }
 }
 
-/// Stores this owner of a superblock and the kinds of its frames.
+/// Stores the owner of a superblock, and the kinds of the superblock's frames if it has an owner.
 fn show_sheet(sheet: &mut Sheet, kernel: &Kernel, owner: Option<Owner>)
     ensures owner { sheet.new.owner ≡ owner }
     ensures cells { (w : World) → Shows kernel.now w → AreCells kernel.now.order w owner sheet.new.cells.items }
@@ -55,7 +55,7 @@ fn show_cells(cells: &mut [FrameKind], kernel: &Kernel, t: u8, slot: u16)
     show_beyond(cells, kernel, known, slot, 1usize << kernel.order());
 }
 
-/// Stores the kinds of a slot's frames after the first `from`. There are none if a sheet has as many cells as a slot has frames.
+/// Stores the kinds of a slot's frames after the first `from` ones. Stores nothing if there are at most `from` cells.
 fn show_beyond(cells: &mut [FrameKind], kernel: &Kernel, t: u8, slot: u16, from: usize)
     requires { t < kernel.now.tenants }
     ensures kept { (k : ℕ) → k < from → slice_get cells.new k ≡ slice_get cells.old k }
@@ -110,7 +110,7 @@ fn free_by_order(rows: &[OrderRow]) -> [u32; ORDERS]
     free
 }
 
-/// Stores each tenant's number of refused requests.
+/// Stores the number of refused requests of each tenant.
 pub fn show_refused(shown: &mut [u32], refused: &[u32])
     ensures { (t count : ℕ) → slice_get shown.new t ≡ Some count → count ≡ slice_index refused.now t }
 {

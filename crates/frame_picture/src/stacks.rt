@@ -1,4 +1,5 @@
-//! The part below the rows of a band: a tenant's free frames by the order of their blocks, and the lines in which it was refused.
+//! The values drawn beside and below the rows of a tenant's band: its figures, its free frames by the order of their blocks, and
+//! its refusals.
 
 ghost use Rattle.std.specs.Prelude.{◌≡◌, ◌≢◌, ◌-◌, ◌*◌, ◌^◌, ◌<◌, ◌≤◌, MatchOption, SomeIndex};
 ghost use Rattle.frame_picture.specs.Bounds.{IsGreatest};
@@ -59,7 +60,7 @@ fn free_from(figures: &Figures, order: usize) -> u64
     frames
 }
 
-/// Returns the number of frames in a number of blocks of an order.
+/// Returns the number of frames in `blocks` blocks of this order.
 fn frames_of_blocks(blocks: u32, order: usize) -> u64
     requires { order < ORDERS }
     ensures value { result ≡ blocks * 2 ^ order }
@@ -68,8 +69,8 @@ fn frames_of_blocks(blocks: u32, order: usize) -> u64
     u64::from(blocks) << order
 }
 
-/// Returns [`free_at`] for a column if it differs from the value for the previous column, and `None` otherwise. Before the first
-/// column the value is 0.
+/// Returns [`free_at`] for a column if it differs from the value for the previous column, and `None` otherwise. The value for the
+/// first column is compared with 0.
 pub fn turn_at(columns: &[Column], t: u8, order: usize, column: usize) -> Option<u64>
     requires { order < ORDERS }
     ensures { MatchOption result (free_in_column columns.now t order column ≡ free_before columns.now t order column)
@@ -107,8 +108,8 @@ pub fn refused_in(columns: &[Column], t: u8, column: usize) -> u32
     refused_at(columns, t, column).saturating_sub(before)
 }
 
-/// Returns the number of requests of tenant `t` that were refused for lack of frames up to a column. Returns 0 if there is no
-/// column with this index.
+/// Returns the number of requests of tenant `t` that were refused for lack of frames up to the last line of a column. Returns 0
+/// if there is no column with this index.
 pub fn refused_at(columns: &[Column], t: u8, column: usize) -> u32
     ensures { result ≡ refused_until columns.now t column }
 {
