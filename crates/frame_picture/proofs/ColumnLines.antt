@@ -76,8 +76,8 @@ half_within n h w l some all half = go (cases_order n (2 * h))
         let to : l < (2 * h + 1 + 1) * w = subst (λ x. l < (x + 1) * w) e all in
         (omega arith, omega arith)
 
--- Let each column but the last be for the next multiple of the width w. If 1 to w lines are left over after these columns, and
--- the last column is for the last line, the columns are complete.
+-- Let column i of the old columns be for line (i + 1) * w, and let 1 to w lines be left over behind them. If one more column, for
+-- the last line, is added, the columns are complete.
 completes : (columns more : List Column) (w l : ℕ) → length columns * w < l → l ≤ (length columns + 1) * w
     → ((i : ℕ) (column : Column) → slice_get columns i ≡ Some column → column.line ≡ (i + 1) * w)
     → length more ≡ length columns + 1 → ((i : ℕ) → i < length columns → slice_get more i ≡ slice_get columns i)
@@ -186,7 +186,7 @@ module _ (columns : List Column) (w l : ℕ) (even : IsEven columns w l) where
       → IsComplete more w l
   ends_after other more = completes columns more w l (some_left other) (omega (arith, even.all)) even.each
 
-  -- they are also complete, with twice the width, if every second column is dropped before line l gets the next column
+  -- if every second column is dropped before line l gets the next column, the columns are complete with twice the width
   pub ends_halved : l % w ≢ 0 → (half more : List Column) → length half ≡ length columns / 2
       → ((i : ℕ) → i < length half → slice_get half i ≡ slice_get columns (2 * i + 1))
       → length more ≡ length half + 1 → ((i : ℕ) → i < length half → slice_get more i ≡ slice_get half i)

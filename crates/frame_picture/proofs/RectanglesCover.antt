@@ -14,7 +14,7 @@ use Rattle.frame_picture.specs.Rectangles.{goes_on, run_at, run_in, IsRectangle,
 
 -- ---- the runs of one column
 
--- if a run begins at a row, it has all rows from there on up to the first one that does not have the tone
+-- if a run begins at a row, it has all rows from this row up, as far as they have the tone
 run_begins : (tone : Tone) (cells : List Tone) (row : ℕ) → 0 < run_at tone cells row
     → run_at tone cells row ≡ prefix_len (is_tone tone) (drop row cells)
 run_begins tone cells row some = go (cases_Bool (goes_on tone cells row))
@@ -172,8 +172,8 @@ module _ (columns : List (List Tone)) (tone : Tone) (rows : ℕ) (rectangles : L
       let run : run_at tone (take rows cells) r.row ≡ r.rows = sym (runs_here r.row) ∙ rectangle.same column has.left has.right in
       run_has_tone tone (take rows cells) r.row row cell has.lower (omega (arith, has.upper, run)) (read_here cell)
 
-  -- let a run of the column contain the cell, and let the columns from there to e - 1 have the same run, but not column e; then a
-  -- rectangle that ends before column e contains the cell
+  -- Let a run that begins at row `first` of the column contain the cell. Let each column up to e - 1 have an equal run at this
+  -- row, but not column e. Then a rectangle that ends before column e contains the cell.
   ends_there : (first e : ℕ) → first ≤ row → row < first + run_in columns tone rows first column
       → IsUntil (run_in columns tone rows first) (run_in columns tone rows first column) (length columns) column e
       → GoesOn (run_in columns tone rows first) (length columns) e ⊎ Any (λ r. (r.row ≡ first) × (r.column + r.columns ≡ e)) rectangles
@@ -285,8 +285,8 @@ rectangles_on columns tone rows height from mid to front back le before after = 
         ahead (inl on) = inl on
         ahead (inr any) = inr (any_before (λ r. (r.row ≡ row) × (r.column + r.columns ≡ end)) front back any)
 
--- if rectangle r begins in row `height` and ends before column `end`, then r and all rectangles of lower rows that end there are
--- all rectangles of the rows below height + 1 that end there
+-- If `rectangles` are all that begin below row `height` and end before column `end`, and r begins in row `height` and ends before
+-- column `end` too, then with r they are all that begin below row height + 1 and end before column `end`.
 pub row_with : (columns : List (List Tone)) (tone : Tone) (rows height end : ℕ) (rectangles : List Rectangle) (r : Rectangle) → r.row ≡ height
     → IsRectangle (run_in columns tone rows height) (length columns) end r → AreRectangles columns tone rows height (end - 1) end rectangles
     → AreRectangles columns tone rows (height + 1) (end - 1) end (rectangles ++ r ∷ [])
@@ -328,8 +328,8 @@ row_with columns tone rows height end rectangles r top_row rectangle are = recor
     split at row above upto less (inr top) =
         inr (Any-push (λ x. (x.row ≡ row) × (x.column + x.columns ≡ at)) rectangles r (omega (arith, top_row), omega (arith, ends)))
 
--- if no rectangle of row `height` ends before column `end`, all rectangles of lower rows that end there are also all rectangles
--- of the rows below height + 1 that end there
+-- If `rectangles` are all that begin below row `height` and end before column `end`, and none that begins in row `height` ends
+-- before column `end`, they are also all that begin below row height + 1 and end before column `end`.
 pub row_without : (columns : List (List Tone)) (tone : Tone) (rows height end : ℕ) (rectangles : List Rectangle)
     → GoesOn (run_in columns tone rows height) (length columns) end → AreRectangles columns tone rows height (end - 1) end rectangles
     → AreRectangles columns tone rows (height + 1) (end - 1) end rectangles

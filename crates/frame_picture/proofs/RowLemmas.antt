@@ -1,4 +1,4 @@
--- The kind of a row: its cells, sheet by sheet, and their counts.
+-- The cells of a row, one sheet after another, and the kind that is drawn for their counts.
 use Rattle.std.proofs.Common.{◌≡◌, ◌≢◌, ℕ, ◌+◌, ◌-◌, ◌*◌, ◌^◌, ◌<◌, ◌≤◌, ◌==◌, ◌⊎◌, inl, inr, cond, Bool, true, false, List, [], ◌∷◌, ◌++◌, Some, length, count_by, get_or, set, take, ap, subst, sym, ◌∙◌, refl, append_assoc, arith}
 use Rattle.std.proofs.lemmas.Bool.{eq-eqb}
 use Rattle.std.proofs.lemmas.Bool.Decides.{eqb_tells}
@@ -10,7 +10,7 @@ use Rattle.frame_picture.specs.Kinds.{rank_of}
 use Rattle.frame_picture.specs.Rows.{cells_between, owned_cells, cells_in, row_cells, kind_count}
 use Rattle.frame_picture.specs.Tones.{taken_cells, drawn_kinds, IsMostCommon}
 
--- if the tenant holds the slot, its cells are the slot's cells in the range of frames
+-- if tenant t is the owner of a superblock, its cells from first to end - 1 there are the cells of these frames of the slot
 pub owned : (order t first end : ℕ) (owner : Owner) (cells : List FrameKind) → owner.tenant ≡ t
     → owned_cells order t first end (Some owner) cells ≡ cells_between (owner.slot * 2 ^ order) first end cells
 owned order t first end owner cells mine =

@@ -34,7 +34,7 @@ abbrev pub quarters_of : ℕ → ℕ → ℕ
 quarters_of taken frames = min (div_ceil (4 * min taken frames) frames) 4
 
 -- The tone has the most common kind of the row's taken frames, or of all its frames if none is taken. Its quarters are the taken
--- share, and the drawing is darker the more there are.
+-- share of the row's frames. The more quarters, the darker the drawing.
 pub record IsRowTone (column : Column) (t : ℕ) (grid : Grid) (row : ℕ) (tone : Tone) : Type 0 where
   pub most : let cells = row_cells grid.order t (first_of grid row) (end_of grid row) column.sheets.items in
       let count = kind_count cells (end_of grid row - first_of grid row) in

@@ -210,7 +210,7 @@ fn count_cells(cells: &[FrameKind], counts: &mut [usize; KINDS], shown: &mut usi
     *shown = shown.saturating_add(cells.len());
 }
 
-/// Returns the index of the greatest of the first `kinds` counts. If several are greatest, returns the first of them.
+/// Returns the index of the greatest of the first `kinds` counts. If several counts are greatest, returns the least index.
 fn greatest_at(counts: &[usize; KINDS], kinds: usize) -> usize
     requires some { 0 < kinds }
     requires all { kinds ≤ KINDS }

@@ -107,7 +107,7 @@ fn begins(output: &[u8], taken: &[u8], tally: Tally) -> bool {
 }
 
 /// Returns whether the output ends with `rest` and `rest` does not overlap the taken bytes. If a reply was cut, bytes must be
-/// missing between `taken` and `rest`, and otherwise none.
+/// missing between `taken` and `rest`. If no reply was cut, no byte may be missing.
 fn goes_on(output: &[u8], taken: &[u8], rest: &[u8], is_cut: bool) -> bool {
     let answered = output.len().saturating_sub(rest.len());
     output.ends_with(rest) && taken.len() <= answered && (taken.len() < answered) == is_cut

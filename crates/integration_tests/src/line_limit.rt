@@ -1,4 +1,5 @@
-//! A feed with a limit on its line feeds. When it has returned that many, its next pull fails, unless the feed ended before.
+//! A feed with a limit on its line feeds. When it has returned as many line feeds as the limit, its next pull fails, unless the
+//! feed ended before.
 
 use streams::{Feed, LineLimit, ReaderFeed, Stopped};
 

@@ -70,7 +70,7 @@ are_lines : (k k' : KernelContent) (calls : List Call) → Ran k calls k' → Ar
 are_lines k k' [] ran = tt
 are_lines k k' (call ∷ calls) ran = (ran.1, are_lines ran.0 k' calls ran.3)
 
--- if each line of the calls gets a line feed, the trace that they form is cut into the lines of the calls again
+-- if the lines of the calls, each with a line feed, are joined to a trace, cutting this trace gives the same lines again
 cut_again : (k k' : KernelContent) (calls : List Call) → Ran k calls k' → lines_of_trace (with_line_feeds (lines_of_calls calls)) ≡ lines_of_calls calls
 cut_again k k' calls ran =
     ap lines_of_trace (sym (append-nil (with_line_feeds (lines_of_calls calls)))) ∙ lines_cut (lines_of_calls calls) [] (are_lines k k' calls ran)
@@ -79,7 +79,7 @@ cut_again k k' calls ran =
 few_tenants : (k : KernelContent) (superblocks tenants : ℕ) → Shows k (opening_world superblocks tenants) → tenants ≤ 64
 few_tenants k superblocks tenants shows = omega (arith, shows.tenants, shows.agree.tenants, opening_tenants superblocks tenants)
 
--- from the opening world on, the texts that the calls write are the output of the trace of their lines
+-- if the first kernel shows the opening world, the texts that the calls write are the output of the trace of their lines
 output_is : (k k' : KernelContent) (superblocks tenants : ℕ) (calls : List Call) → Shows k (opening_world superblocks tenants) → Ran k calls k'
     → texts_of calls ≡ output_of cache_limit k.order (with_line_feeds (lines_of_calls calls)) (opening_world superblocks tenants)
 unfolding output_of

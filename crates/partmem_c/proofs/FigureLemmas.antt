@@ -3,8 +3,8 @@ use Rattle.std.proofs.Common.{◌≡◌, ℕ, zero, suc, ◌<◌, ◌≤◌, Lis
 use Rattle.std.proofs.lemmas.List.{take_all, length-map}
 use Rattle.partmem_c.specs.Figures.{over}
 
--- A copy of a row is f of the row. If the first `at` rows are copied over the front of `before`, copying the row at index `at`
--- too gives `before` with the first at + 1 rows copied.
+-- If the first `at` rows are copied over the front of `before`, and then the row at index `at` is copied, the first at + 1 rows
+-- are copied. The copy of a row is f of the row.
 pub row_put : {A B : Type 0} (f : A → B) (rows : List A) (before : List B) (at : ℕ) (d : A) → at < length rows → length rows ≤ length before
     → slice_set (map f (take at rows) ++ drop at before) at (f (slice_index_or rows at d)) ≡ map f (take (suc at) rows) ++ drop (suc at) before
 row_put f [] before at d some few = absurd (omega (arith, some))

@@ -1,4 +1,4 @@
--- The values of a `RawBox` in MIR, with steps that take what it owns out of it and put it in. Assumes `Logic`.
+-- The values of a `RawBox` in MIR, and steps of proofs that take what it owns out of it, or put it in. Assumes `Logic`.
 use Rattle.std.proofs.Common.{◌≡◌, ℕ, List, [], ◌∷◌, ◌++◌, refl, subst}
 use mathlib.Core.Bool.{true, ◌&&◌}
 use lib.Dec.{T}

@@ -18,7 +18,7 @@ read_not_past n bytes to few =
     let count : ℕ = min (length bytes) (length to) in let within : count ≤ length bytes = min-le_left (length bytes) (length to) in
     drop-append-drop count to (take count bytes) n (omega (arith, within, few)) (length-take-le count bytes within)
 
--- if a reply has a status other than DONE, a read leaves the buffer unchanged
+-- if the status of the reply to a read is not DONE, the buffer is unchanged
 pub refused_reads_nothing : (body : Body) (to : List ℕ) → call_status (Some (numbers_of_body body)) ≢ DONE
     → read_over (answered_bytes body) to ≡ to
 refused_reads_nothing (Body.Bytes bytes) to failed = absurd (failed refl)

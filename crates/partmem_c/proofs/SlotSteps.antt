@@ -1,4 +1,4 @@
--- Steps of proofs by hand that take what a slot owns out of it, and put it in. Assumes `Logic`.
+-- Steps of handwritten proofs that take what a slot owns out of it, or put it in. Assumes `Logic`.
 use Rattle.std.proofs.Common.{◌≡◌, List, [], ◌∷◌, ◌++◌, true, Option, Some, None, is_some, refl, subst}
 use mathlib.Core.Bool.{◌&&◌}
 use lib.Dec.{T, lit<}
@@ -20,7 +20,7 @@ use Rattle.partmem_c.specs.contracts.slot.Slot as slot
 abbrev pub word : Ptr → Val
 word p = vstruct (vcons (ptr_val p) vnil)
 
--- if a slot's `held` is not None, it is some kernel k
+-- if a slot's `held` is not None, it is Some k for a kernel k
 pub holds : (held : Option KernelContent) → is_some held ≡ true → (k : KernelContent) × (held ≡ Some k)
 holds (Some k) some = (k, refl)
 holds None some = cc

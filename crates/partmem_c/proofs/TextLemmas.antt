@@ -18,7 +18,7 @@ pub one_line : (bytes : List ℕ) → has_line_feed bytes ≡ false → IsOneLin
 one_line [] none = tt
 one_line (b ∷ bytes) none = let facts = or_parts (b == 10) (has_line_feed bytes) none in (facts.0, one_line bytes facts.1)
 
--- The text without its end, `rest`, is written over the front of the buffer. `written` is the number of bytes written.
+-- The text, except its end `rest`, has been written over the front of the buffer. `written` is the number of bytes written.
 pub record IsPart (text rest buffer buffer' : List ℕ) (written : ℕ) : Type 0 where
   pub front : List ℕ
   pub split : text ≡ front ++ rest
@@ -53,7 +53,7 @@ written_more text rest line after buffer now then written written' had cut put c
 abbrev pub last : ℕ → List ℕ → List ℕ
 last n bytes = take (length bytes - (length bytes - n)) (drop (length bytes - n) bytes)
 
--- if there are n to 2 * n bytes, copying the first n of them, and then the last n to where these belong, copies all of them
+-- if there are n to 2 * n bytes, copying the first n of them and then the last n, each byte to its own index, copies all of them
 pub ends_put : (n : ℕ) (bytes old mid out : List ℕ) → n ≤ length bytes → length bytes ≤ 2 * n
     → mid ≡ take 0 old ++ (take n bytes ++ drop (0 + length (take n bytes)) old)
     → out ≡ take (length bytes - n) mid ++ (last n bytes ++ drop (length bytes - n + length (last n bytes)) mid)

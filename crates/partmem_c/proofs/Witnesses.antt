@@ -37,7 +37,7 @@ stays : (k : KernelContent) (w : World) (event : Event) (to : Addressee) (body :
 stays k w event to body shown same =
     steps_answered k event to body (λ v there. subst (λ x. world_step cache_limit k.order event x ≡ answer to body x) (one_world k w v shown there) same)
 
--- tenant 0 or tenant 1 requests a frame, but has no superblock
+-- calls in which tenant 0 or tenant 1 requests a frame, but has no superblock
 abbrev pub by_0 : Call
 by_0 = record { line = codes "0 alloc 0"; text = codes "0> refused 1 NoFrames\n" }
 

@@ -16,7 +16,7 @@ pub const BAD_CONFIG: u32 = 34;
 /// The boot failed, because the memory for the machine could not be allocated.
 pub const NO_MEMORY: u32 = 36;
 
-/// The machine has no superblock with that number.
+/// The machine has no superblock with the number that the call passes.
 pub const NO_SUPERBLOCK: u32 = 37;
 
 /// The line contains a line feed.

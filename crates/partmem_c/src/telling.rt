@@ -13,7 +13,7 @@ use model_core::limits::{MOST_BYTES, MOST_SUPERBLOCKS};
 use model_core::owner::Owner;
 use words_core::{Answer, Report};
 
-/// The reply to an event as numbers. [`crate::kinds`] says which numbers each kind has, in order; all others are 0.
+/// The reply to an event as numbers. [`crate::kinds`] says which numbers each kind has, in order. The fields after them are 0.
 #[repr(C)]
 #[derive(Clone, Copy, Debug)]
 pub struct ReplyNumbers {
@@ -25,7 +25,7 @@ pub struct ReplyNumbers {
     pub fifth: u32,
 }
 
-/// Returns the numbers of a table of owners: its kind and the number of superblocks. The owners are not among them.
+/// Returns the numbers of a table of owners: the kind and the number of superblocks. The owners themselves are left out.
 pub fn numbers_of_owners(owners: &[Option<Owner>]) -> ReplyNumbers
     requires { length owners.now ≤ MOST_SUPERBLOCKS }
     ensures { result ≡ numbers_of_body (Say.Owners (record { items = owners.now })) }
@@ -33,7 +33,7 @@ pub fn numbers_of_owners(owners: &[Option<Owner>]) -> ReplyNumbers
     one(OWNERS, owners.len() as u32)
 }
 
-/// Returns the numbers of a report: its kind and five figures. The rows of the report are not among them.
+/// Returns the numbers of a report: the kind and five figures. The rows of the report are left out.
 pub fn numbers_of_report(report: &Report) -> ReplyNumbers
     ensures { result ≡ numbers_of_body (Say.Report report.now) }
 {
@@ -47,7 +47,7 @@ pub fn numbers_of_report(report: &Report) -> ReplyNumbers
     }
 }
 
-/// Returns the numbers of an answer: its kind, and the numbers that [`crate::kinds`] gives for this kind.
+/// Returns the numbers of an answer: the kind, and the numbers that [`crate::kinds`] lists for this kind.
 #[inline(always)]
 pub fn numbers_of_answer(answer: Answer<'_>) -> ReplyNumbers
     requires { HasFewBytes answer }

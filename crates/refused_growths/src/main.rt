@@ -1,4 +1,4 @@
-//! Makes one call after a number of allocations, and prints its result.
+//! Makes one call after a number of allocations, and prints the result of the call.
 //!
 //! Standard input is a line `SPENT CALL`. First SPENT allocations are made and freed, and then the call with the name CALL is
 //! made. `tests/refused-growths` refuses the allocation with a fixed number in each run. SPENT decides which allocation of the
@@ -24,7 +24,7 @@ fn main(rt: HostRuntime) -> io::Result<()> {
     }
 }
 
-/// Runs a line `SPENT CALL`. Returns the result of the call, if there is such a call.
+/// Runs a line `SPENT CALL`. Returns the result of the call, or `None` if the line is faulty or there is no such call.
 fn run(alloc: Global, line: &[u8]) -> Option<&'static str> {
     let line = str::from_utf8(line).ok()?;
     let (spent, call) = line.trim_end().split_once(' ')?;

@@ -64,7 +64,7 @@ pub static ROWS: [Row; 9] = [
             0> object 4096\n0> written 1\n0> given\n0> given\n0> object 2048\n0> bytes 2211\n\
             0> refused 10 CacheInUse\n0> given\n0> given\n0> destroyed 2\n0> refused 9 NoCache\n",
     },
-    // Each cache has its own count of colours.
+    // Each cache counts its colours separately, so the first slab of each cache has the first colour.
     Row {
         trace: b"admin grant 0\n0 cache 200 8 a5\n0 cache 200 8 a5\n0 take 0\n0 take 1\n",
         output: b"admin> granted 0 slot 0 superblock 0\n\

@@ -27,7 +27,7 @@ pub static ROWS: [Row; 7] = [
         trace: b"0 write 0 0g\n",
         output: b"!> fault Hex\n",
     },
-    // A last line without LF is a line. One CR at the end of a line is dropped.
+    // A last line without LF is a line too. One CR at the end of a line is dropped.
     Row {
         trace: b"0 alloc 0\r\n0 alloc 0\r",
         output: b"0> refused 1 NoFrames\n0> refused 1 NoFrames\n",
@@ -37,8 +37,8 @@ pub static ROWS: [Row; 7] = [
         trace: b"\t00  alloc\t 0000000000 \n",
         output: b"0> refused 1 NoFrames\n",
     },
-    // Places, lengths, patterns and numbers at the ends of their ranges, lines with two faults, and bytes such as
-    // CR that do not separate words. A line is a comment only if its first word begins with `#`.
+    // Places, lengths, patterns and numbers at the ends of their ranges, lines with two faults, and bytes such as CR that do not
+    // separate words. A line is a comment only if its first word begins with `#`.
     Row {
         trace: b"admin grant 0\n0 alloc 3\n0 read 32767 2\n0 read 32768 1\n\
             0 write 4294967295 00\n\

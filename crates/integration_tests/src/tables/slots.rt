@@ -56,8 +56,8 @@ pub static ROWS: [Row; 10] = [
             admin> reset 1 superblocks 1\nadmin> pool free 2 of 2\nadmin> superblock 0 free\n\
             admin> superblock 1 free\n",
     },
-    // A take-back is refused if a frame of the slot is taken. A reset takes the slot back, and it reads as zero when it
-    // is granted again.
+    // A take-back is refused if a frame of the slot is taken. A reset takes the slot back, and it reads as zero when it is
+    // granted again.
     Row {
         trace: b"admin grant 0\n0 alloc 3\n0 write 32767 ff\nadmin takeback 0 0\nadmin reset 0\n\
             0 read 32767 1\nadmin grant 0\n0 alloc 3\n0 read 32767 1\n",

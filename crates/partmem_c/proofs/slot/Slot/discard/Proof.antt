@@ -1,4 +1,4 @@
--- `discard` drops a slot without a machine, whose pointer owns nothing.
+-- `discard` drops a slot without a machine. The slot's pointer owns nothing.
 use Rattle.std.proofs.Common.{List, [], ◌∷◌, ◌++◌, refl, sym, subst}
 use mir.Val.{Val, vunit}
 use base.Logic.{SProp, ent, id⊢}

@@ -1,4 +1,4 @@
--- `unpark` returns a `RawBox` with the pointer of a slot and a handle. The `RawBox` then owns the slot's kernel.
+-- `unpark` makes a `RawBox` of a slot's pointer and a given handle. The `RawBox` then owns the slot's kernel.
 use Rattle.std.proofs.Common.{◌≡◌, List, [], ◌∷◌, ◌++◌, Option, Some, is_some, true, refl, sym, subst, ap, ◌∙◌}
 use mir.Val.{Val, vptr}
 use mir.Raw.{raw as bare}

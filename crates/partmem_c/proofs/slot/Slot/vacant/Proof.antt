@@ -1,4 +1,4 @@
--- `vacant` returns a slot whose pointer is null. Such a slot owns nothing.
+-- `vacant` returns a slot whose pointer is null. This slot owns nothing.
 use Rattle.std.proofs.Common.{◌≡◌, [], ◌∷◌, None, refl, lit<}
 use base.Logic.{emp}
 use types.Kit.{‵, raw, ◌⊛◌, ◌$◌, ◌∵◌, !, qed, by, keep, split, feq_i, use0}
