@@ -28,7 +28,7 @@ next_multiple n w l some all zero =
     let e : q ≡ n + 1 = omega arith in
     sym is ∙ ap (λ x. x * w) e
 
--- if l lines do not fill n + 1 columns, the width is positive
+-- if l lines do not fill n + 1 columns of width w, the width is positive
 positive : (n w l : ℕ) → l < (n + 1) * w → 0 < w
 positive n w l all = go (cases_order 0 w)
   where

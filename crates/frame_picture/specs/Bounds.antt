@@ -1,4 +1,4 @@
--- The greatest of some numbers, and the least power of two that is enough.
+-- The greatest number with a property, and the least power of two with a property.
 use Rattle.std.specs.Prelude.{◌≡◌, ℕ, ◌^◌, ◌<◌, ◌≤◌, ◌⊎◌}
 
 -- `greatest` is the greatest number for which `IsOne` is true, or `lowest` if no such number is greater than `lowest`

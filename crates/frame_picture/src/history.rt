@@ -174,14 +174,15 @@ impl History {
         }
     }
 
-    /// Counts one more line, which the kernel has just run. If the number of lines is then a multiple of the width, the next
-    /// column gets the state of the kernel. If all columns are in use, every second one is dropped first, and the width doubles.
+    /// Counts one more line, which the kernel has just run. If the number of lines is then a multiple of the width but all
+    /// columns are in use, every second column is dropped and the width doubles. If the number of lines is still a multiple of
+    /// the width, the next column gets the state of the kernel.
     pub fn add_line(&mut self, kernel: &Kernel)
         ensures counted { line_count self.old < u32.MAX → line_count self.new ≡ line_count self.old + 1 }
         ensures sizes { SameShape self.old self.new }
         ensures refused { refusals_of self.new ≡ refusals_of self.old }
         ensures width { width_of self.old ≤ width_of self.new }
-        // The width stays the same, or it doubles since all columns were in use.
+        // The width doubles only if the number of lines is a multiple of it and all columns are in use. Else it stays the same.
         ensures full { (width_of self.new ≡ width_of self.old)
             ⊎ ((line_count self.new % width_of self.old ≡ 0) × Doubles self.old self.new) }
         ensures even { line_count self.old < 2 ^ 30 → IsEven (columns_of self.old) (width_of self.old) (line_count self.old)

@@ -9,7 +9,7 @@ use streams::{TEXT_BYTES, Text};
 /// More bytes than any worked trace writes.
 const BUFFER_BYTES: usize = 8192;
 
-/// A feed that returns a slice in pieces of at most `piece` bytes (one if that is 0), and fails after `good_pulls` pulls.
+/// A feed that returns a slice in pieces of at most `piece` bytes (1 byte if `piece` is 0), and fails after `good_pulls` pulls.
 #[derive(Debug, Drop)]
 pub struct PieceFeed<'a> {
     rest: &'a [u8],
@@ -76,7 +76,8 @@ impl<'a> Feed for PieceFeed<'a> {
     }
 }
 
-/// A drain that takes at most `piece` bytes (one if that is 0) per push into a fixed array, and fails after `good_pushes` pushes.
+/// A drain that takes at most `piece` bytes (1 byte if `piece` is 0) per push into a fixed array. It fails after `good_pushes`
+/// pushes.
 #[derive(Debug, Drop)]
 pub struct PieceDrain {
     bytes: [u8; BUFFER_BYTES],

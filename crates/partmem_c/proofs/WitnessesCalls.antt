@@ -230,7 +230,7 @@ beside_ran = (
   ),
 )
 
--- The laws
+-- The instances of the laws
 
 StandsAfterCalls-met : StandsAfterCalls → Shows written_by_both (world_after cache_limit 3 (opening_world 2 2) (events_of (lines_of_calls beside)))
 StandsAfterCalls-met law = law opened written_by_both beside beside_ran (opening_world 2 2) is_opened.shows

@@ -21,7 +21,7 @@ const UNEQUAL: &[u8] =
 
 /// Traces with the lines for tenant 0.
 pub static ROWS: [Row; 5] = [
-    // A tenant alone on its machine.
+    // Tenant 0 is alone on its machine.
     Row {
         trace: b"admin grant 0\n0 alloc 1\n0 write 8191 7f\n0 cache 24 8 c3\n0 take 0\n0 report\n",
         output: TOLD,

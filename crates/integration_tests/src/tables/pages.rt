@@ -32,8 +32,8 @@ pub static ROWS: [Row; 10] = [
             0> order 0 free 0 taken 0\n0> order 1 free 0 taken 0\n0> order 2 free 0 taken 0\n\
             0> order 3 free 1 taken 0\n",
     },
-    // A free block that is too small is skipped. A report has the number of blocks of each order, and the share of free frames
-    // outside a greatest block.
+    // A free block that is too small is skipped. A report has the number of blocks of each order, and the share of the free
+    // frames that are outside the greatest free block.
     Row {
         trace: b"admin grant 0\n0 alloc 0\n0 alloc 1\n0 alloc 2\n0 alloc 0\n0 alloc 0\n\
             0 alloc 4\n0 free 0\n0 free 4\n0 alloc 1\n0 report\n0 alloc 0\n",
@@ -57,7 +57,7 @@ pub static ROWS: [Row; 10] = [
         output: b"admin> granted 0 slot 0 superblock 0\n0> frame 0\n0> frame 4\n0> freed 2\n\
             0> refused 3 NotABlock\n0> frame 5\n0> freed 0\n0> freed 0\n0> frame 0\n",
     },
-    // A freed block keeps its bytes for its tenant.
+    // A freed block keeps its bytes. Its tenant reads them again when it allocates the block again.
     Row {
         trace: b"admin grant 0\n0 alloc 0\n0 write 0 0a0B\n0 read 0 3\n0 free 0\n0 alloc 0\n\
             0 read 0 2\n",
