@@ -10,7 +10,7 @@ use Rattle.klist_core.specs.declared.Node.{Node}
 abbrev pub up : ℕ → ℕ
 up key = key
 
--- .. and for the opposite direction, the rank is a limit minus the rank for the way up; all ranks are below the limit
+-- .. and for the opposite direction, the rank is a limit minus the rank for the way up, which is below the limit
 abbrev pub back_from : ℕ → ℕ → ℕ
 back_from limit r = limit - r
 
@@ -31,8 +31,8 @@ pub record IsLeastFrom (rank : ℕ → ℕ) (place : ℕ → Option (ℕ × ℕ)
 pub record IsNearest (rank : ℕ → ℕ) (place : ℕ → Option (ℕ × ℕ)) (h bound : ℕ) (o : Option ℕ) : Type 0 where
   pub is : MatchOption o (NoneFrom rank place h bound) (λ j. (k : ℕ) × IsLeastFrom rank place h bound j k)
 
--- list h is linked by key; g has its last node with a key below `key` and its first node with a key above `key`, each None if
--- there is none
+-- list h is linked by key; g has the last node of list h with a key below `key` and the first node with a key above `key`, each
+-- None if there is none
 pub record IsGap (place : ℕ → Option (ℕ × ℕ)) (h key : ℕ) (g : Option ℕ × Option ℕ) : Type 0 where
   pub by_key : IsByKey h
   pub previous : IsNearest down place h (down key + 1) g.0

@@ -88,7 +88,8 @@ holds_only l chunk colour offset len from i same sized below is behind from_is s
       only = λ j h. same_chunk l chunk colour offset from i j same is from_is (holds_at l chunk colour offset len j same sized h).1.chunk_of;
     }
 
--- if an object contains a range, the range ends at most `size` bytes after the beginning of the chunk that has byte `from`
+-- if an object contains a range that begins at byte `from`, the range ends at most `size` bytes after the beginning of the chunk
+-- that has this byte
 pub holds_within : (l : Cut) (chunk colour offset len from i j : ℕ) → chunk ≡ (numbers_of l).chunk → l.size ≤ chunk → i ≡ from / (numbers_of l).chunk
     → from ≡ offset - colour → Holds l colour offset len j → from - i * chunk + len ≤ l.size
 holds_within l chunk colour offset len from i j same sized is from_is h =

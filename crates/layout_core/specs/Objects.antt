@@ -6,12 +6,12 @@ use Rattle.layout_core.specs.Cut.{Cut, numbers_of}
 abbrev pub IsColour : Cut → ℕ → Type 0
 IsColour l colour = (made : ℕ) × (colour ≡ colour_offset l.align made (numbers_of l))
 
--- a slab with this layout and colour offset has an object i, which begins at this offset
+-- a slab with this layout and colour offset has an object i, which begins at byte `offset`
 pub record Begins (l : Cut) (colour offset i : ℕ) : Type 0 where
   pub object : i < (numbers_of l).count
   pub begins : object_offset (numbers_of l) colour i ≡ offset
 
--- a slab with this layout and colour offset has an object i, which contains the `len` bytes from this offset on; `len` is not 0
+-- a slab with this layout and colour offset has an object i, which contains the `len` bytes from byte `offset` on; `len` is not 0
 pub record Holds (l : Cut) (colour offset len i : ℕ) : Type 0 where
   pub object : i < (numbers_of l).count
   pub some : 0 < len

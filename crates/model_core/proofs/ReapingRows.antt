@@ -65,7 +65,8 @@ constructed_anew : (read_step 0 1 (machine_after eight_given)).answer ≡ Ok (34
 unfolding layout_of cache_step create_step next_number take_step give_step read_step in_reach grown_cache grown slab_to_use fresh_byte choice by_need reaped taken_blocks empty_machine next_slot after_grant
 constructed_anew = refl
 
--- The new slab is at frame 0, on frames of freed slabs. The only block that was free before, at frame 6, is too small for it.
+-- After these operations, the only free block is at frame 6, and it is too small for a slab of cache 1. A take from cache 1 frees
+-- the empty slabs of cache 0 and makes its slab at frame 0, on their frames.
 abbrev four_given : List Operation
 four_given = Grant ∷ Create 4096 8 (17 ∷ []) ∷ replicate 4 (Take 0) ++ (Alloc 1 ∷ Give 0 0 ∷ Give 0 4096 ∷ Give 0 8192 ∷ Give 0 12288 ∷ Create 3000 8 (34 ∷ []) ∷ [])
 

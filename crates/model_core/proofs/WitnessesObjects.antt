@@ -54,7 +54,7 @@ unfolding layout_of
 RecordsFree-met law = law MOST_CACHES 3 machine is_well_formed second_object second_is_there refl 203 its_byte
 
 -- Cache 0 has eight slabs, on all frames of slot 0. All their objects are handed out, one of them is written, and all are given
--- back. Then a take from cache 1 frees these slabs on demand and makes its slab at frame 0.
+-- back. Then a take from cache 1 frees these slabs on demand and makes a slab of cache 1 at frame 0.
 
 abbrev sixteen : List ℕ
 sixteen = 0 ∷ 1 ∷ 2 ∷ 3 ∷ 4 ∷ 5 ∷ 6 ∷ 7 ∷ 8 ∷ 9 ∷ 10 ∷ 11 ∷ 12 ∷ 13 ∷ 14 ∷ 15 ∷ []
@@ -136,8 +136,8 @@ TakeKeeps-met law = law 3 0 machine refl
 GiveKeeps-met : GiveKeeps → (give_step 0 0 machine).machine.bytes ≡ machine.bytes
 GiveKeeps-met law = law 0 0 machine
 
--- Let an operation neither write a place nor make a slab there, and let the slot of the place be held before and after it. If the
--- place is in a slab both before and after, or in none both times, the operation leaves it alone.
+-- Let an operation neither write a place nor make a slab there, and let the slot of the place be held before and after the
+-- operation. If the place is in a slab both before and after, or in no slab before and after, the operation leaves the place alone.
 left_alone : (operation : Operation) (m : Machine) (place : ℕ) (slab : Bool) → writes operation place ≡ false → makes_slab_at 3 operation m place ≡ false
     → in_slab m place ≡ slab → in_slab (after MOST_CACHES 3 operation m) place ≡ slab
     → holds m (slot_of 3 place) ≡ true → holds (after MOST_CACHES 3 operation m) (slot_of 3 place) ≡ true → IsLeftAlone MOST_CACHES 3 operation m place
