@@ -6,8 +6,8 @@ use Rattle.klist_core.specs.Links.{IsNearest, IsAfter, IsChain}
 use Rattle.klist_core.proofs.Directions.{IsDirection, IsKeyed, IsGreatest, IsLastBelow}
 use Rattle.klist_core.proofs.NearestChanged.{IsPut, IsBetween, same_list, same_key, others_kept_large, others_kept_small, kept_large, kept_small, joined_large, joined_small}
 
--- In one direction, `to` is now the link of node `before`, or the end of list h if `before` is None. Nothing else has changed,
--- except perhaps the link of node n.
+-- In one direction, `to` is now the link of node `before`, or the first node of list h in this direction if `before` is None.
+-- Nothing else has changed, except perhaps the link of node n.
 pub record IsRelinked (ends links ends' links' : ℕ → Option ℕ) (h n : ℕ) (before to : Option ℕ) : Type 0 where
   pub begin : before ≡ None → ends' h ≡ to
   pub other_begin : (g : ℕ) → (g ≡ h → before ≢ None) → ends' g ≡ ends g
@@ -19,8 +19,8 @@ pub record IsApart (limit : ℕ) (place : ℕ → Option (ℕ × ℕ)) (h : ℕ)
   pub keyed : IsKeyed limit place h
   pub apart : (i j k : ℕ) → place i ≡ Some (h, k) → place j ≡ Some (h, k) → i ≡ j
 
--- What an insertion and a removal have in common: `old` becomes `new`. For an insertion `small` is `old`, and for a removal it is
--- `new`: the places without node n.
+-- What an insertion and a removal have in common: `old` becomes `new`. `small` is the one of the two that is without node n, so
+-- for an insertion it is `old`, and for a removal it is `new`.
 record IsChange (rank : ℕ → ℕ) (old new small : ℕ → Option (ℕ × ℕ)) (h n r : ℕ) (to : Option ℕ) : Type 0 where
   others : (g b : ℕ) (o : Option ℕ) → g ≢ h → IsNearest rank old g b o → IsNearest rank new g b o
   kept : (b : ℕ) (o : Option ℕ) → (r < b) ⊎ IsBetween rank small h b r → IsNearest rank old h b o → IsNearest rank new h b o
@@ -36,7 +36,7 @@ module _ (limit : ℕ) (rank back : ℕ → ℕ) (d : IsDirection limit rank bac
       subst (λ o. IsNearest rank new h 0 o) (sym (x.other_begin h (λ e q. cc)))
       (c.kept 0 (ends h) (inr (record { node = p; key = l.is.0; here = g.here; from = omega arith; below = g.below })) (chain.begins h lt))
 
-  -- after the change, the end of list g is the first node of list g in this direction
+  -- after the change, `ends'` gives the first node of list g in this direction
   begins_at : (before : Option ℕ) → IsRelinked ends links ends' links' h n before to → IsLastBelow rank small h r before → (g : ℕ) → g < heads → IsNearest rank new g 0 (ends' g)
   begins_at before x l g lt = elim (cases_eq g h) [
     | inl e ↦ subst (λ f. IsNearest rank new f 0 (ends' f)) (sym e) (begins before x l (subst (λ f. f < heads) e lt))

@@ -22,14 +22,14 @@ abbrev pub nodes_linked_before : Option ℕ → Option ℕ → List Node → Lis
 nodes_linked_before None to nodes = nodes
 nodes_linked_before (Some i) to nodes = slice_set nodes i (record (node_at nodes i) { previous = to })
 
--- the tables with node n set to `own`, `a` linked after `previous`, and `b` linked before `next` ..
+-- the tables with node n set to `own`, `a` linked after `previous`, and `b` linked before `next`
 abbrev pub nodes_rewired : List Node → ℕ → Node → (previous next a b : Option ℕ) → List Node
 nodes_rewired nodes n own previous next a b = nodes_linked_before next b (nodes_linked_after previous a (slice_set nodes n own))
 
 abbrev pub heads_rewired : List Head → ℕ → (previous next a b : Option ℕ) → List Head
 heads_rewired heads h previous next a b = heads_linked_before next h b (heads_linked_after previous h a heads)
 
--- .. and the heads with the length of list h set to m
+-- the heads with the length of list h set to m
 abbrev pub heads_counted : List Head → ℕ → ℕ → List Head
 heads_counted heads h m = slice_set heads h (record (head_at heads h) { len = m })
 

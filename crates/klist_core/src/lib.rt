@@ -155,7 +155,7 @@ impl Lists {
         Ok(Lists { heads, nodes })
     }
 
-    /// States the invariants of every table, and does nothing.
+    /// States `ArePlaces`, which is true of every table, and does nothing.
     pub fn laws(&self)
         ensures { ArePlaces self.now }
     {
@@ -305,8 +305,8 @@ impl Lists {
     }
 
     /// Inserts a node like [`Lists::insert`], but the search begins at the node `near` if `near` is in the list. Otherwise the
-    /// search begins at the end of the list whose key is nearer to `key`. The list must not be loose. Takes constant time if
-    /// `near` becomes a neighbour of the new node. A bad hint only costs time.
+    /// search begins at the first or the last node of the list, whichever has the key nearer to `key`. The list must not be
+    /// loose. Takes constant time if `near` becomes a neighbour of the new node. A bad hint only costs time.
     pub fn insert_near(&mut self, head: u32, node: u32, key: u32, near: u32)
         requires head { head < self.old.heads }
         requires by_key { IsByKey head }

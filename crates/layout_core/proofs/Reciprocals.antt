@@ -7,7 +7,7 @@ use Rattle.model_core.proofs.Layouts.{layouts_fit}
 use Rattle.model_core.specs.Layouts.{layout_of}
 use Rattle.layout_core.specs.Inside.{AreLayoutFields, reciprocal_of}
 
--- byte `from` is in chunk from / chunk; if m * chunk is at least `whole`, from * m is at least `whole` times this number ..
+-- Let n be from / chunk. If m * chunk is at least `whole`, from * m is at least n * whole ..
 product_reaches : (whole chunk m from : ℕ) → whole ≤ m * chunk → from / chunk * whole ≤ from * m
 product_reaches whole chunk m from over =
     let split : from / chunk * chunk + from % chunk ≡ from = div-add-mod' from chunk in
@@ -15,7 +15,7 @@ product_reaches whole chunk m from over =
     let columns : from / chunk * chunk * m ≤ from * m = mul-le-mul_right m (omega arith) in
     omega arith
 
--- .. and if m * chunk is `whole + more`, and (from / chunk + 1) * more is below m, from * m is below `whole` times the next number
+-- .. and if m * chunk is `whole + more`, and (n + 1) * more is below m, from * m is below (n + 1) * whole
 product_stays : (whole chunk m more from : ℕ) → 0 < chunk → m * chunk ≡ whole + more → (from / chunk + 1) * more < m
     → from * m < (from / chunk + 1) * whole
 product_stays whole chunk m more from some is few =

@@ -49,8 +49,8 @@ same_keyed {X} key n (x ∷ xs) (y ∷ ys) (lx, r) (ly, s) f g = same (f x (inl 
     same (inr i) (inl e) more = tails (sym e) more
     same (inr i) (inr j) more = absurd (let u = key_above key (key y + 1) x ys s i in let v = key_above key (key x + 1) y xs r j in omega arith)
 
--- two rising lists of numbers are equal if they have the same members (`same_members`), or if `has` returns the same for both lists
--- for every number (`same_rising`)
+-- two rising lists of numbers are equal if they have the same members (`same_members`), or if `has` returns the same for both
+-- lists for every number (`same_rising`)
 pub same_members : (n : ℕ) (xs ys : List ℕ) → RisesFrom n xs → RisesFrom n ys → ((u : ℕ) → IsIn u xs → IsIn u ys) → ((u : ℕ) → IsIn u ys → IsIn u xs) → xs ≡ ys
 same_members n xs ys r q there back =
     same_keyed (λ u. u) n xs ys (subst (λ us. RisesFrom n us) (sym (map-id xs)) r) (subst (λ us. RisesFrom n us) (sym (map-id ys)) q) there back

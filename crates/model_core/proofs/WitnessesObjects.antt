@@ -137,7 +137,8 @@ GiveKeeps-met : GiveKeeps → (give_step 0 0 machine).machine.bytes ≡ machine.
 GiveKeeps-met law = law 0 0 machine
 
 -- Let an operation neither write a place nor make a slab there, and let the slot of the place be held before and after the
--- operation. If the place is in a slab both before and after, or in no slab before and after, the operation leaves the place alone.
+-- operation. If the place is in a slab both before and after, or in no slab before and after, the operation leaves the place
+-- alone.
 left_alone : (operation : Operation) (m : Machine) (place : ℕ) (slab : Bool) → writes operation place ≡ false → makes_slab_at 3 operation m place ≡ false
     → in_slab m place ≡ slab → in_slab (after MOST_CACHES 3 operation m) place ≡ slab
     → holds m (slot_of 3 place) ≡ true → holds (after MOST_CACHES 3 operation m) (slot_of 3 place) ≡ true → IsLeftAlone MOST_CACHES 3 operation m place
