@@ -62,7 +62,7 @@ removal_known heads nodes n x h t within got is = record {
     fitting : (o : Option ℕ) → IsWithin o (length (places_of nodes)) → IsWithin o (length nodes)
     fitting o w = record { below = λ i e. omega (arith, w.below i e, length-map nodes place_in) }
 
--- g has the two nodes between which a new node with the key k belongs in list h: the gap, or the end of a loose list
+-- In list h, a new node with the key k belongs between the two nodes of g. If list h is loose, these are its last node and None.
 pub record IsLinkPlace (heads : List Head) (nodes : List Node) (h k : ℕ) (t : IsLinked heads nodes) (g : Option ℕ × Option ℕ) : Type 0 where
   pub before : IsNearest (back_from (t.now + 1)) (ranks t.came (places_of nodes)) h (back_from (t.now + 1) (rank_in h t.now k) + 1) g.0
   pub after : IsNearest up (ranks t.came (places_of nodes)) h (up (rank_in h t.now k) + 1) g.1
@@ -205,6 +205,6 @@ shown_over heads nodes n j x h r within =
 pub seam : {A : Type 0} (xs rest : List A) (len : ℕ) → len ≡ length xs → take len (xs ++ rest) ≡ xs
 seam xs rest len e = ap (λ n. take n (xs ++ rest)) e ∙ take-append_seam xs rest
 
--- .. so tables are still linked when the borrow of their slices ends, since they are equal to linked tables
+-- tables that are equal to linked tables are linked too; this is used when the borrow of the slices of the tables ends
 pub linked_back : (heads heads' : List Head) (nodes nodes' : List Node) → heads' ≡ heads → nodes' ≡ nodes → IsLinked heads nodes → IsLinked heads' nodes'
 linked_back heads heads' nodes nodes' e f t = rw (e, f) t

@@ -69,7 +69,7 @@ pub ranked_before : (heads : List Head) (nodes : List Node) (t : IsLinked heads 
 ranked_before heads nodes t = rank_below t.came t.now (places_of nodes) t.before (λ i h k e. omega (arith, t.wide, t.table.keyed i h k e))
 
 -- If node n is linked into list h after the last node below its rank and before the first node above its rank, the tables are
--- still linked. In a loose list the rank of n is its time.
+-- still linked. In a loose list the rank of n is `time`.
 pub linked_inserted : (heads heads' : List Head) (nodes nodes' : List Node) (h n k time : ℕ) (previous next : Option ℕ) (m : ℕ) (t : IsLinked heads nodes)
     → IsRewired heads heads' nodes nodes' h n (linked_node h k previous next) previous next (Some n) (Some n) m → m ≡ (head_at heads h).len + 1
     → h < length heads → n < length nodes → k < 2 ^ 32 → time ≤ t.now → place_at (places_of nodes) n ≡ None → ((i : ℕ) → place_at (places_of nodes) i ≢ Some (h, k))

@@ -86,7 +86,7 @@ module _ (rank : ℕ → ℕ) (small large : ℕ → Option (ℕ × ℕ)) (h n k
       elsewhere (inr x) r = let u = l.least x.node x.key (raised p x.node (h, x.key) x.here) x.from in omega (arith, x.below)
 
   -- Let the rank of node n be at least a bound, and let no other node of list h have a rank between the two. Then the nearest
-  -- node of list h from the bound on is n in `large`. In `small` it is the node after n.
+  -- node of list h from the bound on is n in `large`. In `small` it is the node that is after n in `large`.
   pub joined_large : (b : ℕ) → b ≤ rank k → ((i k' : ℕ) → small i ≡ Some (h, k') → b ≤ rank k' → rank k ≤ rank k') → IsNearest rank large h b (Some n)
   joined_large b le above = record { is = (k, record { here = p.here; from = le; least = least }) }
     where

@@ -1,5 +1,5 @@
--- The places still have the invariants of every table after an insertion or a removal. One list then has one node more or one
--- fewer.
+-- `ArePlaces`, which is true of every table, is still true after an insertion or a removal. One list then has one node more or
+-- one fewer.
 use Rattle.std.proofs.Common.{◌≡◌, ℕ, zero, suc, ◌+◌, ◌^◌, ◌<◌, Bool, cond, List, Option, Some, None, length, set, refl, ap, sym, ◌∙◌, inl, inr, arith}
 use Rattle.std.specs.Prelude.{◌≢◌, count_by, IsSome, is_some}
 use Rattle.std.proofs.lemmas.Bool.{cases_eq, eq-eqb, ne_eqb, cases_lt, false≢true}

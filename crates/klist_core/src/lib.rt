@@ -155,7 +155,7 @@ impl Lists {
         Ok(Lists { heads, nodes })
     }
 
-    /// States `ArePlaces`, which is true of every table, and does nothing.
+    /// States the invariants of every table, and does nothing.
     pub fn laws(&self)
         ensures { ArePlaces self.now }
     {

@@ -46,8 +46,8 @@ pub record IsSpace (s : Content) : Type 0 where
   pub sized : (m : ℕ) → m < length s.banks → length (bank s.banks m) ≡ s.unit
   -- owners and slots agree, so no slot has two superblocks and no superblock is in two slots
   pub agree : (t u m : ℕ) → (superblock_at s.slots t u ≡ Some m) ↔ (owner_at s.owners m ≡ Some (owned_by t u))
-  -- each tenant holds as many slots as it owns superblocks, so if some superblock has no owner, each tenant has an empty slot for
-  -- it
+  -- Each tenant holds as many slots as it owns superblocks. Each tenant also has a slot for each superblock (`rows`), so if some
+  -- superblock has no owner, each tenant has an empty slot.
   pub counted : (t : ℕ) → t < length s.slots → count_by is_some (slots_of s.slots t) ≡ count_by (is_of t) s.owners
   -- a superblock that has neither an owner nor a mark reads as zero
   pub spare : (m : ℕ) → m < length s.banks → owner_at s.owners m ≡ None → mark_at s.marks m ≡ false
