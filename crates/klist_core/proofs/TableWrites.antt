@@ -68,8 +68,8 @@ len_before None h to heads g = unseen (λ (x : Head). x.len) heads h g (record (
 len_before (Some i) h to heads g = refl
 
 -- In one direction, f reads the first node of a list and g reads the link of a node. Let no first node have changed, and no link
--- except perhaps the link of node n. If list h then gets the head x, only the first node of list h, which is now `to`, and perhaps
--- the link of node n have changed.
+-- except perhaps the link of node n. If list h then gets the head x, only the first node of list h, which is now `to`, and
+-- perhaps the link of node n have changed.
 ends_relinked : (f : Head → Option ℕ) (g : Node → Option ℕ) (h n : ℕ) (to : Option ℕ) (ends links : ℕ → Option ℕ) (heads : List Head) (nodes : List Node) (x : Head) → h < length heads → f x ≡ to
     → ((i : ℕ) → f (head_at heads i) ≡ ends i) → ((i : ℕ) → i ≢ n → g (node_at nodes i) ≡ links i)
     → IsRelinked ends links (λ i. f (head_at (set heads h x) i)) (λ i. g (node_at nodes i)) h n None to

@@ -66,7 +66,7 @@ unfolding layout_of cache_step create_step next_number take_step give_step read_
 constructed_anew = refl
 
 -- After these operations, the only free block is at frame 6, and it is too small for a slab of cache 1. A take from cache 1 frees
--- the empty slabs of cache 0 and makes its slab at frame 0, on their frames.
+-- the empty slabs of cache 0 and makes a slab of cache 1 at frame 0, on their frames.
 abbrev four_given : List Operation
 four_given = Grant ∷ Create 4096 8 (17 ∷ []) ∷ replicate 4 (Take 0) ++ (Alloc 1 ∷ Give 0 0 ∷ Give 0 4096 ∷ Give 0 8192 ∷ Give 0 12288 ∷ Create 3000 8 (34 ∷ []) ∷ [])
 

@@ -184,7 +184,7 @@ module _ (order k : ℕ) (slots : List ℕ) (bs : List Block) (rises : RisesFrom
         false≢true (sym (not-true (is_met q) unmet) ∙ any_in (λ p. eqb p q) (x / 2 ^ k) met listed (eq-eqb (x / 2 ^ k) q number));
   }
 
-  -- not every aligned block of order k in the slots has a taken frame
+  -- some aligned block of order k in the slots has no taken frame
   all_met : list_any (λ q. not (is_met q)) (blocks_in share slots) ≡ false → ⊥
   all_met none =
       let within : length (blocks_in share slots) ≤ length met = no_longer (0 * share) (blocks_in share slots) met (blocks_rise share 0 slots rises) (λ q i.
