@@ -1,4 +1,4 @@
--- Worked examples: command lines of `partmem`, and the faults that clap's model finds in them.
+-- Worked examples: command lines of `partmem`, and the kinds of error for which clap's model refuses them.
 use Rattle.std.proofs.Common.{◌≡◌, [], ◌∷◌, refl, codes}
 use Rattle.clap.proofs.OnLiterals.{clap_on_literals}
 use Rattle.clap.specs.declared.error.kind.ErrorKind.TheVariants.{DisplayHelp, DisplayVersion, MissingRequiredArgument, ValueValidation}
@@ -20,7 +20,7 @@ pub order_is_out_of_its_range : parse_faults (codes "--order" ∷ codes "2" ∷ 
 unfolding clap_on_literals parse_faults
 order_is_out_of_its_range = refl
 
--- clap's model finds no fault in an `--only` that names no tenant
+-- clap's model accepts an `--only` that is not below the number of tenants
 pub nothing_is_wrong : parse_faults (codes "--order" ∷ codes "3" ∷ codes "--superblocks" ∷ codes "2" ∷ codes "--tenants" ∷ codes "2"
     ∷ codes "--only" ∷ codes "2" ∷ codes "trace" ∷ []) ≡ []
 unfolding clap_on_literals parse_faults

@@ -1,4 +1,4 @@
--- From clap's matches to the machine.
+-- The machine that the arguments request depends only on their texts. If they request a machine, it is not refused.
 use Rattle.std.proofs.Common.{◌≡◌, ◌∙◌, ℕ, ◌<◌, List, Option, Some, None, subst, refl, ap, sym, arith, codes}
 use Rattle.clap.specs.Words.{Row, Text, one_of, one_text, rows_of}
 use Rattle.clap.specs.declared.parser.matches.Found.{Found}
@@ -8,7 +8,7 @@ use Rattle.command_line.specs.MachineOptions.{AsksMachine, AsksNoSizes, AsksNoTe
 use Rattle.command_line.specs.declared.machine_options.MachineOptions.{MachineOptions}
 use Rattle.command_line.specs.declared.outcome.Outcome.{Outcome}
 
--- a text has only one number
+-- if n is the number of the text, a lookup of the text's number finds n
 pub one_number : (text : Option Text) (found : Option ℕ) (n : ℕ) → MayWrite text found → Writes text n → found ≡ Some n
 one_number None found n may writes = absurd writes
 one_number (Some text) (Some m) n may writes = ap (λ k. Some k) (may.1 ∙ sym writes.1)
@@ -29,7 +29,7 @@ same_written (Some text) (Some m) None may other = absurd (other may.0)
 pub one_text-of_rows : (f : Found) (rows : List Row) → rows_of f ≡ rows → (name : Text) → one_text f name ≡ one_of name rows
 one_text-of_rows f rows same name = one_text-rows f name ∙ ap (one_of name) same
 
--- the sizes depend only on the texts that are read
+-- if `other` returns the same texts as `read`, and `read` requests these sizes, `other` requests them too
 pub asks_sizes : (read other : Text → Option Text) (config : Config) → ((name : Text) → read name ≡ other name) → AsksSizes read config → AsksSizes other config
 asks_sizes read other config same asks = record {
   order = subst (λ text. Writes text config.order) (same (codes "order")) asks.order;
@@ -43,7 +43,7 @@ asks_machine read other m same asks = record {
   only = subst (λ text. MayWrite text m.only) (same (codes "only")) asks.only;
 }
 
--- texts that give no valid sizes still give none if they are replaced by equal ones
+-- if `other` returns the same texts as `read`, and `read` requests no valid sizes, `other` requests none either
 pub asks_no_sizes : (read other : Text → Option Text) → ((name : Text) → read name ≡ other name) → AsksNoSizes read → AsksNoSizes other
 asks_no_sizes read other same none sizes asks = none sizes (asks_sizes other read sizes (λ name. sym (same name)) asks)
 
@@ -68,7 +68,7 @@ no_machine read other (Outcome.Version text) same none = absurd none
 no_machine read other Outcome.Unreadable same none = absurd none
 no_machine read other Outcome.Unwritable same none = absurd none
 
--- if a machine is requested, `--only` does not name a missing tenant
+-- if a machine is requested, a number given with `--only` is below the machine's number of tenants
 tenant_given : (read : Text → Option Text) (m : MachineOptions) → AsksMachine read m → ¬ AsksNoTenant read
 tenant_given read m asks none =
     let only : m.only ≡ Some none.tenant = one_number (read (codes "only")) m.only none.tenant asks.only none.only in
@@ -77,7 +77,7 @@ tenant_given read m asks none =
     let below : none.tenant < m.config.tenants = m.below none.tenant only in
     omega (arith, none.above)
 
--- if a machine is requested, there is no reason for which none is found
+-- if a machine is requested, no outcome refuses it
 pub machine_given : (read : Text → Option Text) (m : MachineOptions) (outcome : Outcome) → AsksMachine read m → ¬ IsNoMachine read outcome
 machine_given read m (Outcome.BadLine text) asks none = none.0 m.config asks.sizes m.bootable
 machine_given read m Outcome.NoMemory asks none = none m.config asks.sizes m.bootable

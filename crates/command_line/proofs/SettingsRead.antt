@@ -1,4 +1,4 @@
--- From clap's matches to the settings.
+-- The matches of a parse and the rows of clap's model request the same settings, or give none for the same reason.
 use Rattle.std.proofs.Common.{◌≡◌, ◌∙◌, ◌<◌, ⊎_elim, ℕ, Bool, List, [], Option, Some, inl, inr, subst, ap, refl, sym, true, arith, codes}
 use Rattle.std.specs.Option.{ForSome}
 use Rattle.clap.specs.Words.{App, Row, Text, fault_of, first_of, first_value, is_simple, is_simple_and_free, matches_of, one_of}
@@ -15,7 +15,7 @@ use Rattle.command_line.specs.declared.machine_options.MachineOptions.{MachineOp
 use Rattle.command_line.specs.declared.outcome.Outcome.{Outcome}
 use Rattle.command_line.specs.declared.settings.Settings.{Settings}
 
--- clap's model covers this command
+-- clap's model covers the command of `partmem`
 pub line_is_simple : is_simple command_line ≡ true
 unfolding clap_on_literals
 line_is_simple = refl
@@ -24,7 +24,7 @@ pub line_is_simple_and_free : is_simple_and_free command_line ≡ true
 unfolding clap_on_literals
 line_is_simple_and_free = refl
 
--- facts about a parse by a command that equals this one are facts about a parse by this one
+-- if `a` equals `command_line`, and `f` has the matches of `a` in the words, `f` has the matches of `command_line` in them
 pub line_rows : {P : Type 0} (a : App) (f : Found) (words : List Text) → a ≡ command_line
     → (is_simple a ≡ true → (rows_of f ≡ matches_of a words) × P) → rows_of f ≡ matches_of command_line words
 line_rows a f words same found = rows_as command_line a f words line_is_simple same found
@@ -39,7 +39,7 @@ pub line_refused : (a : App) (words : List Text) (outcome : Outcome) → a ≡ c
 unfolding parse_faults
 line_refused a words outcome same refused = refused_as command_line a words outcome line_is_simple_and_free same refused
 
--- if this command takes the words, so does an equal one
+-- if clap's model accepts the words for `command_line`, it accepts them for an equal command `a`
 pub taken_by : (a : App) (words : List Text) → a ≡ command_line → IsInOrder words → takes a words ≡ true
 unfolding IsInOrder
 taken_by a words same taken = subst (λ b. takes b words ≡ true) (sym same) taken
@@ -55,12 +55,12 @@ asks_rows f rows s same asks = record {
   file = asks.file ∙ first_value-rows f (codes "FILE") ∙ ap (first_of (codes "FILE")) same;
 }
 
--- if the matches give no machine, the rows give no settings
+-- if the matches give no machine, the rows give no settings, with the same outcome
 pub no_machine_rows : (f : Found) (rows : List Row) (outcome : Outcome) → rows_of f ≡ rows → IsNoMachine (one_text f) outcome
     → IsNoSettings (λ name. one_of name rows) outcome
 no_machine_rows f rows outcome same none = inl (no_machine (one_text f) (λ name. one_of name rows) outcome (one_text-of_rows f rows same) none)
 
--- if the matches give a machine for which `--own` is refused, the rows give no settings
+-- if the matches give a machine for which `--own` is refused, the rows give no settings, with the same outcome
 pub no_own_rows : (f : Found) (rows : List Row) (m : MachineOptions) (flag : Bool) (outcome : Outcome) → rows_of f ≡ rows → AsksMachine (one_text f) m
     → IsFlag (one_text f (codes "tally")) flag → IsNoOwn (one_text f) m flag outcome → IsNoSettings (λ name. one_of name rows) outcome
 no_own_rows f rows m flag outcome same machine tally (tenant, own, why) = inr (

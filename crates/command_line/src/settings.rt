@@ -17,7 +17,8 @@ pub const PROGRAM: Program<'static> = Program {
     unwritten: "replies could not be written",
 };
 
-/// The same as [`PROGRAM`] if `partmem` writes a tenant's own list.
+/// What `partmem` prints about itself if it writes a tenant's own list. Only the message for a failed write differs from
+/// [`PROGRAM`].
 pub const OWN_PROGRAM: Program<'static> = Program {
     unwritten: "own list could not be written",
     ..PROGRAM
@@ -64,7 +65,8 @@ Example:
 pub struct Settings {
     /// The sizes of the machine, each in its range.
     pub config: Config,
-    /// The only tenant whose lines are written, a number below the number of tenants. `None` means all lines.
+    /// The only tenant whose replies are written, a number below the number of tenants. `None` means that all replies are
+    /// written.
     pub only: Option<u8>,
     /// The tenant whose own list is written instead of replies, a number below the number of tenants. `None` means that replies
     /// are written.
@@ -80,7 +82,7 @@ pub struct Settings {
 impl Settings {
     ghost use Rattle.command_line.specs.Settings.{machine_of};
 
-    /// Returns the machine, and the tenant whose lines are written.
+    /// Returns the sizes of the machine and the value of `only`.
     pub fn machine(&self) -> MachineOptions
         ensures { result ≡ machine_of self.now }
     {

@@ -1,4 +1,4 @@
-//! The sizes that a command line requests.
+//! The sizes of the machine that a command line requests.
 
 ghost use Rattle.std.specs.Prelude.{◌≡◌, true, IfErr, IfOk, OnErr};
 ghost use Rattle.clap.specs.Words.{found_of, one_text};
@@ -12,14 +12,14 @@ use clap::ArgMatches;
 use model_core::config::Config;
 use std::alloc::Global;
 
-/// Returns the sizes that the command line requests.
+/// Returns the sizes of the machine that the command line requests.
 ///
-/// Fails with `BadLine` if one is missing or out of its range, or with `NoMemory` if there is no memory for that message.
+/// Fails with `BadLine` if a size is missing or out of its range, or with `NoMemory` if there is then no memory for the message.
 pub fn sizes_found(alloc: Global, matches: &ArgMatches<'_>) -> Result<Config, Outcome>
     ensures asked { IfOk result (AsksSizes (one_text (found_of matches.now))) }
     ensures bootable { IfOk result (λ config. is_bootable config ≡ true) }
     ensures refused { IfErr result (IsBadLine bad_size_text) }
-    // Sizes that are given and valid are always found, however little memory there is.
+    // Valid sizes are always returned, however little memory there is.
     ensures given { OnErr result (AsksNoSizes (one_text (found_of matches.now))) }
 {
     let config = Config {

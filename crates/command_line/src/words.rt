@@ -1,4 +1,4 @@
-//! The words of a command line of `partmem`.
+//! The arguments of `partmem`, and the settings that the words of a command line request.
 
 ghost use Rattle.std.specs.Prelude.{◌≡◌, ◌<◌, true, IfErr, IfOk, map, codes};
 ghost use Rattle.std.specs.Option.{ForSome};
@@ -18,11 +18,12 @@ use std::alloc::{AllocError, Global};
 /// What `--help` prints beside `--only`.
 const ONLY: &str = "Writes only the lines of this tenant, a number below --tenants";
 
-/// Reads the words of a command line, without the program's name.
+/// Returns the settings that the words of a command line request. The words do not include the program's name.
 ///
-/// Fails with `Help` or `Version` if the words request that, with `BadLine` if they are faulty or `--own` is not possible, with
-/// `BadOnly` if the sizes are valid and `--only` is not below the number of tenants, or with `NoMemory`. The number of `--only` is
-/// tested before `--own`.
+/// Fails with `Help` or `Version` if the words request one of them, and with `BadLine` if they are faulty. After that, it fails
+/// with `BadOnly` if the number of `--only` is not below the number of tenants. Last, it fails with `BadLine` if `--own` is given
+/// beside `--only` or `--tally`, or if its number is not below the number of tenants. If memory runs out, it fails with
+/// `NoMemory`.
 pub fn read_words<'a>(alloc: Global, words: &'a [&'a str]) -> Result<Settings, Outcome>
     ensures config { IfOk result (λ settings. is_bootable settings.config ≡ true) }
     ensures only { IfOk result (λ settings. ForSome settings.only (λ tenant. tenant < settings.config.tenants)) }
@@ -30,7 +31,7 @@ pub fn read_words<'a>(alloc: Global, words: &'a [&'a str]) -> Result<Settings, O
     // The settings are those that clap's model finds in the words.
     ensures asked { IfOk result (IsRequestedBy (map (λ word. word.now) words.entry.now)) }
     ensures refused { IfErr result (IsRefusedFor (map (λ word. word.now) words.entry.now)) }
-    // Valid settings are refused only if there is not enough memory.
+    // If the words request valid settings, it fails only if there is not enough memory.
     ensures given { IfErr result (λ outcome. IsInOrder (map (λ word. word.now) words.entry.now)
         → (settings : Settings) → CanBeHad (map (λ word. word.now) words.entry.now) settings → outcome ≡ Outcome.NoMemory) }
 {
@@ -47,10 +48,10 @@ pub fn read_words<'a>(alloc: Global, words: &'a [&'a str]) -> Result<Settings, O
     })
 }
 
-/// Returns the tenant whose own list is requested, or `None` if none is requested.
+/// Returns the tenant whose own list is requested, or `None` if no own list is requested.
 ///
-/// Fails with `BadLine` if `--only` or `--tally` is given too, or if the machine has no such tenant, or with `NoMemory` if
-/// there is no memory for that message.
+/// Fails with `BadLine` if `--only` or `--tally` is given too, or if the tenant's number is not below the number of tenants.
+/// Fails with `NoMemory` if there is no memory for the message.
 fn own_found(
     alloc: Global,
     matches: &ArgMatches<'_>,
@@ -75,7 +76,7 @@ fn own_found(
     Ok(Some(tenant as u8))
 }
 
-/// Returns the command of `partmem`: its arguments, with their ranges.
+/// Returns the command that `partmem` parses: the sizes with their ranges, `--only`, `--own`, `--tally` and FILE.
 fn command<'a>(alloc: Global) -> Result<Command<'a>, AllocError>
     ensures { IfOk result (λ command. app_of command ≡ command_line) }
 {

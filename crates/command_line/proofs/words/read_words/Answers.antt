@@ -17,7 +17,7 @@ returns-clause-asked c =
     asks_rows found (matches_of command_line words) _ rows
     (record { machine = record { sizes = c.in_ok-machine.ensures.asked.sizes; only = c.in_ok-machine.ensures.asked.only }; own = c.in_ok-own.ensures.asked; own_below = c.in_ok-own.ensures.below; own_alone = c.in_ok-own.ensures.alone; tally = tally; file = c.in_ok-path_of.ensures.path })
 
--- what holds of an error also holds of the result that passes it on
+-- if a result is the error e, and Q is true of e, Q is true of the error in the result
 passed : (r : Result Settings Outcome) (e : Outcome) (Q : Outcome → Type 0) → IsErrAnd r (λ o. o ≡ e) → Q e → IfErr r Q
 passed (Ok settings) e Q is fact = tt
 passed (Err outcome) e Q is fact = subst Q (sym is) fact
