@@ -24,7 +24,7 @@ module _ {N : Type 0} (noting : Noting N) (m : MachineOptions) where
       noted (opening_world m.config.superblocks m.config.tenants) new.shows
       ∙ ap (λ order. noted_lines noting m.only cache_limit order 1 lines (opening_world m.config.superblocks m.config.tenants) n) new.order
 
-  -- if nothing follows the lines, there is no unfinished line to note
+  -- an unfinished line without bytes adds nothing to the notes
   none_behind : (lines : List (List ℕ)) (n : N) → n ≡ with_unended noting lines [] n
   none_behind lines n = ap (λ r. noted_fault noting (suc (length lines)) [] r n) (sym reading_of_nothing)
 

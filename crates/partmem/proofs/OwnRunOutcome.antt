@@ -1,4 +1,4 @@
--- From the result of `keep` on a new machine to the outcome of a run.
+-- The facts that the contract of `run_own` states, for each result of `keep` on a new machine.
 use Rattle.std.proofs.Common.{◌≡◌, ℕ, ◌-◌, Bool, true, false, not, inl, inr, List, [], ◌∷◌, ◌++◌, length, take, Option, Result, Ok, Err, IfSome, OnOk, refl, ap, sym, subst, ◌∙◌, append_assoc}
 use Rattle.std.specs.Io.KnownBytes.{Appends, Consumes, IsAtEnd, append_known}
 use Rattle.std.proofs.lemmas.List.{append-nil}
@@ -26,11 +26,11 @@ use Rattle.partmem.specs.Own.{own_of, WritesOwn}
 use Rattle.partmem.specs.Run.{EndsAs, HasReached, IsBeginning, IsGiven, IsOfTrace}
 use Rattle.partmem.proofs.ReplayOutcome.{IsNew, ends, given_so_far, of_trace, reached, run_outcome}
 
--- the outcome of a run that kept a tenant's own list
+-- the outcome of a run, from the result of `keep`, whether a send failed, and whether the last flush succeeded
 abbrev pub kept_outcome : Result (Unit {0}) KeepError → (unsent flushed : Bool) → Outcome
 kept_outcome kept unsent flushed = after_flush (outcome_of_kept kept) unsent flushed
 
--- the result of a replay that corresponds to a result of `keep`
+-- the result of a replay that ends as this result of `keep` does; all its counts are 0
 as_replayed : Result (Unit {0}) KeepError → Result Tally ReplayError
 as_replayed (Ok done) = Ok no_tally
 as_replayed (Err Kept.Feed) = Err (Failed.Feed no_tally)
@@ -56,7 +56,7 @@ same_named (Ok done) unread undrained is = is
 same_named (Err Kept.Feed) unread undrained is = is
 same_named (Err Kept.Drain) unread undrained is = is
 
--- the writer has received the bytes taken, except those that are held back; after a flush that succeeded, none is held back
+-- if nothing is held back after a successful flush, the writer took the bytes that `HasReached` states, for every outcome
 pub own_reached : (kept : Result (Unit {0}) KeepError) (unsent flushed failed : Bool) (before writer : Option (List ℕ)) (held taken : List ℕ)
     → failed ≡ not flushed → (flushed ≡ true → held ≡ []) → Appends before (append_known writer held) taken
     → HasReached (kept_outcome kept unsent flushed) failed before writer held taken (take (length taken - length held) taken)
@@ -64,7 +64,7 @@ own_reached kept unsent flushed failed before writer held taken same none append
     subst (λ outcome. HasReached outcome failed before writer held taken (take (length taken - length held) taken)) (same_outcome kept unsent flushed)
     (reached (as_replayed kept) unsent flushed failed before writer held taken same none appended)
 
--- the outcome says which end failed
+-- for every outcome, the feed and the drain have failed as `EndsAs` states
 pub own_ends : (kept : Result (Unit {0}) KeepError) (ended unread undrained unsent flushed : Bool) → OnOk kept (ended ≡ true) → NamesEnd kept unread undrained
     → (unsent ≡ true → flushed ≡ false) → (undrained ≡ true → flushed ≡ false)
     → EndsAs (kept_outcome kept unsent flushed) ended unread (not flushed) unsent
@@ -78,13 +78,13 @@ own_given kept unsent flushed ended given more done over =
     subst (λ outcome. IsGiven outcome (given ++ more) given) (same_outcome kept unsent flushed)
     (given_so_far (as_replayed kept) unsent flushed ended given more (same_done kept ended done) over)
 
--- a new kernel has the machine's order, so both give the same own list
+-- a new kernel has the machine's order, so the own list of these lines is the same with either order
 at_order : (m : MachineOptions) (t : ℕ) (k : KernelContent) (lines : List (List ℕ)) → IsNew m k
     → own_text t cache_limit k.order lines (opening_world m.config.superblocks m.config.tenants) ≡ own_of m.config t lines
 at_order m t k lines new =
     ap (λ order. own_text t cache_limit order lines (opening_world m.config.superblocks m.config.tenants)) new.order
 
--- a prefix of the own list of some lines is a prefix of the own list of any lines that begin with them
+-- a prefix of the own list of `xs` is a prefix of the own list of any lines that begin with `xs`
 goes_on : (m : MachineOptions) (t : ℕ) (lines xs more : List (List ℕ)) (taken : List ℕ) → lines ≡ xs ++ more → IsBeginning taken (own_of m.config t xs)
     → IsBeginning taken (own_of m.config t lines)
 goes_on m t lines xs more taken split (rest, whole) =
@@ -117,8 +117,8 @@ cut_begins stays m t ended given more taken lines (inl (rest, split)) begins ove
 cut_begins stays m t ended given more taken lines (inr (is_over, all)) begins over =
     all_came m t given more taken (over is_over) (subst (λ xs. IsBeginning taken (own_of m.config t xs)) (sym all) begins)
 
--- For every result of `keep`, the bytes taken are a prefix of the own list of any trace that begins with the bytes given. If the
--- feed has ended, the trace has no more bytes.
+-- Let a trace begin with the bytes given, and have no more bytes if the feed has ended. Then the bytes taken are a prefix of the
+-- trace's own list, for every result of `keep`.
 own_begins : EndedLinesStay → (m : MachineOptions) (t : ℕ) (k k' : KernelContent) (ended : Bool) (given more taken : List ℕ) (kept : Result (Unit {0}) KeepError) → IsNew m k
     → KeepsOwn ended t k k' given taken kept → OnOk kept (ended ≡ true) → (ended ≡ true → more ≡ [])
     → IsBeginning taken (own_of m.config t (lines_of_trace (given ++ more)))
@@ -130,7 +130,7 @@ own_begins stays m t k k' ended given more taken (Err Kept.Feed) new ran done ov
 own_begins stays m t k k' ended given more taken (Err Kept.Drain) new ran done over =
     cut_begins stays m t ended given more taken (ran.0 ++ ran.1 ∷ []) ran.2 (part_begins m t k k' ran.0 ran.1 taken new ran.3) over
 
--- if the own list could not be written, the bytes taken are a prefix of it
+-- for every result of `keep`, the bytes taken are a prefix of the own list of the bytes given
 own_unwritten : EndedLinesStay → (m : MachineOptions) (t : ℕ) (k k' : KernelContent) (ended : Bool) (given taken : List ℕ) (kept : Result (Unit {0}) KeepError) → IsNew m k
     → KeepsOwn ended t k k' given taken kept → OnOk kept (ended ≡ true) → WritesOwn m.config t Unwritable given taken
 own_unwritten stays m t k k' ended given taken kept new ran done =
@@ -146,7 +146,7 @@ own_written stays m t k k' ended given taken (Err Kept.Feed) true flushed new ra
 own_written stays m t k k' ended given taken (Err Kept.Feed) false flushed new ran done = ran.kept _ new.shows ∙ at_order m t k (ended_lines given) new
 own_written stays m t k k' ended given taken (Err Kept.Drain) unsent flushed new ran done = own_unwritten stays m t k k' ended given taken (Err Kept.Drain) new ran done
 
--- if the whole trace is known, the bytes taken are a prefix of its own list
+-- if the whole trace is known, the bytes given are a prefix of it, and the bytes taken are a prefix of its own list
 pub own_traced : EndedLinesStay → (m : MachineOptions) (t : ℕ) (k k' : KernelContent) (ended : Bool) (given taken : List ℕ) (kept : Result (Unit {0}) KeepError) (unsent flushed : Bool)
     (known left : Option (List ℕ)) → IsNew m k → KeepsOwn ended t k k' given taken kept → OnOk kept (ended ≡ true) → Consumes known left given → (ended ≡ true → IsAtEnd left)
     → IfSome known (λ trace. IsOfTrace (kept_outcome kept unsent flushed) trace given (own_of m.config t (lines_of_trace trace)) taken)

@@ -15,7 +15,7 @@ use Rattle.command_line.specs.declared.machine_options.MachineOptions.{MachineOp
 use Rattle.partmem.specs.Run.{shown_replies, Answers}
 use Rattle.partmem.specs.Promised.{AreAllowed, WritesAllowed}
 
--- slots have at least 8 frames
+-- a bootable machine has order 3 or more, so its slots have at least 8 frames
 not_less : (c : Config) → is_bootable c ≡ true → 3 ≤ c.order
 not_less c is =
     let first = and_parts (is_between LEAST_ORDER MOST_ORDER c.order) (is_between 1 MOST_SUPERBLOCKS c.superblocks && is_between 1 MOST_TENANTS c.tenants) is in

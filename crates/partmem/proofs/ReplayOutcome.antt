@@ -1,4 +1,5 @@
--- From the result of a replay on a new machine to the outcome of a run.
+-- The facts that the contract of `run` states of the outcome, the bytes and the counts, for each result of a replay on a new
+-- machine.
 use Rattle.std.proofs.Common.{◌≡◌, ℕ, ◌-◌, Bool, true, false, not, inl, inr, List, [], ◌∷◌, ◌++◌, length, take, Option, Some, None, Result, Ok, Err, OnOk, IfSome, refl, ap, sym, subst, ◌∙◌, append_assoc, arith}
 use Rattle.std.specs.Io.KnownBytes.{Appends, Consumes, IsAtEnd, append_known}
 use Rattle.std.proofs.Math.Seq.{take-length}
@@ -23,11 +24,11 @@ use Rattle.command_line.specs.Outcome.{after_flush, outcome_of}
 use Rattle.partmem.specs.Outcome.{tally_of, without_unwritten}
 use Rattle.partmem.specs.Run.{shown_replies, IsPrivate, IsBeginning, Answers, EndsAs, HasReached, IsGiven, IsOfTrace, Tallies}
 
--- the outcome of a run whose replay had this result
+-- the outcome of a run, from the result of its replay, whether a send failed, and whether the last flush succeeded
 abbrev pub run_outcome : Result Tally ReplayError → (unsent flushed : Bool) → Outcome
 run_outcome replayed unsent flushed = after_flush (outcome_of replayed) unsent flushed
 
--- the kernel shows the machine's opening world
+-- the kernel has the machine's order and shows the opening world of the machine's sizes
 pub record IsNew (m : MachineOptions) (k : KernelContent) : Type 0 where
   pub order : k.order ≡ m.config.order
   pub shows : Shows k (opening_world m.config.superblocks m.config.tenants)
@@ -37,7 +38,7 @@ pub booted : (m : MachineOptions) (k : KernelContent) → k ≡ opening_content 
 unfolding opening_content
 booted m k is shows = record { order = ap (λ parts. parts.order) is; shows = shows }
 
--- a new kernel has the machine's order, so both show the same text for these lines
+-- a new kernel has the machine's order, so the text shown for these lines is the same with either order
 at_order : (m : MachineOptions) (k : KernelContent) (lines : List (List ℕ)) → IsNew m k
     → shown_lines m.only cache_limit k.order lines (opening_world m.config.superblocks m.config.tenants) ≡ shown_replies m lines
 at_order m k lines new =
@@ -52,7 +53,7 @@ private_at config (Some t) k given taken order shows own = λ tenant.
     subst (λ o. taken ≡ with_line_feeds (private_lines cache_limit o config.superblocks config.tenants t given)) order
     (own config.superblocks config.tenants shows tenant)
 
--- if the lines were cut short, the bytes taken are a prefix of the text of these and further lines
+-- if the text of `line` was cut short, the bytes taken are a prefix of the text of any lines that begin with `done` and `line`
 cut_first : (only : Option ℕ) (before after : KernelContent) (w : World) (lines done : List (List ℕ)) (line : List ℕ) (rest : List (List ℕ)) (taken : List ℕ) (tally : Tally)
     → Shows before w → lines ≡ (done ++ line ∷ []) ++ rest → IsCutShort only before after done line taken tally
     → IsBeginning taken (shown_lines only cache_limit before.order lines w)
@@ -63,7 +64,7 @@ cut_first only before after w lines done line rest taken tally shows split cut =
       ap (λ xs. shown_lines only cache_limit before.order xs w) split ∙ later.1 ∙ ap (λ text. text ++ later.0) part.4 ∙ append_assoc taken part.1 later.0,
     )
 
--- a prefix of the text of the ended lines is a prefix of the text of any trace that begins with the same bytes
+-- a prefix of the text of the ended lines of `given` is a prefix of the text of any trace that begins with `given`
 goes_on : ShownStays → (m : MachineOptions) (k : KernelContent) (given more taken : List ℕ) → IsNew m k
     → IsBeginning taken (shown_lines m.only cache_limit k.order (ended_lines given) (opening_world m.config.superblocks m.config.tenants))
     → IsBeginning taken (shown_replies m (lines_of_trace (given ++ more)))
@@ -73,7 +74,7 @@ goes_on stays m k given more taken new (rest, shown) =
       sym (at_order m k (lines_of_trace (given ++ more)) new) ∙ later.1 ∙ ap (λ text. text ++ later.0) shown ∙ append_assoc taken rest later.0,
     )
 
--- if no more bytes come, what is a prefix of the text of the bytes given is one of the text of the whole trace
+-- if no more bytes come, a prefix of the text of the bytes given is a prefix of the text of the whole trace
 all_came : (m : MachineOptions) (given more taken : List ℕ) → more ≡ [] → IsBeginning taken (shown_replies m (lines_of_trace given))
     → IsBeginning taken (shown_replies m (lines_of_trace (given ++ more)))
 all_came m given more taken none begins =
@@ -90,8 +91,8 @@ cut_begins stays m k k' ended given more taken done line tally new (inr (is_over
     (cut_first m.only k k' _ (lines_of_trace given) done line [] taken tally new.shows (all ∙ sym (append-nil _)) cut)
     )
 
--- For every result of the replay, the bytes taken are a prefix of the text of any trace that begins with the bytes given. If the
--- feed has ended, the trace has no more bytes.
+-- Let a trace begin with the bytes given, and have no more bytes if the feed has ended. Then the bytes taken are a prefix of the
+-- text of the trace, for every result of the replay.
 pub begins : ShownStays → (m : MachineOptions) (k k' : KernelContent) (ended : Bool) (given more taken : List ℕ) (replayed : Result Tally ReplayError) → IsNew m k
     → Replays ended m.only k k' given taken replayed → IsDone replayed ended → (ended ≡ true → more ≡ [])
     → IsBeginning taken (shown_replies m (lines_of_trace (given ++ more)))
@@ -103,7 +104,7 @@ begins stays m k k' ended given more taken (Err (Failed.Feed tally)) new ran don
 begins stays m k k' ended given more taken (Err (Failed.Drain tally)) new ran done over =
     cut_begins stays m k k' ended given more taken ran.0 ran.1 tally new ran.2 ran.3 over
 
--- if the replies could not be written, the bytes taken are a prefix of the replies to the bytes given
+-- for every result of the replay, the bytes taken are a prefix of the text of the bytes given
 pub unwritten : ShownStays → (m : MachineOptions) (k k' : KernelContent) (ended : Bool) (given taken : List ℕ) (replayed : Result Tally ReplayError) → IsNew m k
     → Replays ended m.only k k' given taken replayed → IsDone replayed ended → Answers m Unwritable given taken
 unwritten stays m k k' ended given taken replayed new ran done =
@@ -123,7 +124,7 @@ answers stays m k k' ended given taken (Err (Failed.Feed tally)) true flushed ne
 answers stays m k k' ended given taken (Err (Failed.Feed tally)) false flushed new ran done own = ran.shown _ new.shows ∙ at_order m k (ended_lines given) new
 answers stays m k k' ended given taken (Err (Failed.Drain tally)) unsent flushed new ran done own = unwritten stays m k k' ended given taken (Err (Failed.Drain tally)) new ran done
 
--- if the unwritten bytes are subtracted from the counts, the counts are right for the bytes that were written
+-- if the tally is right for the bytes taken, subtracting `unwritten` makes it right for these bytes without the last `unwritten`
 counted : (tally : Tally) (lines : List (List ℕ)) (taken : List ℕ) (unwritten : ℕ) → Counts tally lines taken
     → Counts (without_unwritten tally unwritten) lines (take (length taken - unwritten) taken)
 counted tally lines taken unwritten counts =
@@ -145,7 +146,7 @@ tallied m k k' ended unread undrained given taken (Err (Failed.Drain tally)) uns
     let cut = subst (λ order. IsCutIn (λ xs. shown_lines m.only cache_limit order xs world) ran.0 ran.1 taken) new.order (ran.3.shown world new.shows) in
     inr (inr (ran.0, ran.1, ran.2, cut, counted _ _ taken unwritten ran.3.counted))
 
--- if a drain holds nothing, the writer has all of its bytes
+-- if the drain holds nothing back, the writer took all bytes that the drain took
 all_reached : (before writer : Option (List ℕ)) (held taken : List ℕ) → held ≡ [] → Appends before (append_known writer held) taken
     → (take (length taken - length held) taken ≡ taken) × Appends before writer taken
 all_reached before writer held taken none appended =
@@ -158,7 +159,7 @@ all_reached before writer held taken none appended =
     append_known-nil None = refl
     append_known-nil (Some xs) = ap (λ bytes. Some bytes) (append-nil xs)
 
--- the writer has received the bytes taken, except those that are held back; after a flush that succeeded, none is held back
+-- if nothing is held back after a successful flush, the writer took the bytes that `HasReached` states, for every outcome
 pub reached : (replayed : Result Tally ReplayError) (unsent flushed failed : Bool) (before writer : Option (List ℕ)) (held taken : List ℕ)
     → failed ≡ not flushed → (flushed ≡ true → held ≡ []) → Appends before (append_known writer held) taken
     → HasReached (run_outcome replayed unsent flushed) failed before writer held taken (take (length taken - length held) taken)
@@ -171,7 +172,7 @@ reached (Err (Failed.Feed tally)) false false true before writer held taken same
 reached (Err (Failed.Feed tally)) false false false before writer held taken same none appended = absurd cc
 reached (Err (Failed.Drain tally)) unsent flushed failed before writer held taken same none appended = (appended, refl)
 
--- the outcome says which end failed
+-- for every outcome, the feed and the drain have failed as `EndsAs` states
 pub ends : (replayed : Result Tally ReplayError) (ended unread undrained unsent flushed : Bool) → IsDone replayed ended → NamesFailed replayed unread undrained
     → (unsent ≡ true → flushed ≡ false) → (undrained ≡ true → flushed ≡ false)
     → EndsAs (run_outcome replayed unsent flushed) ended unread (not flushed) unsent
@@ -182,12 +183,12 @@ ends (Err (Failed.Feed tally)) ended unread undrained true flushed done named st
 ends (Err (Failed.Feed tally)) ended unread undrained false flushed done named stopped fine = (named.0, refl)
 ends (Err (Failed.Drain tally)) ended unread undrained unsent flushed done named stopped fine = (ap not (fine named.1), λ failed. absurd cc)
 
--- if nothing was given and nothing was written, these are prefixes of any trace and of its output
+-- for the outcome `NoMemory`, `IsOfTrace` is true of any trace if nothing is given and nothing is written
 pub nothing_of : (whole : List ℕ → List ℕ) (known : Option (List ℕ)) → IfSome known (λ trace. IsOfTrace NoMemory trace [] (whole trace) [])
 nothing_of whole None = tt
 nothing_of whole (Some trace) = record { part = (trace, refl); begins = (whole trace, refl) }
 
--- a trace is done only at its end
+-- for every outcome, the bytes given are a prefix of the trace; if the run is done, they are the whole trace
 pub given_so_far : (replayed : Result Tally ReplayError) (unsent flushed ended : Bool) (given more : List ℕ) → IsDone replayed ended → (ended ≡ true → more ≡ [])
     → IsGiven (run_outcome replayed unsent flushed) (given ++ more) given
 given_so_far (Ok tally) unsent true ended given more done over = ap (λ bytes. given ++ bytes) (over done) ∙ append-nil given
@@ -196,14 +197,15 @@ given_so_far (Err (Failed.Feed tally)) true flushed ended given more done over =
 given_so_far (Err (Failed.Feed tally)) false flushed ended given more done over = (more, refl)
 given_so_far (Err (Failed.Drain tally)) unsent flushed ended given more done over = (more, refl)
 
--- what holds of all traces that begin with the bytes given holds of the trace, if it is known
+-- Let P be true of every trace that begins with the bytes given and has no more bytes if the feed has ended. Then P is true of
+-- the trace that the feed reads, if it is known.
 pub of_trace : (P : List ℕ → Type 0) (known left : Option (List ℕ)) (ended : Bool) (given : List ℕ) → Consumes known left given → (ended ≡ true → IsAtEnd left)
     → ((more : List ℕ) → (ended ≡ true → more ≡ []) → P (given ++ more)) → IfSome known P
 of_trace P None left ended given consumed over fact = tt
 of_trace P (Some trace) None ended given consumed over fact = absurd consumed
 of_trace P (Some trace) (Some more) ended given consumed over fact = subst P (sym consumed) (fact more over)
 
--- if the whole trace is known, the bytes taken are a prefix of its text, for every outcome
+-- for every outcome, if the whole trace is known, the bytes given are a prefix of it and the bytes taken are a prefix of its text
 pub traced : ShownStays → (m : MachineOptions) (k k' : KernelContent) (ended : Bool) (given taken : List ℕ) (replayed : Result Tally ReplayError) (outcome : Outcome) (known left : Option (List ℕ))
     → IsNew m k → Replays ended m.only k k' given taken replayed → IsDone replayed ended
     → ((more : List ℕ) → (ended ≡ true → more ≡ []) → IsGiven outcome (given ++ more) given)

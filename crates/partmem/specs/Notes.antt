@@ -1,4 +1,4 @@
--- The notes of a run of the program.
+-- The notes that a run of the program takes: the refusals that it shows, and the faulty lines.
 use Rattle.std.specs.Prelude.{◌≡◌, ◌⊎◌, ℕ, suc, Bool, List, [], ◌++◌, length, take}
 use Rattle.words_core.specs.Cutting.{lines_of_trace}
 use Rattle.words_core.specs.Grammar.{reading_of}
@@ -10,17 +10,17 @@ use Rattle.replay_core.specs.Runs.{HasCome}
 use Rattle.command_line.specs.declared.outcome.Outcome.{Outcome}
 use Rattle.command_line.specs.declared.machine_options.MachineOptions.{MachineOptions}
 
--- the notes after these lines on a new machine: the refusals that are shown, and the faulty lines
+-- `notes`, and then the notes of these lines on a new machine: the refusals that are shown, and the faulty lines
 abbrev pub with_notes : {N : Type 0} → Noting N → MachineOptions → List (List ℕ) → N → N
 with_notes noting m lines notes =
     noted_lines noting m.only cache_limit m.config.order 1 lines (opening_world m.config.superblocks m.config.tenants) notes
 
--- the notes after the beginning of a line that follows these lines; the beginning is noted if it is faulty
+-- `notes`, and then the note of `tail`, an unfinished line that follows these lines; only a faulty line is noted
 abbrev pub with_unended : {N : Type 0} → Noting N → List (List ℕ) → List ℕ → N → N
 with_unended noting lines tail notes = noted_fault noting (suc (length lines)) (take 256 tail) (reading_of tail) notes
 
--- The notes after the `count` lines that were run, for each outcome of the run. If the trace could not be read, an unfinished
--- line is noted too if it is faulty.
+-- `notes'` are the notes after the run, for each of its outcomes: `notes`, and then the notes of the `count` lines that were run.
+-- If reading the trace failed, an unfinished line that is faulty is noted too.
 abbrev pub HasNoted : {N : Type 0} → Noting N → MachineOptions → Outcome → ℕ → Bool → List ℕ → N → N → Type 0
 HasNoted noting m Outcome.Done count ended given notes notes' = notes' ≡ with_notes noting m (lines_of_trace given) notes
 HasNoted noting m Outcome.Unreadable count ended given notes notes' = (tail : List ℕ) × (given ≡ with_line_feeds (ended_lines given) ++ tail)

@@ -1,4 +1,4 @@
--- How a run ends, and its counts.
+-- The outcome and the counts of a run.
 use Rattle.std.specs.Prelude.{ℕ, ◌-◌, Result, Ok, Err}
 use Rattle.command_line.specs.declared.outcome.Outcome.{Outcome}
 use Rattle.partmem.specs.declared.outcome.Ended.{Ended}
@@ -6,7 +6,7 @@ use Rattle.own_trace.specs.declared.keeping.KeepError.{KeepError}
 use Rattle.streams.specs.declared.tally.Tally.{Tally}
 use Rattle.streams.specs.declared.tally.ReplayError.{ReplayError}
 
--- the outcome of a run that kept a tenant's own list
+-- the outcome that a result of `keep` has before the last flush
 abbrev pub outcome_of_kept : Result (Unit {0}) KeepError → Outcome
 outcome_of_kept (Ok done) = Outcome.Done
 outcome_of_kept (Err KeepError.Feed) = Outcome.Unreadable
@@ -18,11 +18,11 @@ tally_of (Ok tally) = tally
 tally_of (Err (ReplayError.Feed tally)) = tally
 tally_of (Err (ReplayError.Drain tally)) = tally
 
--- the same counts, without the bytes that were not written
+-- these counts, with `unwritten` subtracted from the number of bytes written
 abbrev pub without_unwritten : Tally → ℕ → Tally
 without_unwritten tally unwritten = record { lines = tally.lines; events = tally.events; faults = tally.faults; written = tally.written - unwritten }
 
--- the counts if nothing was done
+-- the counts of a run in which nothing was done: all are 0
 abbrev pub no_tally : Tally
 no_tally = record { lines = 0; events = 0; faults = 0; written = 0 }
 

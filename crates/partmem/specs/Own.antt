@@ -9,11 +9,11 @@ use Rattle.own_trace.specs.Kept.{own_text, own_trace}
 use Rattle.command_line.specs.declared.outcome.Outcome.{Outcome}
 use Rattle.partmem.specs.Run.{IsBeginning}
 
--- the text of tenant t's own list of these lines, on a new machine
+-- the text of tenant t's own list if these lines run on a new machine
 abbrev pub own_of : Config → ℕ → List (List ℕ) → List ℕ
 own_of config t lines = own_text t cache_limit config.order lines (opening_world config.superblocks config.tenants)
 
--- what is written for the bytes given, for each outcome of the run
+-- `written` is what a run with this outcome may write for the bytes `given`; ⊥ for outcomes that do not occur
 abbrev pub WritesOwn : Config → ℕ → Outcome → List ℕ → List ℕ → Type 0
 WritesOwn config t Outcome.Done given written = written ≡ own_trace cache_limit config.order config.superblocks config.tenants t given
 WritesOwn config t Outcome.Unreadable given written = written ≡ own_of config t (ended_lines given)

@@ -1,5 +1,5 @@
--- The output of a run of the program keeps the promises. The promises leave open what only the definitions decide: which block
--- and which object a request gets, and which frames are freed.
+-- The output of a run of the program keeps the promises. They leave open which block or object a request gets, and when empty
+-- slabs are freed; only the definitions fix this.
 use Rattle.std.specs.Prelude.{◌≡◌, ℕ, List, [], ◌++◌}
 use Rattle.words_core.specs.Cutting.{lines_of_trace}
 use Rattle.world_core.specs.Limits.{cache_limit}
@@ -8,12 +8,12 @@ use Rattle.promise_kept.specs.Written.{IsAllowedText}
 use Rattle.command_line.specs.declared.outcome.Outcome.{Outcome}
 use Rattle.command_line.specs.declared.machine_options.MachineOptions.{MachineOptions}
 
--- on a new machine, the text is that of allowed replies to these lines: all replies, or only those to one tenant
+-- the text is that of allowed replies to these lines on a new machine: all replies, or with `only` those to one tenant
 abbrev pub AreAllowed : MachineOptions → List (List ℕ) → List ℕ → Type 0
 AreAllowed m lines text =
     IsAllowedText m.only cache_limit m.config.order m.config.superblocks m.config.tenants lines text
 
--- what is written for the bytes given, for each outcome of the run
+-- `written` is what a run with this outcome may write for the bytes `given`; ⊥ for outcomes that do not occur
 abbrev pub WritesAllowed : MachineOptions → Outcome → List ℕ → List ℕ → Type 0
 WritesAllowed m Outcome.Done given written = AreAllowed m (lines_of_trace given) written
 WritesAllowed m Outcome.Unreadable given written = AreAllowed m (ended_lines given) written

@@ -13,15 +13,16 @@ use Rattle.command_line.specs.declared.outcome.Outcome.{Outcome}
 use Rattle.command_line.specs.declared.machine_options.MachineOptions.{MachineOptions}
 use Rattle.partmem.specs.Outcome.{no_tally}
 
--- the text that these lines show on a new machine: all replies, or those to one tenant
+-- the text that these lines show on a new machine: all replies, or with `only` those to one tenant
 abbrev pub shown_replies : MachineOptions → List (List ℕ) → List ℕ
 shown_replies m lines = shown_lines m.only cache_limit m.config.order lines (opening_world m.config.superblocks m.config.tenants)
 
--- the reply lines of a tenant's private machine to the tenant's own list of the trace
+-- the lines with which a tenant's private machine replies to the tenant's own list of the trace
 abbrev pub private_replies : Config → ℕ → List ℕ → List (List ℕ)
 private_replies config t trace = private_lines cache_limit config.order config.superblocks config.tenants t trace
 
--- whatever the other tenants do, the lines for a tenant are those of its private machine; with `only`, nothing else is written
+-- The lines written for a tenant are those of its private machine, whatever the other tenants do. With `only`, nothing else is
+-- written.
 abbrev pub IsPrivate : Option ℕ → Config → List ℕ → List ℕ → Type 0
 IsPrivate None config trace written = (t : ℕ) → t < config.tenants → lines_for t written ≡ private_replies config t trace
 IsPrivate (Some t) config trace written = t < config.tenants → written ≡ with_line_feeds (private_replies config t trace)
@@ -29,7 +30,7 @@ IsPrivate (Some t) config trace written = t < config.tenants → written ≡ wit
 abbrev pub IsBeginning : List ℕ → List ℕ → Type 0
 IsBeginning part whole = (rest : List ℕ) × (whole ≡ part ++ rest)
 
--- what is written for the bytes given, for each outcome of the run; ⊥ for outcomes that do not occur
+-- `written` is what a run with this outcome may write for the bytes `given`; ⊥ for outcomes that do not occur
 abbrev pub Answers : MachineOptions → Outcome → List ℕ → List ℕ → Type 0
 Answers m Outcome.Done given written = (written ≡ shown_replies m (lines_of_trace given)) × IsPrivate m.only m.config given written
 Answers m Outcome.Unreadable given written = written ≡ shown_replies m (ended_lines given)
@@ -40,12 +41,13 @@ Answers m (Outcome.Version text) given written = ⊥
 Answers m (Outcome.BadLine text) given written = ⊥
 Answers m Outcome.BadOnly given written = ⊥
 
--- The bytes that are held back are the end of the bytes written. The writer took the bytes before them, and nothing else.
+-- The drain holds back the bytes `held`, the last of the bytes written. The writer took `sent`, all bytes written before these,
+-- and nothing else.
 abbrev pub IsHeldBack : (before writer : Option (List ℕ)) → (held written sent : List ℕ) → Type 0
 IsHeldBack before writer held written sent = Appends before (append_known writer held) written × (sent ≡ take (length written - length held) written)
 
--- The bytes that the writer took, for each outcome of the run: all bytes written, or all that a failed drain does not hold back.
--- `before` are the bytes that the drain had taken before the run.
+-- `sent` are the bytes that the writer took in the run, for each of its outcomes: all bytes written, or those that a failed drain
+-- does not hold back. `before` are the bytes that the drain had taken before the run.
 abbrev pub HasReached : Outcome → (failed : Bool) → (before writer : Option (List ℕ)) → (held written sent : List ℕ) → Type 0
 HasReached Outcome.Done failed before writer held written sent = (sent ≡ written) × Appends before writer written
 HasReached Outcome.Unreadable false before writer held written sent = (sent ≡ written) × Appends before writer written
@@ -57,8 +59,8 @@ HasReached (Outcome.Version text) failed before writer held written sent = ⊥
 HasReached (Outcome.BadLine text) failed before writer held written sent = ⊥
 HasReached Outcome.BadOnly failed before writer held written sent = ⊥
 
--- The counts, for each outcome of the run: the lines that were run, and the bytes that the writer took. If the replies could not
--- be written, either all lines had been answered before a flush or a send failed, or the reply to the last line was cut short.
+-- The tally counts the lines that were run and the bytes that the writer took, for each outcome of the run. If the replies could
+-- not be written, either the drain took all replies and a flush or a send failed, or it took only a part of the last reply.
 abbrev pub Tallies : MachineOptions → Outcome → Tally → (ended unread : Bool) → (given written sent : List ℕ) → Type 0
 Tallies m Outcome.Done tally ended unread given written sent = Counts tally (lines_of_trace given) sent
 Tallies m Outcome.Unreadable tally ended unread given written sent = Counts tally (ended_lines given) sent
@@ -73,8 +75,8 @@ Tallies m (Outcome.Version text) tally ended unread given written sent = ⊥
 Tallies m (Outcome.BadLine text) tally ended unread given written sent = ⊥
 Tallies m Outcome.BadOnly tally ended unread given written sent = ⊥
 
--- Which end failed, for each outcome of the run. A trace is done only at its end. If both ends failed, either a send failed
--- before the feed did, or the feed failed before the last flush.
+-- Whether the feed or the drain failed, for each outcome of the run. A run is done only if the feed has ended. If both failed,
+-- the outcome is `Unwritable` if a send failed before the feed did, and otherwise `Unreadable`.
 abbrev pub EndsAs : Outcome → (ended unread unwritten unsent : Bool) → Type 0
 EndsAs Outcome.Done ended unread unwritten unsent = (ended ≡ true) × (unread ≡ false) × (unwritten ≡ false) × (unsent ≡ false)
 EndsAs Outcome.Unreadable ended unread unwritten unsent = (unread ≡ true) × (unsent ≡ false)
@@ -85,7 +87,7 @@ EndsAs (Outcome.Version text) ended unread unwritten unsent = ⊥
 EndsAs (Outcome.BadLine text) ended unread unwritten unsent = ⊥
 EndsAs Outcome.BadOnly ended unread unwritten unsent = ⊥
 
--- the bytes given, for each outcome of the run: a prefix of the trace, and the whole trace if it is done
+-- the bytes given are a prefix of the trace; if the run is done, they are the whole trace
 abbrev pub IsGiven : Outcome → List ℕ → List ℕ → Type 0
 IsGiven Outcome.Done trace given = trace ≡ given
 IsGiven (Outcome.Help text) trace given = IsBeginning given trace
@@ -96,7 +98,8 @@ IsGiven (Outcome.BadLine text) trace given = IsBeginning given trace
 IsGiven Outcome.BadOnly trace given = IsBeginning given trace
 IsGiven Outcome.NoMemory trace given = IsBeginning given trace
 
--- For every outcome of the run, the bytes written are a prefix of the output of the whole trace.
+-- The bytes given are a prefix of the trace, as `IsGiven` says. The bytes written are a prefix of `whole`, the output of the
+-- whole trace.
 pub record IsOfTrace (outcome : Outcome) (trace given whole written : List ℕ) : Type 0 where
   pub part : IsGiven outcome trace given
   pub begins : IsBeginning written whole

@@ -1,12 +1,12 @@
-//! Runs a trace on a new machine whose memory is shared by tenants, and writes its replies to standard output.
+//! Runs a trace on a new machine whose memory is shared by tenants, and writes the replies to standard output.
 //!
 //! `partmem --order S --superblocks N --tenants T [--only T | --own T] [--tally] [FILE]`
 //!
-//! The exit status is that of the [`Outcome`].
+//! The exit status depends on the [`Outcome`].
 //!
-//! `--tally` prints the counts of the run, however it ended: `partmem: 6 lines, 6 events, 0 faults, 214 bytes written`. Then come
-//! the message of the outcome, the reason why a file could not be opened or read, the count of each refusal, and the first faulty
-//! lines with their faults.
+//! With `--tally`, the counts of the run are printed on standard error, however it ended: `partmem: 6 lines, 6 events, 0 faults,
+//! 214 bytes written`. Then come the message of the outcome, the reason why FILE could not be opened or read, the count of each
+//! refusal, and the first faulty lines with their faults.
 #![tactic(auto)]
 
 ghost use Rattle.std.specs.Prelude.{◌≡◌, OnErr};
@@ -32,7 +32,8 @@ use std::io::{self, IsTerminal, Read, Write};
 use std::process::ExitCode;
 use std::rt::{Clock, Env, Files};
 
-/// The number of bytes written at once, unless the program has to wait for more of the trace.
+/// The size of the output buffer, in bytes. The program writes the buffer when the next reply does not fit, and before it reads
+/// more of the trace.
 const BUFFER_BYTES: usize = 65_536;
 
 fn main(rt: HostRuntime) -> ExitCode {
@@ -55,7 +56,7 @@ fn main(rt: HostRuntime) -> ExitCode {
 #[derive(Drop)]
 struct Ran {
     ended: Ended,
-    /// Why the trace could not be opened or read.
+    /// Why the trace could not be opened, or with `--tally` could not be read.
     error: Option<FileError>,
     /// The notes, if they were requested.
     notes: Option<RunNotes>,
@@ -68,8 +69,8 @@ fn read_command_line(rt: &(impl Env + AllocGlobal)) -> Result<Settings, Outcome>
     read_words(rt.alloc(), texts.as_slice())
 }
 
-/// Runs the trace, from FILE or from standard input, and writes to standard output. Each of the two inputs has its own copy of
-/// the loop.
+/// Runs the trace, from FILE or from standard input, and writes the replies or the own list to standard output. The compiled
+/// program has a copy of the replay loop for each of the two inputs.
 fn run_from<P: Eprint + Clock>(
     rt: &(impl Files + Input + Print + AllocGlobal),
     settings: &Settings,
@@ -88,7 +89,8 @@ fn run_from<P: Eprint + Clock>(
     }
 }
 
-/// Runs the trace from a reader and writes to standard output. If the trace could not be opened, the outcome is `Unreadable`.
+/// Runs the trace from a reader and writes the replies or the own list to standard output. If the trace could not be opened, the
+/// outcome is `Unreadable`.
 fn run_opened<R: Read + Drop>(
     rt: &(impl Print + AllocGlobal),
     settings: &Settings,
@@ -125,7 +127,7 @@ fn run_opened<R: Read + Drop>(
     }
 }
 
-/// Runs the trace from a reader, writes to standard output, and takes notes.
+/// Runs the trace from a reader, writes its replies to standard output, and notes the refusals and the faulty lines.
 fn run_noted<R: Read + Drop>(
     rt: &(impl Print + AllocGlobal),
     machine: &MachineOptions,
@@ -141,7 +143,7 @@ fn run_noted<R: Read + Drop>(
     }
 }
 
-/// Runs the trace from a reader and writes the tenant's own list to standard output. Counts nothing.
+/// Runs the trace from a reader and writes the tenant's own list to standard output. All counts in the result are 0.
 fn keep_own<R: Read + Drop>(
     rt: &(impl Print + AllocGlobal),
     machine: &MachineOptions,
@@ -190,7 +192,7 @@ fn run_between<R: Read + Drop, W: Write + Drop, N: Notes>(
     )
 }
 
-/// Prints how a run ended: its tally first, if that was requested, and the notes last.
+/// Prints the tally if it was requested, then how the run ended and why, and last the notes. Returns the exit status.
 fn tell_run(rt: &impl Eprint, settings: &Settings, ran: Ran) -> ExitCode {
     if settings.tally {
         tell_tally(rt, &ran.ended.tally);
@@ -211,7 +213,7 @@ fn tell_run(rt: &impl Eprint, settings: &Settings, ran: Ran) -> ExitCode {
 }
 
 /// Prints the count of each refusal, and the first faulty lines. If the replies could not be written, some of the counted
-/// refusals may not have been written, so the lines say `answered`.
+/// refusals may be missing from the output, so these lines say `answered`.
 fn tell_notes(rt: &impl Eprint, notes: &RunNotes, outcome: &Outcome) {
     let counted = match outcome {
         Outcome::Unwritable => " answered",

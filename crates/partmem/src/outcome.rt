@@ -1,4 +1,4 @@
-//! How a run ends, and its counts.
+//! The outcome and the counts of a run.
 
 ghost use Rattle.std.specs.Prelude.{◌≡◌};
 ghost use Rattle.partmem.specs.Outcome.{ended_at_once, outcome_of_kept, tally_of, without_unwritten};
@@ -10,14 +10,14 @@ use replay_core::{ReplayError, Tally};
 /// A run that has ended.
 #[derive(Debug, Drop)]
 pub struct Ended {
-    /// How it ended.
+    /// How the run ended.
     pub outcome: Outcome,
-    /// The counts of the run up to then.
+    /// What the run counted until it ended.
     pub tally: Tally,
 }
 
 impl Ended {
-    /// Returns the end of a run with this outcome in which nothing was done.
+    /// Returns a run that ended with this outcome before its first line. All its counts are 0.
     pub fn at_once(outcome: Outcome) -> Ended
         ensures { result ≡ ended_at_once outcome }
     {
@@ -28,7 +28,7 @@ impl Ended {
     }
 }
 
-/// Returns the outcome of a run that kept a tenant's own list with this result.
+/// Returns the outcome that a result of [`own_trace::keep`] has before the last flush.
 pub fn outcome_of_kept(kept: &Result<(), KeepError>) -> Outcome
     ensures { result ≡ outcome_of_kept kept.now }
 {
@@ -39,7 +39,7 @@ pub fn outcome_of_kept(kept: &Result<(), KeepError>) -> Outcome
     }
 }
 
-/// Returns the tally of a replay with this result, less the unwritten bytes.
+/// Returns the tally in the result of a replay, with `unwritten` subtracted from the number of bytes written.
 pub fn tally_of(replayed: &Result<Tally, ReplayError>, unwritten: usize) -> Tally
     ensures { result ≡ without_unwritten (tally_of replayed.now) unwritten }
 {

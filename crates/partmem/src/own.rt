@@ -1,4 +1,4 @@
-//! A tenant's own list of a trace, on a new machine.
+//! Runs a trace on a new machine and writes a tenant's own list of it.
 
 ghost use Rattle.std.specs.Prelude.{◌≡◌, ◌≤◌, ℕ, false, List, length, IfSome};
 ghost use Rattle.std.specs.Io.KnownBytes.{Appends, Consumes};
@@ -16,8 +16,8 @@ use std::alloc::Global;
 use std::io::Write;
 use std::mem;
 
-/// Boots a new machine of these sizes, runs the trace on it, and writes the lines of the tenant's own list. Flushes and ends as
-/// [`run`](crate::run::run) does. Writes no reply.
+/// Boots a new machine of these sizes, runs the trace on it, and writes the lines of the tenant's own list. Writes no reply.
+/// Flushes, and chooses the outcome, as [`run`](crate::run::run) does.
 pub fn run_own<F: Feed, W: Write>(
     alloc: Global,
     machine: &MachineOptions,
@@ -27,8 +27,7 @@ pub fn run_own<F: Feed, W: Write>(
 ) -> Outcome
     requires feed_fine { F.has_failed feed.old ≡ false }
     requires drain_fine { ⟦<WriterDrain<W> as Drain>⟧.has_failed drain.old ≡ false }
-    // `given` are the bytes of the trace that were given, `written` those that the drain took, and `sent` those of them that the
-    // writer took.
+    // The feed gave the bytes `given`, and the drain took the bytes `written`. The writer took `sent`, a prefix of `written`.
     ensures kept { (given : List ℕ) × (written : List ℕ) × (sent : List ℕ)
         × Consumes (F.remaining feed.old) (F.remaining feed.new) given
         × Appends (⟦<WriterDrain<W> as Drain>⟧.contents drain.old) (⟦<WriterDrain<W> as Drain>⟧.contents drain.new) written
@@ -48,7 +47,7 @@ pub fn run_own<F: Feed, W: Write>(
         Err(BootError::BadConfig) => unreachable!(),
     };
     let kept = keep(&mut kernel, feed, drain, tenant);
-    // When the process ends, the system frees all memory at once, which is faster than piece by piece.
+    // When the process ends, the system frees all memory at once. That is faster than freeing it piece by piece.
     mem::forget(kernel);
     let flushed = flush(drain);
     outcome_of_kept(&kept).after_flush(drain.send_failed(), flushed)

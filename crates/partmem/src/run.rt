@@ -16,7 +16,7 @@ use std::io::Write;
 use std::mem;
 
 /// Boots a new machine of these sizes, replays the trace and flushes. It also flushes if the feed failed, but not if the drain
-/// failed. The first failure decides the outcome. The notes are those of [`replay_noted`].
+/// failed. The first failure decides the outcome. It takes the same notes as [`replay_noted`].
 pub fn run<F: Feed, W: Write, N: Notes>(
     alloc: Global,
     machine: &MachineOptions,
@@ -26,8 +26,8 @@ pub fn run<F: Feed, W: Write, N: Notes>(
 ) -> Ended
     requires feed_fine { F.has_failed feed.old ≡ false }
     requires drain_fine { ⟦<WriterDrain<W> as Drain>⟧.has_failed drain.old ≡ false }
-    // `given` are the bytes of the trace that were given, `written` those that the drain took, and `sent` those of them that the
-    // writer took. The outcome, the tally and the notes fit these bytes.
+    // The feed gave the bytes `given`, and the drain took the bytes `written`. The writer took `sent`, a prefix of `written`. The
+    // outcome, the tally and the notes are those for these bytes.
     ensures ran { (given : List ℕ) × (written : List ℕ) × (sent : List ℕ)
         × Consumes (F.remaining feed.old) (F.remaining feed.new) given
         × Appends (⟦<WriterDrain<W> as Drain>⟧.contents drain.old) (⟦<WriterDrain<W> as Drain>⟧.contents drain.new) written
@@ -39,7 +39,7 @@ pub fn run<F: Feed, W: Write, N: Notes>(
         × IfSome (F.remaining feed.old) (λ trace.
         IsOfTrace result.outcome trace given (shown_replies machine.now (lines_of_trace trace)) written)
         × HasNoted N.noting machine.now result.outcome result.tally.lines (F.has_ended feed.new) given notes.old notes.new }
-    // Each reply keeps the promises, also a reply that is not shown.
+    // Every reply keeps the promises, even if it is not shown.
     ensures promises { (given : List ℕ) × (written : List ℕ) × (sent : List ℕ)
         × Consumes (F.remaining feed.old) (F.remaining feed.new) given
         × Appends (⟦<WriterDrain<W> as Drain>⟧.contents drain.old) (⟦<WriterDrain<W> as Drain>⟧.contents drain.new) written
@@ -57,7 +57,7 @@ pub fn run<F: Feed, W: Write, N: Notes>(
         Err(BootError::BadConfig) => unreachable!(),
     };
     let replayed = replay_noted(&mut kernel, feed, drain, machine.only, notes);
-    // When the process ends, the system frees all memory at once, which is faster than piece by piece.
+    // When the process ends, the system frees all memory at once. That is faster than freeing it piece by piece.
     mem::forget(kernel);
     let flushed = flush(drain);
     Ended {
@@ -66,14 +66,14 @@ pub fn run<F: Feed, W: Write, N: Notes>(
     }
 }
 
-/// Flushes a drain that has not failed. Returns true if the writer has received everything.
+/// Flushes the drain, unless it has failed. Returns true if it was flushed and the writer has received everything.
 pub(crate) fn flush<W: Write>(drain: &mut WriterDrain<W>) -> bool
     ensures bytes { Keeps (⟦<WriterDrain<W> as Drain>⟧.contents drain.old) (⟦<WriterDrain<W> as Drain>⟧.contents drain.new) }
     ensures empty { result ≡ true → ⟦<WriterDrain<W> as Drain>⟧.held_back drain.new ≡ [] }
     ensures failed { ⟦<WriterDrain<W> as Drain>⟧.has_failed drain.new ≡ not result }
     ensures stopped { ⟦<WriterDrain<W> as Drain>⟧.has_failed_to_send drain.old ≡ true → result ≡ false }
     ensures sends { ⟦<WriterDrain<W> as Drain>⟧.has_failed_to_send drain.new ≡ ⟦<WriterDrain<W> as Drain>⟧.has_failed_to_send drain.old }
-    // A drain that had failed was not flushed.
+    // A drain that had failed is not flushed, and the result is false.
     ensures fine { ⟦<WriterDrain<W> as Drain>⟧.has_failed drain.old ≡ true → result ≡ false }
 {
     !drain.failed() && drain.flush().is_ok()
