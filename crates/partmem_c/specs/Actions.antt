@@ -1,4 +1,4 @@
--- Everything that is done with a machine of the library, by calls and between calls, as actions of the kernel that it holds.
+-- Everything that is done with a machine of the library, in calls and between calls, as actions of its kernel.
 use Rattle.std.specs.Prelude.{◌≡◌, ℕ, ◌<◌, List, [], ◌∷◌, ◌++◌, length, drop, Option, Some, None, Result, Ok, Err}
 use Rattle.model_core.specs.Machine.{empty_machine}
 use Rattle.words_core.specs.declared.event.Event as events
@@ -23,13 +23,13 @@ pub data Done : Type 0 where
   Line : List ℕ → List ℕ → Done
   -- an event was run by `partmem_event`: its numbers and bytes, the numbers of its reply, and the buffer before and after
   Event : RequestNumbers → List ℕ → ReplyNumbers → List ℕ → List ℕ → Done
-  -- a direct call ran an event: the event, the reply and the status; all numbers that the call returned follow from the reply,
-  -- except the address and the size of lent bytes
+  -- A direct call ran an event: the event, the reply and the status. All other results of the call follow from the reply, except
+  -- the address and the size of lent bytes.
   Call : events.Event → Reply → ℕ → Done
-  -- a call of the kernel itself, a store or a load
+  -- an action of the kernel without a call of the library: an event, a store or a load
   Direct : Action → Done
 
--- what was done leads from kernel k to kernel k', as the contract of the call says
+-- if this is done, kernel k becomes k', as the contract of the call says
 abbrev pub Did : KernelContent → Done → KernelContent → Type 0
 Did k (Line line text) k' = AnswersLine k (reading_of line) k' text × IsKernel k'
 Did k (Event a bytes numbers buffer buffer') k' =
@@ -41,14 +41,14 @@ abbrev pub AllDid : KernelContent → List Done → KernelContent → Type 0
 AllDid k [] k' = k' ≡ k
 AllDid k (done ∷ all) k' = (next : KernelContent) × Did k done next × AllDid next all k'
 
--- A line with this reading is the action of its event, and the reply's text was written. A line without an event is not an
--- action, and its reply goes to no tenant.
+-- A line with this reading is these actions and writes this text. A line with an event is one action, and the text is that of the
+-- reply. A line without an event is no action, and its text goes to no tenant.
 abbrev pub IsOfReading : Result (Option events.Event) LineFault → List ℕ → List Action → Type 0
 IsOfReading (Ok (Some event)) text actions = (reply : Reply) × (actions ≡ Runs event reply ∷ []) × (text ≡ text_of reply)
 IsOfReading (Ok None) text actions = (actions ≡ []) × (text ≡ [])
 IsOfReading (Err fault) text actions = (actions ≡ []) × (text ≡ text_of (record { addressee = Addressee.Nobody; body = Body.Fault fault }))
 
--- these are the actions of one thing that was done
+-- `actions` are the actions of this one thing that was done
 abbrev pub IsOf : Done → List Action → Type 0
 IsOf (Line line text) actions = IsOfReading (reading_of line) text actions
 IsOf (Event a bytes numbers buffer buffer') actions = (event : events.Event) × (reply : Reply)
@@ -62,8 +62,8 @@ AreOf [] actions = actions ≡ []
 AreOf (done ∷ all) actions = (first rest : List Action) × IsOf done first × AreOf all rest × (actions ≡ first ++ rest)
 
 -- From boot on, everything that is done with a machine is a list of actions: lines, events, calls, stores and loads, in any
--- order. For these actions a tenant sees what its private machine returns for the tenant's own list, whatever the other tenants
--- do.
+-- order. Over these actions, a tenant sees what its private machine returns for the tenant's own list, whatever the other
+-- tenants do.
 abbrev pub OwnSightsOfCalls : Type 0
 OwnSightsOfCalls = (k k' : KernelContent) (superblocks tenants t : ℕ) (all : List Done) →
     IsBooted k superblocks tenants → t < tenants → AllDid k all k' →

@@ -1,4 +1,4 @@
--- The sizes of a machine as C passes them.
+-- The sizes that C passes for a machine, as the `Config` of the kernel.
 use Rattle.model_core.specs.declared.config.Config.{Config}
 use Rattle.partmem_c.specs.declared.booting.MachineConfig.{MachineConfig}
 

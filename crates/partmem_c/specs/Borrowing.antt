@@ -8,18 +8,18 @@ use Rattle.partmem_c.specs.declared.machine_storage.MachineStorage.{MachineStora
 use Rattle.partmem_c.specs.contracts.slot.Slot as slot
 use Rattle.partmem_c.specs.contracts.machine_storage.MachineStorage as machine
 
--- the place with this kernel
+-- the `Slot` s, but with this kernel in it
 abbrev pub with_held : Slot → KernelContent → Slot
 with_held s k = record s { held = Some k }
 
--- when the borrow ends, the place holds the kernel as it was last written through r
+-- when the borrow r ends, the `Slot` has the kernel as it was last written through r
 abbrev pub LendsHeld : MutBor Slot → MutBor KernelContent → Fml
 LendsHeld s r = Lends slot.the_row kernel.the_row s r (with_held s.now)
 
--- the machine with this kernel
+-- the storage m of a machine, but with this kernel in it
 abbrev pub with_kernel : MachineStorage → KernelContent → MachineStorage
 with_kernel m k = record { is_booted = true; slot = with_held m.slot k; agrees = refl }
 
--- when the borrow ends, the machine holds the kernel as it was last written through r; if no kernel was lent, it is as before
+-- when the borrow r ends, the storage has the kernel as it was last written through r; if r is None, the storage is unchanged
 abbrev pub LendsKernel : MutBor MachineStorage → Option (MutBor KernelContent) → Fml
 LendsKernel m r = LendsIf machine.the_row kernel.the_row m r (with_kernel m.now) m.now

@@ -1,4 +1,4 @@
--- Direct calls: each runs an event, and the call's results follow from the numbers of the reply.
+-- Direct calls: each runs an event, and the call's results follow from the numbers and bytes of the reply.
 use Rattle.std.specs.Prelude.{◌≡◌, ◌<◌, ◌≤◌, ℕ, ◌+◌, ◌-◌, ◌*◌, ◌/◌, ◌%◌, ◌^◌, ◌==◌, nat_le, min, ◌&&◌, Bool, if◌then◌else◌, List, [], ◌++◌, length, take, drop, Option, Some, None, is_some}
 use Rattle.words_core.specs.declared.reply.Addressee.{Addressee}
 use Rattle.words_core.specs.declared.reply.Body.{Body}
@@ -21,7 +21,7 @@ use Rattle.partmem_c.specs.declared.pages.TheConstants.{NO_FRAME}
 use Rattle.partmem_c.specs.declared.objects.MadeCache.{MadeCache}
 use Rattle.partmem_c.specs.Events.{numbers_of_body, answered_bytes}
 
--- the event was a step of the held kernel, with this reply
+-- the held kernel ran this event and gave this reply
 pub record IsRun (old : Option KernelContent) (event : Event) (new : Option KernelContent) (reply : Reply) : Type 0 where
   pub before : KernelContent
   pub after : KernelContent
@@ -34,28 +34,28 @@ abbrev pub Replies : Option KernelContent → Event → Option KernelContent →
 Replies old event new None = (old ≡ None) × (new ≡ None)
 Replies old event new (Some reply) = IsRun old event new reply
 
--- The call runs this event, and `Returns` says what the call returns with this reply.
+-- The call runs this event and returns what `Returns` says for the reply.
 pub record RunsCall (old : Option KernelContent) (event : Event) (new : Option KernelContent) (Returns : Option Reply → Type 0)
     : Type 0 where
   pub reply : Option Reply
   pub replies : Replies old event new reply
   pub returns : Returns reply
 
--- the numbers of the reply
+-- the numbers of the reply, if there is one
 abbrev pub numbers_in_reply : Option Reply → Option ReplyNumbers
 numbers_in_reply None = None
 numbers_in_reply (Some reply) = Some (numbers_of_body reply.body)
 
--- the bytes of the reply
+-- the bytes of the reply; without a reply there are none
 abbrev pub bytes_in_reply : Option Reply → List ℕ
 bytes_in_reply None = []
 bytes_in_reply (Some reply) = answered_bytes reply.body
 
--- the arguments are not an event of the call, and nothing changes
+-- The arguments make no event of the call, and nothing changes. The status is NOT_AN_EVENT, or NO_MACHINE if there is no machine.
 abbrev pub IsNoEvent : Option KernelContent → Option KernelContent → ℕ → Type 0
 IsNoEvent old new status = (new ≡ old) × (status ≡ (if is_some old then NOT_AN_EVENT else NO_MACHINE))
 
--- the status of a call with this reply
+-- the status of a call with this reply: NO_MACHINE if there is no reply, the number of the refusal if it is one, otherwise DONE
 abbrev pub call_status : Option ReplyNumbers → ℕ
 call_status None = NO_MACHINE
 call_status (Some numbers) = if numbers.kind == REFUSED then numbers.first else DONE
@@ -90,12 +90,12 @@ abbrev pub reaped_frames : Option ReplyNumbers → ℕ
 reaped_frames None = 0
 reaped_frames (Some numbers) = if numbers.kind == REAPED then numbers.first else 0
 
--- `to`, after as many of the bytes as fit are copied to its front
+-- the buffer `to` after `bytes` are copied to its front, as many as fit
 abbrev pub read_over : List ℕ → List ℕ → List ℕ
 read_over bytes to = take (min (length bytes) (length to)) bytes ++ drop (min (length bytes) (length to)) to
 
--- The event was a step of the kernel, and these are the numbers of its reply. The reply has at most 64 bytes, which are copied
--- over the front of the buffer.
+-- The kernel ran this event, and `numbers` are the numbers of the reply. The reply has at most 64 bytes. As many of them as fit
+-- are copied over the front of the buffer.
 pub record ReadsOver (old : KernelContent) (event : Event) (new : KernelContent) (numbers : ReplyNumbers) (to to' : List ℕ)
     : Type 0 where
   pub reply : Reply
@@ -104,19 +104,19 @@ pub record ReadsOver (old : KernelContent) (event : Event) (new : KernelContent)
   pub few : length (answered_bytes reply.body) ≤ MOST_BYTES
   pub over : to' ≡ read_over (answered_bytes reply.body) to
 
--- the number of bytes that a read into a buffer of this length requests
+-- the number of bytes that a read into a buffer of `len` bytes requests
 abbrev pub read_length : ℕ → ℕ
 read_length len = min len (2 ^ 32 - 1)
 
--- a write has 1 to 64 bytes
+-- whether these bytes can be written by one write: they are 1 to 64
 abbrev pub is_writable : List ℕ → Bool
 is_writable bytes = nat_le 1 (length bytes) && nat_le (length bytes) MOST_BYTES
 
--- The frame that begins at a place. If no frame begins there, it is a number above the number of any frame.
+-- The number of the frame that begins at a place. If no frame begins there, it is a number above that of any frame.
 abbrev pub frame_at_place : ℕ → ℕ
 frame_at_place place = place / FRAME_BYTES + place % FRAME_BYTES * NO_FRAME
 
--- A free at a place where no frame begins is refused, since no page block begins there.
+-- If an existing tenant frees a place where no frame begins, the reply is the refusal `NotABlock`.
 abbrev pub OffsetsAreRefused : Type 0
 OffsetsAreRefused = (k : KernelContent) (w : World) (t place : ℕ) →
     IsKernel k → Shows k w → t < k.tenants → 0 < place % FRAME_BYTES →

@@ -16,7 +16,7 @@ use Rattle.partmem_c.specs.declared.kinds.TheConstants as kind
 use Rattle.partmem_c.specs.declared.events.RequestNumbers.{RequestNumbers}
 use Rattle.partmem_c.specs.declared.telling.ReplyNumbers.{ReplyNumbers}
 
--- these bytes if their number is from 1 to `most`, else None
+-- these bytes if there are 1 to `most` of them, otherwise None
 abbrev pub some_bytes : ℕ → List ℕ → Option (ArrayVec ℕ)
 some_bytes most bytes =
     if nat_le 1 (length bytes) && nat_le (length bytes) most then Some (record { items = bytes }) else None
@@ -46,7 +46,7 @@ requested_command a bytes =
     else (if a.kind == request.REPORT then Some Command.Report
     else None)))))))))
 
--- a kind of command that neither uses nor returns bytes
+-- whether this is a kind of tenant's command, other than a report, that neither uses nor returns bytes
 abbrev pub is_plain : ℕ → Bool
 is_plain kind =
     kind == request.ALLOC || (kind == request.FREE || (kind == request.TAKE || (kind == request.GIVE
@@ -61,12 +61,13 @@ requested_event a bytes =
 abbrev pub reply_numbers : ℕ → ℕ → ℕ → ℕ → ℕ → ℕ → ReplyNumbers
 reply_numbers of a b c d e = record { kind = of; first = a; second = b; third = c; fourth = d; fifth = e }
 
--- the order of the greatest free block plus 1, or 0 if there is none
+-- 1 plus the order of the greatest free block, or 0 if no block is free
 abbrev pub top_number : Option ℕ → ℕ
 top_number None = 0
 top_number (Some order) = order + 1
 
--- a reply as numbers: the figures for a report, the number of superblocks for the table of owners
+-- A reply as numbers. Of a report, they are the figures without the rows. Of the table of owners, only the number of superblocks
+-- is among them.
 abbrev pub numbers_of_body : Body → ReplyNumbers
 numbers_of_body (Body.Granted tenant slot superblock) = reply_numbers kind.GRANTED tenant slot superblock 0 0
 numbers_of_body (Body.TakenBack superblock) = reply_numbers kind.TAKEN_BACK superblock 0 0 0 0
@@ -87,7 +88,7 @@ numbers_of_body (Body.Report report) =
 numbers_of_body (Body.Refused refusal) = reply_numbers kind.REFUSED (number_of_refusal refusal) 0 0 0 0
 numbers_of_body (Body.Fault fault) = reply_numbers kind.NOTHING 0 0 0 0 0
 
--- the bytes in a reply
+-- the bytes in a reply; only the answer to a read has any
 abbrev pub answered_bytes : Body → List ℕ
 answered_bytes (Body.Bytes bytes) = bytes.items
 answered_bytes (Body.Granted tenant slot superblock) = []
@@ -116,14 +117,15 @@ abbrev pub status_of_event : Option KernelContent → RequestNumbers → List �
 status_of_event held a bytes status =
     if is_some held then (if is_some (requested_event a bytes) then status else NOT_AN_EVENT) else NO_MACHINE
 
--- the status of a call that also requires a buffer: the first error that applies, or else DONE
+-- the status of a call that also requires a buffer of MOST_BYTES bytes: the first error that applies, or else DONE
 abbrev pub event_status : Option KernelContent → RequestNumbers → List ℕ → List ℕ → ℕ
 event_status held a bytes buffer =
     if not (is_some held) then NO_MACHINE
     else (if is_none (requested_event a bytes) then NOT_AN_EVENT
     else (if nat_lt (length buffer) MOST_BYTES then BUFFER_TOO_SMALL else DONE))
 
--- the event was a step of the kernel, and these are the numbers and bytes of its reply
+-- The kernel ran the event, and `numbers` are the numbers of its reply. The bytes of the reply are at the front of `buffer'`, and
+-- the rest of the buffer is unchanged.
 pub record AnswersEvent (old : KernelContent) (event : Event) (new : KernelContent) (numbers : ReplyNumbers)
     (buffer buffer' : List ℕ) : Type 0 where
   pub reply : Reply
@@ -131,7 +133,7 @@ pub record AnswersEvent (old : KernelContent) (event : Event) (new : KernelConte
   pub are : numbers ≡ numbers_of_body reply.body
   pub over : buffer' ≡ answered_bytes reply.body ++ drop (length (answered_bytes reply.body)) buffer
 
--- the numbers and bytes are an event, which was run on the held kernel
+-- the numbers `a` and the bytes are an event, and the held kernel ran it with the results that `AnswersEvent` states
 pub record RunsEvent (old new : Option KernelContent) (a : RequestNumbers) (bytes : List ℕ) (numbers : ReplyNumbers)
     (buffer buffer' : List ℕ) : Type 0 where
   pub before : KernelContent
@@ -142,14 +144,14 @@ pub record RunsEvent (old new : Option KernelContent) (a : RequestNumbers) (byte
   pub says : requested_event a bytes ≡ Some event
   pub answers : AnswersEvent before event after numbers buffer buffer'
 
--- with any bytes, the numbers are an event, which was run on the held kernel and leaves any buffer unchanged
+-- whatever the bytes, the numbers `a` are an event; the held kernel ran it, and any buffer is unchanged
 abbrev pub RunsApart : Option KernelContent → Option KernelContent → RequestNumbers → ReplyNumbers → Type 0
 RunsApart old new a numbers = (bytes buffer : List ℕ) → RunsEvent old new a bytes numbers buffer buffer
 
--- nothing changed, and the reply was not written
+-- the held kernel and the numbers of the reply are unchanged
 abbrev pub IsNothingDone : Option KernelContent → Option KernelContent → ReplyNumbers → ReplyNumbers → Type 0
 IsNothingDone old new numbers numbers' = (new ≡ old) × (numbers' ≡ numbers)
 
--- nothing changed, and neither the reply nor the buffer was written
+-- the held kernel, the numbers of the reply and the buffer are unchanged
 abbrev pub ChangesNothing : Option KernelContent → Option KernelContent → ReplyNumbers → ReplyNumbers → List ℕ → List ℕ → Type 0
 ChangesNothing old new numbers numbers' buffer buffer' = (new ≡ old) × (numbers' ≡ numbers) × (buffer' ≡ buffer)

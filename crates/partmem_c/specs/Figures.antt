@@ -1,4 +1,4 @@
--- A report as figures.
+-- The report of a tenant as the struct `Figures`, which C gets.
 use Rattle.std.specs.Prelude.{◌≡◌, ℕ, List, ◌++◌, length, map, drop, replicate, Option, Some, None}
 use Rattle.model_core.specs.declared.report.OrderRow.{OrderRow}
 use Rattle.model_core.specs.declared.report.CacheRow.{CacheRow}
@@ -41,16 +41,16 @@ no_figures = record {
   cache = replicate CACHES no_cache;
 }
 
--- the size of a greatest free block in bytes, or 0 if there is none
+-- the size in bytes of a largest free block, or 0 if no block is free
 abbrev pub greatest_bytes : Option ℕ → ℕ
 greatest_bytes None = 0
 greatest_bytes (Some order) = block_bytes order
 
--- the old rows, with the new rows written over their front
+-- the rows `before`, with the first ones replaced by `rows`
 abbrev pub over : {A : Type 0} → List A → List A → List A
 over rows before = rows ++ drop (length rows) before
 
--- a report as figures, with zeroes after its rows
+-- a report as figures; the unused rows at the end of `order` and `cache` are zeroes
 abbrev pub figures_of_report : words.Report → Figures
 figures_of_report report = record {
   frames = report.frames;
@@ -83,14 +83,14 @@ figures_of_body (Body.Reaped frames) = no_figures
 figures_of_body (Body.Refused refusal) = no_figures
 figures_of_body (Body.Fault fault) = no_figures
 
--- the event was a step of the kernel, and these are the status and the figures of its reply
+-- the kernel ran the report of tenant t and is unchanged; `status` and `figures` are those of the reply
 pub record PutsFigures (k : KernelContent) (t status : ℕ) (figures : Figures) : Type 0 where
   pub reply : Reply
   pub steps : Steps k (Event.Tenant t Command.Report) k reply
   pub returns : status ≡ call_status (Some (numbers_of_body reply.body))
   pub are : figures ≡ figures_of_body reply.body
 
--- the figures in the reply to a report, or all zeroes if there is no reply
+-- the figures of the report in the reply, or all zeroes if there is no report or no reply
 abbrev pub reported_figures : Option Reply → Figures
 reported_figures None = no_figures
 reported_figures (Some reply) = figures_of_body reply.body

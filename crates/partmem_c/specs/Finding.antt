@@ -20,7 +20,7 @@ abbrev pub Returns : {A : Type 0} → A → Result A Refusal → ℕ → A → T
 Returns nothing (Ok there) status found = (status ≡ DONE) × (found ≡ there)
 Returns nothing (Err refusal) status found = (status ≡ number_of_refusal refusal) × (found ≡ nothing)
 
--- The call returns a result that `Finds` allows for the held kernel. Without a machine nothing is found.
+-- The call returns a result that `Finds` allows for the held kernel. Without a machine, it returns `nothing` with NO_MACHINE.
 abbrev pub LooksUp : {A : Type 0} → A → Option KernelContent → (KernelContent → Result A Refusal → Type 0) → ℕ → A → Type 0
 LooksUp nothing None Finds status found = (status ≡ NO_MACHINE) × (found ≡ nothing)
 LooksUp {A} nothing (Some k) Finds status found =
@@ -30,7 +30,7 @@ abbrev pub slot_over : ℕ → Option ℕ → Result HeldSlot Refusal
 slot_over slot None = Err Refusal.NoSlot
 slot_over slot (Some superblock) = Ok (record { slot = slot; superblock = superblock })
 
--- the superblock in a slot of a tenant, or the refusal
+-- the superblock in a slot of a tenant, or the refusal if there is no such tenant or the tenant does not hold the slot
 abbrev pub slot_at : KernelContent → ℕ → ℕ → Result HeldSlot Refusal
 slot_at k t slot = if nat_lt t k.tenants then slot_over slot (superblock_at k t slot) else Err Refusal.NoTenant
 
@@ -45,8 +45,8 @@ use_of FrameKind.Full = SLAB
 use_of FrameKind.Partial = SLAB
 use_of FrameKind.Empty = SLAB
 
--- for a frame in no taken block: the first frame and the order of its slot if the slot is not held, or else the frame itself and
--- order 0
+-- The first frame and the order that are reported for a frame in no taken block. If the tenant does not hold the frame's slot,
+-- they are those of the slot. Otherwise they are the frame itself and order 0.
 abbrev pub untaken : FrameKind → ℕ → ℕ → ℕ × ℕ
 untaken FrameKind.NotHeld frame order = (frame / 2 ^ order * 2 ^ order, order)
 untaken FrameKind.Free frame order = (frame, 0)
@@ -62,7 +62,8 @@ pub record AreAround (k : KernelContent) (t frame : ℕ) (kind : FrameKind) (aro
       (λ b. (taken_of (holding_of t k.buddy) b.0 ≡ Some b.1) × HasFrame (block b.0 b.1) frame)
   pub is : around ≡ unwrap_or taken (untaken kind frame k.order)
 
--- a tenant's frame has this kind in its private machine, and these are the place and the size of the block that contains it
+-- The frame has a kind in the private machine of the tenant. `found` has the use for this kind, and the place and the size in
+-- bytes of the block around the frame.
 pub record IsBlockAt (k : KernelContent) (t frame : ℕ) (found : Block) : Type 0 where
   pub kind : FrameKind
   pub is : (m : Machine) → ShowsMachine k t m → IsFrame k.order m frame kind

@@ -13,18 +13,18 @@ use Rattle.partmem_c.specs.declared.holders.HolderNumbers.{HolderNumbers}
 abbrev pub no_holder : HolderNumbers
 no_holder = record { cache = 0; place = 0; bytes = 0 }
 
--- the number of a cache, or the number for no cache
+-- the number of a cache, or OF_NO_CACHE if there is none
 abbrev pub cache_or_none : Option ℕ → ℕ
 cache_or_none None = OF_NO_CACHE
 cache_or_none (Some c) = c
 
--- In the machine, a live page block or a live object has these numbers, and contains the byte at the place. A cache's number is
--- less than 32, so it is not the number for no cache.
+-- `found` describes a live page block or a live object of the machine that contains the byte at the place. A page block has the
+-- cache number OF_NO_CACHE. No cache has this number, since the numbers of caches are below 32.
 abbrev pub IsHolderAt : Machine → ℕ → HolderNumbers → Type 0
 IsHolderAt m place found = ((found.cache ≡ OF_NO_CACHE) × HasBlock m place found.place found.bytes)
     ⊎ HasObjectAround m place found.cache found.place found.bytes
 
--- the holder of a tenant's place, or the refusal if there is no such tenant or no holder
+-- the holder of the byte at a tenant's place, or the refusal if there is no such tenant or no holder
 abbrev pub FindsHolder : KernelContent → ℕ → ℕ → Result HolderNumbers Refusal → Type 0
 FindsHolder k t place (Ok found) = (t < k.tenants) × ((m : Machine) → ShowsMachine k t m → IsHolderAt m place found)
 FindsHolder k t place (Err refusal) =

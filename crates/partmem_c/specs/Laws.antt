@@ -1,4 +1,4 @@
--- Lists of calls of `partmem_line` on one machine, each with status `DONE`.
+-- The laws of lists of calls of `partmem_line` on one machine, if each call has status `DONE`.
 use Rattle.std.specs.Prelude.{◌≡◌, ℕ, ◌<◌, List, [], ◌∷◌, map}
 use Rattle.std.specs.List.{concat}
 use Rattle.std.specs.Thread.{IsSend}
@@ -24,7 +24,7 @@ lines_of_calls calls = map (λ call. call.line) calls
 abbrev pub texts_of : List Call → List ℕ
 texts_of calls = concat (map (λ call. call.text) calls)
 
--- the calls lead from one kernel to another, each as the contract of `partmem_line` says
+-- kernel k becomes k' through these calls, as the contract of `partmem_line` says of each call
 abbrev pub Ran : KernelContent → List Call → KernelContent → Type 0
 Ran k [] k' = k' ≡ k
 Ran k (call ∷ calls) k' =
@@ -43,8 +43,8 @@ OwnLinesOfCalls = (k k' : KernelContent) (superblocks tenants t : ℕ) (calls : 
     lines_for t (texts_of calls)
     ≡ private_lines cache_limit k.order superblocks tenants t (with_line_feeds (lines_of_calls calls))
 
--- So two machines of the same order write the same lines for a tenant if the tenant's own lists on them are equal. Their numbers
--- of superblocks and tenants may differ.
+-- So two machines of the same order write the same lines for a tenant if the tenant's own lists on them are equal. The machines
+-- may have different numbers of superblocks and tenants.
 abbrev pub SameLinesOfCalls : Type 0
 SameLinesOfCalls = (k k' m m' : KernelContent) (superblocks tenants superblocks' tenants' t : ℕ) (calls calls' : List Call) →
     Shows k (opening_world superblocks tenants) → Shows m (opening_world superblocks' tenants') → m.order ≡ k.order →
@@ -52,6 +52,6 @@ SameLinesOfCalls = (k k' m m' : KernelContent) (superblocks tenants superblocks'
     (events_of (lines_of_calls calls)) (events_of (lines_of_calls calls')) →
     Ran k calls k' → Ran m calls' m' → lines_for t (texts_of calls) ≡ lines_for t (texts_of calls')
 
--- The value that C holds between two calls owns nothing of the thread that made it: it is the same in every thread.
+-- The machine that C holds between two calls may be passed to another thread, since it owns nothing that belongs to one thread.
 abbrev pub MayChangeThreads : Type 0
 MayChangeThreads = IsSend the_row

@@ -1,4 +1,4 @@
--- Lends as direct calls.
+-- Bytes that are lent in place: which bytes a call finds, and what it returns.
 use Rattle.std.specs.Prelude.{◌≡◌, ◌≢◌, ℕ, ◌*◌, ◌/◌, ◌^◌, ◌<◌, ◌==◌, Bool, true, false, Option, Some, None, Result, Ok, Err, IfOk}
 use denote.RawPtr.{null_ptr}
 use Rattle.words_core.specs.declared.reply.Body.{Body}
@@ -25,7 +25,7 @@ use Rattle.partmem_c.specs.declared.telling.ReplyNumbers.{ReplyNumbers}
 abbrev pub no_lent : Lent
 no_lent = record { at = null_ptr; place = 0; bytes = 0 }
 
--- these are the place and the number of the lent bytes, and their address is not null
+-- `lent` has this place and this number of bytes, and its address is not null
 pub record IsLentAt (place bytes : ℕ) (lent : Lent) : Type 0 where
   pub begins : lent.place ≡ place
   pub counted : lent.bytes ≡ bytes
@@ -59,7 +59,7 @@ FindsObject k t cache place (Err refusal) =
 abbrev pub alloc_reply : KernelContent → ℕ → Result Lent Refusal → Reply
 alloc_reply k t outcome = reply_for k t (body_of (λ lent. Body.Frame (lent.place / FRAME_BYTES)) outcome)
 
--- an alloc was a step of the kernel, and its block is lent unless it was refused
+-- the kernel ran an alloc of this order; unless the alloc was refused, its block is lent
 pub record AllocLends (old : KernelContent) (t order : ℕ) (new : KernelContent) (outcome : Result Lent Refusal) : Type 0 where
   pub steps : Steps old (Event.Tenant t (Command.Alloc order)) new (alloc_reply old t outcome)
   pub block : IfOk outcome (λ lent. IsLentAt (FRAME_BYTES * (lent.place / FRAME_BYTES)) (FRAME_BYTES * 2 ^ order) lent)
@@ -67,17 +67,17 @@ pub record AllocLends (old : KernelContent) (t order : ℕ) (new : KernelContent
 abbrev pub take_reply : KernelContent → ℕ → Result Lent Refusal → Reply
 take_reply k t outcome = reply_for k t (body_of (λ lent. Body.Object lent.place) outcome)
 
--- if bytes are lent, they are a live object of the cache
+-- if bytes are lent, they are a live object of the tenant's cache
 abbrev pub IsObjectOf : KernelContent → ℕ → ℕ → Lent → Type 0
 IsObjectOf k t cache lent = lent.at ≢ null_ptr → (m : Machine) → ShowsMachine k t m → HasObject m cache lent.place lent.bytes
 
--- a take was a step of the kernel, and its object is lent unless it was refused
+-- the kernel ran a take from this cache; unless the take was refused, its object is lent
 pub record TakeLends (old : KernelContent) (t cache : ℕ) (new : KernelContent) (outcome : Result Lent Refusal) : Type 0 where
   pub steps : Steps old (Event.Tenant t (Command.Take cache)) new (take_reply old t outcome)
   pub lent : IfOk outcome (λ lent. IsLentAt lent.place lent.bytes lent)
   pub object : IfOk outcome (IsObjectOf new t cache)
 
--- if the condition is true, this number of bytes at a place is lent; otherwise nothing is lent
+-- if the condition is true, this number of bytes from the place on are lent; otherwise nothing is lent
 abbrev pub IsLentIf : Bool → ℕ → ℕ → Lent → Type 0
 IsLentIf true place bytes lent = IsLentAt place bytes lent
 IsLentIf false place bytes lent = lent ≡ no_lent

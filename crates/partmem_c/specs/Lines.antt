@@ -18,14 +18,14 @@ use Rattle.partmem_c.specs.declared.status.TheConstants.{DONE, NO_MACHINE, NOT_A
 abbrev pub has_line_feed : List ℕ → Bool
 has_line_feed bytes = list_any (λ b. b == line_feed) bytes
 
--- the status of a call with a line: the first error that applies
+-- the status of a call with a line: the first error that applies, or else DONE
 abbrev pub line_status : Option KernelContent → List ℕ → List ℕ → ℕ
 line_status held line buffer =
     if not (is_some held) then NO_MACHINE
     else (if has_line_feed line then NOT_A_LINE else (if nat_lt (length buffer) most_reply_bytes then BUFFER_TOO_SMALL else DONE))
 
--- A line with this reading was run, and answered by this text. An event is a step of the kernel. The reply to a faulty line is
--- addressed to nobody. A blank line or a comment has no reply.
+-- A line with this reading was run, and answered by this text. If the line has an event, the kernel ran it. The reply to a faulty
+-- line is addressed to nobody. A blank line or a comment has no reply.
 abbrev pub AnswersLine : KernelContent → Result (Option Event) LineFault → KernelContent → List ℕ → Type 0
 AnswersLine old (Ok (Some event)) new text = (reply : Reply) × Steps old event new reply × (text ≡ text_of reply)
 AnswersLine old (Ok None) new text = (new ≡ old) × (text ≡ [])
@@ -35,12 +35,12 @@ AnswersLine old (Err fault) new text = (new ≡ old) × (text ≡ text_of (recor
 abbrev pub IsWide : List ℕ → Type 0
 IsWide buffer = most_reply_bytes ≤ length buffer
 
--- the text is at the front of the buffer, and `written` is the number of its bytes
+-- The text is at the front of `buffer'`, and `written` is the number of its bytes. The rest of the buffer is unchanged.
 pub record IsTextWritten (text buffer buffer' : List ℕ) (written : ℕ) : Type 0 where
   pub counted : written ≡ length text
   pub over : buffer' ≡ text ++ drop (length text) buffer
 
--- the line with this reading was answered, and the answer was written
+-- a line with this reading was run, and its answer was written to the front of the buffer
 abbrev pub PutsAnswer : KernelContent → Result (Option Event) LineFault → KernelContent → List ℕ → List ℕ → ℕ → Type 0
 PutsAnswer old reading new buffer buffer' written =
     (text : List ℕ) × AnswersLine old reading new text × IsTextWritten text buffer buffer' written

@@ -12,7 +12,7 @@ abbrev pub size_of_superblock : Option KernelContent → ℕ
 size_of_superblock None = 0
 size_of_superblock (Some k) = FRAME_BYTES * 2 ^ k.order
 
--- the owners of the superblocks of the held machine
+-- the owners of the superblocks of the held machine, or no owners without a machine
 abbrev pub owners_held : Option KernelContent → List (Option model.Owner)
 owners_held None = []
 owners_held (Some k) = k.space.owners
@@ -21,13 +21,13 @@ abbrev pub owner_numbers : Option model.Owner → Owner
 owner_numbers None = record { is_owned = 0; tenant = 0; slot = 0 }
 owner_numbers (Some owner) = record { is_owned = 1; tenant = owner.tenant; slot = owner.slot }
 
--- the status of a lookup of an owner
+-- the status of a lookup of a superblock's owner: the first error that applies, or else DONE
 abbrev pub owner_status : Option KernelContent → ℕ → ℕ
 owner_status held superblock =
     if not (is_some held) then NO_MACHINE
     else (if nat_lt superblock (length (owners_held held)) then DONE else NO_SUPERBLOCK)
 
--- the owner to report for the superblock with this number, if it exists
+-- the owner that is reported for this superblock; None if the machine has no superblock with this number
 abbrev pub owner_reported : List (Option model.Owner) → ℕ → Option Owner
 owner_reported owners superblock =
     if nat_lt superblock (length owners) then Some (owner_numbers (owner_at owners superblock)) else None
