@@ -13,7 +13,7 @@ use crate::status::{BAD_CONFIG, DONE, HAS_MACHINE, NO_MACHINE, NO_MEMORY};
 use kernel_core::{BootError, Config, Kernel};
 use std::alloc::Global;
 
-/// The sizes of a machine, as C passes them.
+/// The sizes of a machine that C passes.
 #[repr(C)]
 #[derive(Clone, Copy, Debug)]
 pub struct MachineConfig {
@@ -21,13 +21,13 @@ pub struct MachineConfig {
     pub order: u32,
     /// The number of superblocks of the machine, 1 to 256.
     pub superblocks: u32,
-    /// The number of tenants that share it, 1 to 64.
+    /// The number of tenants that share the machine, 1 to 64.
     pub tenants: u32,
 }
 
-/// Boots a machine in a place that holds none. All its memory reads as zero, and no superblock has an owner.
+/// Boots a machine in a storage that holds none. All memory of the machine reads as zero, and no superblock has an owner.
 ///
-/// Returns `HAS_MACHINE`, `BAD_CONFIG`, or `NO_MEMORY` if an allocation was refused. No later call allocates.
+/// Fails with `HAS_MACHINE`, `BAD_CONFIG`, or `NO_MEMORY` if an allocation was refused. No later call allocates.
 #[unsafe(no_mangle)]
 pub extern "C" fn partmem_boot_kernel(
     alloc: Global,
@@ -63,8 +63,8 @@ pub extern "C" fn partmem_boot_kernel(
     DONE
 }
 
-/// Ends the machine and drops it, so that its memory is freed. The place then holds no machine, and one can be booted there
-/// again. Returns `NO_MACHINE`.
+/// Ends the machine and drops it, so that its memory is freed. The storage then holds no machine, and a new one can be booted
+/// there. Fails with `NO_MACHINE`.
 #[unsafe(no_mangle)]
 pub extern "C" fn partmem_end_kernel(alloc: Global, machine: &mut MachineStorage) -> u32
     ensures status { result ≡ machine_status machine.old.slot.held }

@@ -18,7 +18,7 @@ use words_core::{Answer, Refusal, Request};
 
 /// Fills `to`, which has 1 to 64 bytes, with the bytes of a live page block or a live object from `place` on.
 ///
-/// Returns `NO_MACHINE`, `NO_TENANT`, `BAD_LENGTH` or `OUT_OF_REACH`. Then `to` is unchanged, whatever its length.
+/// Fails with `NO_MACHINE`, `NO_TENANT`, `BAD_LENGTH` or `OUT_OF_REACH`. Then `to` is unchanged, whatever its length.
 #[unsafe(no_mangle)]
 pub extern "C" fn partmem_read(
     alloc: Global,
@@ -48,7 +48,7 @@ fn length_of(to: &[u8]) -> u32
     u32::try_from(to.len()).unwrap_or(u32::MAX)
 }
 
-/// Runs a read, copies the bytes to `to`, and returns the numbers of the reply.
+/// Runs a read, copies the bytes of the reply to the front of `to`, and returns the numbers of the reply.
 #[inline(always)]
 fn read(kernel: &mut Kernel, tenant: u32, place: u32, len: u32, to: &mut [u8]) -> ReplyNumbers
     ensures { ReadsOver kernel.old (Tenant tenant (Read place len)) kernel.new result to.old to.new }
@@ -73,7 +73,7 @@ fn put_over(bytes: &[u8], to: &mut [u8])
 
 /// Copies 1 to 64 bytes to a live page block or a live object, from `place` on.
 ///
-/// Returns `NO_MACHINE`, `NOT_AN_EVENT` if there are 0 bytes or more than 64, `NO_TENANT` or `OUT_OF_REACH`.
+/// Fails with `NO_MACHINE`, with `NOT_AN_EVENT` if there are 0 bytes or more than 64, with `NO_TENANT` or with `OUT_OF_REACH`.
 #[unsafe(no_mangle)]
 pub extern "C" fn partmem_write(
     alloc: Global,

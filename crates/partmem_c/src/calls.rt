@@ -1,4 +1,4 @@
-//! The common part of the direct calls: running the event of the command, and the status of the reply.
+//! What the direct calls share: they run the event of their command, and return the status for its reply.
 
 ghost use Rattle.std.specs.Prelude.{◌≡◌, ◌≢◌, false};
 ghost use Rattle.words_core.specs.Requests.{command_of, IsAskable, asks_bytes};
@@ -15,7 +15,7 @@ use model_core::limits::{FRAME_BYTES, MOST_ORDER};
 use std::alloc::Global;
 use words_core::{AdminCommand, Request};
 
-/// Runs a tenant's command that reads no bytes, and returns the numbers of its reply, or `None` if there is no machine.
+/// Runs a tenant's command other than a read, and returns the numbers of its reply, or `None` if there is no machine.
 #[inline(always)]
 pub(crate) fn run_command(
     alloc: Global,
@@ -51,8 +51,8 @@ pub(crate) fn run_admin_command(
     Some(numbers)
 }
 
-/// Returns the status of a call with this reply: the number of the refusal if it is one, `NO_MACHINE` if there is no reply, or
-/// else `DONE`.
+/// Returns the status of a call with this reply: `NO_MACHINE` if there is no reply, the number of the refusal if the reply is a
+/// refusal, and otherwise `DONE`.
 #[inline(always)]
 pub(crate) fn call_status(reply: Option<ReplyNumbers>) -> u32
     ensures { result ≡ call_status reply }

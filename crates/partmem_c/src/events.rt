@@ -165,13 +165,13 @@ fn some_bytes<const N: usize>(bytes: &[u8]) -> Option<ArrayVec<u8, N>>
     Some(held)
 }
 
-/// Runs the event of the numbers and returns its reply as numbers. `bytes` has the bytes of a write or the pattern of a new
-/// cache; no other event uses it.
+/// Runs the event with these numbers, and stores its reply as numbers in `reply`. `bytes` are the bytes of a write or the pattern
+/// of a new cache; no other event uses them.
 ///
-/// The bytes of a read are copied to the front of `buffer`, which needs `MOST_BYTES` bytes for any event. The status of a refused
-/// event is `DONE`, and its reply is the refusal.
+/// The bytes of a read are copied to the front of `buffer`. It must have at least `MOST_BYTES` bytes for every event. The status
+/// of a refused event is `DONE`, and its reply is the refusal.
 ///
-/// Returns `NO_MACHINE`, `NOT_AN_EVENT` or `BUFFER_TOO_SMALL`. The reply and the buffer are then unchanged.
+/// Fails with `NO_MACHINE`, `NOT_AN_EVENT` or `BUFFER_TOO_SMALL`. The reply and the buffer are then unchanged.
 #[unsafe(no_mangle)]
 pub extern "C" fn partmem_event(
     alloc: Global,
@@ -197,10 +197,10 @@ pub extern "C" fn partmem_event(
     }
 }
 
-/// Returns `NOTHING`, which is the kind of no event, if the buffer is too small, and else the kind.
+/// Returns the kind if the buffer is large enough, and otherwise `NOTHING`, which is not a kind of event.
 ///
-/// A caller needs only one test to separate the four frequent kinds, which use neither the bytes nor the buffer, from all others.
-/// The pointers of C are made into slices only after that test.
+/// So the caller needs only one test to separate the four frequent kinds from all other cases. These kinds use neither the bytes
+/// nor the buffer, so the pointers of C are made into slices only in the other cases.
 #[inline(always)]
 fn kind_with_buffer(kind: u32, buffer: usize) -> u32
     ensures same { result ≢ NOTHING → result ≡ kind }
@@ -226,10 +226,11 @@ fn status_without_buffer(machine: &MachineStorage, request: &RequestNumbers, byt
     }
 }
 
-/// Does what [`partmem_event`] does for a kind that neither uses nor returns bytes.
+/// Does what [`partmem_event`] does for `ALLOC`, `FREE`, `TAKE`, `GIVE`, `DESTROY` and `REAP`. These kinds neither use nor return
+/// bytes.
 ///
-/// Each kind has its own instance, which is not inlined and saves only the registers that it needs. The instance tests whether
-/// there is a machine, so that its caller can end in a tail call.
+/// Each kind has its own instance, which is not inlined and saves only the registers that it needs. The instance itself tests
+/// whether there is a machine, so that its caller can end in a tail call.
 #[inline(never)]
 fn plain_event<const KIND: u32>(
     alloc: Global,
@@ -247,7 +248,7 @@ fn plain_event<const KIND: u32>(
     ask(alloc, machine, request.tenant, command, reply)
 }
 
-/// Returns the command of a kind that neither uses nor returns bytes. `kind` is a constant, so the compiler knows the command.
+/// Returns the command for one of the kinds of [`plain_event`]. `kind` is a constant, so the compiler knows the command.
 #[inline(always)]
 fn plain_request(kind: u32, request: &RequestNumbers) -> Request<'static>
     requires kind { request.now.kind ≡ kind }
@@ -294,7 +295,7 @@ fn ask(
     DONE
 }
 
-/// Calls [`other_event`] with only the first `MOST_BYTES` bytes of the buffer, so the buffer's length is not passed on.
+/// Calls [`other_event`] with the first `MOST_BYTES` bytes of the buffer, so the buffer's length need not be passed.
 #[inline(always)]
 fn event_in_first(
     alloc: Global,
@@ -428,7 +429,7 @@ fn cache_event(
     ask(alloc, machine, request.tenant, command, reply)
 }
 
-/// Returns the status of a call whose numbers and bytes are not an event.
+/// Returns the status of a call whose numbers and bytes are not an event: `NO_MACHINE` or `NOT_AN_EVENT`.
 pub(crate) fn status_of_none(machine: &MachineStorage) -> u32
     ensures { result ≡ (if is_some machine.now.slot.held then NOT_AN_EVENT else NO_MACHINE) }
 {
@@ -439,7 +440,7 @@ pub(crate) fn status_of_none(machine: &MachineStorage) -> u32
     }
 }
 
-/// Does what [`partmem_event`] does for any kind.
+/// Does what [`partmem_event`] does for any kind, if the buffer is large enough.
 #[cold]
 #[inline(never)]
 fn rare_event(
@@ -485,7 +486,7 @@ fn step(kernel: &mut Kernel, event: &Event, buffer: &mut [u8]) -> ReplyNumbers
     }
 }
 
-/// Returns the reply for the table of owners, which is the number of superblocks. The table itself is not written.
+/// Returns the reply to `POOL` as numbers: the number of superblocks, without the table of owners.
 fn pool(kernel: &Kernel) -> ReplyNumbers
     ensures { (buffer : List ℕ) → AnswersEvent kernel.now (On.Admin Do.Pool) kernel.now result buffer buffer }
 {
@@ -503,7 +504,7 @@ fn report(kernel: &Kernel, tenant: u32) -> ReplyNumbers
     }
 }
 
-/// Runs a command that reads no bytes, and returns the reply as numbers.
+/// Runs a command other than a read, and returns the reply as numbers.
 #[inline(always)]
 pub(crate) fn run(kernel: &mut Kernel, tenant: u32, command: Request<'_>) -> ReplyNumbers
     requires askable { IsAskable command }

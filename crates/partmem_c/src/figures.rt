@@ -23,7 +23,7 @@ pub struct OrderFigures {
     pub taken: u32,
 }
 
-/// A cache: its number, its slabs of each kind, and its live objects.
+/// A cache: its number, the numbers of its full, partial and empty slabs, and the number of its live objects.
 #[repr(C)]
 #[derive(Clone, Copy, Debug)]
 pub struct CacheFigures {
@@ -34,7 +34,7 @@ pub struct CacheFigures {
     pub live: u32,
 }
 
-/// The figures of a tenant's memory. The rows after those that `orders` and `caches` count are zeroes.
+/// The figures of a tenant's memory. The unused rows at the end of `order` and `cache` are zeros.
 #[repr(C)]
 #[derive(Clone, Copy, Debug)]
 pub struct Figures {
@@ -57,7 +57,7 @@ pub struct Figures {
 }
 
 impl Figures {
-    /// Returns figures that are all zeros.
+    /// Returns figures in which every number is 0.
     pub fn zeroes() -> Figures
         ensures { result ≡ no_figures }
     {
@@ -81,9 +81,9 @@ impl Figures {
     }
 }
 
-/// Reports the figures of a tenant's memory.
+/// Stores the report of a tenant's memory in `figures`.
 ///
-/// Returns `NO_MACHINE` or `NO_TENANT`.
+/// Fails with `NO_MACHINE` or `NO_TENANT`.
 #[unsafe(no_mangle)]
 pub extern "C" fn partmem_report(
     alloc: Global,

@@ -22,7 +22,7 @@ pub struct HeldSlot {
 
 /// Grants the tenant the lowest-numbered superblock that has no owner, in the lowest slot that the tenant does not hold.
 ///
-/// Returns `NO_MACHINE`, `NO_TENANT` or `POOL_EMPTY`.
+/// Fails with `NO_MACHINE`, `NO_TENANT` or `POOL_EMPTY`.
 #[unsafe(no_mangle)]
 pub extern "C" fn partmem_grant(
     alloc: Global,
@@ -38,9 +38,9 @@ pub extern "C" fn partmem_grant(
     call_status(reply)
 }
 
-/// Takes back a slot, if none of its frames is in a page block or a slab.
+/// Takes back a slot of the tenant, if no frame of the slot is in a page block or a slab.
 ///
-/// Returns `NO_MACHINE`, `NO_TENANT`, `NO_SLOT` or `SLOT_BUSY`.
+/// Fails with `NO_MACHINE`, `NO_TENANT`, `NO_SLOT` or `SLOT_BUSY`.
 #[unsafe(no_mangle)]
 pub extern "C" fn partmem_take_back(
     alloc: Global,
@@ -54,9 +54,10 @@ pub extern "C" fn partmem_take_back(
     call_status(run_admin_command(alloc, machine, AdminCommand::TakeBack { tenant, slot }))
 }
 
-/// Replaces the superblock in a slot with the lowest-numbered superblock that has no owner, and keeps all bytes of the slot.
+/// Replaces the superblock in a slot of the tenant with the lowest-numbered superblock that has no owner. All bytes of the slot
+/// are kept.
 ///
-/// Returns `NO_MACHINE`, `NO_TENANT`, `NO_SLOT` or `POOL_EMPTY`.
+/// Fails with `NO_MACHINE`, `NO_TENANT`, `NO_SLOT` or `POOL_EMPTY`.
 #[unsafe(no_mangle)]
 pub extern "C" fn partmem_move(
     alloc: Global,
@@ -75,7 +76,7 @@ pub extern "C" fn partmem_move(
 
 /// Takes back everything that the tenant has: its page blocks, caches and slots.
 ///
-/// Returns `NO_MACHINE` or `NO_TENANT`.
+/// Fails with `NO_MACHINE` or `NO_TENANT`.
 #[unsafe(no_mangle)]
 pub extern "C" fn partmem_reset(alloc: Global, machine: &mut MachineStorage, tenant: u32) -> u32
     ensures { RunsCall machine.old.slot.held (Admin (Reset tenant)) machine.new.slot.held

@@ -32,7 +32,7 @@ const NO_HOLDER: HolderNumbers = HolderNumbers {
 
 /// Finds the live object or the live page block of a tenant that contains the byte at a place.
 ///
-/// Returns `NO_MACHINE`, `NO_TENANT` or `OUT_OF_REACH`.
+/// Fails with `NO_MACHINE`, `NO_TENANT` or `OUT_OF_REACH`.
 #[unsafe(no_mangle)]
 pub extern "C" fn partmem_find_object(
     alloc: Global,
@@ -64,7 +64,7 @@ fn holder_at(kernel: &Kernel, tenant: u32, place: u32) -> Result<HolderNumbers, 
     })
 }
 
-/// Returns the number of a cache, or [`OF_NO_CACHE`].
+/// Returns the number of a cache, or [`OF_NO_CACHE`] for `None`.
 #[inline(always)]
 fn cache_or_none(cache: Option<u32>) -> u32
     ensures { result ≡ cache_or_none cache }

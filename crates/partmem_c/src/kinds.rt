@@ -1,8 +1,8 @@
-//! The kinds of replies, with the numbers that each has.
+//! The kinds of replies. The comment of each kind lists the numbers of a reply of this kind, in order.
 
-/// The kind of no reply.
+/// No event has a reply of this kind.
 pub const NOTHING: u32 = 0;
-/// The event was refused, and nothing changed: the number of the refusal.
+/// The number of the refusal. The event was refused, and nothing changed.
 pub const REFUSED: u32 = 1;
 /// The tenant, its slot, and its superblock.
 pub const GRANTED: u32 = 2;
@@ -25,14 +25,14 @@ pub const WRITTEN: u32 = 10;
 /// The number of the new cache, its chunk in bytes, the order of its slabs, the number of objects in a slab, and the number of
 /// colours.
 pub const MADE: u32 = 11;
-/// The number of frames of the cache's slabs, which were freed.
+/// The number of frames freed, which were in the cache's slabs.
 pub const DESTROYED: u32 = 12;
 /// The place of the object.
 pub const OBJECT: u32 = 13;
-/// The object was given back.
+/// No number: the object was given back.
 pub const GIVEN: u32 = 14;
 /// The number of frames freed.
 pub const REAPED: u32 = 15;
-/// The numbers of frames, taken frames and free frames, the order of the greatest free block plus 1 (0 if there is none), and the
-/// share of the free frames outside that block, in thousandths.
+/// The numbers of frames, of taken frames and of free frames, 1 plus the order of the greatest free block (0 if no block is
+/// free), and the share of the free frames that are outside that block, in thousandths.
 pub const FIGURES: u32 = 16;

@@ -37,7 +37,7 @@ pub fn offsets_are_refused()
     ensures { OffsetsAreRefused }
 {}
 
-/// If C holds a kernel between two calls, the kernel has all its invariants. This function changes nothing.
+/// If C holds a kernel between two calls, all invariants of the kernel are true. This function changes nothing.
 pub fn is_kernel(alloc: Global, machine: &mut MachineStorage)
     ensures kernel { IfSome machine.old.slot.held (λ k. IsKernel k) }
     ensures same { machine.new.slot.held ≡ machine.old.slot.held }

@@ -1,4 +1,4 @@
-//! Lends bytes in place, by their addresses. A lend changes nothing, and is not an event.
+//! Lends bytes in place: C gets their address. The calls of this file change nothing, and are not events.
 
 ghost use Rattle.std.specs.Prelude.{◌≡◌};
 ghost use Rattle.std.specs.Borrow.{sem};
@@ -24,7 +24,7 @@ pub struct Lent {
 }
 
 impl Lent {
-    /// Returns the value for no lent bytes, which is all zero.
+    /// Returns the value that means that nothing is lent. It is all zero.
     #[inline(always)]
     pub fn none() -> Lent
         ensures { result ≡ no_lent }
@@ -37,9 +37,9 @@ impl Lent {
     }
 }
 
-/// Stores what is lent in `to`, or the value for no bytes if the call is refused, and returns the status.
+/// Stores the address, the place and the number of the lent bytes in `to`, or zeros if the call is refused. Returns the status.
 ///
-/// `to` is written once: zeroes stored before the call would be overwritten by each call that succeeds.
+/// `to` is written only here. If zeros were stored first, each call that succeeds would write `to` twice.
 #[inline(always)]
 pub(crate) fn put_lent(outcome: Result<Lent, Refusal>, to: &mut Lent) -> u32
     ensures { Returns no_lent outcome result to.new }
@@ -56,7 +56,7 @@ pub(crate) fn put_lent(outcome: Result<Lent, Refusal>, to: &mut Lent) -> u32
     }
 }
 
-/// Lends the bytes of a span.
+/// Lends the bytes of a span, and returns their address, place and number.
 #[inline(always)]
 pub(crate) fn lent_of(kernel: &mut Kernel, span: Span) -> Lent
     requires { IsLive kernel.old span }
@@ -86,7 +86,7 @@ fn lend_at<'a>(kernel: &'a mut Kernel, span: Span, lent: &mut Lent) -> &'a mut [
     bytes
 }
 
-/// Returns the address of a slice, that is, of its first byte.
+/// Returns the address of the first byte of a slice.
 #[inline(always)]
 fn first_of(bytes: &mut [u8]) -> *mut u8
     ensures address { result ≡ as_mut_ptr bytes.entry }
@@ -95,9 +95,9 @@ fn first_of(bytes: &mut [u8]) -> *mut u8
     bytes.as_mut_ptr()
 }
 
-/// Lends one or more bytes from `place` on. They must be inside one live page block or one live object.
+/// Lends `bytes` bytes from `place` on. They must be one or more bytes inside one live page block or one live object.
 ///
-/// Returns `NO_MACHINE`, `NO_TENANT` or `OUT_OF_REACH`.
+/// Fails with `NO_MACHINE`, `NO_TENANT` or `OUT_OF_REACH`.
 #[unsafe(no_mangle)]
 pub extern "C" fn partmem_lend(
     alloc: Global,
@@ -129,7 +129,7 @@ fn lend(kernel: &mut Kernel, tenant: u32, place: u32, bytes: u32) -> Result<Lent
 
 /// Lends the whole live page block that contains a place.
 ///
-/// Returns `NO_MACHINE`, `NO_TENANT` or `OUT_OF_REACH`.
+/// Fails with `NO_MACHINE`, `NO_TENANT` or `OUT_OF_REACH`.
 #[unsafe(no_mangle)]
 pub extern "C" fn partmem_lend_block(
     alloc: Global,
@@ -160,7 +160,7 @@ fn lend_block(kernel: &mut Kernel, tenant: u32, place: u32) -> Result<Lent, Refu
 
 /// Lends the live object of a cache that begins at a place.
 ///
-/// Returns `NO_MACHINE`, `NO_TENANT`, `NO_CACHE` or `NOT_AN_OBJECT`.
+/// Fails with `NO_MACHINE`, `NO_TENANT`, `NO_CACHE` or `NOT_AN_OBJECT`.
 #[unsafe(no_mangle)]
 pub extern "C" fn partmem_lend_object(
     alloc: Global,

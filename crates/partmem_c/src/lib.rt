@@ -1,13 +1,13 @@
-//! The kernel as a static library for C: `partmem.h` beside this crate declares what it exports.
+//! The kernel as a static library for C. `partmem.h` in this crate declares the functions that the library exports.
 //!
-//! A C program keeps each machine in a [`machine_storage::MachineStorage`] of its own, which it sets to zeros. Each command has a
-//! function that runs its event ([`events`]) and returns a [`status`]: see [`granting`], [`pages`], [`objects`] and [`bytes`]. If
-//! it succeeds, the status is [`status::DONE`]; the comment of each function lists its other statuses. [`lends`] lends bytes in
-//! place; [`lookups`], [`holders`], [`figures`] and [`owners`] look things up.
+//! A C program keeps each machine in a [`machine_storage::MachineStorage`] of its own, which it sets to zeros before the boot.
+//! Each command has a function that runs its event ([`events`]) and returns a [`status`]: see [`granting`], [`pages`],
+//! [`objects`] and [`bytes`]. If the function succeeds, the status is [`status::DONE`]; the comment of each function lists its
+//! other statuses. [`lends`] lends bytes in place; [`lookups`], [`holders`], [`figures`] and [`owners`] look things up.
 //!
-//! An export tests for every mistake of the C caller that does not itself break memory. After an error or a refusal nothing has
-//! changed, and the results are zeros. There are two exceptions, which stay unchanged: buffers, and the reply of
-//! [`events::partmem_event`]. Whatever numbers C passes, an export writes only its results.
+//! An exported function tests for every mistake of the C caller that does not itself break memory. After an error or a refusal,
+//! the machine is unchanged and the results are zeros. Buffers and the reply of [`events::partmem_event`] are exceptions: they
+//! stay unchanged. Whatever numbers C passes, an exported function writes only to the machine and to its results.
 #![tactic(auto)]
 
 pub mod booting;

@@ -1,4 +1,4 @@
-//! Runs lines of a trace one at a time.
+//! Runs the lines of a trace, one at a time.
 
 ghost use Rattle.std.specs.Prelude.{◌≡◌, ◌≢◌, ℕ, ◌+◌, ◌*◌, ◌<◌, ◌≤◌, ◌∷◌, ◌++◌, false, List, length, take, drop, Some, Ok};
 ghost use Rattle.std.specs.Prelude.{IfSome, MatchOption, if◌then◌else◌};
@@ -36,8 +36,7 @@ pub const MOST_TEXT_BYTES: usize = MOST_ROWS * MOST_REPLY_BYTES;
 /// The line is passed without its line feed. The reply to a faulty line names the fault. A buffer of `MOST_TEXT_BYTES` bytes is
 /// large enough for any line.
 ///
-/// If the status is not `DONE`, it is `NO_MACHINE`, `NOT_A_LINE` or `BUFFER_TOO_SMALL`. The machine and the buffer are then
-/// unchanged.
+/// Fails with `NO_MACHINE`, `NOT_A_LINE` or `BUFFER_TOO_SMALL`. The machine and the buffer are then unchanged.
 #[unsafe(no_mangle)]
 pub extern "C" fn partmem_line(
     alloc: Global,
@@ -66,7 +65,8 @@ pub extern "C" fn partmem_line(
     DONE
 }
 
-/// Returns the status of a call whose buffer is too small.
+/// Returns the status of a call whose buffer is too small: `NOT_A_LINE` if the line has a line feed, and otherwise
+/// `BUFFER_TOO_SMALL`.
 #[cold]
 #[inline(never)]
 fn status_without_buffer(line: &[u8]) -> u32
@@ -79,7 +79,8 @@ fn status_without_buffer(line: &[u8]) -> u32
     }
 }
 
-/// The size of a buffer for a frequent line with its line feed: a tenant, a word, a place, and bytes in hex.
+/// The size of a buffer for a frequent line with its line feed. The longest is a write: a tenant, a word, a place, and bytes in
+/// hex.
 const MOST_SHORT_LINE: usize = 160;
 
 /// Runs a line on the kernel, writes the answer to the front of `buffer`, and returns the number of the answer's bytes. Returns
@@ -161,7 +162,7 @@ fn put_ended(line: &[u8], out: &mut [u8])
     put(b"\n", out, line.len());
 }
 
-/// The numbers of the frequent commands.
+/// The number of an alloc. The next constants are the numbers of the other frequent commands.
 const ALLOC: usize = 0;
 
 const FREE: usize = 1;
@@ -174,7 +175,7 @@ const READ: usize = 4;
 
 const WRITE: usize = 5;
 
-/// The number that all other commands share.
+/// The number of all other commands.
 const RARE: usize = 6;
 
 /// Runs a request, writes its answer to the front of `buffer`, and returns the number of bytes written.
@@ -286,7 +287,7 @@ fn put_no_tenant(buffer: &mut [u8]) -> usize
     put_long_answer(Addressee::Nobody, answer, buffer)
 }
 
-/// Runs a line with this reading and writes its answer.
+/// Runs a line with this reading, writes its answer, and returns the number of bytes written.
 #[cold]
 #[inline(never)]
 fn answer(
@@ -378,8 +379,8 @@ pub(crate) fn put(bytes: &[u8], buffer: &mut [u8], at: usize)
     buffer[at..at + bytes.len()].copy_from_slice(bytes);
 }
 
-/// Copies bytes to the front of the buffer. 8 to 32 bytes are copied with two copies of a fixed size that may overlap, since a
-/// copy of variable size is a function call.
+/// Copies bytes to the front of the buffer. For 8 to 32 bytes, it makes two copies of a fixed size, which may overlap. A copy of
+/// variable size would be a function call.
 #[inline(always)]
 fn put_short(bytes: &[u8], buffer: &mut [u8])
     requires { length bytes.now ≤ length buffer.old }
@@ -392,7 +393,7 @@ fn put_short(bytes: &[u8], buffer: &mut [u8])
     }
 }
 
-/// Copies the first `N` bytes and the last `N` bytes to their places in the buffer.
+/// Copies the first `N` bytes and the last `N` bytes to the front of the buffer, each byte to its own index.
 #[inline(always)]
 fn put_ends<const N: usize>(bytes: &[u8], buffer: &mut [u8])
     requires long { N ≤ length bytes.now }

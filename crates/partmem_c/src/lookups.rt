@@ -45,7 +45,7 @@ const NO_BLOCK: Block = Block {
 
 /// Finds the superblock in a slot of a tenant.
 ///
-/// Returns `NO_MACHINE`, `NO_TENANT` or `NO_SLOT`.
+/// Fails with `NO_MACHINE`, `NO_TENANT` or `NO_SLOT`.
 #[unsafe(no_mangle)]
 pub extern "C" fn partmem_find_slot(
     alloc: Global,
@@ -80,9 +80,10 @@ fn slot_at(kernel: &Kernel, tenant: u32, slot: u32) -> Result<HeldSlot, Refusal>
     })
 }
 
-/// Finds the page block, slab or free frame of a tenant that contains a place, or the slot if the tenant does not hold it.
+/// Finds the tenant's page block, slab or free frame that contains a place. If the tenant does not hold the slot of the place,
+/// finds this slot.
 ///
-/// Returns `NO_MACHINE` or `NO_TENANT`.
+/// Fails with `NO_MACHINE` or `NO_TENANT`.
 #[unsafe(no_mangle)]
 pub extern "C" fn partmem_find_block(
     alloc: Global,
@@ -109,7 +110,7 @@ fn block_at(kernel: &Kernel, tenant: u32, place: u32) -> Result<Block, Refusal>
     Ok(block_around(kernel, t, place / FRAME_BYTES))
 }
 
-/// Returns the block that contains a frame of an existing tenant.
+/// Returns the block that [`partmem_find_block`] finds for a place in this frame of an existing tenant.
 fn block_around(kernel: &Kernel, t: u8, frame: u32) -> Block
     requires tenant { t < kernel.now.tenants }
     requires frame { frame < 2 ^ 20 }
@@ -124,8 +125,8 @@ fn block_around(kernel: &Kernel, t: u8, frame: u32) -> Block
     }
 }
 
-/// Returns the first frame and the order of the taken block that contains a frame of this kind. If none does, returns the frame
-/// itself and order 0, or the first frame and the order of its slot if the slot is not held.
+/// Returns the first frame and the order of the taken block that contains the frame, which has this kind. If no taken block
+/// contains the frame, returns what [`untaken`] returns.
 fn frames_around(kernel: &Kernel, t: u8, frame: u32, kind: FrameKind) -> (u32, u32)
     requires { t < kernel.now.tenants }
     ensures around { AreAround kernel.now t frame kind result }
@@ -141,7 +142,8 @@ fn frames_around(kernel: &Kernel, t: u8, frame: u32, kind: FrameKind) -> (u32, u
     }
 }
 
-/// Returns the first frame and the order of a frame's slot if the slot is not held, or else the frame itself and order 0.
+/// Returns the first frame and the order of the frame's slot if the tenant does not hold the slot, and otherwise the frame itself
+/// and order 0.
 fn untaken(kind: FrameKind, frame: u32, order: u32) -> (u32, u32)
     requires { order ≤ MOST_ORDER }
     ensures value { result ≡ untaken kind frame order }

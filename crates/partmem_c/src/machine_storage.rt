@@ -1,4 +1,4 @@
-//! The machine as C keeps it.
+//! The storage in which C keeps a machine.
 
 ghost use Rattle.std.specs.Prelude.{◌≡◌, is_some, IsSome, IfSome, Some, None};
 
@@ -8,7 +8,8 @@ use kernel_core::Kernel;
 use std::alloc::Global;
 use std::mem::replace;
 
-/// The place where C keeps a machine. All zero while empty. Clauses call its kernel `slot.held`.
+/// The storage in which C keeps a machine. It is all zero while it holds no machine. Clauses call the machine's kernel
+/// `slot.held`.
 #[repr(C)]
 pub struct MachineStorage {
     is_booted: bool,
@@ -20,14 +21,14 @@ impl MachineStorage {
     ghost use Rattle.std.specs.Borrow.{sem};
     ghost use Rattle.partmem_c.specs.Borrowing.{LendsKernel};
 
-    /// Returns true if the place holds a machine.
+    /// Returns true if the storage holds a machine.
     pub fn is_booted(&self) -> bool
         ensures { result ≡ is_some self.now.slot.held }
     {
         self.is_booted
     }
 
-    /// Borrows the kernel where it lies, or returns `None` if the place is empty.
+    /// Borrows the kernel where it lies. Returns `None` if the storage holds no machine.
     #[inline(always)]
     pub fn kernel(&mut self) -> Option<&mut Kernel>
         ensures* writes_back { sem 𝓛 (LendsKernel self.entry result) }
@@ -40,7 +41,7 @@ impl MachineStorage {
         Some(self.slot.kernel())
     }
 
-    /// Stores a kernel in an empty place.
+    /// Stores a kernel. The storage must not hold a machine.
     pub fn put_in(&mut self, kernel: Box<Kernel>)
         requires { self.old.slot.held ≡ None }
         ensures { self.new.slot.held ≡ Some kernel.value }
@@ -50,7 +51,7 @@ impl MachineStorage {
         vacant.discard();
     }
 
-    /// Takes the kernel out. The place is then empty.
+    /// Takes the kernel out. The storage then holds no machine.
     pub fn take_out(&mut self, alloc: Global) -> Box<Kernel>
         requires { IsSome self.old.slot.held }
         ensures held { self.old.slot.held ≡ Some result.value }

@@ -20,7 +20,7 @@ use model_core::limits::MOST_PATTERN;
 use std::alloc::Global;
 use words_core::{Refusal, Request};
 
-/// A new cache: its number, the distance from one object to the next and the size of a slab, both in bytes, and the numbers of
+/// A new cache: its number, the distance from one object to the next in bytes, the size of a slab in bytes, and the numbers of
 /// objects and colours of a slab.
 #[repr(C)]
 #[derive(Clone, Copy, Debug)]
@@ -43,8 +43,8 @@ const NO_CACHE: MadeCache = MadeCache {
 /// Makes a cache of objects of `size` bytes at multiples of `align` bytes. The pattern of 1 to 16 bytes fills each object of a new
 /// slab.
 ///
-/// Returns `NO_MACHINE`, `NOT_AN_EVENT` if the pattern has 0 bytes or more than 16, `NO_TENANT`, `BAD_SIZE`, `BAD_ALIGN` or
-/// `NO_CACHE_SLOT`.
+/// Fails with `NO_MACHINE`, with `NOT_AN_EVENT` if the pattern has 0 bytes or more than 16, or with `NO_TENANT`, `BAD_SIZE`,
+/// `BAD_ALIGN` or `NO_CACHE_SLOT`.
 #[unsafe(no_mangle)]
 pub extern "C" fn partmem_make_cache(
     alloc: Global,
@@ -77,7 +77,7 @@ pub extern "C" fn partmem_make_cache(
 
 /// Destroys a cache without live objects, and frees its slabs.
 ///
-/// Returns `NO_MACHINE`, `NO_TENANT`, `NO_CACHE` or `CACHE_IN_USE`.
+/// Fails with `NO_MACHINE`, `NO_TENANT`, `NO_CACHE` or `CACHE_IN_USE`.
 #[unsafe(no_mangle)]
 pub extern "C" fn partmem_destroy_cache(
     alloc: Global,
@@ -93,7 +93,7 @@ pub extern "C" fn partmem_destroy_cache(
 
 /// Takes an object of a cache, and lends it.
 ///
-/// Returns `NO_MACHINE`, `NO_TENANT`, `NO_CACHE` or `NO_FRAMES`.
+/// Fails with `NO_MACHINE`, `NO_TENANT`, `NO_CACHE` or `NO_FRAMES`.
 #[unsafe(no_mangle)]
 pub extern "C" fn partmem_take(
     alloc: Global,
@@ -124,7 +124,7 @@ fn take_object(kernel: &mut Kernel, tenant: u32, cache: u32) -> Result<Lent, Ref
 
 /// Gives back the object of a cache that begins at a place.
 ///
-/// Returns `NO_MACHINE`, `NO_TENANT`, `NO_CACHE` or `NOT_AN_OBJECT`.
+/// Fails with `NO_MACHINE`, `NO_TENANT`, `NO_CACHE` or `NOT_AN_OBJECT`.
 #[unsafe(no_mangle)]
 pub extern "C" fn partmem_give(
     alloc: Global,
@@ -143,7 +143,7 @@ pub extern "C" fn partmem_give(
     status_of(outcome)
 }
 
-/// Returns the status of a call that returns nothing else: the number of the refusal, or `DONE` if there is none.
+/// Returns the status of a call that returns nothing else: the number of the refusal, or `DONE` if the call was not refused.
 #[inline(always)]
 fn status_of(outcome: Result<(), Refusal>) -> u32
     ensures done { IfOk outcome (λ given. result ≡ DONE) }
@@ -155,9 +155,9 @@ fn status_of(outcome: Result<(), Refusal>) -> u32
     }
 }
 
-/// Frees the empty slabs of all caches of the tenant, and returns the number of their frames.
+/// Frees the empty slabs of all caches of the tenant, and sets `frames` to the number of their frames.
 ///
-/// Returns `NO_MACHINE` or `NO_TENANT`.
+/// Fails with `NO_MACHINE` or `NO_TENANT`.
 #[unsafe(no_mangle)]
 pub extern "C" fn partmem_reap(
     alloc: Global,

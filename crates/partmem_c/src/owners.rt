@@ -10,8 +10,8 @@ use crate::status::{DONE, NO_MACHINE, NO_SUPERBLOCK};
 use kernel_core::Kernel;
 use std::alloc::Global;
 
-/// The owner of a superblock, which is a slot of a tenant. `is_owned` is 1 if the superblock has an owner; otherwise all fields
-/// are 0.
+/// The owner of a superblock: the tenant, and the slot that uses the superblock. `is_owned` is 1 if the superblock has an owner;
+/// otherwise all fields are 0.
 #[repr(C)]
 #[derive(Clone, Copy, Debug)]
 pub struct Owner {
@@ -47,7 +47,7 @@ fn superblock_bytes(kernel: &Kernel) -> u32
 
 /// Finds the owner of a superblock.
 ///
-/// Returns `NO_MACHINE` or `NO_SUPERBLOCK`.
+/// Fails with `NO_MACHINE` or `NO_SUPERBLOCK`.
 #[unsafe(no_mangle)]
 pub extern "C" fn partmem_find_superblock(
     alloc: Global,

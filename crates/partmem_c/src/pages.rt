@@ -15,12 +15,12 @@ use model_core::limits::FRAME_BYTES;
 use std::alloc::Global;
 use words_core::{Refusal, Request};
 
-/// A number above the number of any frame of any machine.
+/// A number above that of any frame of any tenant.
 const NO_FRAME: u32 = 1 << 20;
 
 /// Allocates a page block of `2^order` frames, and lends it.
 ///
-/// Returns `NO_MACHINE`, `NO_TENANT`, `BAD_ORDER` or `NO_FRAMES`.
+/// Fails with `NO_MACHINE`, `NO_TENANT`, `BAD_ORDER` or `NO_FRAMES`.
 #[unsafe(no_mangle)]
 pub extern "C" fn partmem_alloc(
     alloc: Global,
@@ -50,7 +50,7 @@ fn alloc_block(kernel: &mut Kernel, tenant: u32, order: u32) -> Result<Lent, Ref
 
 /// Frees the page block that begins at a place.
 ///
-/// Returns `NO_MACHINE`, `NO_TENANT` or `NOT_A_BLOCK`.
+/// Fails with `NO_MACHINE`, `NO_TENANT` or `NOT_A_BLOCK`.
 #[unsafe(no_mangle)]
 pub extern "C" fn partmem_free(
     alloc: Global,
@@ -65,7 +65,7 @@ pub extern "C" fn partmem_free(
     call_status(run_command(alloc, machine, tenant, Request::Free { frame }))
 }
 
-/// Returns the frame that begins at a place, or a number above the number of any frame if none begins there.
+/// Returns the number of the frame that begins at a place. If no frame begins there, returns a number above that of any frame.
 #[inline(always)]
 fn frame_at_place(place: u32) -> u32
     ensures { result ≡ frame_at_place place }

@@ -1,4 +1,4 @@
-//! A box, taken apart into its pointer and its allocator's handle. Together they own the value.
+//! A box, taken apart into its pointer and the handle of its allocator. Together they own the value.
 //!
 //! A `#[repr(C)]` struct can hold the pointer, but not the box.
 
@@ -8,10 +8,11 @@ ghost use Rattle.std_alloc.specs.Box.Ownership.{box_owns};
 use std::alloc::Allocator;
 use std::marker::Model;
 
-/// The pointer of a box with the handle that frees its block. Clauses call the value there `value`.
+/// The pointer of a box, and the handle of the allocator that frees the memory of the box. Clauses call the value at the pointer
+/// `value`.
 ///
 /// It is not `Drop`, so it cannot be dropped as a whole. A caller that takes it apart into its fields, or forgets the box that
-/// `into_box` makes, leaks the value and its block. No contract excludes that.
+/// `into_box` makes, leaks the value and its memory. No contract excludes that.
 pub struct RawBox<T, A: Allocator> {
     pub at: *mut T,
     pub alloc: A,

@@ -1,4 +1,4 @@
-//! The place that holds a machine between two calls.
+//! The pointer that holds the kernel of a machine between two calls.
 
 ghost use Rattle.std.specs.Prelude.{◌≡◌, IsSome, Option, Some, None};
 ghost use Rattle.std.specs.Coded.{coded_option};
@@ -12,10 +12,10 @@ use std::alloc::Global;
 use std::marker::Model;
 use std::ptr::null_mut;
 
-/// The pointer of a boxed kernel, or null. Clauses call the kernel there `held`.
+/// The pointer of a boxed kernel, or null if there is no machine. Clauses call the kernel at the pointer `held`.
 ///
-/// C may hold a slot, but not a box. A slot is not `Drop`: outside this file, a machine leaves it only by [`Slot::unpark`]. When
-/// a machine ends, its box is dropped and not forgotten, but no clause says so.
+/// C may hold a `Slot`, but not a box. A `Slot` is not `Drop`: outside this file, a kernel leaves it only by [`Slot::unpark`].
+/// When a machine ends, the box of its kernel is dropped and not forgotten, but no clause says so.
 #[repr(C)]
 pub struct Slot {
     at: *mut u8,
@@ -32,14 +32,14 @@ impl Slot {
     ghost use Rattle.std.specs.Borrow.{sem};
     ghost use Rattle.partmem_c.specs.Borrowing.{LendsHeld};
 
-    /// Returns a place without a machine.
+    /// Returns a `Slot` without a kernel.
     pub fn vacant() -> Slot
         ensures { result.held ≡ None }
     {
         Slot { at: null_mut() }
     }
 
-    /// Returns a place that holds this kernel.
+    /// Returns a `Slot` that holds this kernel.
     pub fn park(kernel: RawBox<Kernel, Global>) -> Slot
         ensures { result.held ≡ Some kernel.value }
     {
@@ -47,7 +47,7 @@ impl Slot {
         Slot { at: at as *mut u8 }
     }
 
-    /// Returns the kernel of this place.
+    /// Returns the kernel of this `Slot`.
     pub fn unpark(self, alloc: Global) -> RawBox<Kernel, Global>
         requires { IsSome self.held }
         ensures { self.held ≡ Some result.value }
@@ -59,7 +59,7 @@ impl Slot {
         }
     }
 
-    /// Borrows the kernel where it lies, so a call neither moves nor writes the pointer.
+    /// Borrows the kernel where it lies. So a call neither moves the kernel nor writes the pointer.
     #[inline(always)]
     pub fn kernel(&mut self) -> &mut Kernel
         requires { IsSome self.old.held }
@@ -69,7 +69,7 @@ impl Slot {
         unsafe { &mut *(self.at as *mut Kernel) }
     }
 
-    /// Consumes a place without a machine.
+    /// Consumes a `Slot` without a kernel.
     pub fn discard(self)
         requires { self.held ≡ None }
     {
