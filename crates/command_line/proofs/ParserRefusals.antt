@@ -6,7 +6,7 @@ use Rattle.clap.specs.declared.error.kind.ErrorKind.{ErrorKind}
 use Rattle.command_line.specs.Outcome.{IsBadLine, IsRefusal, IsRefusedBy, IsReportedAs}
 use Rattle.command_line.specs.declared.outcome.Outcome.{Outcome}
 
--- if the kind of an error is `OutOfMemory` or one of `kinds`, an outcome that reports it is possible after a refusal for `kinds`
+-- if an error's kind is `OutOfMemory` or one of `kinds`, an outcome that may report this error may report a refusal for `kinds`
 pub refused_by : (kinds : Kinds) (kind : ErrorKind) (outcome : Outcome) → (kind ≡ ErrorKind.OutOfMemory) ⊎ IsAmong kind kinds
     → IsReportedAs kind outcome → IsRefusedBy kinds outcome
 refused_by kinds kind (Outcome.Help text) has is =

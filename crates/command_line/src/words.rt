@@ -22,8 +22,8 @@ const ONLY: &str = "Writes only the lines of this tenant, a number below --tenan
 ///
 /// Fails with `Help` or `Version` if the words request one of them, and with `BadLine` if they are faulty. After that, it fails
 /// with `BadOnly` if the number of `--only` is not below the number of tenants. Last, it fails with `BadLine` if `--own` is given
-/// beside `--only` or `--tally`, or if its number is not below the number of tenants. If memory runs out, it fails with
-/// `NoMemory`.
+/// beside `--only` or `--tally`, or if the number of `--own` is not below the number of tenants. If memory runs out, it fails
+/// with `NoMemory`.
 pub fn read_words<'a>(alloc: Global, words: &'a [&'a str]) -> Result<Settings, Outcome>
     ensures config { IfOk result (λ settings. is_bootable settings.config ≡ true) }
     ensures only { IfOk result (λ settings. ForSome settings.only (λ tenant. tenant < settings.config.tenants)) }

@@ -28,7 +28,7 @@ impl Ended {
     }
 }
 
-/// Returns the outcome that a result of [`own_trace::keep`] has before the last flush.
+/// Returns the outcome of a run in which [`own_trace::keep`] returned this result, before the last flush.
 pub fn outcome_of_kept(kept: &Result<(), KeepError>) -> Outcome
     ensures { result ≡ outcome_of_kept kept.now }
 {

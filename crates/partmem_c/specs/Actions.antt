@@ -29,7 +29,7 @@ pub data Done : Type 0 where
   -- an action of the kernel without a call of the library: an event, a store or a load
   Direct : Action → Done
 
--- if this is done, kernel k becomes k', as the contract of the call says
+-- if this is done, kernel k becomes k', as the contract says
 abbrev pub Did : KernelContent → Done → KernelContent → Type 0
 Did k (Line line text) k' = AnswersLine k (reading_of line) k' text × IsKernel k'
 Did k (Event a bytes numbers buffer buffer') k' =
@@ -41,8 +41,8 @@ abbrev pub AllDid : KernelContent → List Done → KernelContent → Type 0
 AllDid k [] k' = k' ≡ k
 AllDid k (done ∷ all) k' = (next : KernelContent) × Did k done next × AllDid next all k'
 
--- A line with this reading is these actions and writes this text. A line with an event is one action, and the text is that of the
--- reply. A line without an event is no action, and its text goes to no tenant.
+-- `actions` are the actions of a line with this reading, and `text` is what the line writes. A line with an event is one action,
+-- and the text is that of the reply. A line without an event is no action, and its text goes to no tenant.
 abbrev pub IsOfReading : Result (Option events.Event) LineFault → List ℕ → List Action → Type 0
 IsOfReading (Ok (Some event)) text actions = (reply : Reply) × (actions ≡ Runs event reply ∷ []) × (text ≡ text_of reply)
 IsOfReading (Ok None) text actions = (actions ≡ []) × (text ≡ [])

@@ -66,8 +66,7 @@ abbrev pub top_number : Option ℕ → ℕ
 top_number None = 0
 top_number (Some order) = order + 1
 
--- A reply as numbers. Of a report, they are the figures without the rows. Of the table of owners, only the number of superblocks
--- is among them.
+-- A reply as numbers. A report becomes its figures without its rows. The table of owners becomes the number of superblocks.
 abbrev pub numbers_of_body : Body → ReplyNumbers
 numbers_of_body (Body.Granted tenant slot superblock) = reply_numbers kind.GRANTED tenant slot superblock 0 0
 numbers_of_body (Body.TakenBack superblock) = reply_numbers kind.TAKEN_BACK superblock 0 0 0 0
@@ -108,7 +107,7 @@ answered_bytes (Body.Report report) = []
 answered_bytes (Body.Refused refusal) = []
 answered_bytes (Body.Fault fault) = []
 
--- the status of a call that only requires a machine
+-- the status of a call that requires a machine and nothing else
 abbrev pub machine_status : Option KernelContent → ℕ
 machine_status held = if is_some held then DONE else NO_MACHINE
 

@@ -18,8 +18,8 @@ abbrev pub cache_or_none : Option ℕ → ℕ
 cache_or_none None = OF_NO_CACHE
 cache_or_none (Some c) = c
 
--- `found` describes a live page block or a live object of the machine that contains the byte at the place. A page block has the
--- cache number OF_NO_CACHE. No cache has this number, since the numbers of caches are below 32.
+-- The byte at the place is in the live page block or the live object that `found` describes. A page block has the cache number
+-- OF_NO_CACHE. No cache has this number, since the numbers of caches are below 32.
 abbrev pub IsHolderAt : Machine → ℕ → HolderNumbers → Type 0
 IsHolderAt m place found = ((found.cache ≡ OF_NO_CACHE) × HasBlock m place found.place found.bytes)
     ⊎ HasObjectAround m place found.cache found.place found.bytes

@@ -30,7 +30,7 @@ Ran k [] k' = k' ≡ k
 Ran k (call ∷ calls) k' =
     (next : KernelContent) × IsOneLine call.line × AnswersLine k (reading_of call.line) next call.text × Ran next calls k'
 
--- If the first kernel shows a world, the last kernel shows the world after the lines.
+-- If kernel k shows a world before the calls, kernel k' shows the world that the lines of the calls lead to.
 abbrev pub StandsAfterCalls : Type 0
 StandsAfterCalls = (k k' : KernelContent) (calls : List Call) → Ran k calls k' → (w : World) → Shows k w →
     Shows k' (world_after cache_limit k.order w (events_of (lines_of_calls calls)))

@@ -13,7 +13,7 @@ use crate::status::{BAD_CONFIG, DONE, HAS_MACHINE, NO_MACHINE, NO_MEMORY};
 use kernel_core::{BootError, Config, Kernel};
 use std::alloc::Global;
 
-/// The sizes of a machine that C passes.
+/// The sizes that C passes for a machine.
 #[repr(C)]
 #[derive(Clone, Copy, Debug)]
 pub struct MachineConfig {
@@ -25,7 +25,7 @@ pub struct MachineConfig {
     pub tenants: u32,
 }
 
-/// Boots a machine in a storage that holds none. All memory of the machine reads as zero, and no superblock has an owner.
+/// Boots a machine in a storage that holds no machine. All memory of the machine reads as zero, and no superblock has an owner.
 ///
 /// Fails with `HAS_MACHINE`, `BAD_CONFIG`, or `NO_MEMORY` if an allocation was refused. No later call allocates.
 #[unsafe(no_mangle)]

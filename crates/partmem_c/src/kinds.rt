@@ -33,6 +33,6 @@ pub const OBJECT: u32 = 13;
 pub const GIVEN: u32 = 14;
 /// The number of frames freed.
 pub const REAPED: u32 = 15;
-/// The numbers of frames, of taken frames and of free frames, 1 plus the order of the greatest free block (0 if no block is
-/// free), and the share of the free frames that are outside that block, in thousandths.
+/// The numbers of frames, of taken frames and of free frames, 1 plus the order of a largest free block (0 if no block is free),
+/// and the share of the free frames that are outside one largest free block, in thousandths, rounded up.
 pub const FIGURES: u32 = 16;

@@ -37,7 +37,7 @@ impl Lent {
     }
 }
 
-/// Stores the address, the place and the number of the lent bytes in `to`, or zeros if the call is refused. Returns the status.
+/// Stores in `to` the address, the place and the number of the lent bytes, or zeros if the call is refused. Returns the status.
 ///
 /// `to` is written only here. If zeros were stored first, each call that succeeds would write `to` twice.
 #[inline(always)]
@@ -68,7 +68,7 @@ pub(crate) fn lent_of(kernel: &mut Kernel, span: Span) -> Lent
     lent
 }
 
-/// Lends the bytes of a span as a slice, and stores the address of the slice in `lent`.
+/// Lends the bytes of a span as a slice, and stores their address, place and number in `lent`.
 #[inline(always)]
 fn lend_at<'a>(kernel: &'a mut Kernel, span: Span, lent: &mut Lent) -> &'a mut [u8]
     requires { IsLive kernel.old span }

@@ -40,8 +40,8 @@ const NO_CACHE: MadeCache = MadeCache {
     colours: 0,
 };
 
-/// Makes a cache of objects of `size` bytes at multiples of `align` bytes. The pattern of 1 to 16 bytes fills each object of a new
-/// slab.
+/// Makes a cache of objects of `size` bytes at multiples of `align` bytes. The pattern of 1 to 16 bytes fills each object of a
+/// new slab.
 ///
 /// Fails with `NO_MACHINE`, with `NOT_AN_EVENT` if the pattern has 0 bytes or more than 16, or with `NO_TENANT`, `BAD_SIZE`,
 /// `BAD_ALIGN` or `NO_CACHE_SLOT`.

@@ -1,4 +1,4 @@
-//! A box, taken apart into its pointer and the handle of its allocator. Together they own the value.
+//! A box, taken apart into its pointer and the handle of its allocator. The pointer and the handle together own the value.
 //!
 //! A `#[repr(C)]` struct can hold the pointer, but not the box.
 

@@ -1,4 +1,4 @@
-//! The pointer that holds the kernel of a machine between two calls.
+//! The pointer to the kernel of a machine, as C keeps it between two calls.
 
 ghost use Rattle.std.specs.Prelude.{◌≡◌, IsSome, Option, Some, None};
 ghost use Rattle.std.specs.Coded.{coded_option};
