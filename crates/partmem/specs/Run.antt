@@ -75,8 +75,8 @@ Tallies m (Outcome.Version text) tally ended unread given written sent = ⊥
 Tallies m (Outcome.BadLine text) tally ended unread given written sent = ⊥
 Tallies m Outcome.BadOnly tally ended unread given written sent = ⊥
 
--- Whether the feed or the drain failed, for each outcome of the run. A run is done only if the feed has ended. If both failed,
--- the outcome is `Unwritable` if a send failed before the feed did, and otherwise `Unreadable`.
+-- Whether the feed or the drain failed, for each outcome of the run. A run is done only if the feed has ended and neither failed.
+-- If both failed, the outcome is `Unwritable` if a send failed before the feed did, and otherwise `Unreadable`.
 abbrev pub EndsAs : Outcome → (ended unread unwritten unsent : Bool) → Type 0
 EndsAs Outcome.Done ended unread unwritten unsent = (ended ≡ true) × (unread ≡ false) × (unwritten ≡ false) × (unsent ≡ false)
 EndsAs Outcome.Unreadable ended unread unwritten unsent = (unread ≡ true) × (unsent ≡ false)

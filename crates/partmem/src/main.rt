@@ -4,9 +4,9 @@
 //!
 //! The exit status depends on the [`Outcome`].
 //!
-//! With `--tally`, the counts of the run are printed on standard error, however it ended: `partmem: 6 lines, 6 events, 0 faults,
-//! 214 bytes written`. Then come the message of the outcome, the reason why FILE could not be opened or read, the count of each
-//! refusal, and the first faulty lines with their faults.
+//! With `--tally`, the counts of the run are printed on standard error, however it ended:
+//! `partmem: 6 lines, 6 events, 0 faults, 214 bytes written`. Then come the message of the outcome, the reason why FILE could
+//! not be opened or read, the count of each refusal, and the first faulty lines with their faults.
 #![tactic(auto)]
 
 ghost use Rattle.std.specs.Prelude.{◌≡◌, OnErr};
